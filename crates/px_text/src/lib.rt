@@ -1,0 +1,13 @@
+//! Small text: the byte list that every type above holds, and the want of memory that every call above may answer.
+//!
+//! Each call equals its definition in `specs/`. Numbers are decimal or hexadecimal digits without a sign (RFC 9110
+//! section 8.6, RFC 9112 section 7.1); letters are compared as ASCII (RFC 9110 section 5.1).
+#![tactic(auto)]
+
+mod ascii;
+mod bytes;
+mod no_memory;
+
+pub use ascii::eq_ignore_case;
+pub use bytes::Bytes;
+pub use no_memory::NoMemory;

@@ -1,0 +1,18 @@
+//! Want of memory: an answer of its own, merged with no other.
+use std::alloc::{AllocError, AllocFailed};
+
+/// Memory ran out. It says nothing of the input.
+#[derive(Clone, Copy, Debug, PartialEq, Eq)]
+pub struct NoMemory;
+
+impl From<AllocError> for NoMemory {
+    fn from(_: AllocError) -> NoMemory {
+        NoMemory
+    }
+}
+
+impl<T: Drop> From<AllocFailed<T>> for NoMemory {
+    fn from(_: AllocFailed<T>) -> NoMemory {
+        NoMemory
+    }
+}
