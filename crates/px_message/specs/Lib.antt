@@ -1,0 +1,4 @@
+pub mod Path
+pub mod Value
+pub mod Host
+pub mod Status

@@ -1,0 +1,25 @@
+//! Where a server, a proxy or a client is.
+ghost use Rattle.std.specs.Prelude.{◌≡◌, ◌≢◌, IfOk};
+
+use crate::Host;
+use px_text::NoMemory;
+
+/// A host and a port. The port is not 0.
+#[derive(Debug, Drop, PartialEq, Eq)]
+pub struct Address {
+    pub host: Host,
+    pub port: u16,
+    ghost port_not_zero: { port ≢ 0 },
+}
+
+impl Address {
+    /// A copy of the same host and port.
+    pub fn try_clone(&self) -> Result<Address, NoMemory>
+        ensures { IfOk result (λ copy. copy ≡ self.now) }
+    {
+        Ok(Address {
+            host: self.host.try_clone()?,
+            port: self.port,
+        })
+    }
+}

@@ -1,0 +1,48 @@
+//! Bodies of messages.
+ghost use Rattle.std.specs.Prelude.{◌≡◌, IfOk};
+
+use px_text::{Bytes, NoMemory};
+use std::marker::Model;
+
+/// The content of a message, without its framing (RFC 9112 section 6).
+#[derive(Debug, Drop, PartialEq, Eq)]
+pub struct Body {
+    bytes: Bytes,
+}
+
+impl Model for Body {
+    ghost use Rattle.std.specs.Prelude.{List, ℕ};
+
+    ghost Value = { List ℕ };
+
+    ghost view = { λ b. b.bytes };
+
+    ghost inverse = { λ text. record { bytes = text } };
+}
+
+impl Body {
+    /// The body of these bytes, without taking memory.
+    pub fn new(bytes: Vec<u8>) -> Body
+        ensures { result ≡ bytes.items }
+    {
+        Body {
+            bytes: Bytes::new(bytes),
+        }
+    }
+
+    /// The bytes.
+    pub fn bytes(&self) -> &[u8]
+        ensures { result.now ≡ self.now }
+    {
+        self.bytes.as_slice()
+    }
+
+    /// A copy with the same bytes.
+    pub fn try_clone(&self) -> Result<Body, NoMemory>
+        ensures { IfOk result (λ copy. copy ≡ self.now) }
+    {
+        Ok(Body {
+            bytes: self.bytes.try_clone()?,
+        })
+    }
+}

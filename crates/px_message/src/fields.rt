@@ -1,0 +1,63 @@
+//! Field sections.
+ghost use Rattle.std.specs.Prelude.{◌≡◌, [], length, nat_eq};
+ghost use Rattle.std.specs.Ordering.{eq_of_both, on};
+ghost use Rattle.std.specs.Cmp.Lexicographic.{pointwise};
+ghost use Rattle.std.proofs.Common.{rules};
+ghost use Rattle.std.specs.Cmp.Rules.{comparing};
+
+use crate::{Name, Value};
+use std::alloc::Global;
+use std::marker::Model;
+
+/// A list of fields, in the sender's order and spelling (RFC 9110 section 5.2). Names are compared without case.
+#[derive(Debug, Drop)]
+pub struct Fields {
+    pairs: Vec<(Name, Value)>,
+}
+
+impl Model for Fields {
+    ghost use Rattle.std.specs.Prelude.{List, ℕ};
+
+    ghost Value = { List (List ℕ × List ℕ) };
+
+    ghost view = { λ f. f.pairs.items };
+}
+
+impl PartialEq for Fields {
+    ghost eq = { pointwise (eq_of_both (on (λ p. p.0) (pointwise nat_eq)) (on (λ p. p.1) (pointwise nat_eq))) };
+
+    ghost laws = { Prim.search (comparing, rules) };
+
+    fn eq(&self, other: &Fields) -> bool {
+        self.pairs == other.pairs
+    }
+}
+
+impl Eq for Fields {
+    ghost laws = { Prim.search (comparing, rules) };
+}
+
+impl Fields {
+    /// No fields. The allocator is kept for those that are added.
+    pub fn new(alloc: Global) -> Fields
+        ensures { result ≡ [] }
+    {
+        Fields {
+            pairs: Vec::new(alloc),
+        }
+    }
+
+    /// How many fields there are.
+    pub fn len(&self) -> usize
+        ensures { result ≡ length self.now }
+    {
+        self.pairs.len()
+    }
+}
+
+/// The values of the fields of one name, in their order.
+#[derive(Debug, Drop)]
+pub struct FieldsOf<'a> {
+    name: &'a [u8],
+    rest: &'a [(Name, Value)],
+}

@@ -1,0 +1,67 @@
+//! Flows: a request with what became of it.
+ghost use Rattle.std.specs.Prelude.{◌≡◌, IfOk};
+
+use crate::{Address, Request, Response};
+use px_text::{Bytes, NoMemory};
+
+/// Which flow: the number of its conversation, and its place in it from 0.
+#[derive(Clone, Copy, Debug, PartialEq, Eq)]
+pub struct FlowId {
+    pub conv: u32,
+    pub index: u32,
+}
+
+/// What ended a flow early, and when, in microseconds since 1970.
+#[derive(Debug, Drop, PartialEq, Eq)]
+pub struct FlowError {
+    pub msg: Bytes,
+    pub moment: u64,
+}
+
+/// When a head was read or a message was whole, each in microseconds since 1970: the moment of the step in which it was.
+#[derive(Clone, Copy, Debug, PartialEq, Eq)]
+pub struct Times {
+    pub request_start: u64,
+    pub request_end: Option<u64>,
+    pub response_start: Option<u64>,
+    pub response_end: Option<u64>,
+}
+
+/// Whether the flow was replayed, and from which end.
+#[derive(Clone, Copy, Debug, PartialEq, Eq)]
+pub enum Replayed {
+    No,
+    /// The proxy sent a recorded request.
+    Request,
+    /// The proxy gave a recorded response.
+    Response,
+}
+
+/// A whole message of a WebSocket; it is in a flow only while its hook is asked (RFC 6455 section 5.6).
+#[derive(Debug, Drop, PartialEq, Eq)]
+pub struct WsMessage {
+    pub from_client: bool,
+    pub text: bool,
+    pub payload: Bytes,
+}
+
+/// A request with its response, its error, its moments and what the proxy knows of it
+/// (mitmproxy's manual, "mitmproxy.http").
+#[derive(Debug, Drop, PartialEq, Eq)]
+pub struct Flow {
+    pub id: FlowId,
+    /// Where the client is; none in a client replay.
+    pub client: Option<Address>,
+    /// The address that was dialled, from when the flow begins to use that side.
+    pub server: Option<Address>,
+    pub request: Request,
+    pub response: Option<Response>,
+    pub error: Option<FlowError>,
+    pub times: Times,
+    pub replayed: Replayed,
+    /// Whether an operator marked it.
+    pub marked: bool,
+    /// Whether it was upgraded to a WebSocket.
+    pub websocket: bool,
+    pub message: Option<WsMessage>,
+}

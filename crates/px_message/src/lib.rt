@@ -1,0 +1,38 @@
+//! The messages of HTTP/1.1 as the proxy holds, shows and changes them: names, values, fields, requests, responses and
+//! flows, and the four forms of a request's target (RFC 9112 section 3.2).
+//!
+//! A value is right by its type: a `Name` is a token, a `Value` has no CR, LF or NUL, a `Host` is one that an authority
+//! may have, a `Path` has no blank and no control byte. So whatever is written from these types is read back as one
+//! message. A constructor that refuses hands its bytes back; the refusal is exact in both directions.
+//!
+//! Contracts see a `Name`, a `Value`, a `Host`, a `Path` and a `Body` as the list of their bytes, a `Status` as its
+//! number and `Fields` as the list of their pairs, in the sender's order and spelling.
+#![tactic(auto)]
+
+mod address;
+mod body;
+mod fault;
+mod fields;
+mod flow;
+mod host;
+mod name;
+mod path;
+mod request;
+mod response;
+mod status;
+mod value;
+mod version;
+
+pub use address::Address;
+pub use body::Body;
+pub use fault::Fault;
+pub use fields::{Fields, FieldsOf};
+pub use flow::{Flow, FlowError, FlowId, Replayed, Times, WsMessage};
+pub use host::{BadHost, Host};
+pub use name::{BadName, Name};
+pub use path::{BadPath, Path};
+pub use request::Request;
+pub use response::Response;
+pub use status::Status;
+pub use value::{BadValue, Value};
+pub use version::Version;

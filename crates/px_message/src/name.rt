@@ -1,0 +1,63 @@
+//! Names of fields and methods: tokens.
+ghost use Rattle.std.specs.Prelude.{◌≡◌, true, false, IfOk, IfErr};
+ghost use Rattle.httparse.specs.Grammar.{is_token};
+
+use px_text::{Bytes, NoMemory};
+use std::marker::Model;
+
+/// The name of a field, or a method: a token (RFC 9110 section 5.6.2), in the sender's spelling.
+#[derive(Debug, Drop, PartialEq, Eq)]
+pub struct Name {
+    bytes: Bytes,
+}
+
+/// The bytes that were handed in: they are no token.
+#[derive(Debug, Drop)]
+pub struct BadName(pub Vec<u8>);
+
+impl Model for Name {
+    ghost use Rattle.std.specs.Prelude.{◌≡◌, List, ℕ, true};
+    ghost use Rattle.httparse.specs.Grammar.{is_token};
+
+    ghost Value = { List ℕ };
+
+    ghost view = { λ n. n.bytes };
+
+    ghost inverse = { λ text. record { bytes = text } };
+
+    ghost invariant = { λ n. is_token n.bytes ≡ true };
+}
+
+impl Name {
+    /// The name of these bytes. Refused, with the bytes, exactly where they are no token: none at all, or a byte that is
+    /// neither a letter, a digit nor one of ``!#$%&'*+-.^_`|~``.
+    pub fn try_new(bytes: Vec<u8>) -> Result<Name, BadName>
+        ensures ok { IfOk result (λ name. (name ≡ bytes.items) × (is_token bytes.items ≡ true)) }
+        ensures refused { IfErr result (λ e. (e.0.items ≡ bytes.items) × (is_token bytes.items ≡ false)) }
+    {
+        if httparse::is_token(&bytes) {
+            Ok(Name {
+                bytes: Bytes::new(bytes),
+            })
+        } else {
+            Err(BadName(bytes))
+        }
+    }
+
+    /// The bytes.
+    pub fn bytes(&self) -> &[u8]
+        ensures bytes { result.now ≡ self.now }
+        ensures token { is_token self.now ≡ true }
+    {
+        self.bytes.as_slice()
+    }
+
+    /// A copy with the same bytes.
+    pub fn try_clone(&self) -> Result<Name, NoMemory>
+        ensures { IfOk result (λ copy. copy ≡ self.now) }
+    {
+        Ok(Name {
+            bytes: self.bytes.try_clone()?,
+        })
+    }
+}

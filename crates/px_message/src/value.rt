@@ -1,0 +1,68 @@
+//! Values of fields: bytes that end no line.
+ghost use Rattle.std.specs.Prelude.{◌≡◌, IsTrue, true, false, IfOk, IfErr};
+ghost use Rattle.px_message.specs.Value.{is_value};
+
+use px_text::{Bytes, NoMemory};
+use std::marker::Model;
+
+/// The value of a field, or a response's reason: any bytes but CR, LF and NUL (RFC 9110 section 5.5).
+#[derive(Debug, Drop, PartialEq, Eq)]
+pub struct Value {
+    bytes: Bytes,
+}
+
+/// The bytes that were handed in: they have a CR, an LF or a NUL.
+#[derive(Debug, Drop)]
+pub struct BadValue(pub Vec<u8>);
+
+impl Model for Value {
+    ghost use Rattle.std.specs.Prelude.{◌≡◌, List, ℕ, true};
+    ghost use Rattle.px_message.specs.Value.{is_value};
+
+    ghost Value = { List ℕ };
+
+    ghost view = { λ v. v.bytes };
+
+    ghost inverse = { λ text. record { bytes = text } };
+
+    ghost invariant = { λ v. is_value v.bytes ≡ true };
+}
+
+impl Value {
+    /// The value of these bytes. Refused, with the bytes, exactly where a CR, an LF or a NUL stands among them.
+    pub fn try_new(bytes: Vec<u8>) -> Result<Value, BadValue>
+        ensures ok { IfOk result (λ value. (value ≡ bytes.items) × (is_value bytes.items ≡ true)) }
+        ensures refused { IfErr result (λ e. (e.0.items ≡ bytes.items) × (is_value bytes.items ≡ false)) }
+    {
+        if is_value(&bytes) {
+            Ok(Value {
+                bytes: Bytes::new(bytes),
+            })
+        } else {
+            Err(BadValue(bytes))
+        }
+    }
+
+    /// The bytes.
+    pub fn bytes(&self) -> &[u8]
+        ensures bytes { result.now ≡ self.now }
+        ensures valid { is_value self.now ≡ true }
+    {
+        self.bytes.as_slice()
+    }
+
+    /// A copy with the same bytes.
+    pub fn try_clone(&self) -> Result<Value, NoMemory>
+        ensures { IfOk result (λ copy. copy ≡ self.now) }
+    {
+        Ok(Value {
+            bytes: self.bytes.try_clone()?,
+        })
+    }
+}
+
+fn is_value(bytes: &[u8]) -> bool
+    ensures { result ≡ is_value bytes.now }
+{
+    bytes.iter().all(|b| !matches!(*b, 0 | b'\n' | b'\r'))
+}
