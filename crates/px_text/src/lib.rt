@@ -5,9 +5,15 @@
 #![tactic(auto)]
 
 mod ascii;
+mod blank;
 mod bytes;
 mod no_memory;
+mod number;
+#[cfg(test)]
+mod tests;
 
 pub use ascii::eq_ignore_case;
+pub use blank::find_blank;
 pub use bytes::Bytes;
 pub use no_memory::NoMemory;
+pub use number::{push_decimal, push_hex, read_decimal, read_hex};

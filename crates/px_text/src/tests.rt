@@ -1,0 +1,74 @@
+//! Worked rows: each call once with ample memory.
+use crate::{Bytes, eq_ignore_case, find_blank, push_decimal, push_hex, read_decimal, read_hex};
+use std::rt::HostRuntime;
+
+#[test]
+fn digits_are_read(rt: HostRuntime) {
+    let decimal: [(&[u8], Option<u64>); 8] = [
+        (b"18446744073709551615", Some(18_446_744_073_709_551_615)),
+        (b"18446744073709551616", None),
+        (b"", None),
+        (b"+5", None),
+        (b"-5", None),
+        (b"007", Some(7)),
+        (b"5 ", None),
+        (b"1a", None),
+    ];
+    for (digits, want) in decimal {
+        assert_eq!(rt; read_decimal(digits), want, "at {digits:?}");
+    }
+    let hex: [(&[u8], Option<u64>); 6] = [
+        (b"1a", Some(26)),
+        (b"FFFFFFFFFFFFFFFF", Some(18_446_744_073_709_551_615)),
+        (b"10000000000000000", None),
+        (b"", None),
+        (b"+f", None),
+        (b"g", None),
+    ];
+    for (digits, want) in hex {
+        assert_eq!(rt; read_hex(digits), want, "at {digits:?}");
+    }
+}
+
+#[test]
+fn numbers_are_written(rt: HostRuntime) {
+    let rows: [(u64, &[u8]); 2] = [(0, b"0|0"), (255, b"255|ff")];
+    for (n, want) in rows {
+        let mut out = Vec::new(rt.alloc());
+        assert!(rt; push_decimal(&mut out, n).is_ok());
+        assert!(rt; out.push(b'|').is_ok());
+        assert!(rt; push_hex(&mut out, n).is_ok());
+        assert!(rt; out.as_slice() == want, "at {n}");
+    }
+}
+
+#[test]
+fn blocks_end_at_the_first_empty_line(rt: HostRuntime) {
+    let rows: [(&[u8], usize, Option<usize>); 6] = [
+        (b"a\r\n\r\nb", 0, Some(5)),
+        (b"a\n\nb\n\n", 0, Some(3)),
+        (b"a\n\nb\n\n", 2, Some(6)),
+        (b"a\n\r\n", 0, Some(4)),
+        (b"a\r\n\r", 0, None),
+        (b"\r\n", 0, None),
+    ];
+    for (bytes, start, want) in rows {
+        assert_eq!(rt; find_blank(bytes, start), want, "at {bytes:?}");
+    }
+}
+
+#[test]
+fn bytes_and_letters(rt: HostRuntime) {
+    let Ok(vector) = Vec::from_slice(rt.alloc(), b"ab") else {
+        panic!(rt; "memory");
+    };
+    let bytes = Bytes::new(vector);
+    let Ok(copy) = bytes.try_clone() else {
+        panic!(rt; "memory");
+    };
+    assert!(rt; copy == bytes);
+    assert!(rt; copy.as_slice() == b"ab".as_slice());
+    assert!(rt; bytes.into_vec().as_slice() == b"ab".as_slice());
+    assert!(rt; eq_ignore_case(b"Host", b"hOST"));
+    assert!(rt; !eq_ignore_case(b"[", b"{"));
+}
