@@ -1,0 +1,26 @@
+//! What the layers of the proxy take and give: events in, commands out, and the steps of a run.
+//!
+//! A conversation has a number, one client side and server sides `Server(0)`, `Server(1)` and so on, numbered by its
+//! dials. A layer takes events, asks hooks and dials, and gives commands; it does no input or output by itself
+//! (mitmproxy's manual, "Event hooks and API"). A run's trace is the list of its steps: what was heard, asked, answered,
+//! said and done, in their order. `specs/Trace.antt` has the words that every theorem on a run uses: what was sent to a
+//! side of a conversation, at every moment, at each step's end. They speak of no particular layer.
+#![tactic(auto)]
+
+mod ask;
+mod command;
+mod event;
+mod heard;
+mod reply;
+mod said;
+mod side;
+mod step;
+
+pub use ask::{Ask, Hook};
+pub use command::Command;
+pub use event::{Event, Rests};
+pub use heard::Heard;
+pub use reply::Reply;
+pub use said::Said;
+pub use side::{Door, Side};
+pub use step::Step;
