@@ -1,1 +1,4 @@
 mod AddressLemmas
+mod RequestLemmas
+mod OptionLemmas
+mod FlowLemmas

@@ -2,3 +2,4 @@ pub mod Path
 pub mod Value
 pub mod Host
 pub mod Status
+pub mod Request

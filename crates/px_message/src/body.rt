@@ -2,6 +2,7 @@
 ghost use Rattle.std.specs.Prelude.{◌≡◌, IfOk};
 
 use px_text::{Bytes, NoMemory};
+use std::alloc::AllocError;
 use std::marker::Model;
 
 /// The content of a message, without its framing (RFC 9112 section 6).
@@ -18,6 +19,16 @@ impl Model for Body {
     ghost view = { λ b. b.bytes };
 
     ghost inverse = { λ text. record { bytes = text } };
+}
+
+impl Clone for Body {
+    ghost is_clone = { λ x y. y ≡ x };
+
+    fn clone(&self) -> Result<Body, AllocError> {
+        Ok(Body {
+            bytes: self.bytes.clone()?,
+        })
+    }
 }
 
 impl Body {
@@ -41,8 +52,6 @@ impl Body {
     pub fn try_clone(&self) -> Result<Body, NoMemory>
         ensures { IfOk result (λ copy. copy ≡ self.now) }
     {
-        Ok(Body {
-            bytes: self.bytes.try_clone()?,
-        })
+        Ok(self.clone()?)
     }
 }

@@ -1,12 +1,13 @@
 //! Field sections.
-ghost use Rattle.std.specs.Prelude.{◌≡◌, [], length, nat_eq};
+ghost use Rattle.std.specs.Prelude.{◌≡◌, [], length, nat_eq, IfOk};
 ghost use Rattle.std.specs.Ordering.{eq_of_both, on};
 ghost use Rattle.std.specs.Cmp.Lexicographic.{pointwise};
 ghost use Rattle.std.proofs.Common.{rules};
 ghost use Rattle.std.specs.Cmp.Rules.{comparing};
 
 use crate::{Name, Value};
-use std::alloc::Global;
+use px_text::NoMemory;
+use std::alloc::{AllocError, Global};
 use std::marker::Model;
 
 /// A list of fields, in the sender's order and spelling (RFC 9110 section 5.2). Names are compared without case.
@@ -37,6 +38,16 @@ impl Eq for Fields {
     ghost laws = { Prim.search (comparing, rules) };
 }
 
+impl Clone for Fields {
+    ghost is_clone = { λ x y. y ≡ x };
+
+    fn clone(&self) -> Result<Fields, AllocError> {
+        Ok(Fields {
+            pairs: self.pairs.clone()?,
+        })
+    }
+}
+
 impl Fields {
     /// No fields. The allocator is kept for those that are added.
     pub fn new(alloc: Global) -> Fields
@@ -52,6 +63,13 @@ impl Fields {
         ensures { result ≡ length self.now }
     {
         self.pairs.len()
+    }
+
+    /// A copy with the same fields.
+    pub fn try_clone(&self) -> Result<Fields, NoMemory>
+        ensures { IfOk result (λ copy. copy ≡ self.now) }
+    {
+        Ok(self.clone()?)
     }
 }
 

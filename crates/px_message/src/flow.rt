@@ -3,6 +3,7 @@ ghost use Rattle.std.specs.Prelude.{◌≡◌, IfOk};
 
 use crate::{Address, Request, Response};
 use px_text::{Bytes, NoMemory};
+use std::alloc::AllocError;
 
 /// Which flow: the number of its conversation, and its place in it from 0.
 #[derive(Clone, Copy, Debug, PartialEq, Eq)]
@@ -64,4 +65,74 @@ pub struct Flow {
     /// Whether it was upgraded to a WebSocket.
     pub websocket: bool,
     pub message: Option<WsMessage>,
+}
+
+impl Clone for FlowError {
+    ghost is_clone = { λ x y. y ≡ x };
+
+    fn clone(&self) -> Result<FlowError, AllocError> {
+        Ok(FlowError {
+            msg: self.msg.clone()?,
+            moment: self.moment,
+        })
+    }
+}
+
+impl FlowError {
+    /// A copy of the same error.
+    pub fn try_clone(&self) -> Result<FlowError, NoMemory>
+        ensures { IfOk result (λ copy. copy ≡ self.now) }
+    {
+        Ok(self.clone()?)
+    }
+}
+
+impl Clone for WsMessage {
+    ghost is_clone = { λ x y. y ≡ x };
+
+    fn clone(&self) -> Result<WsMessage, AllocError> {
+        Ok(WsMessage {
+            from_client: self.from_client,
+            text: self.text,
+            payload: self.payload.clone()?,
+        })
+    }
+}
+
+impl WsMessage {
+    /// A copy of the same message.
+    pub fn try_clone(&self) -> Result<WsMessage, NoMemory>
+        ensures { IfOk result (λ copy. copy ≡ self.now) }
+    {
+        Ok(self.clone()?)
+    }
+}
+
+impl Clone for Flow {
+    ghost is_clone = { λ x y. y ≡ x };
+
+    fn clone(&self) -> Result<Flow, AllocError> {
+        Ok(Flow {
+            id: self.id,
+            client: self.client.clone()?,
+            server: self.server.clone()?,
+            request: self.request.clone()?,
+            response: self.response.clone()?,
+            error: self.error.clone()?,
+            times: self.times,
+            replayed: self.replayed,
+            marked: self.marked,
+            websocket: self.websocket,
+            message: self.message.clone()?,
+        })
+    }
+}
+
+impl Flow {
+    /// A copy of the same flow.
+    pub fn try_clone(&self) -> Result<Flow, NoMemory>
+        ensures { IfOk result (λ copy. copy ≡ self.now) }
+    {
+        Ok(self.clone()?)
+    }
 }

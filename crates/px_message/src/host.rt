@@ -4,7 +4,7 @@ ghost use Rattle.px_message.specs.Host.{IsHost};
 
 use http_uri::{Authority, UriError};
 use px_text::{Bytes, NoMemory};
-use std::alloc::Global;
+use std::alloc::{AllocError, Global};
 use std::marker::Model;
 
 /// The host of an authority without its port: a name, an IPv4 address, or an IPv6 address in brackets
@@ -36,6 +36,16 @@ impl Model for Host {
     ghost invariant = { λ h. IsHost h.bytes };
 }
 
+impl Clone for Host {
+    ghost is_clone = { λ x y. y ≡ x };
+
+    fn clone(&self) -> Result<Host, AllocError> {
+        Ok(Host {
+            bytes: self.bytes.clone()?,
+        })
+    }
+}
+
 impl Host {
     /// The bytes.
     pub fn bytes(&self) -> &[u8]
@@ -49,8 +59,6 @@ impl Host {
     pub fn try_clone(&self) -> Result<Host, NoMemory>
         ensures { IfOk result (λ copy. copy ≡ self.now) }
     {
-        Ok(Host {
-            bytes: self.bytes.try_clone()?,
-        })
+        Ok(self.clone()?)
     }
 }

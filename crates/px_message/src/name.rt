@@ -3,6 +3,7 @@ ghost use Rattle.std.specs.Prelude.{◌≡◌, true, false, IfOk, IfErr};
 ghost use Rattle.httparse.specs.Grammar.{is_token};
 
 use px_text::{Bytes, NoMemory};
+use std::alloc::AllocError;
 use std::marker::Model;
 
 /// The name of a field, or a method: a token (RFC 9110 section 5.6.2), in the sender's spelling.
@@ -26,6 +27,16 @@ impl Model for Name {
     ghost inverse = { λ text. record { bytes = text } };
 
     ghost invariant = { λ n. is_token n.bytes ≡ true };
+}
+
+impl Clone for Name {
+    ghost is_clone = { λ x y. y ≡ x };
+
+    fn clone(&self) -> Result<Name, AllocError> {
+        Ok(Name {
+            bytes: self.bytes.clone()?,
+        })
+    }
 }
 
 impl Name {
@@ -56,8 +67,6 @@ impl Name {
     pub fn try_clone(&self) -> Result<Name, NoMemory>
         ensures { IfOk result (λ copy. copy ≡ self.now) }
     {
-        Ok(Name {
-            bytes: self.bytes.try_clone()?,
-        })
+        Ok(self.clone()?)
     }
 }

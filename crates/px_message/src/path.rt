@@ -4,6 +4,7 @@ ghost use Rattle.std.specs.List.{list_all};
 ghost use Rattle.px_message.specs.Path.{is_path, is_path_byte};
 
 use px_text::{Bytes, NoMemory};
+use std::alloc::AllocError;
 use std::marker::Model;
 
 /// The path of a request with its query, beginning with `/`; or `*`, which asks about the server as a whole
@@ -28,6 +29,16 @@ impl Model for Path {
     ghost inverse = { λ text. record { bytes = text } };
 
     ghost invariant = { λ p. is_path p.bytes ≡ true };
+}
+
+impl Clone for Path {
+    ghost is_clone = { λ x y. y ≡ x };
+
+    fn clone(&self) -> Result<Path, AllocError> {
+        Ok(Path {
+            bytes: self.bytes.clone()?,
+        })
+    }
 }
 
 impl Path {
@@ -58,9 +69,7 @@ impl Path {
     pub fn try_clone(&self) -> Result<Path, NoMemory>
         ensures { IfOk result (λ copy. copy ≡ self.now) }
     {
-        Ok(Path {
-            bytes: self.bytes.try_clone()?,
-        })
+        Ok(self.clone()?)
     }
 }
 

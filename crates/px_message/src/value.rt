@@ -3,6 +3,7 @@ ghost use Rattle.std.specs.Prelude.{◌≡◌, IsTrue, true, false, IfOk, IfErr}
 ghost use Rattle.px_message.specs.Value.{is_value};
 
 use px_text::{Bytes, NoMemory};
+use std::alloc::AllocError;
 use std::marker::Model;
 
 /// The value of a field, or a response's reason: any bytes but CR, LF and NUL (RFC 9110 section 5.5).
@@ -26,6 +27,16 @@ impl Model for Value {
     ghost inverse = { λ text. record { bytes = text } };
 
     ghost invariant = { λ v. is_value v.bytes ≡ true };
+}
+
+impl Clone for Value {
+    ghost is_clone = { λ x y. y ≡ x };
+
+    fn clone(&self) -> Result<Value, AllocError> {
+        Ok(Value {
+            bytes: self.bytes.clone()?,
+        })
+    }
 }
 
 impl Value {
@@ -55,9 +66,7 @@ impl Value {
     pub fn try_clone(&self) -> Result<Value, NoMemory>
         ensures { IfOk result (λ copy. copy ≡ self.now) }
     {
-        Ok(Value {
-            bytes: self.bytes.try_clone()?,
-        })
+        Ok(self.clone()?)
     }
 }
 

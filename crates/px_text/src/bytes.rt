@@ -53,9 +53,9 @@ impl Bytes {
 }
 
 impl Clone for Bytes {
-    fn clone(&self) -> Result<Bytes, AllocError>
-        ensures { IfOk result (λ copy. copy ≡ self.now) }
-    {
+    ghost is_clone = { λ x y. y ≡ x };
+
+    fn clone(&self) -> Result<Bytes, AllocError> {
         Ok(Bytes {
             items: self.items.clone()?,
         })
