@@ -3,3 +3,4 @@ pub mod Value
 pub mod Host
 pub mod Status
 pub mod Request
+pub mod BadHost

@@ -1,6 +1,8 @@
 //! Hosts of requests.
-ghost use Rattle.std.specs.Prelude.{◌≡◌, IfOk, MatchResult};
+ghost use Rattle.std.specs.Prelude.{◌≡◌, ◌≢◌, All, MatchBool, IfOk, IfErr};
+ghost use Rattle.http_uri.specs.ByteClasses.{at_sign};
 ghost use Rattle.px_message.specs.Host.{IsHost};
+ghost use Rattle.px_message.specs.BadHost.{IsRefused};
 
 use http_uri::{Authority, UriError};
 use px_text::{Bytes, NoMemory};
@@ -47,6 +49,21 @@ impl Clone for Host {
 }
 
 impl Host {
+    /// The host of these bytes. Refused, with the bytes, exactly where `http_uri` reads them as no authority, or as one
+    /// with userinfo, with a port or a colon, or with a byte behind the bracket that closes an address.
+    pub fn try_new(alloc: Global, bytes: Vec<u8>) -> Result<Host, BadHost>
+        ensures ok { IfOk result (λ host. (host ≡ bytes.items) × IsHost bytes.items) }
+        ensures refused { IfErr result (IsRefused bytes.items) }
+    {
+        match is_host(alloc, &bytes) {
+            Ok(true) => Ok(Host {
+                bytes: Bytes::new(bytes),
+            }),
+            Ok(false) => Err(BadHost::Malformed(bytes)),
+            Err(NoMemory) => Err(BadHost::NoMemory),
+        }
+    }
+
     /// The bytes.
     pub fn bytes(&self) -> &[u8]
         ensures bytes { result.now ≡ self.now }
@@ -61,4 +78,20 @@ impl Host {
     {
         Ok(self.clone()?)
     }
+}
+
+fn is_host(alloc: Global, text: &[u8]) -> Result<bool, NoMemory>
+    ensures { IfOk result (λ valid. MatchBool valid (IsHost text.now) (¬ (IsHost text.now))) }
+{
+    match Authority::from_bytes(alloc, text) {
+        Ok(authority) => Ok(has_no_at_sign(text) && authority.host().as_bytes() == text),
+        Err(UriError::Invalid(_)) => Ok(false),
+        Err(UriError::OutOfMemory) => Err(NoMemory),
+    }
+}
+
+fn has_no_at_sign(text: &[u8]) -> bool
+    ensures { MatchBool result (All (λ b. b ≢ at_sign) text.now) (¬ (All (λ b. b ≢ at_sign) text.now)) }
+{
+    text.iter().all(|b| *b != b'@')
 }
