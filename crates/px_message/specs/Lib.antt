@@ -3,4 +3,5 @@ pub mod Value
 pub mod Host
 pub mod Status
 pub mod Request
+pub mod TellHost
 pub mod BadHost
