@@ -2,3 +2,4 @@ mod AddressLemmas
 mod RequestLemmas
 mod OptionLemmas
 mod FlowLemmas
+mod AuthorityLemmas

@@ -5,3 +5,5 @@ pub mod Status
 pub mod Request
 pub mod TellHost
 pub mod BadHost
+pub mod Authority
+pub mod Target

@@ -67,9 +67,9 @@ tell_may_follow : (front : List ℕ) (b : ℕ) → Told (MayFollow front b)
 tell_may_follow front b =
     let colons : Told (b ≡ colon → count_of colon (last_piece front) < 8) = tell_where _ _ (cases_eq b colon) (tell_less _ 8) in
     let opening : Told (b ≡ left_bracket → (count_of left_bracket front ≡ 0) × (count_of percent_sign (last_piece front) ≡ 0)) =
-        tell_where _ _ (cases_eq b left_bracket) (tell_both _ _ (cases_eq _ 0) (cases_eq _ 0)) in
+    tell_where _ _ (cases_eq b left_bracket) (tell_both _ _ (cases_eq _ 0) (cases_eq _ 0)) in
     let closing : Told (b ≡ right_bracket → (0 < count_of left_bracket front) × (count_of right_bracket front ≡ 0)) =
-        tell_where _ _ (cases_eq b right_bracket) (tell_both _ _ (tell_less 0 _) (cases_eq _ 0)) in
+    tell_where _ _ (cases_eq b right_bracket) (tell_both _ _ (tell_less 0 _) (cases_eq _ 0)) in
     elim (tell_both _ _ (tell_true (is_authority_byte b)) (tell_both _ _ colons (tell_both _ _ opening closing))) [
       | inl h ↦ inl (record { byte = h.0; colons = h.1.0; opening = h.1.1.0; closing = h.1.1.1 })
       | inr fails ↦ inr (λ h. fails (h.byte, (h.colons, (h.opening, h.closing))))
@@ -78,7 +78,7 @@ tell_may_follow front b =
 tell_authority : (text : List ℕ) → Told (IsAuthority text)
 tell_authority text =
     let bytes : Told ((i : ℕ) → i < length text → MayFollow (take i text) (slice_index text i)) =
-        tell_each_below (λ i. MayFollow (take i text) (slice_index text i)) (λ i. tell_may_follow (take i text) (slice_index text i)) (length text) in
+    tell_each_below (λ i. MayFollow (take i text) (slice_index text i)) (λ i. tell_may_follow (take i text) (slice_index text i)) (length text) in
     let closed : Told (count_of left_bracket text ≡ count_of right_bracket text) = cases_eq _ _ in
     let one_colon : Told (count_of colon (last_piece text) ≤ 1) = tell_at_most _ 1 in
     let no_percent : Told (count_of percent_sign (last_piece text) ≡ 0) = cases_eq _ 0 in

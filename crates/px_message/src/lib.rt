@@ -20,6 +20,7 @@ mod path;
 mod request;
 mod response;
 mod status;
+mod target;
 mod value;
 mod version;
 
@@ -34,5 +35,6 @@ pub use path::{BadPath, Path};
 pub use request::Request;
 pub use response::Response;
 pub use status::Status;
+pub use target::{Target, TargetError, read_target};
 pub use value::{BadValue, Value};
 pub use version::Version;
