@@ -7,3 +7,4 @@ pub mod TellHost
 pub mod BadHost
 pub mod Authority
 pub mod Target
+pub mod Url

@@ -58,6 +58,11 @@ impl Fields {
         }
     }
 
+    // The allocator that is kept for fields that are added.
+    pub(crate) fn allocator(&self) -> Global {
+        *self.pairs.allocator()
+    }
+
     /// How many fields there are.
     pub fn len(&self) -> usize
         ensures { result ≡ length self.now }

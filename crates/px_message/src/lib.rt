@@ -21,6 +21,7 @@ mod request;
 mod response;
 mod status;
 mod target;
+mod url;
 mod value;
 mod version;
 
@@ -36,5 +37,6 @@ pub use request::Request;
 pub use response::Response;
 pub use status::Status;
 pub use target::{Target, TargetError, read_target};
+pub use url::UrlError;
 pub use value::{BadValue, Value};
 pub use version::Version;
