@@ -21,6 +21,8 @@ mod request;
 mod response;
 mod status;
 mod target;
+#[cfg(test)]
+mod tests;
 mod url;
 mod value;
 mod version;

@@ -1,0 +1,2 @@
+//! Worked values of each public call.
+mod values;
