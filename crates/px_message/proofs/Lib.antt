@@ -3,3 +3,7 @@ mod RequestLemmas
 mod OptionLemmas
 mod FlowLemmas
 mod AuthorityLemmas
+pub mod AddressLemmas
+pub mod AuthorityLemmas
+pub mod HostLemmas
+pub mod UrlLemmas

@@ -39,6 +39,6 @@ pub use request::Request;
 pub use response::Response;
 pub use status::Status;
 pub use target::{Target, TargetError, read_target};
-pub use url::UrlError;
+pub use url::{UrlError, written_url_is_read};
 pub use value::{BadValue, Value};
 pub use version::Version;

@@ -6,7 +6,7 @@
 //! the URL of `OPTIONS *` is that of the server, and names the path `/` where it is read.
 ghost use Rattle.std.specs.Prelude.{◌≡◌, ◌++◌, Some, None, Err, IfOk, OnOk, OnErr};
 ghost use Rattle.px_message.specs.Target.{absolute_form};
-ghost use Rattle.px_message.specs.Url.{port_suffix, url_path, url_text, ChangesUrlOnly};
+ghost use Rattle.px_message.specs.Url.{port_suffix, url_path, url_text, ChangesUrlOnly, WrittenUrlIsRead};
 
 use crate::target::read_absolute;
 use crate::{Address, Request, TargetError};
@@ -76,3 +76,8 @@ fn append_path(url: &mut Vec<u8>, path: &[u8]) -> Result<(), NoMemory>
     }
     Ok(())
 }
+
+/// A law: what `url` writes of a request whose path is not `*`, `set_url` reads as the same host, port and path.
+pub fn written_url_is_read()
+    ensures { WrittenUrlIsRead }
+{}
