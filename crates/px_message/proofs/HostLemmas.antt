@@ -43,11 +43,11 @@ no_at_sign host h k less = All-get_or (λ b. b ≢ 64) host k 0 less h.no_userin
 pub host_of-host : (host : List ℕ) → IsHost host → host_of host ≡ host
 host_of-host host h = sym (authority_host-host_of host (no_at_sign host h)) ∙ h.whole
 
-short_take : (n : ℕ) (xs : List ℕ) → take n xs ≡ xs → length xs ≤ n
+pub short_take : (n : ℕ) (xs : List ℕ) → take n xs ≡ xs → length xs ≤ n
 short_take n xs whole = omega (arith, length-take n xs, ap length whole)
 
 -- a host in brackets ends with its first closing bracket
-bracket_end : (host : List ℕ) → IsHost host → get_or host 0 0 ≡ 91 → take (index_of 93 host + 1) host ≡ host → index_of 93 host + 1 ≡ length host
+pub bracket_end : (host : List ℕ) → IsHost host → get_or host 0 0 ≡ 91 → take (index_of 93 host + 1) host ≡ host → index_of 93 host + 1 ≡ length host
 bracket_end [] h first whole = absurd (omega (arith, h.authority.nonempty))
 bracket_end (x ∷ xs) h first whole =
     let host : List ℕ = x ∷ xs in

@@ -7,3 +7,5 @@ pub mod AddressLemmas
 pub mod AuthorityLemmas
 pub mod HostLemmas
 pub mod UrlLemmas
+pub mod PieceLemmas
+pub mod AddressTextLemmas

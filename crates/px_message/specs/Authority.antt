@@ -1,10 +1,11 @@
 -- The address that the text of an authority names.
-use Rattle.std.specs.Prelude.{ℕ, ◌⊎◌, Bool, ◌&&◌, ◌==◌, nat_le, List, [], ◌∷◌, length, drop, slice_index, Option, Some, None, if◌then◌else◌}
+use Rattle.std.specs.Prelude.{◌≡◌, ◌↔◌, ◌≢◌, ◌<◌, All, ℕ, ◌⊎◌, Bool, ◌&&◌, ◌==◌, nat_le, List, [], ◌∷◌, length, drop, slice_index, Option, Some, None, if◌then◌else◌}
 use Rattle.std.specs.List.{list_all}
 use Rattle.std.specs.Char.{is_ascii_digit}
 use Rattle.std.specs.Str.Parse.{digits_value}
 use Rattle.std.proofs.Common.{inl}
-use Rattle.http_uri.specs.ByteClasses.{colon, left_bracket, right_bracket, split_once_front, split_once_through}
+use Rattle.http_uri.specs.ByteClasses.{at_sign, colon, left_bracket, right_bracket, split_once_front, split_once_through}
+use Rattle.http_uri.specs.Grammar.{IsAuthority, authority_host}
 use Rattle.px_message.specs.Host.{IsHost}
 use Rattle.px_message.specs.TellHost.{tell_host}
 
@@ -40,3 +41,16 @@ address_from host _ _ = None
 -- port follows its host
 unfoldable pub address_of : List ℕ → Option (List ℕ × ℕ)
 address_of authority = address_from (host_of authority) (tell_host (host_of authority)) (port_of (after_host authority))
+
+-- The same in the words of `http_uri`: it reads the text as an authority, without userinfo, whose host is this and not
+-- empty, and what follows the host is this port.
+pub record IsAddress (text host : List ℕ) (port : ℕ) : Type 0 where
+  pub authority : IsAuthority text
+  pub no_userinfo : All (λ b. b ≢ at_sign) text
+  pub host_is : authority_host text ≡ host
+  pub not_empty : 0 < length host
+  pub port_is : port_of (drop (length host) text) ≡ Some port
+
+-- a text has an address exactly where it is one in those words
+abbrev pub AddressIsAuthority : Type 0
+AddressIsAuthority = (text host : List ℕ) (port : ℕ) → (address_of text ≡ Some (host, port)) ↔ IsAddress text host port

@@ -10,6 +10,7 @@
 #![tactic(auto)]
 
 mod address;
+mod authority;
 mod body;
 mod fault;
 mod fields;
@@ -28,6 +29,7 @@ mod value;
 mod version;
 
 pub use address::Address;
+pub use authority::address_is_authority;
 pub use body::Body;
 pub use fault::Fault;
 pub use fields::{Fields, FieldsOf};

@@ -2,20 +2,13 @@
 //!
 //! A target is read by its method. CONNECT has the authority form, a host and a port, and that alone. Any other method
 //! has the origin form, a path; the asterisk form, `*`; or the absolute form, a whole URL of the scheme `http`. The
-//! authority of the last two ends where a path or a query begins; what follows its host is nothing, which means port 80,
-//! or a colon and a port of one to five digits. Userinfo, an empty host and bytes between a host and its colon are
-//! refused, though `http_uri` reads such authorities: what they say would be lost.
+//! authority of a URL ends where a path or a query begins, and a URL without a path has the path `/`. Whatever has none
+//! of these forms is refused.
 //!
-//! The texts are cut by the functions below in the order of the definitions in `specs/`: `host_of` and `port_of` for an
-//! authority, `absolute_form` and `target_form` for a target. Each equals its definition.
-ghost use Rattle.std.specs.Prelude.{◌≡◌, ◌≢◌, ◌≤◌, ◌==◌, true, false, length, take, drop, slice_index, None, Some, Err, IfOk, IfErr, IsTrue, IfSome, MatchOption};
-ghost use Rattle.std.specs.List.{list_all};
-ghost use Rattle.std.specs.Char.{is_ascii_digit};
-ghost use Rattle.std.specs.Str.Parse.{digits_value};
-ghost use Rattle.http_uri.specs.ByteClasses.{index_of};
-ghost use Rattle.px_message.specs.Authority.{host_of, after_host, has_port_digits, is_port, port_of, address_of};
+//! Each function below equals a definition of `specs/`: `absolute_form` for a URL, `authority_form` for CONNECT and
+//! `target_form` for the whole.
+ghost use Rattle.std.specs.Prelude.{◌≡◌, ◌≤◌, length, None, Some, Err, IfOk, IfErr, IsTrue};
 ghost use Rattle.px_message.specs.Target.{
-  Form,
   form_of,
   target_form,
   absolute_form,
@@ -26,7 +19,8 @@ ghost use Rattle.px_message.specs.Target.{
   path_form,
 };
 
-use crate::{Address, BadHost, Host, Path};
+use crate::authority::{after_host, copy, read_address};
+use crate::{Address, Path};
 use px_text::eq_ignore_case;
 use std::alloc::Global;
 
@@ -50,104 +44,6 @@ pub enum TargetError {
     BadTarget,
     /// Memory ran out; it says nothing of the target.
     NoMemory,
-}
-
-fn index_of(text: &[u8], byte: u8) -> usize
-    ensures value { result ≡ index_of byte text.now }
-    ensures within { result ≤ length text.now }
-{
-    text.iter().take_while(|b| **b != byte).count()
-}
-
-// The host at the front of an authority, with its brackets.
-fn host_of(authority: &[u8]) -> &[u8]
-    ensures { result.now ≡ host_of authority.now }
-{
-    if authority.first() == Some(&b'[') {
-        let end = index_of(authority, b']');
-        if end < authority.len() {
-            &authority[..end + 1]
-        } else {
-            authority
-        }
-    } else {
-        &authority[..index_of(authority, b':')]
-    }
-}
-
-// What follows the host of an authority.
-fn after_host(authority: &[u8]) -> &[u8]
-    ensures { result.now ≡ after_host authority.now }
-{
-    &authority[host_of(authority).len()..]
-}
-
-// The bytes are one to five digits.
-fn has_port_digits(digits: &[u8]) -> bool
-    ensures { result ≡ has_port_digits digits.now }
-{
-    !digits.is_empty() && digits.len() <= 5 && are_digits(digits)
-}
-
-fn are_digits(bytes: &[u8]) -> bool
-    ensures { result ≡ list_all is_ascii_digit bytes.now }
-{
-    bytes.iter().all(|b| b.is_ascii_digit())
-}
-
-// The number of a port by its digits.
-fn read_port_digits(digits: &[u8]) -> Option<u16>
-    ensures { MatchOption result (is_port digits.now ≡ false) (λ port. (is_port digits.now ≡ true) × (port ≡ digits_value 10 digits.now)) }
-{
-    if !has_port_digits(digits) {
-        return None;
-    }
-    match str::from_utf8(digits) {
-        Ok(text) => match text.parse::<u16>() {
-            Ok(0) => None,
-            Ok(port) => Some(port),
-            Err(_) => None,
-        },
-        Err(_) => None,
-    }
-}
-
-// The port that follows a host.
-#[tactic(auto, unfolding(crate::specs::Authority::port_of))]
-fn read_port(rest: &[u8]) -> Option<u16>
-    ensures value { result ≡ port_of rest.now }
-    ensures not_zero { IfSome result (λ port. port ≢ 0) }
-{
-    match rest.split_first() {
-        None => Some(80),
-        Some((b':', digits)) => read_port_digits(digits),
-        Some(_) => None,
-    }
-}
-
-fn copy(alloc: Global, bytes: &[u8]) -> Result<Vec<u8>, TargetError>
-    ensures ok { IfOk result (λ copy. copy.items ≡ bytes.now) }
-    ensures err { IfErr result (λ e. e ≡ TargetError.NoMemory) }
-{
-    match bytes.to_vec(alloc) {
-        Ok(copy) => Ok(copy),
-        Err(_) => Err(TargetError::NoMemory),
-    }
-}
-
-// The host and the port of an authority.
-pub(crate) fn read_address(alloc: Global, authority: &[u8]) -> Result<Address, TargetError>
-    ensures ok { IfOk result (λ a. address_of authority.now ≡ Some (a.host, a.port)) }
-    ensures bad { result ≡ Err TargetError.BadTarget → address_of authority.now ≡ None }
-{
-    let Some(port) = read_port(after_host(authority)) else {
-        return Err(TargetError::BadTarget);
-    };
-    match Host::try_new(alloc, copy(alloc, host_of(authority))?) {
-        Ok(host) => Ok(Address { host, port }),
-        Err(BadHost::Malformed(_)) => Err(TargetError::BadTarget),
-        Err(BadHost::NoMemory) => Err(TargetError::NoMemory),
-    }
 }
 
 // The text begins with `http://`, in any letter case.

@@ -2,7 +2,7 @@ use Rattle.std.proofs.Common.{sym, ap, ◌∙◌, subst}
 use Rattle.px_message.specs.Host.{IsHost}
 use Rattle.px_message.specs.Authority.{port_of}
 use Rattle.px_message.proofs.AuthorityLemmas.{address_of-parts, address_of-no_host, address_of-no_port}
-use Rattle.px_message.proofs.target.read_address.Goals as goal
+use Rattle.px_message.proofs.authority.read_address.Goals as goal
 
 pub returns-in_default-clause-bad : goal.returns-in_default-clause-bad
 returns-in_default-clause-bad c = λ _. address_of-no_port _ (sym (ap port_of c.after_host.ensures) ∙ sym c.in_default.ensures.value)
