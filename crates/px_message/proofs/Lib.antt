@@ -9,3 +9,5 @@ pub mod HostLemmas
 pub mod UrlLemmas
 pub mod PieceLemmas
 pub mod AddressTextLemmas
+mod ListLemmas
+mod SetLemmas

@@ -8,3 +8,4 @@ pub mod BadHost
 pub mod Authority
 pub mod Target
 pub mod Url
+pub mod Fields

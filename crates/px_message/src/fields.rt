@@ -1,10 +1,19 @@
-//! Field sections.
-ghost use Rattle.std.specs.Prelude.{◌≡◌, [], length, nat_eq, IfOk};
+//! Field sections: the lists of fields of messages and of trailers (RFC 9110 section 5).
+//!
+//! A list keeps the sender's order and spelling, and fields of one name may stand in it more than once. Names are
+//! compared without the case of ASCII letters (section 5.1). What a field means is told by all values of its name in
+//! their order (section 5.3): they are read by `get_all`, or by `has_element` where they are comma lists.
+//! Each change is one of the whole list: `add` puts a field at the end, `remove` takes away all of a name, and `set`
+//! leaves one of a name, at the place of the first.
+ghost use Rattle.std.specs.Prelude.{◌≡◌, ◌<◌, ◌≤◌, ◌==◌, [], ◌∷◌, ◌++◌, length, take, drop, position, nat_eq, slice_get, IfOk, OnOk, OnErr};
+ghost use Rattle.std.specs.Iterator.{YieldsFirstRef, item_count};
 ghost use Rattle.std.specs.Ordering.{eq_of_both, on};
 ghost use Rattle.std.specs.Cmp.Lexicographic.{pointwise};
 ghost use Rattle.std.proofs.Common.{rules};
 ghost use Rattle.std.specs.Cmp.Rules.{comparing};
+ghost use Rattle.px_message.specs.Fields.{has_element, is_named, set_in, values_of, without};
 
+use crate::elements::{is_among_elements, is_same_name};
 use crate::{Name, Value};
 use px_text::NoMemory;
 use std::alloc::{AllocError, Global};
@@ -70,6 +79,74 @@ impl Fields {
         self.pairs.len()
     }
 
+    /// Whether there are none.
+    pub fn is_empty(&self) -> bool
+        ensures { result ≡ (length self.now == 0) }
+    {
+        self.pairs.is_empty()
+    }
+
+    /// The name and the value of the field at that index, counted from 0.
+    pub fn pair(&self, i: usize) -> (&Name, &Value)
+        requires { i < length self.now }
+        ensures { slice_get self.now i ≡ Some (result.0.now, result.1.now) }
+    {
+        let pair = &self.pairs[i];
+        (&pair.0, &pair.1)
+    }
+
+    /// The values of the fields of that name, in any case, in their order. It takes no memory.
+    pub fn get_all<'a>(&'a self, name: &'a [u8]) -> FieldsOf<'a>
+        ensures { result ≡ values_of name.now self.now }
+    {
+        FieldsOf {
+            name,
+            rest: &self.pairs,
+        }
+    }
+
+    /// Whether a field of that name has the element in its comma list, both in any case (RFC 9110 section 5.6.1). It
+    /// takes no memory.
+    pub fn has_element(&self, name: &[u8], element: &[u8]) -> bool
+        ensures { result ≡ has_element name.now element.now self.now }
+    {
+        self.get_all(name)
+            .any(|value| is_among_elements(value.bytes(), element))
+    }
+
+    /// Puts a field at the end. After `NoMemory` the list is as before.
+    pub fn add(&mut self, name: Name, value: Value) -> Result<(), NoMemory>
+        ensures added { OnOk result (self.new ≡ self.old ++ (name, value) ∷ []) }
+        ensures unchanged { OnErr result (self.new ≡ self.old) }
+    {
+        self.pairs.push((name, value))?;
+        Ok(())
+    }
+
+    /// Takes away all fields of that name, in any case. It takes no memory.
+    pub fn remove(&mut self, name: &[u8])
+        ensures { self.new ≡ without name.now self.old }
+    {
+        self.pairs
+            .retain(|pair| !is_same_name(pair.0.bytes(), name));
+    }
+
+    /// Puts the field at the place of the first of its name, in any case, and takes away the others of that name; without
+    /// one it puts the field at the end. After `NoMemory` the list is as before.
+    pub fn set(&mut self, name: Name, value: Value) -> Result<(), NoMemory>
+        ensures set { OnOk result (self.new ≡ set_in name value self.old) }
+        ensures unchanged { OnErr result (self.new ≡ self.old) }
+    {
+        match position_of(&self.pairs, name.bytes()) {
+            None => self.add(name, value),
+            Some(first) => {
+                remove_from(&mut self.pairs, first + 1, name.bytes());
+                self.pairs[first] = (name, value);
+                Ok(())
+            }
+        }
+    }
+
     /// A copy with the same fields.
     pub fn try_clone(&self) -> Result<Fields, NoMemory>
         ensures { IfOk result (λ copy. copy ≡ self.now) }
@@ -78,9 +155,60 @@ impl Fields {
     }
 }
 
-/// The values of the fields of one name, in their order.
+// Where the first field of that name stands.
+fn position_of(pairs: &[(Name, Value)], name: &[u8]) -> Option<usize>
+    ensures { result ≡ position (is_named name.now) pairs.now }
+{
+    pairs
+        .iter()
+        .position(|pair| is_same_name(pair.0.bytes(), name))
+}
+
+// Takes away the fields of that name that stand at `start` or later.
+fn remove_from(pairs: &mut Vec<(Name, Value)>, start: usize, name: &[u8])
+    requires { start ≤ length pairs.old.items }
+    ensures { pairs.new.items ≡ take start pairs.old.items ++ without name.now (drop start pairs.old.items) }
+{
+    let mut i = start;
+    while i < pairs.len() {
+        if is_same_name(pairs[i].0.bytes(), name) {
+            pairs.remove(i);
+        } else {
+            i += 1;
+        }
+    }
+}
+
+/// The values of the fields of one name, in their order. Contracts see those that are still to come.
 #[derive(Debug, Drop)]
 pub struct FieldsOf<'a> {
     name: &'a [u8],
     rest: &'a [(Name, Value)],
+}
+
+impl<'a> Model for FieldsOf<'a> {
+    ghost use Rattle.std.specs.Prelude.{List, ℕ};
+    ghost use Rattle.px_message.specs.Fields.{values_of};
+
+    ghost Value = { List (List ℕ) };
+
+    ghost view = { λ f. values_of f.name.now f.rest.now };
+}
+
+impl<'a> Iterator for FieldsOf<'a> {
+    type Item = &'a Value;
+
+    ghost next_gives = { YieldsFirstRef (λ s. s) };
+
+    ghost remaining = { item_count (λ s. s) };
+
+    fn next(&mut self) -> Option<&'a Value> {
+        while let Some((first, others)) = self.rest.split_first() {
+            self.rest = others;
+            if is_same_name(first.0.bytes(), self.name) {
+                return Some(&first.1);
+            }
+        }
+        None
+    }
 }

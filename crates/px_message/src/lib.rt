@@ -12,6 +12,7 @@
 mod address;
 mod authority;
 mod body;
+mod elements;
 mod fault;
 mod fields;
 mod flow;
