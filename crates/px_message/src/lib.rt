@@ -26,6 +26,8 @@ mod target;
 #[cfg(test)]
 mod tests;
 mod url;
+#[cfg(test)]
+mod tests;
 mod value;
 mod version;
 
