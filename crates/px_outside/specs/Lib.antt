@@ -2,3 +2,4 @@ pub mod Count
 pub mod Files
 pub mod Net
 pub mod Sink
+pub mod VecSink

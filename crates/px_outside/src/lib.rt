@@ -10,8 +10,11 @@
 
 mod files;
 mod net;
+mod plan;
 mod sink;
+mod vec_sink;
 
 pub use files::{FileCall, FileError, Files};
 pub use net::{Net, NetError};
 pub use sink::{Sink, SinkError};
+pub use vec_sink::VecSink;
