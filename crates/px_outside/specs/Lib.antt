@@ -1,5 +1,6 @@
 pub mod Count
 pub mod Files
+pub mod MemFiles
 pub mod Net
 pub mod Sink
 pub mod VecSink

@@ -2,7 +2,8 @@
 ghost use Rattle.std.specs.Prelude.{◌≡◌, ◌≢◌, ◌≤◌, ◌<◌, ℕ, List, Some, None, Option, IfOk, OnOk, length};
 ghost use Rattle.px_outside.specs.Count.{Rose};
 
-use px_text::Bytes;
+use px_text::{Bytes, NoMemory};
+use std::alloc::AllocError;
 
 /// Why a file was not read or not written.
 #[derive(Clone, Copy, Debug, PartialEq, Eq)]
@@ -13,6 +14,28 @@ pub enum FileError {
     Failed,
     /// Memory ran out.
     NoMemory,
+}
+
+impl From<NoMemory> for FileError {
+    ghost use Rattle.std.specs.Prelude.{◌≡◌};
+    ghost use Rattle.px_outside.specs.declared.files.FileError.TheVariants as errors;
+
+    ghost from_gives = { λ _ error. error ≡ errors.NoMemory };
+
+    fn from(_: NoMemory) -> FileError {
+        FileError::NoMemory
+    }
+}
+
+impl From<AllocError> for FileError {
+    ghost use Rattle.std.specs.Prelude.{◌≡◌};
+    ghost use Rattle.px_outside.specs.declared.files.FileError.TheVariants as errors;
+
+    ghost from_gives = { λ _ error. error ≡ errors.NoMemory };
+
+    fn from(_: AllocError) -> FileError {
+        FileError::NoMemory
+    }
 }
 
 /// One call of `Files`, as it is listed: its path, and what it answered. A call that answers `NoMemory` is not listed.

@@ -9,12 +9,15 @@
 #![tactic(auto)]
 
 mod files;
+mod mem_files;
 mod net;
 mod plan;
 mod sink;
+mod stored;
 mod vec_sink;
 
 pub use files::{FileCall, FileError, Files};
+pub use mem_files::MemFiles;
 pub use net::{Net, NetError};
 pub use sink::{Sink, SinkError};
 pub use vec_sink::VecSink;
