@@ -4,7 +4,7 @@ use px_message::{Address, Flow};
 use px_text::Bytes;
 
 /// One command of a layer, to be carried out in the order in which it was given.
-#[derive(Debug, Drop, PartialEq, Eq)]
+#[derive(Clone, Debug, Drop, PartialEq, Eq)]
 pub enum Command {
     /// Send bytes to a side.
     Send {

@@ -3,7 +3,7 @@ use crate::{Ask, Reply, Side};
 use px_text::Bytes;
 
 /// One event of a conversation, as its layers see it.
-#[derive(Debug, Drop, PartialEq, Eq)]
+#[derive(Clone, Debug, Drop, PartialEq, Eq)]
 pub enum Event {
     /// The conversation begins. It starts a client replay, and has a tunnel or a WebSocket that was just made work off
     /// the bytes it was handed; every other layer ignores it.
@@ -17,7 +17,7 @@ pub enum Event {
 }
 
 /// The bytes that a layer did not use, for the layer that follows it.
-#[derive(Debug, Drop, PartialEq, Eq)]
+#[derive(Clone, Debug, Drop, PartialEq, Eq)]
 pub struct Rests {
     pub client: Bytes,
     pub server: Bytes,

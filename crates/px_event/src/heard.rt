@@ -1,10 +1,12 @@
 //! What is heard from outside.
+ghost use Rattle.std.specs.Prelude.{◌≡◌, IfOk};
+
 use crate::{Door, Side};
 use px_message::Address;
-use px_text::Bytes;
+use px_text::{Bytes, NoMemory};
 
 /// One thing heard from the network.
-#[derive(Debug, Drop, PartialEq, Eq)]
+#[derive(Clone, Debug, Drop, PartialEq, Eq)]
 pub enum Heard {
     /// A connection was accepted at this door; its conversation has this number.
     Accepted {
@@ -31,4 +33,13 @@ pub enum Heard {
     },
     /// Nothing more will be heard.
     End,
+}
+
+impl Heard {
+    /// A copy of the same thing heard.
+    pub fn try_clone(&self) -> Result<Heard, NoMemory>
+        ensures { IfOk result (λ copy. copy ≡ self.now) }
+    {
+        Ok(self.clone()?)
+    }
 }

@@ -1,9 +1,12 @@
 //! The steps of a run.
+ghost use Rattle.std.specs.Prelude.{◌≡◌, IfOk};
+
 use crate::{Ask, Heard, Reply, Said};
 use px_message::Flow;
+use px_text::NoMemory;
 
 /// One step of a run. A dial is asked by the `Said` and answered by the `Dialled` that is heard.
-#[derive(Debug, Drop, PartialEq, Eq)]
+#[derive(Clone, Debug, Drop, PartialEq, Eq)]
 pub enum Step {
     /// This was heard, at this moment in microseconds since 1970.
     Heard { moment: u64, heard: Heard },
@@ -15,4 +18,13 @@ pub enum Step {
     Said { conv: u32, said: Said },
     /// A flow is finished.
     Done { flow: Flow },
+}
+
+impl Step {
+    /// A copy of the same step.
+    pub fn try_clone(&self) -> Result<Step, NoMemory>
+        ensures { IfOk result (λ copy. copy ≡ self.now) }
+    {
+        Ok(self.clone()?)
+    }
 }
