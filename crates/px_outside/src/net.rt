@@ -7,6 +7,7 @@ ghost use Rattle.px_outside.specs.Net.{Adds, Listening, idle, failed, at, IsNote
 use px_event::{Heard, Said, Step};
 use px_message::Address;
 use px_text::NoMemory;
+use std::alloc::AllocFailed;
 
 /// Why nothing was heard.
 #[derive(Clone, Copy, Debug, PartialEq, Eq)]
@@ -15,6 +16,28 @@ pub enum NetError {
     Fault,
     /// Memory ran out.
     NoMemory,
+}
+
+impl From<NoMemory> for NetError {
+    ghost use Rattle.std.specs.Prelude.{◌≡◌};
+    ghost use Rattle.px_outside.specs.declared.net.NetError.TheVariants as errors;
+
+    ghost from_gives = { λ _ error. error ≡ errors.NoMemory };
+
+    fn from(_: NoMemory) -> NetError {
+        NetError::NoMemory
+    }
+}
+
+impl<T: Drop> From<AllocFailed<T>> for NetError {
+    ghost use Rattle.std.specs.Prelude.{◌≡◌};
+    ghost use Rattle.px_outside.specs.declared.net.NetError.TheVariants as errors;
+
+    ghost from_gives = { λ _ error. error ≡ errors.NoMemory };
+
+    fn from(_: AllocFailed<T>) -> NetError {
+        NetError::NoMemory
+    }
 }
 
 /// Where conversations come from, and where what is said to them goes.
