@@ -15,6 +15,8 @@ mod plan;
 mod script_net;
 mod sink;
 mod stored;
+#[cfg(test)]
+mod tests;
 mod vec_sink;
 
 pub use files::{FileCall, FileError, Files};
