@@ -1,0 +1,2 @@
+//! Heads.
+#![tactic(auto)]
