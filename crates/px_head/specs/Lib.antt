@@ -1,2 +1,4 @@
+pub mod Front
+pub mod Heads
 pub mod Tell
 pub mod TellPieces
