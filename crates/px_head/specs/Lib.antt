@@ -1,4 +1,5 @@
 pub mod Front
 pub mod Heads
+pub mod Spans
 pub mod Tell
 pub mod TellPieces

@@ -10,6 +10,7 @@
 //! the search for the block's end goes on where it stopped, and the grammar is asked once a block.
 #![tactic(auto)]
 
+mod block;
 mod front;
 mod place;
 mod raw;

@@ -1,0 +1,143 @@
+//! A block read by the grammar: its parts copied out of the bytes, or the answer that it is no head.
+//!
+//! The offset forms of `httparse` find each head that has no more fields than their room. So a block is a head exactly
+//! where they answer a head that is as long as the block (RFC 9112 sections 2 to 5).
+ghost use Rattle.std.specs.Prelude.{◌≡◌, ◌≤◌, All, IfOk, length, map};
+ghost use Rattle.httparse.specs.Grammar.{print_version};
+ghost use Rattle.httparse.specs.Spans.{IsHeaderWithin, header_bytes};
+ghost use Rattle.px_head.specs.Heads.{request_in, response_in, trailers_in};
+ghost use Rattle.px_head.specs.Spans.{AnswersRequest, AnswersResponse, AnswersTrailers};
+
+use crate::raw::{RawHead, RawPairs};
+use httparse::Status;
+use httparse::spans::{EMPTY_HEADER_SPAN, HeaderSpan, RequestSpans, ResponseSpans, parse_headers, parse_request, parse_response};
+use px_text::{Bytes, NoMemory, push_decimal};
+use std::alloc::Global;
+
+/// The most fields of a head.
+const MOST_FIELDS: usize = 100;
+
+/// The block as the head of a request.
+pub fn read_request(alloc: Global, block: &[u8]) -> Result<Option<RawHead>, NoMemory>
+    ensures { IfOk result (λ raw. raw ≡ request_in block.now) }
+{
+    let mut room = [EMPTY_HEADER_SPAN; MOST_FIELDS];
+    let Some(spans) = request_spans(block, &mut room) else {
+        return Ok(None);
+    };
+    Ok(Some(RawHead {
+        first: copy(alloc, spans.method.of(block))?,
+        second: copy(alloc, spans.path.of(block))?,
+        third: copy(alloc, version_text(spans.version))?,
+        pairs: copy_pairs(alloc, block, &room[..spans.headers])?,
+    }))
+}
+
+/// The block as the head of a response.
+pub fn read_response(alloc: Global, block: &[u8]) -> Result<Option<RawHead>, NoMemory>
+    ensures { IfOk result (λ raw. raw ≡ response_in block.now) }
+{
+    let mut room = [EMPTY_HEADER_SPAN; MOST_FIELDS];
+    let Some(spans) = response_spans(block, &mut room) else {
+        return Ok(None);
+    };
+    let mut code = Vec::new(alloc);
+    push_decimal(&mut code, u64::from(spans.code))?;
+    Ok(Some(RawHead {
+        first: copy(alloc, version_text(spans.version))?,
+        second: Bytes::new(code),
+        third: copy(alloc, spans.reason.of(block))?,
+        pairs: copy_pairs(alloc, block, &room[..spans.headers])?,
+    }))
+}
+
+/// The block as trailers.
+pub fn read_trailers(alloc: Global, block: &[u8]) -> Result<Option<RawHead>, NoMemory>
+    ensures { IfOk result (λ raw. raw ≡ trailers_in block.now) }
+{
+    let mut room = [EMPTY_HEADER_SPAN; MOST_FIELDS];
+    let Some(count) = trailer_spans(block, &mut room) else {
+        return Ok(None);
+    };
+    Ok(Some(RawHead {
+        first: Bytes::new(Vec::new(alloc)),
+        second: Bytes::new(Vec::new(alloc)),
+        third: Bytes::new(Vec::new(alloc)),
+        pairs: copy_pairs(alloc, block, &room[..count])?,
+    }))
+}
+
+fn request_spans(block: &[u8], room: &mut [HeaderSpan]) -> Option<RequestSpans>
+    requires { length room.old ≡ 100 }
+    ensures { AnswersRequest block.now room.new result }
+{
+    match parse_request(block, room) {
+        Ok(Status::Complete(spans)) => {
+            if spans.len == block.len() {
+                Some(spans)
+            } else {
+                None
+            }
+        }
+        _ => None,
+    }
+}
+
+fn response_spans(block: &[u8], room: &mut [HeaderSpan]) -> Option<ResponseSpans>
+    requires { length room.old ≡ 100 }
+    ensures { AnswersResponse block.now room.new result }
+{
+    match parse_response(block, room) {
+        Ok(Status::Complete(spans)) => {
+            if spans.len == block.len() && spans.code >= 100 {
+                Some(spans)
+            } else {
+                None
+            }
+        }
+        _ => None,
+    }
+}
+
+fn trailer_spans(block: &[u8], room: &mut [HeaderSpan]) -> Option<usize>
+    requires { length room.old ≡ 100 }
+    ensures { AnswersTrailers block.now room.new result }
+{
+    match parse_headers(block, room) {
+        Ok(Status::Complete((len, count))) => {
+            if len == block.len() {
+                Some(count)
+            } else {
+                None
+            }
+        }
+        _ => None,
+    }
+}
+
+fn version_text(minor: u8) -> &'static [u8]
+    requires { minor ≤ 1 }
+    ensures { result.now ≡ print_version minor }
+{
+    if minor == 0 { b"HTTP/1.0" } else { b"HTTP/1.1" }
+}
+
+fn copy(alloc: Global, bytes: &[u8]) -> Result<Bytes, NoMemory>
+    ensures { IfOk result (λ copy. copy ≡ bytes.now) }
+{
+    Ok(Bytes::new(Vec::from_slice(alloc, bytes)?))
+}
+
+// The names and values that the spans cover.
+fn copy_pairs(alloc: Global, block: &[u8], spans: &[HeaderSpan]) -> Result<RawPairs, NoMemory>
+    requires { All (IsHeaderWithin (length block.now)) spans.now }
+    ensures { IfOk result (λ pairs. pairs ≡ map (header_bytes block.now) spans.now) }
+{
+    let mut pairs = Vec::with_capacity(alloc, spans.len())?;
+    for span in spans {
+        let name = copy(alloc, span.name.of(block))?;
+        let value = copy(alloc, span.value.of(block))?;
+        pairs.push((name, value))?;
+    }
+    Ok(RawPairs::new(pairs))
+}
