@@ -44,6 +44,17 @@ head_place bytes = place_at bytes (blank_lines bytes) (blank_end bytes (blank_li
 abbrev pub trailers_place : List ℕ → Place
 trailers_place bytes = place_at bytes 0 (trailers_end bytes)
 
+abbrev pub place : Kind → List ℕ → Place
+place Request bytes = head_place bytes
+place Response bytes = head_place bytes
+place Trailers bytes = trailers_place bytes
+
+-- what a block is read as
+abbrev pub read_as : Kind → List ℕ → Option RawHead
+read_as Request block = request_in block
+read_as Response block = response_in block
+read_as Trailers block = trailers_in block
+
 abbrev pub front_of : Option RawHead → ℕ → Front
 front_of None end = BadHead
 front_of (Some raw) end = Stands raw end
@@ -53,17 +64,15 @@ front_in reads bytes Missing = Nothing
 front_in reads bytes Exceeded = TooLong
 front_in reads bytes (Block start end) = front_of (reads (slice_range bytes start end)) end
 
--- the request, the response and the trailers at the front
+-- what stands at the front of the bytes, for a kind of head
+abbrev pub front : Kind → List ℕ → Front
+front kind bytes = front_in (read_as kind) bytes (place kind bytes)
+
 abbrev pub request_front : List ℕ → Front
-request_front bytes = front_in request_in bytes (head_place bytes)
+request_front bytes = front Request bytes
 
 abbrev pub response_front : List ℕ → Front
-response_front bytes = front_in response_in bytes (head_place bytes)
+response_front bytes = front Response bytes
 
 abbrev pub trailer_front : List ℕ → Front
-trailer_front bytes = front_in trailers_in bytes (trailers_place bytes)
-
-abbrev pub front : Kind → List ℕ → Front
-front Request bytes = request_front bytes
-front Response bytes = response_front bytes
-front Trailers bytes = trailer_front bytes
+trailer_front bytes = front Trailers bytes

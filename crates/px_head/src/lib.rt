@@ -14,6 +14,8 @@ mod block;
 mod front;
 mod place;
 mod raw;
+mod reader;
 
 pub use front::Found;
 pub use raw::{RawHead, RawPairs};
+pub use reader::HeadReader;
