@@ -1,3 +1,4 @@
 pub mod BlockLemmas
 pub mod EndLemmas
 pub mod LineLemmas
+pub mod PlaceLemmas

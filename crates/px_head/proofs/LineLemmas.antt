@@ -110,7 +110,7 @@ blank_lines-append = by_lines
     (λ text ih h more. let short : blank_lines text ≡ length text = (let e = sym (blank_lines-crlf text) ∙ h in omega arith) in
         let rest = ih short more in blank_lines-crlf (text ++ more) ∙ omega arith)
 
-line_end-stays : (bytes more : List ℕ) → 2 ≤ length bytes → line_end (bytes ++ more) ≡ line_end bytes
+pub line_end-stays : (bytes more : List ℕ) → 2 ≤ length bytes → line_end (bytes ++ more) ≡ line_end bytes
 line_end-stays [] more two = absurd (omega arith)
 line_end-stays (a ∷ []) more two = absurd (omega arith)
 line_end-stays (a ∷ b ∷ rest) more two = refl
@@ -155,3 +155,18 @@ skip_whole bytes skipped fits known =
 -- the slice from a place to the end
 pub rest_slice : (bytes : List ℕ) (at : ℕ) → slice_range bytes at (length bytes) ≡ drop at bytes
 rest_slice bytes at = grind (arith, common_steps)
+
+-- ---- one line end
+
+pub line_end-within : (bytes : List ℕ) → line_end bytes ≤ length bytes
+line_end-within = by_lines (λ bytes. line_end bytes ≤ length bytes)
+    (λ bytes e z. rw e (omega arith))
+    (λ text ih. rw (line_end-lf text) (omega arith))
+    (λ text ih. rw (line_end-crlf text) (omega arith))
+
+-- a line end at the front stays one
+pub line_end-kept : (bytes more : List ℕ) (n : ℕ) → line_end bytes ≡ suc n → line_end (bytes ++ more) ≡ suc n
+line_end-kept bytes more n = by_lines (λ bytes. line_end bytes ≡ suc n → line_end (bytes ++ more) ≡ suc n)
+    (λ bytes e z h. absurd (let f = sym e ∙ h in omega arith))
+    (λ text ih h. line_end-lf (text ++ more) ∙ sym (line_end-lf text) ∙ h)
+    (λ text ih h. line_end-crlf (text ++ more) ∙ sym (line_end-crlf text) ∙ h) bytes

@@ -75,7 +75,8 @@ fn find_place(bytes: &[u8], marks: &mut Marks, kind: Kind) -> Place
     ensures marks { AreMarks bytes.now marks.new }
 {
     match kind {
-        Kind::Request | Kind::Response => head_place(bytes, marks),
+        Kind::Request => head_place(bytes, marks),
+        Kind::Response => head_place(bytes, marks),
         Kind::Trailers => trailers_place(bytes, marks),
     }
 }
