@@ -1,4 +1,5 @@
 pub mod BlockLemmas
+pub mod FrontLemmas
 pub mod EndLemmas
 pub mod LineLemmas
 pub mod PlaceLemmas

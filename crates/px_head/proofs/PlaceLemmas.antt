@@ -169,3 +169,25 @@ pub place-stays : (kind : Kind) (bytes more : List ℕ) → place kind bytes ≢
 place-stays Request bytes more decided = head_stays_by bytes more (blank_end bytes (blank_lines bytes)) refl decided
 place-stays Response bytes more decided = head_stays_by bytes more (blank_end bytes (blank_lines bytes)) refl decided
 place-stays Trailers bytes more decided = trailers_stays_by bytes more (line_end bytes) refl (trailers_end bytes) refl decided
+
+-- ---- what is too long is long
+
+place_at-long : (bytes : List ℕ) (start : ℕ) (end : Option ℕ) → EndsWithin bytes start end
+    → place_at bytes start end ≡ Exceeded → 65536 ≤ length bytes
+place_at-long bytes start None h is = elim (leb_tells 65536 (length bytes)) [
+  inl t ↦ t.1
+  | inr f ↦ absurd (let e : Missing ≡ Exceeded = rw f.0 at is in cc)
+]
+place_at-long bytes start (Some end) h is = elim (leb_tells 65537 end) [
+  inl t ↦ (let a = t.1 in let b = h.1 in omega arith)
+  | inr f ↦ absurd (let e : Block start end ≡ Exceeded = rw f.0 at is in cc)
+]
+
+head_place-long : (bytes : List ℕ) → head_place bytes ≡ Exceeded → 65536 ≤ length bytes
+head_place-long bytes = place_at-long bytes (blank_lines bytes) (blank_end bytes (blank_lines bytes))
+    (blank_end_within bytes (blank_lines bytes) (blank_end bytes (blank_lines bytes)) (blank_lines_within bytes) refl)
+
+pub place-long : (kind : Kind) (bytes : List ℕ) → place kind bytes ≡ Exceeded → 65536 ≤ length bytes
+place-long Request bytes = head_place-long bytes
+place-long Response bytes = head_place-long bytes
+place-long Trailers bytes = place_at-long bytes 0 (trailers_end bytes) (trailers_end_within bytes (line_end bytes) refl)

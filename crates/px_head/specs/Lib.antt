@@ -1,5 +1,6 @@
 pub mod Front
 pub mod Heads
+pub mod Laws
 pub mod Marks
 pub mod Reader
 pub mod Spans

@@ -12,6 +12,7 @@
 
 mod block;
 mod front;
+pub mod laws;
 mod place;
 mod raw;
 mod reader;

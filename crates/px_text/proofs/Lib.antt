@@ -1,3 +1,4 @@
 pub mod BlankLemmas
 pub mod LeastLemmas
+pub mod LinesLemmas
 pub mod NumberLemmas
