@@ -167,7 +167,7 @@ field_pairs fields all = All-map IsPair name_and_value fields
     (All-weaker IsField (λ f. IsPair (name_and_value f)) field_pair fields all)
 
 field_count : (fields : List Field) → length fields ≤ 100 → length (map name_and_value fields) ≤ 100
-field_count fields few = rw (length-map name_and_value fields) few
+field_count fields few = rw length-map few
 
 version_text : (minor : ℕ) → minor ≤ 1 → IsVersionText (print_version minor)
 version_text zero low = inl refl

@@ -1,4 +1,5 @@
 pub mod BlockLemmas
+pub mod FoundLemmas
 pub mod FrontLemmas
 pub mod EndLemmas
 pub mod LineLemmas
