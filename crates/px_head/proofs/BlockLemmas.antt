@@ -111,7 +111,7 @@ request_parts block room r h a b v pairs x at pa pb pv pp =
     let ev : v ≡ print_version h.minor = pv ∙ ap print_version at.version in
     let ep : pairs ≡ map name_and_value h.fields = pp ∙ at.fields in
     let whole : record { first = a; second = b; third = v; pairs = pairs } ≡ raw_request h =
-        λ i. record { first = ea i; second = eb i; third = ev i; pairs = ep i } in
+    λ i. record { first = ea i; second = eb i; third = ev i; pairs = ep i } in
     ap Some whole ∙ sym (request_in-Some block h x)
 
 pub response_parts : (block : List ℕ) (room : List HeaderSpan) (r : ResponseSpans) (h : ResponseHead)
@@ -126,7 +126,7 @@ response_parts block room r h a b v pairs x at pa pb pv pp =
     let ev : v ≡ reason_phrase h.reason = pv ∙ at.reason in
     let ep : pairs ≡ map name_and_value h.fields = pp ∙ at.fields in
     let whole : record { first = a; second = b; third = v; pairs = pairs } ≡ raw_response h =
-        λ i. record { first = ea i; second = eb i; third = ev i; pairs = ep i } in
+    λ i. record { first = ea i; second = eb i; third = ev i; pairs = ep i } in
     ap Some whole ∙ sym (response_in-Some block h x)
 
 pub trailers_parts : (block : List ℕ) (room : List HeaderSpan) (count : ℕ) (fields : List Field) (last : LineEnd)
@@ -137,5 +137,5 @@ pub trailers_parts : (block : List ℕ) (room : List HeaderSpan) (count : ℕ) (
 trailers_parts block room count fields last a b v pairs x at ea eb ev pp =
     let ep : pairs ≡ map name_and_value fields = pp ∙ at.fields_are in
     let whole : record { first = a; second = b; third = v; pairs = pairs } ≡ raw_trailers (fields, last) =
-        λ i. record { first = ea i; second = eb i; third = ev i; pairs = ep i } in
+    λ i. record { first = ea i; second = eb i; third = ev i; pairs = ep i } in
     ap Some whole ∙ sym (trailers_in-Some block (fields, last) x)

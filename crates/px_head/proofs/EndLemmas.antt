@@ -8,7 +8,7 @@ use Rattle.px_head.specs.Marks.{HasNoEnd}
 pub blank_end-from : (bytes : List ℕ) (start reached from : ℕ) → start ≤ length bytes → reached ≤ length bytes
     → HasNoEnd bytes start reached → from ≡ max start (reached - 2) → blank_end bytes from ≡ blank_end bytes start
 blank_end-from bytes start reached from fits within none is = elim (leb_tells (start + 2) reached) [
-  inl t ↦
+  | inl t ↦
       let far = t.1 in
       let at : from + 2 ≡ reached = omega arith in
       blank_end-resume bytes start from (omega arith) (omega arith) (subst (λ (n : ℕ). HasNoEnd bytes start n) (sym at) none)

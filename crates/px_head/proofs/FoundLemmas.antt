@@ -66,14 +66,14 @@ section_ends start front (f ∷ fields) last more all h ends =
     let text : List ℕ = f.name ++ 58 ∷ f.raw in
     let some : 0 < length (f.name ++ 58 ∷ f.raw) = (let size = length-append f.name (58 ∷ f.raw) in omega arith) in
     let bytes : All IsInLine (f.name ++ 58 ∷ f.raw) = All-append IsInLine f.name (58 ∷ f.raw) (token_in_line f.name first.name.1)
-        (All-cons IsInLine 58 f.raw (other_in_line 58 (inr (omega arith))) (value_in_line f.raw first.raw)) in
+    (All-cons IsInLine 58 f.raw (other_in_line 58 (inr (omega arith))) (value_in_line f.raw first.raw)) in
     let is : IsLineEnd (print_end f.end) = print_end_is f.end in
     let regroup : (front ++ print_field f) ++ print_section fields last ≡ front ++ print_section (f ∷ fields) last =
-        lines front (print_field f) (flat_map print_field fields) (print_end last) in
+    lines front (print_field f) (flat_map print_field fields) (print_end last) in
     subst (λ (l : List ℕ). blank_end (l ++ more) start ≡ Some (length l)) regroup
-        (section_ends start (front ++ print_field f) fields last more (All-tail IsField f fields all)
-            (line_pushed start front (f.name ++ 58 ∷ f.raw) (print_end f.end) some bytes is h)
-            (line_ends start front (f.name ++ 58 ∷ f.raw) (print_end f.end) h.within some is))
+    (section_ends start (front ++ print_field f) fields last more (All-tail IsField f fields all)
+    (line_pushed start front (f.name ++ 58 ∷ f.raw) (print_end f.end) some bytes is h)
+    (line_ends start front (f.name ++ 58 ∷ f.raw) (print_end f.end) h.within some is))
   where
     lines : (a b c d : List ℕ) → (a ++ b) ++ (c ++ d) ≡ a ++ ((b ++ c) ++ d)
     lines a b c d = simp append_assoc
@@ -87,13 +87,13 @@ blank_lines-print (lf ∷ ends) = blank_lines-lf (print_blank ends) ∙ ap suc (
 
 no_line_end : (b : ℕ) (rest : List ℕ) → IsInLine b → line_end (b ∷ rest) ≡ 0
 no_line_end b [] plain = elim (eqb_tells b 10) [
-  inl t ↦ absurd (plain.0 t.1)
+  | inl t ↦ absurd (plain.0 t.1)
   | inr f ↦ rw f.0 refl
 ]
 no_line_end b (c ∷ rest) plain = elim (eqb_tells b 10) [
-  inl t ↦ absurd (plain.0 t.1)
+  | inl t ↦ absurd (plain.0 t.1)
   | inr f ↦ elim (eqb_tells b 13) [
-    inl t ↦ absurd (plain.1 t.1)
+    | inl t ↦ absurd (plain.1 t.1)
     | inr g ↦ rw (f.0, g.0) refl
   ]
 ]
@@ -106,7 +106,7 @@ line_begins (b ∷ text) rest some all = no_line_end b (text ++ rest) (All-head 
 
 place_of : (bytes : List ℕ) (start end : ℕ) → end ≤ 65536 → place_at bytes start (Some end) ≡ Block start end
 place_of bytes start end fits = elim (leb_tells 65537 end) [
-  inl t ↦ (let a = t.1 in absurd (omega arith))
+  | inl t ↦ (let a = t.1 in absurd (omega arith))
   | inr f ↦ rw f.0 refl
 ]
 
@@ -116,25 +116,25 @@ head_text ends text line fields last = print_blank ends ++ ((text ++ print_end l
 head_place-text : (ends : List LineEnd) (text : List ℕ) (line : LineEnd) (fields : List Field) (last : LineEnd) (more : List ℕ)
     → 0 < length text → All IsInLine text → All IsField fields → length (head_text ends text line fields last) ≤ 65536
     → head_place (head_text ends text line fields last ++ more)
-        ≡ Block (length (print_blank ends)) (length (head_text ends text line fields last))
+    ≡ Block (length (print_blank ends)) (length (head_text ends text line fields last))
 head_place-text ends text line fields last more some all valid fits =
     let blank = print_blank ends in
     let core = (text ++ print_end line) ++ print_section fields last in
     let regroup : (print_blank ends ++ ((text ++ print_end line) ++ print_section fields last)) ++ more
-        ≡ print_blank ends ++ (text ++ (print_end line ++ (print_section fields last ++ more))) =
-        parts (print_blank ends) text (print_end line) (print_section fields last) more in
+    ≡ print_blank ends ++ (text ++ (print_end line ++ (print_section fields last ++ more))) =
+    parts (print_blank ends) text (print_end line) (print_section fields last) more in
     let start : blank_lines (head_text ends text line fields last ++ more) ≡ length (print_blank ends) =
-        ap (λ (l : List ℕ). blank_lines l) regroup
-        ∙ blank_lines-append (print_blank ends) (blank_lines-print ends) (text ++ (print_end line ++ (print_section fields last ++ more)))
-        ∙ (let none = blank_lines_none (text ++ (print_end line ++ (print_section fields last ++ more))) (line_begins text _ some all) in omega arith) in
+    ap (λ (l : List ℕ). blank_lines l) regroup
+    ∙ blank_lines-append (print_blank ends) (blank_lines-print ends) (text ++ (print_end line ++ (print_section fields last ++ more)))
+    ∙ (let none = blank_lines_none (text ++ (print_end line ++ (print_section fields last ++ more))) (line_begins text _ some all) in omega arith) in
     let h = line_pushed (length (print_blank ends)) (print_blank ends) text (print_end line) some all (print_end_is line)
-        (HasNoBlank_start (print_blank ends)) in
+    (HasNoBlank_start (print_blank ends)) in
     let e = line_ends (length (print_blank ends)) (print_blank ends) text (print_end line) (omega arith) some (print_end_is line) in
     let whole : (print_blank ends ++ (text ++ print_end line)) ++ print_section fields last ≡ head_text ends text line fields last =
-        append_assoc (print_blank ends) (text ++ print_end line) (print_section fields last) in
+    append_assoc (print_blank ends) (text ++ print_end line) (print_section fields last) in
     let end : blank_end (head_text ends text line fields last ++ more) (length (print_blank ends)) ≡ Some (length (head_text ends text line fields last)) =
-        subst (λ (l : List ℕ). blank_end (l ++ more) (length (print_blank ends)) ≡ Some (length l)) whole
-            (section_ends (length (print_blank ends)) (print_blank ends ++ (text ++ print_end line)) fields last more valid h e) in
+    subst (λ (l : List ℕ). blank_end (l ++ more) (length (print_blank ends)) ≡ Some (length l)) whole
+    (section_ends (length (print_blank ends)) (print_blank ends ++ (text ++ print_end line)) fields last more valid h e) in
     rw (start, end) (place_of (head_text ends text line fields last ++ more) (length (print_blank ends)) (length (head_text ends text line fields last)) fits)
   where
     parts : (a b c d e : List ℕ) → (a ++ ((b ++ c) ++ d)) ++ e ≡ a ++ (b ++ (c ++ (d ++ e)))
@@ -175,9 +175,9 @@ request_line-in_line : (h : RequestHead) → IsRequestHead h → All IsInLine (r
 request_line-in_line h x =
     let space : IsInLine 32 = other_in_line 32 (inr (omega arith)) in
     All-append IsInLine h.method (32 ∷ (h.target ++ 32 ∷ print_version h.minor)) (token_in_line h.method x.method.1)
-        (All-cons IsInLine 32 (h.target ++ 32 ∷ print_version h.minor) space
-            (All-append IsInLine h.target (32 ∷ print_version h.minor) (in_line is_uri_byte refl refl h.target x.target.1)
-                (All-cons IsInLine 32 (print_version h.minor) space (version_in_line h.minor x.minor))))
+    (All-cons IsInLine 32 (h.target ++ 32 ∷ print_version h.minor) space
+    (All-append IsInLine h.target (32 ∷ print_version h.minor) (in_line is_uri_byte refl refl h.target x.target.1)
+    (All-cons IsInLine 32 (print_version h.minor) space (version_in_line h.minor x.minor))))
 
 -- the head without the empty lines before it
 abbrev request_core : RequestHead → List ℕ
@@ -202,18 +202,18 @@ pub request_found : (block rest : List ℕ) (h : RequestHead) → IsRequest bloc
     → front Request (block ++ rest) ≡ Stands (raw_request h) (length block)
 request_found block rest h x fits =
     let is : block ≡ head_text h.blank (request_line h) h.line_end h.fields h.last =
-        x.0.1 ∙ append-nil (print_request h) ∙ print_request-lines h in
+    x.0.1 ∙ append-nil (print_request h) ∙ print_request-lines h in
     let some : 0 < length (request_line h) =
-        (let size = length-append h.method (32 ∷ (h.target ++ 32 ∷ print_version h.minor)) in omega arith) in
+    (let size = length-append h.method (32 ∷ (h.target ++ 32 ∷ print_version h.minor)) in omega arith) in
     let short : length (head_text h.blank (request_line h) h.line_end h.fields h.last) ≤ 65536 =
-        subst (λ (l : List ℕ). length l ≤ 65536) is fits in
+    subst (λ (l : List ℕ). length l ≤ 65536) is fits in
     subst (λ (l : List ℕ). front Request (l ++ rest) ≡ Stands (raw_request h) (length l)) (sym is)
-        (front_stands (head_text h.blank (request_line h) h.line_end h.fields h.last ++ rest)
-            (length (print_blank h.blank)) (length (head_text h.blank (request_line h) h.line_end h.fields h.last))
-            (request_core h) (raw_request h)
-            (head_place-text h.blank (request_line h) h.line_end h.fields h.last rest some (request_line-in_line h x.0.0) x.0.0.fields short)
-            (slice_behind (print_blank h.blank) (request_core h) rest)
-            (request_in-Some (request_core h) (record h { blank = [] }) (request_core-is block h x)))
+    (front_stands (head_text h.blank (request_line h) h.line_end h.fields h.last ++ rest)
+    (length (print_blank h.blank)) (length (head_text h.blank (request_line h) h.line_end h.fields h.last))
+    (request_core h) (raw_request h)
+    (head_place-text h.blank (request_line h) h.line_end h.fields h.last rest some (request_line-in_line h x.0.0) x.0.0.fields short)
+    (slice_behind (print_blank h.blank) (request_core h) rest)
+    (request_in-Some (request_core h) (record h { blank = [] }) (request_core-is block h x)))
 
 -- ---- responses
 
@@ -235,9 +235,9 @@ reason_in_line (Some phrase) all =
 status_line-in_line : (h : ResponseHead) → IsResponseHead h → All IsInLine (status_line h)
 status_line-in_line h x =
     All-append IsInLine (print_version h.minor) (32 ∷ (h.digits ++ print_reason h.reason)) (version_in_line h.minor x.minor)
-        (All-cons IsInLine 32 (h.digits ++ print_reason h.reason) (other_in_line 32 (inr (omega arith)))
-            (All-append IsInLine h.digits (print_reason h.reason) (in_line is_ascii_digit refl refl h.digits x.digits.1)
-                (reason_in_line h.reason x.reason)))
+    (All-cons IsInLine 32 (h.digits ++ print_reason h.reason) (other_in_line 32 (inr (omega arith)))
+    (All-append IsInLine h.digits (print_reason h.reason) (in_line is_ascii_digit refl refl h.digits x.digits.1)
+    (reason_in_line h.reason x.reason)))
 
 abbrev response_core : ResponseHead → List ℕ
 response_core h = (status_line h ++ print_end h.line_end) ++ print_section h.fields h.last
@@ -261,18 +261,18 @@ pub response_found : (block rest : List ℕ) (h : ResponseHead) → IsResponse b
     → front Response (block ++ rest) ≡ Stands (raw_response h) (length block)
 response_found block rest h x fits =
     let is : block ≡ head_text h.blank (status_line h) h.line_end h.fields h.last =
-        x.0.1 ∙ append-nil (print_response h) ∙ print_response-lines h in
+    x.0.1 ∙ append-nil (print_response h) ∙ print_response-lines h in
     let some : 0 < length (status_line h) =
-        (let size = length-append (print_version h.minor) (32 ∷ (h.digits ++ print_reason h.reason)) in omega arith) in
+    (let size = length-append (print_version h.minor) (32 ∷ (h.digits ++ print_reason h.reason)) in omega arith) in
     let short : length (head_text h.blank (status_line h) h.line_end h.fields h.last) ≤ 65536 =
-        subst (λ (l : List ℕ). length l ≤ 65536) is fits in
+    subst (λ (l : List ℕ). length l ≤ 65536) is fits in
     subst (λ (l : List ℕ). front Response (l ++ rest) ≡ Stands (raw_response h) (length l)) (sym is)
-        (front_answers (head_text h.blank (status_line h) h.line_end h.fields h.last ++ rest)
-            (length (print_blank h.blank)) (length (head_text h.blank (status_line h) h.line_end h.fields h.last))
-            (response_core h) (raw_response h)
-            (head_place-text h.blank (status_line h) h.line_end h.fields h.last rest some (status_line-in_line h x.0.0) x.0.0.fields short)
-            (slice_behind (print_blank h.blank) (response_core h) rest)
-            (response_in-Some (response_core h) (record h { blank = [] }) (response_core-is block h x)))
+    (front_answers (head_text h.blank (status_line h) h.line_end h.fields h.last ++ rest)
+    (length (print_blank h.blank)) (length (head_text h.blank (status_line h) h.line_end h.fields h.last))
+    (response_core h) (raw_response h)
+    (head_place-text h.blank (status_line h) h.line_end h.fields h.last rest some (status_line-in_line h x.0.0) x.0.0.fields short)
+    (slice_behind (print_blank h.blank) (response_core h) rest)
+    (response_in-Some (response_core h) (record h { blank = [] }) (response_core-is block h x)))
 
 -- ---- trailers
 
@@ -296,20 +296,20 @@ trailers_place-text (f ∷ fields) last more valid fits =
     let first = All-head IsField f fields valid in
     let some : 0 < length (f.name ++ 58 ∷ f.raw) = (let size = length-append f.name (58 ∷ f.raw) in omega arith) in
     let bytes : All IsInLine (f.name ++ 58 ∷ f.raw) = All-append IsInLine f.name (58 ∷ f.raw) (token_in_line f.name first.name.1)
-        (All-cons IsInLine 58 f.raw (other_in_line 58 (inr (omega arith))) (value_in_line f.raw first.raw)) in
+    (All-cons IsInLine 58 f.raw (other_in_line 58 (inr (omega arith))) (value_in_line f.raw first.raw)) in
     let h = line_pushed 0 [] (f.name ++ 58 ∷ f.raw) (print_end f.end) some bytes (print_end_is f.end) (HasNoBlank_start []) in
     let e = line_ends 0 [] (f.name ++ 58 ∷ f.raw) (print_end f.end) (omega arith) some (print_end_is f.end) in
     let whole : print_field f ++ print_section fields last ≡ print_section (f ∷ fields) last =
-        sym (append_assoc (print_field f) (flat_map print_field fields) (print_end last)) in
+    sym (append_assoc (print_field f) (flat_map print_field fields) (print_end last)) in
     let end = section_ends 0 (print_field f) fields last more (All-tail IsField f fields valid) h e in
     let begins : line_end ((print_field f ++ print_section fields last) ++ more) ≡ 0 =
-        ap (λ (l : List ℕ). line_end l) (parts (f.name ++ 58 ∷ f.raw) (print_end f.end) (print_section fields last) more)
-        ∙ line_begins (f.name ++ 58 ∷ f.raw) (print_end f.end ++ (print_section fields last ++ more)) some bytes in
+    ap (λ (l : List ℕ). line_end l) (parts (f.name ++ 58 ∷ f.raw) (print_end f.end) (print_section fields last) more)
+    ∙ line_begins (f.name ++ 58 ∷ f.raw) (print_end f.end ++ (print_section fields last ++ more)) some bytes in
     let short : length (print_field f ++ print_section fields last) ≤ 65536 =
-        subst (λ (l : List ℕ). length l ≤ 65536) (sym whole) fits in
+    subst (λ (l : List ℕ). length l ≤ 65536) (sym whole) fits in
     subst (λ (l : List ℕ). trailers_place (l ++ more) ≡ Block 0 (length l)) whole
-        (trailers_place_by ((print_field f ++ print_section fields last) ++ more) 0 (length (print_field f ++ print_section fields last))
-            begins end short)
+    (trailers_place_by ((print_field f ++ print_section fields last) ++ more) 0 (length (print_field f ++ print_section fields last))
+    begins end short)
   where
     parts : (a b c d : List ℕ) → (((a ++ b) ++ c) ++ d) ≡ a ++ (b ++ (c ++ d))
     parts a b c d = simp append_assoc
@@ -320,6 +320,6 @@ trailers_found block rest s x fits =
     let is : block ≡ print_section s.0 s.1 = x.0.1 ∙ append-nil (print_section s.0 s.1) in
     let short : length (print_section s.0 s.1) ≤ 65536 = subst (λ (l : List ℕ). length l ≤ 65536) is fits in
     let at : trailers_place (block ++ rest) ≡ Block 0 (length block) =
-        subst (λ (l : List ℕ). trailers_place (l ++ rest) ≡ Block 0 (length l)) (sym is) (trailers_place-text s.0 s.1 rest x.0.0 short) in
+    subst (λ (l : List ℕ). trailers_place (l ++ rest) ≡ Block 0 (length l)) (sym is) (trailers_place-text s.0 s.1 rest x.0.0 short) in
     front-Block Trailers (block ++ rest) 0 (length block) (Some (raw_trailers s)) at
-        (ap (λ (l : List ℕ). trailers_in l) (slice_behind [] block rest) ∙ trailers_in-Some block s x)
+    (ap (λ (l : List ℕ). trailers_in l) (slice_behind [] block rest) ∙ trailers_in-Some block s x)

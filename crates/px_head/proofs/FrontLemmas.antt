@@ -91,7 +91,7 @@ pub front-stays : (kind : Kind) (bytes more : List ℕ) → front kind bytes ≢
     → front kind (bytes ++ more) ≡ front kind bytes
 front-stays kind bytes more decided =
     let found : place kind bytes ≢ Missing = λ missing.
-        decided (ap (λ (p : Place). front_in (read_as kind) bytes p) missing) in
+    decided (ap (λ (p : Place). front_in (read_as kind) bytes p) missing) in
     stays_by kind bytes more (place kind bytes) refl (place-stays kind bytes more found)
 
 -- ---- sizes
@@ -106,11 +106,11 @@ used-within kind bytes raw used is =
 
 place_at-Missing : (bytes : List ℕ) (start : ℕ) (end : Option ℕ) → place_at bytes start end ≡ Missing → length bytes < 65536
 place_at-Missing bytes start None is = elim (leb_tells 65536 (length bytes)) [
-  inl t ↦ absurd (let e : Exceeded ≡ Missing = rw t.0 at is in cc)
+  | inl t ↦ absurd (let e : Exceeded ≡ Missing = rw t.0 at is in cc)
   | inr f ↦ f.1
 ]
 place_at-Missing bytes start (Some end) is = elim (leb_tells 65537 end) [
-  inl t ↦ absurd (let e : Exceeded ≡ Missing = rw t.0 at is in cc)
+  | inl t ↦ absurd (let e : Exceeded ≡ Missing = rw t.0 at is in cc)
   | inr f ↦ absurd (let e : Block start end ≡ Missing = rw f.0 at is in cc)
 ]
 

@@ -28,14 +28,14 @@ Begun bytes =
 begun : (bytes : List ℕ) → Begun bytes
 begun [] = inl (refl, refl)
 begun (a ∷ []) = elim (eqb_tells a 10) [
-  inl t ↦ inr (inl ([], ap (λ (v : ℕ). v ∷ []) t.1))
+  | inl t ↦ inr (inl ([], ap (λ (v : ℕ). v ∷ []) t.1))
   | inr f ↦ inl (rw f.0 refl, rw f.0 refl)
 ]
 begun (a ∷ b ∷ rest) = elim (eqb_tells a 10) [
-  inl t ↦ inr (inl (b ∷ rest, ap (λ (v : ℕ). v ∷ b ∷ rest) t.1))
+  | inl t ↦ inr (inl (b ∷ rest, ap (λ (v : ℕ). v ∷ b ∷ rest) t.1))
   | inr f ↦ elim (eqb_tells a 13) [
-    inl t ↦ elim (eqb_tells b 10) [
-      inl u ↦ inr (inr (rest, (λ i. t.1 i ∷ u.1 i ∷ rest)))
+    | inl t ↦ elim (eqb_tells b 10) [
+      | inl u ↦ inr (inr (rest, (λ i. t.1 i ∷ u.1 i ∷ rest)))
       | inr g ↦ inl (rw (f.0, t.0, g.0) refl, rw (f.0, t.0, g.0) refl)
     ]
     | inr g ↦ inl (rw (f.0, g.0) refl, rw (f.0, g.0) refl)
@@ -46,16 +46,16 @@ by_lines_below : (P : List ℕ → Type 0) → ((bytes : List ℕ) → line_end 
     → ((text : List ℕ) → P text → P (10 ∷ text)) → ((text : List ℕ) → P text → P (13 ∷ 10 ∷ text))
     → (n : ℕ) (bytes : List ℕ) → length bytes ≤ n → P bytes
 by_lines_below P none lf crlf zero bytes fits = elim (begun bytes) [
-  inl h ↦ none bytes h.0 h.1
+  | inl h ↦ none bytes h.0 h.1
   | inr h ↦ elim h [
-    inl t ↦ (let e = ap (λ (l : List ℕ). length l) t.1 in absurd (omega arith))
+    | inl t ↦ (let e = ap (λ (l : List ℕ). length l) t.1 in absurd (omega arith))
     | inr t ↦ (let e = ap (λ (l : List ℕ). length l) t.1 in absurd (omega arith))
   ]
 ]
 by_lines_below P none lf crlf (suc n) bytes fits = elim (begun bytes) [
-  inl h ↦ none bytes h.0 h.1
+  | inl h ↦ none bytes h.0 h.1
   | inr h ↦ elim h [
-    inl t ↦ (let e = ap (λ (l : List ℕ). length l) t.1 in
+    | inl t ↦ (let e = ap (λ (l : List ℕ). length l) t.1 in
         subst P (sym t.1) (lf t.0 (by_lines_below P none lf crlf n t.0 (omega arith))))
     | inr t ↦ (let e = ap (λ (l : List ℕ). length l) t.1 in
         subst P (sym t.1) (crlf t.0 (by_lines_below P none lf crlf n t.0 (omega arith))))
@@ -106,9 +106,9 @@ blank_lines-append = by_lines
     (λ front. blank_lines front ≡ length front → (more : List ℕ) → blank_lines (front ++ more) ≡ length front + blank_lines more)
     (λ front e z h more. let empty : front ≡ [] = nil_of front (sym z ∙ h) in rw empty (omega arith))
     (λ text ih h more. let short : blank_lines text ≡ length text = (let e = sym (blank_lines-lf text) ∙ h in omega arith) in
-        let rest = ih short more in blank_lines-lf (text ++ more) ∙ omega arith)
+    let rest = ih short more in blank_lines-lf (text ++ more) ∙ omega arith)
     (λ text ih h more. let short : blank_lines text ≡ length text = (let e = sym (blank_lines-crlf text) ∙ h in omega arith) in
-        let rest = ih short more in blank_lines-crlf (text ++ more) ∙ omega arith)
+    let rest = ih short more in blank_lines-crlf (text ++ more) ∙ omega arith)
 
 pub line_end-stays : (bytes more : List ℕ) → 2 ≤ length bytes → line_end (bytes ++ more) ≡ line_end bytes
 line_end-stays [] more two = absurd (omega arith)
@@ -122,9 +122,9 @@ blank_lines-stays = by_lines
     (λ bytes. blank_lines bytes + 2 ≤ length bytes → (more : List ℕ) → blank_lines (bytes ++ more) ≡ blank_lines bytes)
     (λ bytes e z h more. blank_lines_none (bytes ++ more) (line_end-stays bytes more (omega arith) ∙ e) ∙ sym z)
     (λ text ih h more. let s = blank_lines-lf text in
-        blank_lines-lf (text ++ more) ∙ ap suc (ih (omega arith) more) ∙ sym (blank_lines-lf text))
+    blank_lines-lf (text ++ more) ∙ ap suc (ih (omega arith) more) ∙ sym (blank_lines-lf text))
     (λ text ih h more. let s = blank_lines-crlf text in
-        blank_lines-crlf (text ++ more) ∙ ap (λ (n : ℕ). suc (suc n)) (ih (omega arith) more) ∙ sym (blank_lines-crlf text))
+    blank_lines-crlf (text ++ more) ∙ ap (λ (n : ℕ). suc (suc n)) (ih (omega arith) more) ∙ sym (blank_lines-crlf text))
 
 pub blank_lines-grows : (bytes more : List ℕ) → blank_lines bytes ≤ blank_lines (bytes ++ more)
 blank_lines-grows bytes more = by_lines (λ bytes. blank_lines bytes ≤ blank_lines (bytes ++ more))
@@ -138,8 +138,8 @@ pub skip_step : (bytes : List ℕ) (at width : ℕ) → at ≤ length bytes → 
     → at + width + blank_lines (drop (at + width) bytes) ≡ at + blank_lines (drop at bytes)
 skip_step bytes at width fits is some =
     let next : width + blank_lines (drop width (drop at bytes)) ≡ blank_lines (drop at bytes) =
-        subst (λ (n : ℕ). n + blank_lines (drop n (drop at bytes)) ≡ blank_lines (drop at bytes)) (sym is)
-            (blank_lines_next (drop at bytes) (subst (λ (n : ℕ). 0 < n) is some)) in
+    subst (λ (n : ℕ). n + blank_lines (drop n (drop at bytes)) ≡ blank_lines (drop at bytes)) (sym is)
+    (blank_lines_next (drop at bytes) (subst (λ (n : ℕ). 0 < n) is some)) in
     let e = ap (λ (l : List ℕ). blank_lines l) (drop-drop width at bytes) in
     omega arith
 

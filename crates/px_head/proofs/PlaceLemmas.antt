@@ -24,11 +24,11 @@ EndsWithin bytes start (Some end) = (start < end) × (end ≤ length bytes)
 place_at_within : (bytes : List ℕ) (start : ℕ) (end : Option ℕ) → EndsWithin bytes start end
     → IsPlaceWithin (length bytes) (place_at bytes start end)
 place_at_within bytes start None h = elim (leb_tells 65536 (length bytes)) [
-  inl t ↦ subst (λ (v : Bool). IsPlaceWithin (length bytes) (if v then Exceeded else Missing)) (sym t.0) tt
+  | inl t ↦ subst (λ (v : Bool). IsPlaceWithin (length bytes) (if v then Exceeded else Missing)) (sym t.0) tt
   | inr f ↦ subst (λ (v : Bool). IsPlaceWithin (length bytes) (if v then Exceeded else Missing)) (sym f.0) tt
 ]
 place_at_within bytes start (Some end) h = elim (leb_tells 65537 end) [
-  inl t ↦ subst (λ (v : Bool). IsPlaceWithin (length bytes) (if v then Exceeded else Block start end)) (sym t.0) tt
+  | inl t ↦ subst (λ (v : Bool). IsPlaceWithin (length bytes) (if v then Exceeded else Block start end)) (sym t.0) tt
   | inr f ↦ (let g = f.1 in
       subst (λ (v : Bool). IsPlaceWithin (length bytes) (if v then Exceeded else Block start end)) (sym f.0) (h.0, h.1, omega arith))
 ]
@@ -80,7 +80,7 @@ late_end bytes more start end fits none is =
     let size = length-append bytes more in
     let found = blank_end-Some (bytes ++ more) start end (omega arith) is in
     elim (leb_tells end (length bytes)) [
-      inl t ↦
+      | inl t ↦
           let no = sym (ends_blank-append bytes more start end t.1) ∙ found.ends in
           absurd (let e = sym (blank_end-None bytes start fits none end t.1) ∙ no in cc)
       | inr f ↦ f.1
@@ -89,11 +89,11 @@ late_end bytes more start end fits none is =
 place_at-Exceeded : (bytes : List ℕ) (start : ℕ) (end : Option ℕ) → 65536 ≤ length bytes
     → ((e : ℕ) → end ≡ Some e → 65536 < e) → place_at bytes start end ≡ Exceeded
 place_at-Exceeded bytes start None long far = elim (leb_tells 65536 (length bytes)) [
-  inl t ↦ rw t.0 refl
+  | inl t ↦ rw t.0 refl
   | inr f ↦ (let g = f.1 in absurd (omega arith))
 ]
 place_at-Exceeded bytes start (Some e) long far = elim (leb_tells 65537 e) [
-  inl t ↦ rw t.0 refl
+  | inl t ↦ rw t.0 refl
   | inr f ↦ (let g = f.1 in let h = far e refl in absurd (omega arith))
 ]
 
@@ -103,14 +103,14 @@ place_at-Some bytes more start end = refl
 -- what the place is where no block ends
 place_at-None : (bytes : List ℕ) (start : ℕ) → place_at bytes start None ≢ Missing → 65536 ≤ length bytes
 place_at-None bytes start decided = elim (leb_tells 65536 (length bytes)) [
-  inl t ↦ t.1
+  | inl t ↦ t.1
   | inr f ↦ absurd (decided (rw f.0 refl))
 ]
 
 head_stays_by : (bytes more : List ℕ) (end : Option ℕ) → blank_end bytes (blank_lines bytes) ≡ end
     → place_at bytes (blank_lines bytes) end ≢ Missing
     → place_at (bytes ++ more) (blank_lines (bytes ++ more)) (blank_end (bytes ++ more) (blank_lines (bytes ++ more)))
-        ≡ place_at bytes (blank_lines bytes) end
+    ≡ place_at bytes (blank_lines bytes) end
 head_stays_by bytes more (Some end) is decided =
     let fits = blank_lines_within bytes in
     let found = blank_end-Some bytes (blank_lines bytes) end fits is in
@@ -126,18 +126,18 @@ head_stays_by bytes more None is decided =
     let grows = blank_lines-grows bytes more in
     let whole = blank_lines_within (bytes ++ more) in
     let far : (e : ℕ) → blank_end (bytes ++ more) (blank_lines (bytes ++ more)) ≡ Some e → 65536 < e = λ e found.
-        elim (leb_tells (blank_lines bytes + 2) (length bytes)) [
-          inl t ↦
-              let start = blank_lines-stays bytes t.1 more in
-              let late = late_end bytes more (blank_lines bytes) e fits is
-                  (subst (λ (n : ℕ). blank_end (bytes ++ more) n ≡ Some e) start found) in
-              omega arith
-          | inr f ↦
-              let near = f.1 in
-              let at = blank_end-Some (bytes ++ more) (blank_lines (bytes ++ more)) e whole found in
-              let behind = at.behind in
-              omega arith
-        ]
+    elim (leb_tells (blank_lines bytes + 2) (length bytes)) [
+      | inl t ↦
+          let start = blank_lines-stays bytes t.1 more in
+          let late = late_end bytes more (blank_lines bytes) e fits is
+          (subst (λ (n : ℕ). blank_end (bytes ++ more) n ≡ Some e) start found) in
+          omega arith
+      | inr f ↦
+          let near = f.1 in
+          let at = blank_end-Some (bytes ++ more) (blank_lines (bytes ++ more)) e whole found in
+          let behind = at.behind in
+          omega arith
+    ]
     in
     place_at-Exceeded (bytes ++ more) (blank_lines (bytes ++ more)) (blank_end (bytes ++ more) (blank_lines (bytes ++ more))) (omega arith) far
     ∙ sym (place_at-Exceeded bytes (blank_lines bytes) None long (λ e no. absurd (let c = no in cc)))
@@ -160,10 +160,10 @@ trailers_stays_by bytes more zero width None is decided =
     let size = length-append bytes more in
     let kept = line_end-stays bytes more (omega arith) ∙ width in
     let far : (e : ℕ) → blank_end (bytes ++ more) 0 ≡ Some e → 65536 < e = λ e found.
-        (let late = late_end bytes more 0 e (omega arith) is found in omega arith) in
+    (let late = late_end bytes more 0 e (omega arith) is found in omega arith) in
     rw kept (
-      place_at-Exceeded (bytes ++ more) 0 (blank_end (bytes ++ more) 0) (omega arith) far
-      ∙ sym (place_at-Exceeded bytes 0 None long (λ e no. absurd (let c = no in cc))))
+    place_at-Exceeded (bytes ++ more) 0 (blank_end (bytes ++ more) 0) (omega arith) far
+    ∙ sym (place_at-Exceeded bytes 0 None long (λ e no. absurd (let c = no in cc))))
 
 pub place-stays : (kind : Kind) (bytes more : List ℕ) → place kind bytes ≢ Missing → place kind (bytes ++ more) ≡ place kind bytes
 place-stays Request bytes more decided = head_stays_by bytes more (blank_end bytes (blank_lines bytes)) refl decided
@@ -175,11 +175,11 @@ place-stays Trailers bytes more decided = trailers_stays_by bytes more (line_end
 place_at-long : (bytes : List ℕ) (start : ℕ) (end : Option ℕ) → EndsWithin bytes start end
     → place_at bytes start end ≡ Exceeded → 65536 ≤ length bytes
 place_at-long bytes start None h is = elim (leb_tells 65536 (length bytes)) [
-  inl t ↦ t.1
+  | inl t ↦ t.1
   | inr f ↦ absurd (let e : Missing ≡ Exceeded = rw f.0 at is in cc)
 ]
 place_at-long bytes start (Some end) h is = elim (leb_tells 65537 end) [
-  inl t ↦ (let a = t.1 in let b = h.1 in omega arith)
+  | inl t ↦ (let a = t.1 in let b = h.1 in omega arith)
   | inr f ↦ absurd (let e : Block start end ≡ Exceeded = rw f.0 at is in cc)
 ]
 

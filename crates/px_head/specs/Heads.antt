@@ -58,10 +58,13 @@ request_whole = Where_tell (Then_deterministic RequestStart_deterministic Sectio
 
 request_by : (block : List ℕ) → Decided (Begins (Where (Then RequestStart Section) RequestEnds) block)
     → ((h : RequestHead) × IsRequest block h) ⊎ ((h : RequestHead) → IsRequest block h → ⊥)
-request_by block (inl w) = inl (request_head w.0, (
-  subst (λ (r : List ℕ). ReadsRequest block (request_head w.0) r) w.2.1.0 (request_from_pieces block w.0 w.1 w.2.0),
-  w.2.1.1,
-))
+request_by block (inl w) = inl (
+  request_head w.0,
+  (
+    subst (λ (r : List ℕ). ReadsRequest block (request_head w.0) r) w.2.1.0 (request_from_pieces block w.0 w.1 w.2.0),
+    w.2.1.1,
+  ),
+)
 request_by block (inr none) = inr (λ h x. none (request_tree h, [], (request_pieces block h [] x.0, (refl, x.1))))
 
 -- the head of a request that the block is, or that it is none
@@ -76,7 +79,7 @@ response_whole : CanTell (Where (Then ResponseStart Section) ResponseEnds)
 response_whole = Where_tell (Then_deterministic ResponseStart_deterministic Section_deterministic)
     (Then_tell ResponseStart_deterministic ResponseStart_tell Section_tell)
     (λ t rest. decided_both (decided_nil rest)
-        (decided_both (decided_le (length t.1.0) 100) (decided_le 100 (status_code (response_head t)))))
+    (decided_both (decided_le (length t.1.0) 100) (decided_le 100 (status_code (response_head t)))))
 
 response_back : (block : List ℕ) (h : ResponseHead) → IsResponse block h
     → Begins (Where (Then ResponseStart Section) ResponseEnds) block
@@ -88,11 +91,14 @@ response_back block h x =
 
 response_by : (block : List ℕ) → Decided (Begins (Where (Then ResponseStart Section) ResponseEnds) block)
     → ((h : ResponseHead) × IsResponse block h) ⊎ ((h : ResponseHead) → IsResponse block h → ⊥)
-response_by block (inl w) = inl (response_head w.0, (
-  subst (λ (r : List ℕ). ReadsResponse block (response_head w.0) r) w.2.1.0 (response_from_pieces block w.0 w.1 w.2.0),
-  w.2.1.1.0,
-  w.2.1.1.1,
-))
+response_by block (inl w) = inl (
+  response_head w.0,
+  (
+    subst (λ (r : List ℕ). ReadsResponse block (response_head w.0) r) w.2.1.0 (response_from_pieces block w.0 w.1 w.2.0),
+    w.2.1.1.0,
+    w.2.1.1.1,
+  ),
+)
 response_by block (inr none) = inr (λ h x. none (response_back block h x))
 
 -- the head of a response that the block is, or that it is none

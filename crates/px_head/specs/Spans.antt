@@ -19,4 +19,4 @@ AnswersResponse block room answer = MatchOption answer ((h : ResponseHead) → I
 abbrev pub AnswersTrailers : List ℕ → List HeaderSpan → Option ℕ → Type 0
 AnswersTrailers block room answer = MatchOption answer ((s : List Field × LineEnd) → IsTrailers block s → ⊥)
     (λ count. (fields : List Field) × (last : LineEnd) × IsTrailers block (fields, last)
-        × IsSectionAt block 0 room (length block) count fields last × IsSectionWithin block room (length block) count)
+    × IsSectionAt block 0 room (length block) count fields last × IsSectionWithin block room (length block) count)

@@ -72,7 +72,7 @@ where_by : {A : Type 0} (G : Piece A) (P : A → List ℕ → Type 0) → IsDete
 where_by {A} G P det holds text (inl w) = decided_by
     (λ p. (w.0, w.1, (w.2, p)))
     (λ x. let same = det.unique x.0 w.0 text x.1 w.1 x.2.0 w.2 in
-        subst (λ (t : A × List ℕ). P t.0 t.1) (λ i. (same.0 i, same.1 i)) x.2.1)
+    subst (λ (t : A × List ℕ). P t.0 t.1) (λ i. (same.0 i, same.1 i)) x.2.1)
     (holds w.0 w.1)
 where_by G P det holds text (inr none) = inr (λ x. none (x.0, x.1, x.2.0))
 
@@ -126,7 +126,7 @@ run_of test (b ∷ text) = run_by test b text (test b) refl (run_of test text)
 pub run_meets : (test : ℕ → Bool) (text : List ℕ) (r : RunOf test text) (word rest : List ℕ)
     → AllPass test word → Stops test rest → text ≡ word ++ rest → (r.run ≡ word) × (r.rest ≡ rest)
 run_meets test text r word rest pass stops is = elim r.stops [
-  inl ends ↦ run_unique test r.run word r.rest rest r.pass pass ends stops (sym r.is ∙ is)
+  | inl ends ↦ run_unique test r.run word r.rest rest r.pass pass ends stops (sym r.is ∙ is)
   | inr none ↦
       let whole : r.run ≡ word ++ rest = sym (append-nil r.run) ∙ ap (λ (t : List ℕ). r.run ++ t) (sym none) ∙ sym r.is ∙ is in
       absurd (run_unstopped test word rest (subst (λ (t : List ℕ). AllPass test t) whole r.pass) stops)

@@ -21,7 +21,7 @@ Bytes_told : (bytes text : List ℕ) → Decided (Begins (Bytes bytes) text)
 Bytes_told [] text = inl (tt, text, refl)
 Bytes_told (b ∷ bytes) [] = inr (λ x. let e = x.2 in cc)
 Bytes_told (b ∷ bytes) (c ∷ text) = elim (decided_eq c b) [
-  inl same ↦ Bytes_more b c bytes text same (Bytes_told bytes text)
+  | inl same ↦ Bytes_more b c bytes text same (Bytes_told bytes text)
   | inr other ↦ inr (λ x. let e = x.2 in other (cc))
 ]
 
@@ -48,18 +48,26 @@ Newline_tell = record {
 blank_back : (end : LineEnd) (ends : List LineEnd) (text rest : List ℕ) → Blank ends (print_end end ++ text) rest
     → Begins Blank text
 blank_back end [] text rest x = absurd (newline_not_stopped end text rest x.0 x.1)
-blank_back end (other ∷ ends) text rest x = (ends, rest, (
-  (print_end_unique end other text (print_blank ends ++ rest) (x.0 ∙ append_assoc (print_end other) (print_blank ends) rest)).1,
-  x.1,
-))
+blank_back end (other ∷ ends) text rest x = (
+  ends,
+  rest,
+  (
+    (print_end_unique end other text (print_blank ends ++ rest) (x.0 ∙ append_assoc (print_end other) (print_blank ends) rest)).1,
+    x.1,
+  ),
+)
 
 blank_after : (end : LineEnd) (text rest : List ℕ) → text ≡ print_end end ++ rest → Decided (Begins Blank rest)
     → Decided (Begins Blank text)
 blank_after end text rest is = decided_by
-    (λ w. (end ∷ w.0, w.1, (
-      is ∙ ap (λ (t : List ℕ). print_end end ++ t) w.2.0 ∙ sym (append_assoc (print_end end) (print_blank w.0) w.1),
-      w.2.1,
-    )))
+    (λ w. (
+      end ∷ w.0,
+      w.1,
+      (
+        is ∙ ap (λ (t : List ℕ). print_end end ++ t) w.2.0 ∙ sym (append_assoc (print_end end) (print_blank w.0) w.1),
+        w.2.1,
+      ),
+    ))
     (λ x. blank_back end x.0 rest x.1 (sym is ∙ x.2.0, x.2.1))
 
 blank_first : (ends : List LineEnd) (text rest : List ℕ) → (Begins Newline text → ⊥) → Blank ends text rest
@@ -98,7 +106,7 @@ word_by : (test : ℕ → Bool) (stop : ℕ) → test stop ≡ false → (text :
 word_by test stop ends text r = decided_by
     (λ p. (r.run, p.1.1, (p.0, r.pass, r.is ∙ ap (λ (t : List ℕ). r.run ++ t) p.1.2)))
     (λ x. let same = run_meets test text r x.0 (stop ∷ x.1) x.2.1 ends x.2.2 in
-        (subst (λ (t : List ℕ). 0 < length t) (sym same.0) x.2.0, (tt, x.1, same.1)))
+    (subst (λ (t : List ℕ). 0 < length t) (sym same.0) x.2.0, (tt, x.1, same.1)))
     (decided_both (decided_le 1 (length r.run)) (Bytes_told (stop ∷ []) r.rest))
 
 pub Word_tell : (test : ℕ → Bool) (stop : ℕ) → test stop ≡ false → CanTell (Word test stop)
@@ -148,7 +156,7 @@ text_by : (text : List ℕ) → RunOf is_value_byte text → Decided (Begins Tex
 text_by text r = decided_by
     (λ w. ((r.run, w.0), w.1, (r.pass, r.is ∙ ap (λ (t : List ℕ). r.run ++ t) w.2)))
     (λ x. let same = run_meets is_value_byte text r x.0.0 (print_end x.0.1 ++ x.1) x.2.0 (Stops_value x.0.1 x.1) x.2.1 in
-        (x.0.1, x.1, same.1))
+    (x.0.1, x.1, same.1))
     (Newline_tell.tell r.rest)
 
 pub Text_tell : CanTell Text
@@ -209,14 +217,14 @@ section_after : (f : Field) (text middle : List ℕ) → FieldLine f text middle
 section_after f text middle line = decided_by
     (λ w. ((f ∷ w.0.0, w.0.1), w.1, section_cons f w.0 text middle w.1 line w.2))
     (λ x. let skipped = Section_skip (f ∷ []) x.0.0 x.0.1 text middle x.1
-            (FieldLines_push [] f text text middle (All-nil IsField, refl) line) x.2 in
-        ((skipped.0, x.0.1), x.1, skipped.2))
+    (FieldLines_push [] f text text middle (All-nil IsField, refl) line) x.2 in
+    ((skipped.0, x.0.1), x.1, skipped.2))
 
 field_shorter : (f : Field) (text middle : List ℕ) → FieldLine f text middle → length middle < length text
 field_shorter f text middle line =
     let some = line.0.name.0 in
     let e : length text ≡ length (f.name ++ 58 ∷ (f.raw ++ (print_end f.end ++ middle))) =
-        ap (λ (t : List ℕ). length t) (line.1 ∙ print_field-append f middle) in
+    ap (λ (t : List ℕ). length t) (line.1 ∙ print_field-append f middle) in
     let below = length-print_end f.end middle in
     let a = length-append f.name (58 ∷ (f.raw ++ (print_end f.end ++ middle))) in
     let b = length-append f.raw (print_end f.end ++ middle) in

@@ -10,7 +10,10 @@ ghost use Rattle.px_head.specs.Spans.{AnswersRequest, AnswersResponse, AnswersTr
 
 use crate::raw::{RawHead, RawPairs};
 use httparse::Status;
-use httparse::spans::{EMPTY_HEADER_SPAN, HeaderSpan, RequestSpans, ResponseSpans, parse_headers, parse_request, parse_response};
+use httparse::spans::{
+    EMPTY_HEADER_SPAN, HeaderSpan, RequestSpans, ResponseSpans, parse_headers, parse_request,
+    parse_response,
+};
 use px_text::{Bytes, NoMemory, push_decimal};
 use std::alloc::Global;
 

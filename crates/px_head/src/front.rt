@@ -52,7 +52,12 @@ pub enum Found {
 }
 
 /// What stands at the front of the bytes, for a kind of head.
-pub fn read_front(alloc: Global, bytes: &[u8], marks: &mut Marks, kind: Kind) -> Result<Front, NoMemory>
+pub fn read_front(
+    alloc: Global,
+    bytes: &[u8],
+    marks: &mut Marks,
+    kind: Kind,
+) -> Result<Front, NoMemory>
     requires { AreMarks bytes.now marks.old }
     ensures value { IfOk result (λ front. front ≡ spec.front kind bytes.now) }
     ensures within { IfOk result (λ front. IsFrontWithin (length bytes.now) front) }

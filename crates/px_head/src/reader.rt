@@ -95,7 +95,9 @@ impl HeadReader {
         ensures { result.items ≡ self.rest }
     {
         let HeadReader {
-            mut buffer, used, ..
+            mut buffer,
+            used,
+            ..
         } = self;
         move_to_front(&mut buffer, used);
         buffer

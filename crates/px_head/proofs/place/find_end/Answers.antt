@@ -12,5 +12,8 @@ returns-in-None-clause-end c =
     c.in-None.ensures ∙ blank_end-from _ c.args.start c.args.reached _ c.requires.start c.requires.within c.requires.none (c.max-from.ensures ∙ ap (λ n. max c.args.start n) c.saturating_sub.ensures)
 
 pub returns-in-None-clause-reached : goal.returns-in-None-clause-reached
-returns-in-None-clause-reached c = (omega arith, blank_end-None c.args.bytes.now c.args.start c.requires.start (sym (
-    c.in-None.ensures ∙ blank_end-from _ c.args.start c.args.reached _ c.requires.start c.requires.within c.requires.none (c.max-from.ensures ∙ ap (λ n. max c.args.start n) c.saturating_sub.ensures))))
+returns-in-None-clause-reached c = (
+  omega arith,
+  blank_end-None c.args.bytes.now c.args.start c.requires.start (sym (
+      c.in-None.ensures ∙ blank_end-from _ c.args.start c.args.reached _ c.requires.start c.requires.within c.requires.none (c.max-from.ensures ∙ ap (λ n. max c.args.start n) c.saturating_sub.ensures))),
+)

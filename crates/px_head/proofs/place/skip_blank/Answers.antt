@@ -16,6 +16,6 @@ loop-from-preserved c =
     let width = c.line_end-width.ensures.value ∙ ap line_end (rest_slice c.args.bytes.now c.loop-from.at) in
     let step = skip_step c.args.bytes.now c.loop-from.at c.line_end-width.result fits width (omega arith) in
     let short = subst (λ (l : List ℕ). c.line_end-width.result ≤ length l) (rest_slice c.args.bytes.now c.loop-from.at)
-        c.line_end-width.ensures.within in
+    c.line_end-width.ensures.within in
     let size = length-drop c.loop-from.at c.args.bytes.now in
     (omega arith, step ∙ c.loop-from.invariant.1)

@@ -12,6 +12,8 @@ invariant_of-self-2 c =
     let grown = c.in_ok-extend_from_slice.ensures.items in
     let size = ap (λ (l : List ℕ). length l) grown ∙ length-append old c.args.bytes.now in
     let rest = ap (λ (l : List ℕ). drop at l) grown ∙ drop-append-le at old c.args.bytes.now within
-        ∙ ap (λ (l : List ℕ). l ++ c.args.bytes.now) c.compact-self-inside.ensures.rest in
-    (omega arith, subst (λ (l : List ℕ). AreMarks l c.self.inside.marks) (sym rest)
-        (AreMarks-append _ c.args.bytes.now c.self.inside.marks c.self.invariant.1))
+    ∙ ap (λ (l : List ℕ). l ++ c.args.bytes.now) c.compact-self-inside.ensures.rest in (
+      omega arith,
+      subst (λ (l : List ℕ). AreMarks l c.self.inside.marks) (sym rest)
+          (AreMarks-append _ c.args.bytes.now c.self.inside.marks c.self.invariant.1),
+    )
