@@ -1,9 +1,7 @@
-mod AddressLemmas
+pub mod AddressLemmas
 mod RequestLemmas
 mod OptionLemmas
 mod FlowLemmas
-mod AuthorityLemmas
-pub mod AddressLemmas
 pub mod AuthorityLemmas
 pub mod HostLemmas
 pub mod UrlLemmas

@@ -26,8 +26,6 @@ mod target;
 #[cfg(test)]
 mod tests;
 mod url;
-#[cfg(test)]
-mod tests;
 mod value;
 mod version;
 

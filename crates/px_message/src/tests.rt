@@ -1,4 +1,3 @@
-//! Worked values of each public call.
-mod values;
 //! Worked rows of the calls.
 mod fields;
+mod values;
