@@ -1,4 +1,11 @@
-//! Hosts of requests.
+//! Hosts of requests (RFC 3986 section 3.2.2).
+//!
+//! A host is what an authority has in front of its port: a name, an IPv4 address, or an IPv6 address in brackets. Which
+//! texts those are `http_uri` decides. A text is a host where it is an authority without userinfo and its own host: so it
+//! is not empty, it has no port, and nothing stands behind a closing bracket of an address. Letters keep their case.
+//!
+//! `http_uri` does not look into brackets, so `[]` and `x[]` are hosts; whether a name can be dialled is told where it is
+//! looked up.
 ghost use Rattle.std.specs.Prelude.{◌≡◌, ◌≢◌, All, MatchBool, IfOk, IfErr};
 ghost use Rattle.http_uri.specs.ByteClasses.{at_sign};
 ghost use Rattle.px_message.specs.Host.{IsHost};
