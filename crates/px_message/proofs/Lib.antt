@@ -9,3 +9,4 @@ pub mod PieceLemmas
 pub mod AddressTextLemmas
 mod ListLemmas
 mod SetLemmas
+pub mod FieldLaws
