@@ -1,9 +1,8 @@
 -- Files in memory by the place of a path's first file, and what an append does to what stands under each path.
-use Rattle.std.proofs.Common.{◌≡◌, ◌≢◌, ◌∙◌, ℕ, zero, suc, ◌+◌, ◌<◌, Bool, true, false, refl, ap, sym, arith, List, [], ◌∷◌, ◌++◌, length, get_or, Option, Some, None, String, Vec, string_bytes, position, nat_lt, All, ◌≤◌, take, drop, inl}
+use Rattle.std.proofs.Common.{◌≡◌, ◌≢◌, ◌∙◌, ℕ, zero, suc, ◌<◌, Bool, true, false, refl, ap, sym, arith, List, [], ◌∷◌, ◌++◌, length, get_or, Option, Some, None, String, Vec, string_bytes, position, nat_lt, All, ◌≤◌, take, drop, inl}
 use Rattle.std.specs.Prelude.{slice_set, unwrap_or, if◌then◌else◌}
 use Rattle.std.specs.Str.{bytes_eq}
 use Rattle.std.specs.List.{position_or_len}
-use Rattle.std.proofs.lemmas.List.Quantifiers.{position-Some}
 use Rattle.std.proofs.lemmas.List.Sums.{fails_before_first}
 use Rattle.std.proofs.lemmas.Bool.{ltb-false, false_from_ne_true}
 use Rattle.std.proofs.lemmas.Slice.Eq.{bytes_eq-Decides}

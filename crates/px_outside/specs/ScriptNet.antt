@@ -1,5 +1,5 @@
 -- A network that follows a script: what is still to be heard, its trace, which calls fail, and where it listens.
-use Rattle.std.specs.Prelude.{ℕ, List, [], ◌∷◌, ◌++◌, Option, Some, None}
+use Rattle.std.specs.Prelude.{ℕ, List, [], ◌∷◌, ◌++◌, Option}
 use Rattle.px_message.specs.declared.address.Address.{Address}
 use Rattle.px_event.specs.Trace.{Trace}
 use Rattle.px_event.specs.declared.heard.Heard.{Heard}

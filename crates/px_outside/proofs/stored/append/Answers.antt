@@ -1,7 +1,6 @@
-use Rattle.std.proofs.Common.{refl, sym, ◌∙◌, ap, List, ℕ, [], ◌∷◌, ◌++◌, string_bytes}
+use Rattle.std.proofs.Common.{refl, sym}
 use Rattle.std.proofs.lemmas.List.Quantifiers.{position-Some}
 use Rattle.std.proofs.lemmas.Result.{err_from_is_err_and}
-use Rattle.px_outside.specs.MemFiles.{Stored, stored_of}
 use Rattle.px_outside.proofs.StoredLemmas.{is_of, appended_at, same_at, new_file, all_fail}
 use Rattle.px_outside.proofs.stored.append.Goals as goal
 

@@ -1,4 +1,4 @@
-use Rattle.std.proofs.Common.{sym, ◌∙◌, ap, List, ℕ, Some, []}
+use Rattle.std.proofs.Common.{sym, ◌∙◌, ap, Some, []}
 use Rattle.std.proofs.lemmas.List.Quantifiers.{position-Some}
 use Rattle.px_outside.proofs.StoredLemmas.{is_of, contents_at, nothing_at, all_fail}
 use Rattle.px_outside.proofs.stored.find.Goals as goal
