@@ -1,22 +1,20 @@
 -- A head of the grammar is a block, so it is found: its lines are not empty, and an empty line follows them.
-use Rattle.std.proofs.Common.{ℕ, zero, suc, ◌+◌, ◌-◌, ◌<◌, ◌≤◌, ◌≡◌, ◌≢◌, Bool, true, false, ◌||◌, List, [], ◌∷◌, ◌++◌, length, take, drop, refl, sym, ap, ◌∙◌, subst, arith, inl, inr, Option, Some, None, append_assoc, append-nil, length-append}
-use Rattle.std.specs.Prelude.{◌==◌, ◌⊎◌, All, if◌then◌else◌, slice_range}
+use Rattle.std.proofs.Common.{ℕ, zero, suc, ◌-◌, ◌<◌, ◌≤◌, ◌≡◌, Bool, true, false, List, [], ◌∷◌, ◌++◌, length, take, drop, refl, sym, ap, ◌∙◌, subst, arith, inl, inr, Option, Some, None, append_assoc, append-nil, length-append}
+use Rattle.std.specs.Prelude.{◌⊎◌, All, slice_range}
 use Rattle.std.specs.List.{flat_map}
 use Rattle.std.specs.Char.{is_ascii_digit}
 use Rattle.std.proofs.lemmas.Bool.Decides.{eqb_tells, leb_tells}
 use Rattle.std.proofs.Math.Seq.{drop-append_seam, take-append_seam}
 use Rattle.std.proofs.lemmas.List.Elements.{All-head, All-tail, All-weaker, All-append, All-cons, All-nil}
 use Rattle.std.proofs.lemmas.List.Sums.{AllPass-from_list_all}
-use Rattle.httparse.specs.Grammar.{AllPass, is_token_byte, is_uri_byte, is_value_byte, Field, IsField, print_field, LineEnd, crlf, lf, print_end, print_blank, print_section, print_version, print_reason, reason_phrase, RequestHead, ResponseHead, print_request, print_response, IsRequestHead, IsResponseHead, ReadsSection}
+use Rattle.httparse.specs.Grammar.{AllPass, is_token_byte, is_uri_byte, is_value_byte, Field, IsField, print_field, LineEnd, crlf, lf, print_end, print_blank, print_section, print_version, print_reason, reason_phrase, RequestHead, ResponseHead, print_request, print_response, IsRequestHead, IsResponseHead}
 use Rattle.httparse.proofs.GrammarLemmas.{cons-append}
 use Rattle.px_text.specs.Blank.{blank_end}
 use Rattle.px_text.proofs.LinesLemmas.{HasNoBlank, HasNoBlank_start, IsInLine, IsLineEnd, line_pushed, EndsLine, line_ends, block_ends}
 use Rattle.px_head.specs.declared.raw.RawHead.{RawHead}
-use Rattle.px_head.specs.declared.front.Front.{Front}
 use Rattle.px_head.specs.declared.front.Front.TheVariants.{Stands}
 use Rattle.px_head.specs.declared.front.Kind.TheVariants.{Request, Response, Trailers}
-use Rattle.px_head.specs.declared.place.Place.{Place}
-use Rattle.px_head.specs.declared.place.Place.TheVariants.{Exceeded, Block}
+use Rattle.px_head.specs.declared.place.Place.TheVariants.{Block}
 use Rattle.px_head.specs.Front.{blank_lines, line_end, place_at, head_place, trailers_place, trailers_end_by, front}
 use Rattle.px_head.specs.Heads.{IsRequest, IsResponse, IsTrailers, raw_request, raw_response, raw_trailers, request_in, response_in, trailers_in}
 use Rattle.px_head.proofs.BlockLemmas.{request_in-Some, response_in-Some, trailers_in-Some}

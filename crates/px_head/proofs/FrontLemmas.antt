@@ -1,30 +1,28 @@
 -- What stands at the front, from the place of the block and from what it is read as.
-use Rattle.std.proofs.Common.{ℕ, zero, suc, ◌+◌, ◌<◌, ◌≤◌, ◌≡◌, ◌≢◌, Bool, true, false, List, [], ◌∷◌, ◌++◌, length, map, refl, sym, ap, ◌∙◌, subst, arith, inl, inr, Option, Some, None}
+use Rattle.std.proofs.Common.{ℕ, zero, suc, ◌<◌, ◌≤◌, ◌≡◌, ◌≢◌, true, false, List, ◌++◌, length, map, refl, sym, ap, ◌∙◌, subst, arith, inl, inr, Option, Some, None}
 use Rattle.std.proofs.lemmas.List.{length-map}
-use Rattle.std.specs.Prelude.{◌⊎◌, slice_range, if◌then◌else◌, All, codes}
+use Rattle.std.specs.Prelude.{slice_range, All}
 use Rattle.std.specs.Char.{is_ascii_digit}
-use Rattle.std.specs.List.{list_all}
 use Rattle.std.specs.Str.Parse.{digits_value}
-use Rattle.std.proofs.lemmas.Bool.Decides.{leb_tells, nat_tests}
+use Rattle.std.proofs.lemmas.Bool.Decides.{leb_tells}
 use Rattle.std.proofs.lemmas.Bool.{lt-ltb}
 use Rattle.std.proofs.lemmas.Grind.{common_steps}
 use Rattle.std.proofs.lemmas.List.Elements.{All-map, All-weaker}
 use Rattle.std.proofs.lemmas.List.Sums.{list_all-from_AllPass}
-use Rattle.httparse.specs.Grammar.{AllPass, IsToken, is_token, is_token_byte, is_value_byte, Field, field_value, IsField, LineEnd, RequestHead, ResponseHead, print_version}
+use Rattle.httparse.specs.Grammar.{AllPass, IsToken, is_token, is_token_byte, is_value_byte, Field, field_value, IsField, print_version}
 use Rattle.httparse.specs.Spans.{name_and_value}
 use Rattle.httparse.proofs.TrimLemmas.{AllPass-trim_ows}
-use Rattle.px_text.specs.Number.{decimal_value, number_value}
+use Rattle.px_text.specs.Number.{decimal_value}
 use Rattle.px_text.proofs.NumberLemmas.{number_value-Some}
 use Rattle.px_head.specs.declared.raw.RawHead.{RawHead}
-use Rattle.px_head.specs.declared.front.Front.{Front}
-use Rattle.px_head.specs.declared.front.Front.TheVariants.{Nothing, TooLong, BadHead, Stands}
+use Rattle.px_head.specs.declared.front.Front.TheVariants.{Nothing, TooLong, Stands}
 use Rattle.px_head.specs.declared.front.Kind.{Kind}
 use Rattle.px_head.specs.declared.front.Kind.TheVariants.{Request, Response, Trailers}
 use Rattle.px_head.specs.declared.place.Place.{Place}
 use Rattle.px_head.specs.declared.place.Place.TheVariants.{Missing, Exceeded, Block}
 use Rattle.px_text.specs.Blank.{blank_end}
 use Rattle.px_head.specs.Front.{blank_lines, place_at, place, trailers_end, front, front_in, front_of, read_as}
-use Rattle.px_head.specs.Heads.{IsRequest, IsResponse, IsTrailers, raw_request, raw_response, raw_trailers, request_in, response_in, trailers_in}
+use Rattle.px_head.specs.Heads.{raw_request, raw_response, raw_trailers}
 use Rattle.px_head.specs.Laws.{IsPlainByte, IsValueText, IsPair, IsVersionText, IsRequestParts, IsResponseParts, IsTrailerParts}
 use Rattle.px_head.specs.Within.{IsPlaceWithin}
 use Rattle.px_head.proofs.BlockLemmas.{request_in-source, response_in-source, trailers_in-source, AllDigits-from_AllPass, code_short}

@@ -1,17 +1,16 @@
 -- The place of a block: that it lies in the bytes, and that more bytes change nothing once it is decided.
-use Rattle.std.proofs.Common.{ℕ, zero, suc, ◌+◌, ◌-◌, ◌<◌, ◌≤◌, ◌≡◌, ◌≢◌, Bool, true, false, List, [], ◌∷◌, ◌++◌, length, take, drop, refl, sym, ap, ◌∙◌, subst, arith, inl, inr, Option, Some, None, length-append}
+use Rattle.std.proofs.Common.{ℕ, zero, suc, ◌+◌, ◌<◌, ◌≤◌, ◌≡◌, ◌≢◌, Bool, List, ◌++◌, length, refl, sym, ap, ◌∙◌, subst, arith, inl, inr, Option, Some, None, length-append}
 use Rattle.std.proofs.lemmas.List.{take-append-le}
 use Rattle.std.specs.Prelude.{⊤, if◌then◌else◌}
 use Rattle.std.proofs.lemmas.Bool.Decides.{leb_tells}
-use Rattle.px_text.specs.Blank.{ends_blank, blank_end}
-use Rattle.px_text.proofs.BlankLemmas.{IsBlankEnd, blank_end-Some, blank_end-None, blank_end-append, ends_blank-append}
+use Rattle.px_text.specs.Blank.{blank_end}
+use Rattle.px_text.proofs.BlankLemmas.{blank_end-Some, blank_end-None, blank_end-append, ends_blank-append}
 use Rattle.px_head.specs.declared.front.Kind.{Kind}
 use Rattle.px_head.specs.declared.front.Kind.TheVariants.{Request, Response, Trailers}
 use Rattle.px_head.specs.declared.place.Marks.{Marks}
-use Rattle.px_head.specs.declared.place.Place.{Place}
 use Rattle.px_head.specs.declared.place.Place.TheVariants.{Missing, Exceeded, Block}
-use Rattle.px_head.specs.Front.{blank_lines, line_end, trailers_end, trailers_end_by, place_at, head_place, trailers_place, place}
-use Rattle.px_head.specs.Marks.{AreMarks, HasNoEnd}
+use Rattle.px_head.specs.Front.{blank_lines, line_end, trailers_end, trailers_end_by, place_at, head_place, place}
+use Rattle.px_head.specs.Marks.{AreMarks}
 use Rattle.px_head.specs.Within.{IsPlaceWithin}
 use Rattle.px_head.proofs.LineLemmas.{blank_lines_within, blank_lines-stays, blank_lines-grows, line_end-within, line_end-stays, line_end-kept}
 

@@ -1,5 +1,5 @@
 -- What stands at the front of a list of bytes: a head and the number of bytes that it uses, or why there is none.
-use Rattle.std.specs.Prelude.{ℕ, zero, suc, ◌+◌, Bool, ◌&&◌, ◌==◌, nat_lt, nat_le, if◌then◌else◌, List, [], ◌∷◌, length, slice_range, Option, Some, None}
+use Rattle.std.specs.Prelude.{ℕ, zero, suc, ◌+◌, ◌&&◌, ◌==◌, nat_lt, nat_le, if◌then◌else◌, List, [], ◌∷◌, length, slice_range, Option, Some, None}
 use Rattle.px_text.specs.Blank.{blank_end}
 use Rattle.px_head.specs.declared.raw.RawHead.{RawHead}
 use Rattle.px_head.specs.declared.front.Front.{Front}

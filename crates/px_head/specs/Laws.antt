@@ -1,15 +1,12 @@
 -- Laws of what stands at the front of bytes.
-use Rattle.std.specs.Prelude.{◌≡◌, ◌≢◌, ℕ, ◌+◌, ◌<◌, ◌≤◌, ◌⊎◌, Bool, true, List, [], ◌∷◌, ◌++◌, length, slice_range, All, Option, Some, codes, IsUtf8}
-use Rattle.httparse.specs.Grammar.{AllPass, is_token, is_uri_byte, is_value_byte, Field, LineEnd, lf, crlf, RequestHead, ResponseHead}
+use Rattle.std.specs.Prelude.{◌≡◌, ◌≢◌, ℕ, ◌<◌, ◌≤◌, ◌⊎◌, true, List, [], ◌++◌, length, slice_range, All, Some, codes, IsUtf8}
+use Rattle.httparse.specs.Grammar.{AllPass, is_token, is_uri_byte, is_value_byte, Field, LineEnd, RequestHead, ResponseHead}
 use Rattle.px_text.specs.Number.{decimal_value}
 use Rattle.px_head.specs.declared.raw.RawHead.{RawHead}
-use Rattle.px_head.specs.declared.front.Front.{Front}
 use Rattle.px_head.specs.declared.front.Front.TheVariants.{Nothing, TooLong, BadHead, Stands}
 use Rattle.px_head.specs.declared.front.Kind.{Kind}
-use Rattle.px_head.specs.declared.front.Kind.TheVariants.{Trailers}
-use Rattle.px_head.specs.declared.place.Place.{Place}
-use Rattle.px_head.specs.declared.place.Place.TheVariants.{Missing, Exceeded, Block}
-use Rattle.px_head.specs.Front.{place, head_place, trailers_place, front, request_front, response_front, trailer_front}
+use Rattle.px_head.specs.declared.place.Place.TheVariants.{Block}
+use Rattle.px_head.specs.Front.{head_place, trailers_place, front, request_front, response_front, trailer_front}
 use Rattle.px_head.specs.Heads.{IsRequest, IsResponse, IsTrailers, raw_request, raw_response, raw_trailers}
 
 -- ---- the front is what the grammar says of the block

@@ -1,5 +1,5 @@
 -- What the spans of `httparse` say of a block: its head, or that it is none.
-use Rattle.std.specs.Prelude.{ℕ, List, Option, MatchOption, ◌≤◌, length, ◌≡◌}
+use Rattle.std.specs.Prelude.{ℕ, List, Option, MatchOption, length}
 use Rattle.httparse.specs.Grammar.{Field, LineEnd, RequestHead, ResponseHead}
 use Rattle.httparse.specs.Spans.{IsRequestAt, IsRequestWithin, IsResponseAt, IsResponseWithin, IsSectionAt, IsSectionWithin}
 use Rattle.httparse.specs.declared.spans.HeaderSpan.{HeaderSpan}

@@ -1,15 +1,15 @@
 -- Telling the pieces of a head: RFC 9112 sections 2 to 5, as the grammar of `httparse` has them.
-use Rattle.std.proofs.Common.{ℕ, zero, suc, ◌+◌, ◌<◌, ◌≤◌, ◌≡◌, Bool, true, false, List, [], ◌∷◌, ◌++◌, length, refl, sym, ap, ◌∙◌, subst, arith, inl, inr, append_assoc, length-append, Option, Some, None}
-use Rattle.std.specs.Prelude.{◌⊎◌, IsUtf8}
+use Rattle.std.proofs.Common.{ℕ, zero, suc, ◌<◌, ◌≤◌, ◌≡◌, Bool, true, false, List, [], ◌∷◌, ◌++◌, length, refl, sym, ap, ◌∙◌, subst, arith, inl, inr, append_assoc, length-append, Option, Some, None}
+use Rattle.std.specs.Prelude.{◌⊎◌}
 use Rattle.std.specs.Str.{is_utf8}
 use Rattle.std.specs.List.{flat_map}
 use Rattle.std.specs.Char.{is_ascii_digit}
 use Rattle.std.proofs.lemmas.Str.{IsUtf8-from_is_utf8, is_utf8-from_IsUtf8}
 use Rattle.std.proofs.lemmas.List.Elements.{All-cons, All-nil}
-use Rattle.httparse.specs.Grammar.{is_token_byte, is_uri_byte, is_value_byte, AllPass, LineEnd, crlf, lf, print_end, print_blank, print_version, Field, print_field, IsField, print_section, print_reason, reason_phrase}
-use Rattle.httparse.specs.Pieces.{Piece, Begins, Then, Stops, is_newline, Bytes, Newline, Blank, Word, Method, Target, Version, Digit, Code, Text, Reason, FieldLine, FieldLines, Section, RequestStart, ResponseStart}
-use Rattle.httparse.proofs.PieceLemmas.{IsDeterministic, Bytes_deterministic, Blank_deterministic, Word_deterministic, Method_deterministic, Target_deterministic, Version_deterministic, Digit_deterministic, Code_deterministic, Name_deterministic, Stops_value, FieldLine_parts, FieldLines_push, print_field-append, space_ends_token, colon_ends_token, newline_not_stopped, print_end_unique, Section_skip, Section_line}
-use Rattle.px_head.specs.Tell.{Decided, CanTell, decided_by, decided_either, decided_both, decided_test, decided_eq, decided_le, Then_tell, Where, Where_tell, Shorter, By_length, RunOf, run_of, run_meets}
+use Rattle.httparse.specs.Grammar.{is_token_byte, is_uri_byte, is_value_byte, LineEnd, crlf, lf, print_end, print_blank, print_version, Field, print_field, IsField}
+use Rattle.httparse.specs.Pieces.{Begins, Then, Stops, is_newline, Bytes, Newline, Blank, Word, Method, Target, Version, Digit, Code, Text, Reason, FieldLine, Section, RequestStart, ResponseStart}
+use Rattle.httparse.proofs.PieceLemmas.{Bytes_deterministic, Blank_deterministic, Word_deterministic, Method_deterministic, Target_deterministic, Version_deterministic, Digit_deterministic, Code_deterministic, Name_deterministic, Stops_value, FieldLine_parts, FieldLines_push, print_field-append, space_ends_token, colon_ends_token, newline_not_stopped, print_end_unique, Section_skip, Section_line}
+use Rattle.px_head.specs.Tell.{Decided, CanTell, decided_by, decided_either, decided_both, decided_test, decided_eq, decided_le, Then_tell, Where_tell, Shorter, By_length, RunOf, run_of, run_meets}
 
 -- ---- fixed bytes and line ends
 

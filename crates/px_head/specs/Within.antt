@@ -1,6 +1,5 @@
 -- That what stands at the front lies in the bytes.
-use Rattle.std.specs.Prelude.{ℕ, ◌+◌, ◌<◌, ◌≤◌, ⊤}
-use Rattle.px_head.specs.declared.raw.RawHead.{RawHead}
+use Rattle.std.specs.Prelude.{ℕ, ◌<◌, ◌≤◌, ⊤}
 use Rattle.px_head.specs.declared.front.Front.{Front}
 use Rattle.px_head.specs.declared.front.Front.TheVariants.{Nothing, TooLong, BadHead, Stands}
 use Rattle.px_head.specs.declared.place.Place.{Place}

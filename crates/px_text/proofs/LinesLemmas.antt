@@ -1,5 +1,5 @@
 -- A block written line by line: no empty line stands in it before its last one, so the block ends there.
-use Rattle.std.proofs.Common.{ℕ, zero, suc, ◌+◌, ◌-◌, ◌<◌, ◌≤◌, ◌≡◌, ◌≢◌, Bool, true, false, ◌&&◌, ◌||◌, List, [], ◌∷◌, ◌++◌, length, get_or, refl, sym, ap, ◌∙◌, subst, arith, inl, inr, Option, Some, None, append_assoc, append-nil, length-append}
+use Rattle.std.proofs.Common.{ℕ, suc, ◌+◌, ◌-◌, ◌<◌, ◌≤◌, ◌≡◌, ◌≢◌, Bool, true, false, ◌&&◌, ◌||◌, List, [], ◌∷◌, ◌++◌, length, get_or, refl, sym, ap, ◌∙◌, subst, arith, inl, inr, Some, append_assoc, length-append}
 use Rattle.std.specs.Prelude.{nat_le, ◌==◌, slice_index, ◌⊎◌, All}
 use Rattle.std.proofs.lemmas.Bool.{ne_eqb, eq-eqb}
 use Rattle.std.proofs.lemmas.Bool.Decides.{leb_tells}
@@ -55,7 +55,7 @@ end_lf : (bytes : List ℕ) (start end : ℕ) → start + 2 ≤ end → slice_in
 end_lf bytes start end far one two = rw (
   le_test (start + 2) end far,
   eq-eqb (slice_index bytes (end - 1)) 10 one,
-  eq-eqb (slice_index bytes (end - 2)) 10 two
+  eq-eqb (slice_index bytes (end - 2)) 10 two,
 ) refl
 
 end_crlf : (bytes : List ℕ) (start end : ℕ) → start + 3 ≤ end → slice_index bytes (end - 1) ≡ 10
@@ -66,7 +66,7 @@ end_crlf bytes start end far one two three = rw (
   eq-eqb (slice_index bytes (end - 1)) 10 one,
   eq-eqb (slice_index bytes (end - 2)) 13 two,
   eq-eqb (slice_index bytes (end - 3)) 10 three,
-  ne_eqb (slice_index bytes (end - 2)) 10 (λ e. let f : ◌≡◌ {A = ℕ} 13 10 = sym two ∙ e in absurd (omega arith))
+  ne_eqb (slice_index bytes (end - 2)) 10 (λ e. let f : ◌≡◌ {A = ℕ} 13 10 = sym two ∙ e in absurd (omega arith)),
 ) refl
 
 -- ---- bytes in which no block ends
@@ -94,7 +94,7 @@ push_by start bytes b h fails =
     record {
       within = omega arith;
       none = λ end low. elim (leb_tells end (length bytes)) [
-        inl t ↦ ends_blank-append bytes (b ∷ []) start end t.1 ∙ h.none end t.1
+        | inl t ↦ ends_blank-append bytes (b ∷ []) start end t.1 ∙ h.none end t.1
         | inr f ↦
             let above = f.1 in
             let at : end ≡ length bytes + 1 = omega arith in
@@ -113,10 +113,10 @@ push_lf start front a not_lf not_cr h =
     let size = length-append front (a ∷ []) in
     let regroup = append_assoc front (a ∷ []) (10 ∷ []) in
     let at : slice_index ((front ++ a ∷ []) ++ 10 ∷ []) (length (front ++ a ∷ []) + 1 - 2) ≡ a =
-        ap (λ (l : List ℕ). slice_index l (length (front ++ a ∷ []) + 1 - 2)) regroup
-        ∙ byte_at front (a ∷ 10 ∷ []) (length (front ++ a ∷ []) + 1 - 2) 0 (omega arith) in
+    ap (λ (l : List ℕ). slice_index l (length (front ++ a ∷ []) + 1 - 2)) regroup
+    ∙ byte_at front (a ∷ 10 ∷ []) (length (front ++ a ∷ []) + 1 - 2) 0 (omega arith) in
     push_by start (front ++ a ∷ []) 10 h (not_end_plain ((front ++ a ∷ []) ++ 10 ∷ []) start (length (front ++ a ∷ []) + 1)
-        (λ e. not_lf (sym at ∙ e)) (λ e. not_cr (sym at ∙ e)))
+    (λ e. not_lf (sym at ∙ e)) (λ e. not_cr (sym at ∙ e)))
 
 push_crlf : (start : ℕ) (front : List ℕ) (a : ℕ) → a ≢ 10 → HasNoBlank start (front ++ a ∷ [])
     → HasNoBlank start ((front ++ a ∷ []) ++ 13 ∷ 10 ∷ [])
@@ -127,15 +127,15 @@ push_crlf start front a not_lf h =
     let size_two = length-append (front ++ a ∷ []) (13 ∷ []) in
     let regroup : ((front ++ a ∷ []) ++ 13 ∷ []) ++ 10 ∷ [] ≡ front ++ (a ∷ 13 ∷ 10 ∷ []) = simp append_assoc in
     let two : slice_index (((front ++ a ∷ []) ++ 13 ∷ []) ++ 10 ∷ []) (length ((front ++ a ∷ []) ++ 13 ∷ []) + 1 - 2) ≡ 13 =
-        ap (λ (l : List ℕ). slice_index l (length ((front ++ a ∷ []) ++ 13 ∷ []) + 1 - 2)) regroup
-        ∙ byte_at front (a ∷ 13 ∷ 10 ∷ []) (length ((front ++ a ∷ []) ++ 13 ∷ []) + 1 - 2) 1 (omega arith) in
+    ap (λ (l : List ℕ). slice_index l (length ((front ++ a ∷ []) ++ 13 ∷ []) + 1 - 2)) regroup
+    ∙ byte_at front (a ∷ 13 ∷ 10 ∷ []) (length ((front ++ a ∷ []) ++ 13 ∷ []) + 1 - 2) 1 (omega arith) in
     let three : slice_index (((front ++ a ∷ []) ++ 13 ∷ []) ++ 10 ∷ []) (length ((front ++ a ∷ []) ++ 13 ∷ []) + 1 - 3) ≡ a =
-        ap (λ (l : List ℕ). slice_index l (length ((front ++ a ∷ []) ++ 13 ∷ []) + 1 - 3)) regroup
-        ∙ byte_at front (a ∷ 13 ∷ 10 ∷ []) (length ((front ++ a ∷ []) ++ 13 ∷ []) + 1 - 3) 0 (omega arith) in
+    ap (λ (l : List ℕ). slice_index l (length ((front ++ a ∷ []) ++ 13 ∷ []) + 1 - 3)) regroup
+    ∙ byte_at front (a ∷ 13 ∷ 10 ∷ []) (length ((front ++ a ∷ []) ++ 13 ∷ []) + 1 - 3) 0 (omega arith) in
     subst (λ (l : List ℕ). HasNoBlank start l) (append_assoc (front ++ a ∷ []) (13 ∷ []) (10 ∷ []))
-        (push_by start ((front ++ a ∷ []) ++ 13 ∷ []) 10 cr
-            (not_end_third (((front ++ a ∷ []) ++ 13 ∷ []) ++ 10 ∷ []) start (length ((front ++ a ∷ []) ++ 13 ∷ []) + 1)
-                (λ e. let f : ◌≡◌ {A = ℕ} 13 10 = sym two ∙ e in absurd (omega arith)) (λ e. not_lf (sym three ∙ e))))
+    (push_by start ((front ++ a ∷ []) ++ 13 ∷ []) 10 cr
+    (not_end_third (((front ++ a ∷ []) ++ 13 ∷ []) ++ 10 ∷ []) start (length ((front ++ a ∷ []) ++ 13 ∷ []) + 1)
+    (λ e. let f : ◌≡◌ {A = ℕ} 13 10 = sym two ∙ e in absurd (omega arith)) (λ e. not_lf (sym three ∙ e))))
 
 -- ---- lines
 
@@ -159,8 +159,8 @@ line_from start front a [] end plain all ends h = push_end start front a end pla
 line_from start front a (b ∷ text) end plain all ends h =
     let first = All-head IsInLine b text all in
     subst (λ (l : List ℕ). HasNoBlank start l) (append_assoc (front ++ a ∷ []) (b ∷ []) (text ++ end))
-        (line_from start (front ++ a ∷ []) b text end first (All-tail IsInLine b text all) ends
-            (push_plain start (front ++ a ∷ []) b first.0 h))
+    (line_from start (front ++ a ∷ []) b text end first (All-tail IsInLine b text all) ends
+    (push_plain start (front ++ a ∷ []) b first.0 h))
 
 -- a line that is not empty
 pub line_pushed : (start : ℕ) (front text end : List ℕ) → 0 < length text → All IsInLine text → IsLineEnd end
@@ -169,7 +169,7 @@ line_pushed start front [] end some all ends h = absurd (omega arith)
 line_pushed start front (a ∷ text) end some all ends h =
     let first = All-head IsInLine a text all in
     subst (λ (l : List ℕ). HasNoBlank start l) (append_assoc front (a ∷ []) (text ++ end))
-        (line_from start front a text end first (All-tail IsInLine a text all) ends (push_plain start front a first.0 h))
+    (line_from start front a text end first (All-tail IsInLine a text all) ends (push_plain start front a first.0 h))
 
 -- the bytes end in LF, and more than that stands behind the start
 abbrev pub EndsLine : ℕ → List ℕ → Type 0
@@ -208,32 +208,32 @@ block_ends start front end more h (before, is, behind) (inl lf) =
     let size_all = length-append (front ++ 10 ∷ []) more in
     let regroup : (front ++ 10 ∷ []) ++ more ≡ before ++ (10 ∷ 10 ∷ more) = rw is (simp append_assoc) in
     let one : slice_index ((front ++ 10 ∷ []) ++ more) (length (front ++ 10 ∷ []) - 1) ≡ 10 =
-        ap (λ (l : List ℕ). slice_index l (length (front ++ 10 ∷ []) - 1)) regroup
-        ∙ byte_at before (10 ∷ 10 ∷ more) (length (front ++ 10 ∷ []) - 1) 1 (omega arith) in
+    ap (λ (l : List ℕ). slice_index l (length (front ++ 10 ∷ []) - 1)) regroup
+    ∙ byte_at before (10 ∷ 10 ∷ more) (length (front ++ 10 ∷ []) - 1) 1 (omega arith) in
     let two : slice_index ((front ++ 10 ∷ []) ++ more) (length (front ++ 10 ∷ []) - 2) ≡ 10 =
-        ap (λ (l : List ℕ). slice_index l (length (front ++ 10 ∷ []) - 2)) regroup
-        ∙ byte_at before (10 ∷ 10 ∷ more) (length (front ++ 10 ∷ []) - 2) 0 (omega arith) in
+    ap (λ (l : List ℕ). slice_index l (length (front ++ 10 ∷ []) - 2)) regroup
+    ∙ byte_at before (10 ∷ 10 ∷ more) (length (front ++ 10 ∷ []) - 2) 0 (omega arith) in
     subst (λ (l : List ℕ). blank_end ((front ++ l) ++ more) start ≡ Some (length (front ++ l))) (sym lf)
-        (blank_end-first ((front ++ 10 ∷ []) ++ more) start (length (front ++ 10 ∷ [])) (omega arith) (omega arith)
-            (end_lf ((front ++ 10 ∷ []) ++ more) start (length (front ++ 10 ∷ [])) (omega arith) one two)
-            (λ k low. ap (λ (l : List ℕ). ends_blank l start k) (append_assoc front (10 ∷ []) more)
-                ∙ ends_blank-append front (10 ∷ more) start k (omega arith) ∙ h.none k (omega arith)))
+    (blank_end-first ((front ++ 10 ∷ []) ++ more) start (length (front ++ 10 ∷ [])) (omega arith) (omega arith)
+    (end_lf ((front ++ 10 ∷ []) ++ more) start (length (front ++ 10 ∷ [])) (omega arith) one two)
+    (λ k low. ap (λ (l : List ℕ). ends_blank l start k) (append_assoc front (10 ∷ []) more)
+    ∙ ends_blank-append front (10 ∷ more) start k (omega arith) ∙ h.none k (omega arith)))
 block_ends start front end more h (before, is, behind) (inr crlf) =
     let size = length-append front (13 ∷ 10 ∷ []) in
     let size_before = ap (λ (l : List ℕ). length l) is ∙ length-append before (10 ∷ []) in
     let size_all = length-append (front ++ 13 ∷ 10 ∷ []) more in
     let regroup : (front ++ 13 ∷ 10 ∷ []) ++ more ≡ before ++ (10 ∷ 13 ∷ 10 ∷ more) = rw is (simp append_assoc) in
     let at : (i n : ℕ) → i ≡ length before + n → slice_index ((front ++ 13 ∷ 10 ∷ []) ++ more) i ≡ get_or (10 ∷ 13 ∷ 10 ∷ more) n 0 =
-        λ i n same. ap (λ (l : List ℕ). slice_index l i) regroup ∙ byte_at before (10 ∷ 13 ∷ 10 ∷ more) i n same in
+    λ i n same. ap (λ (l : List ℕ). slice_index l i) regroup ∙ byte_at before (10 ∷ 13 ∷ 10 ∷ more) i n same in
     subst (λ (l : List ℕ). blank_end ((front ++ l) ++ more) start ≡ Some (length (front ++ l))) (sym crlf)
-        (blank_end-first ((front ++ 13 ∷ 10 ∷ []) ++ more) start (length (front ++ 13 ∷ 10 ∷ [])) (omega arith) (omega arith)
-            (end_crlf ((front ++ 13 ∷ 10 ∷ []) ++ more) start (length (front ++ 13 ∷ 10 ∷ [])) (omega arith)
-                (at _ 2 (omega arith)) (at _ 1 (omega arith)) (at _ 0 (omega arith)))
-            (λ k low. elim (leb_tells k (length front)) [
-              inl t ↦ ap (λ (l : List ℕ). ends_blank l start k) (append_assoc front (13 ∷ 10 ∷ []) more)
-                  ∙ ends_blank-append front (13 ∷ 10 ∷ more) start k t.1 ∙ h.none k t.1
-              | inr f ↦
-                  let above = f.1 in
-                  not_end ((front ++ 13 ∷ 10 ∷ []) ++ more) start k
-                      (λ e. let g : ◌≡◌ {A = ℕ} 13 10 = sym (at (k - 1) 1 (omega arith)) ∙ e in absurd (omega arith))
-            ]))
+    (blank_end-first ((front ++ 13 ∷ 10 ∷ []) ++ more) start (length (front ++ 13 ∷ 10 ∷ [])) (omega arith) (omega arith)
+    (end_crlf ((front ++ 13 ∷ 10 ∷ []) ++ more) start (length (front ++ 13 ∷ 10 ∷ [])) (omega arith)
+    (at _ 2 (omega arith)) (at _ 1 (omega arith)) (at _ 0 (omega arith)))
+    (λ k low. elim (leb_tells k (length front)) [
+      | inl t ↦ ap (λ (l : List ℕ). ends_blank l start k) (append_assoc front (13 ∷ 10 ∷ []) more)
+          ∙ ends_blank-append front (13 ∷ 10 ∷ more) start k t.1 ∙ h.none k t.1
+      | inr f ↦
+          let above = f.1 in
+          not_end ((front ++ 13 ∷ 10 ∷ []) ++ more) start k
+          (λ e. let g : ◌≡◌ {A = ℕ} 13 10 = sym (at (k - 1) 1 (omega arith)) ∙ e in absurd (omega arith))
+    ]))

@@ -1,6 +1,5 @@
-use Rattle.std.proofs.Common.{ℕ, ◌≡◌, ◌∙◌, ap, sym, subst, length}
+use Rattle.std.proofs.Common.{sym, subst, length}
 use Rattle.px_head.specs.declared.place.Place.{Place}
-use Rattle.px_head.specs.Front.{place}
 use Rattle.px_head.specs.Within.{IsPlaceWithin}
 use Rattle.px_head.specs.declared.front.Kind.TheVariants.{Request, Response, Trailers}
 use Rattle.px_head.proofs.PlaceLemmas.{place_within}

@@ -1,4 +1,4 @@
-use Rattle.std.proofs.Common.{◌≡◌, ◌≤◌, ◌+◌, ℕ, ◌∙◌, ap, sym, subst, take, arith, refl}
+use Rattle.std.proofs.Common.{◌≡◌, ℕ, ◌∙◌, ap, sym, subst, take}
 use Rattle.px_text.specs.Blank.{blank_end}
 use Rattle.px_head.specs.Front.{blank_lines, place_at}
 use Rattle.px_head.proofs.LineLemmas.{blank_lines_take, skip_whole}

@@ -1,4 +1,4 @@
-use Rattle.std.proofs.Common.{ℕ, List, ◌∙◌, ◌+◌, ◌≤◌, sym, subst, ap, drop, length, length-drop, arith}
+use Rattle.std.proofs.Common.{ℕ, List, ◌∙◌, ◌≤◌, sym, subst, ap, drop, length, length-drop, arith}
 use Rattle.px_head.specs.Front.{line_end}
 use Rattle.px_head.proofs.LineLemmas.{blank_lines_none, skip_step, rest_slice}
 use Rattle.px_head.proofs.place.skip_blank.Goals as goal

@@ -1,4 +1,4 @@
-use Rattle.std.proofs.Common.{ℕ, List, ◌≡◌, ◌≤◌, ◌∙◌, ◌++◌, ap, sym, subst, length, drop, arith, length-append}
+use Rattle.std.proofs.Common.{ℕ, List, ◌∙◌, ◌++◌, ap, sym, subst, length, drop, arith, length-append}
 use Rattle.std.proofs.lemmas.List.{drop-append-le}
 use Rattle.px_head.specs.Marks.{AreMarks}
 use Rattle.px_head.proofs.PlaceLemmas.{AreMarks-append}
