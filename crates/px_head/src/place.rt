@@ -5,9 +5,13 @@
 //! The marks keep both. They are facts on the bytes so far, and more bytes behind them change none of these facts.
 ghost use Rattle.std.specs.Prelude.{◌≡◌, ◌≤◌, ◌+◌, List, ℕ, drop, length};
 ghost use Rattle.px_text.specs.Blank.{blank_end};
-ghost use Rattle.px_head.specs.Marks.{HasNoEnd};
+ghost use Rattle.px_head.specs.Front as spec;
+ghost use Rattle.px_head.specs.Marks.{AreMarks, HasNoEnd};
 
 use px_text::find_blank;
+
+/// The most bytes that skipped lines and a block may have together.
+const LIMIT: usize = 65_536;
 
 /// No block yet, none within the limit, or the block from a start to an end.
 #[derive(Clone, Copy, Debug, PartialEq, Eq)]
@@ -34,12 +38,6 @@ impl Marks {
         trailers: 0,
     };
 }
-
-/// The most bytes that skipped lines and a block may have together.
-const LIMIT: usize = 65_536;
-
-ghost use Rattle.px_head.specs.Front as spec;
-ghost use Rattle.px_head.specs.Marks.{AreMarks};
 
 /// Where the block of a start line stands.
 pub fn head_place(bytes: &[u8], marks: &mut Marks) -> Place
