@@ -9,3 +9,4 @@ pub mod Authority
 pub mod Target
 pub mod Url
 pub mod Fields
+pub mod Length
