@@ -3,6 +3,7 @@
 
 mod dial;
 mod item;
-mod stub;
+mod joined;
+mod served;
 
 pub use dial::Dial;
