@@ -10,3 +10,6 @@ pub mod AddressTextLemmas
 mod ListLemmas
 mod SetLemmas
 pub mod FieldLaws
+mod FoldLemmas
+mod CodingLemmas
+mod StatedLemmas

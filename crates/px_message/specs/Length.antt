@@ -68,14 +68,18 @@ request_length fields =
 abbrev pub has_no_body : ℕ → Bool → Bool
 has_no_body code asked_head = asked_head || (code / 100 == 1) || code == 204 || code == 304
 
--- the length of a body that its own fields do not end, or that one that is framed
+-- the length of a response's body by its codings alone
+abbrev pub coded_length : List (List ℕ × List ℕ) → Result Length Fault
+coded_length fields =
+    if has_element transfer_encoding (codes "chunked") fields
+    then (if is_framed_in_chunks fields then Ok length.Chunked else Err BadCoding)
+    else Ok length.ToClose
+
+-- the length of the body of a response that can have one
 abbrev pub framed_length : List (List ℕ × List ℕ) → Result Length Fault
 framed_length fields =
     if stands transfer_encoding fields then (
-    if stands content_length fields then Err BothLengths
-    else (if has_element transfer_encoding (codes "chunked") fields
-    then (if is_framed_in_chunks fields then Ok length.Chunked else Err BadCoding)
-    else Ok length.ToClose))
+    if stands content_length fields then Err BothLengths else coded_length fields)
     else (if stands content_length fields then by_stated (stated_length fields) else Ok length.ToClose)
 
 -- the length of a response's body

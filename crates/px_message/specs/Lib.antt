@@ -10,3 +10,5 @@ pub mod Target
 pub mod Url
 pub mod Fields
 pub mod Length
+pub mod Codings
+pub mod Stated
