@@ -34,16 +34,24 @@ fault_message BadResponse = codes "bad response"
 fault_message NotBuilt = codes "not built"
 fault_message UpstreamRefused = codes "upstream refused"
 
--- the head of the answer; its length counts the message and the line feed behind it
-abbrev pub error_head : Fault → List ℕ
-error_head fault =
-    codes "HTTP/1.1 " ++ fault_status fault ++ crlf
+-- the head of an answer of this status, with so many bytes behind it
+abbrev pub answer_head : List ℕ → List ℕ → List ℕ
+answer_head status digits =
+    codes "HTTP/1.1 " ++ status ++ crlf
     ++ codes "Server: mitm" ++ crlf
     ++ codes "Connection: close" ++ crlf
     ++ codes "Content-Type: text/plain" ++ crlf
-    ++ codes "Content-Length: " ++ decimal (length (fault_message fault) + 1) ++ crlf
+    ++ codes "Content-Length: " ++ digits ++ crlf
     ++ crlf
+
+-- the head of the answer to a fault; its length counts the message and the line feed behind it
+abbrev pub error_head : Fault → List ℕ
+error_head fault = answer_head (fault_status fault) (decimal (length (fault_message fault) + 1))
+
+-- the message on a line, or nothing to HEAD
+abbrev pub error_line : Fault → Bool → List ℕ
+error_line fault asked_head = if asked_head then [] else fault_message fault ++ 10 ∷ []
 
 -- the answer; to HEAD its head alone
 unfoldable pub error_text : Fault → Bool → List ℕ
-error_text fault asked_head = error_head fault ++ (if asked_head then [] else fault_message fault ++ 10 ∷ [])
+error_text fault asked_head = error_head fault ++ error_line fault asked_head

@@ -2,6 +2,7 @@
 -- before an empty reason, and a field is its name, a colon, a space and its value.
 use Rattle.std.specs.Prelude.{ℕ, Bool, ◌==◌, if◌then◌else◌, List, [], ◌∷◌, ◌++◌, length, codes, decimal}
 use Rattle.std.specs.List.{flat_map}
+use Rattle.std.specs.Borrow.{Bor}
 use Rattle.px_text.specs.Number.{hexadecimal}
 use Rattle.px_message.specs.Length.{is_framed_in_chunks, has_no_body}
 use Rattle.px_message.specs.Url.{url_text}
@@ -11,6 +12,10 @@ use Rattle.px_message.specs.declared.request.Request.{Request}
 use Rattle.px_message.specs.declared.response.Response.{Response}
 use Rattle.px_write.specs.declared.form.Form.{Form}
 use Rattle.px_write.specs.declared.form.Form.TheVariants.{Origin, Absolute}
+
+-- the pieces of a text, one behind the other
+abbrev pub joined : List (Bor (List ℕ)) → List ℕ
+joined pieces = flat_map (λ piece. piece.now) pieces
 
 -- the end of a line
 abbrev pub crlf : List ℕ
@@ -68,8 +73,11 @@ body_text fields content trailers =
 abbrev pub request_text : Request → Form → List ℕ
 request_text request form = request_head_text request form ++ body_text request.fields request.body request.trailers
 
+-- the body of a response, or nothing where it can have none
+abbrev pub response_body_text : Response → Bool → List ℕ
+response_body_text response asked_head =
+    if has_no_body response.status asked_head then [] else body_text response.fields response.body response.trailers
+
 -- a whole response: where it can have no body, its head alone
 abbrev pub response_text : Response → Bool → List ℕ
-response_text response asked_head =
-    response_head_text response
-    ++ (if has_no_body response.status asked_head then [] else body_text response.fields response.body response.trailers)
+response_text response asked_head = response_head_text response ++ response_body_text response asked_head
