@@ -19,7 +19,7 @@ use Rattle.px_app.specs.declared.item.AnswerItem.{AnswerItem}
 use Rattle.px_app.specs.declared.item.AnswerItem.TheVariants.{Unfinished, Unbuilt, Whole}
 use Rattle.px_app.specs.declared.dial.Dial.{Dial}
 use Rattle.px_app.specs.declared.dial.Dial.TheVariants as dial
-use Rattle.px_app.proofs.FrontLemmas.{front-stays}
+use Rattle.px_head.proofs.FrontLemmas.{front-stays}
 
 -- a request that is there, or refused, stays as it is, whatever bytes follow
 pub request-stays : (bytes more : List ℕ) → request bytes ≢ Missing → request (bytes ++ more) ≡ request bytes
