@@ -1,5 +1,6 @@
 -- What is owed only grows by one more thing heard, until the end.
-use Rattle.std.proofs.Common.{ℕ, ◌≡◌, ◌≢◌, Bool, true, false, List, [], ◌∷◌, ◌++◌, refl, sym, ap, ◌∙◌}
+use Rattle.std.proofs.Common.{subst, ◌+◌, ◌≤◌, length, drop, arith, length-append, ℕ, ◌≡◌, ◌≢◌, Bool, true, false, List, [], ◌∷◌, ◌++◌, refl, sym, ap, ◌∙◌}
+use Rattle.std.proofs.Math.Seq.{drop-append_seam}
 use Rattle.std.specs.Prelude.{if◌then◌else◌, ◌&&◌, ◌||◌, ◌==◌}
 use Rattle.px_text.specs.Prefix.{IsPrefixOf}
 use Rattle.px_event.specs.declared.side.Side.TheVariants.{Client, Server}
@@ -121,3 +122,21 @@ owed-follows address s t unended follows = request_grows address (request s.clie
 pub owed_grows : (address : Address) (s : Seen) (what : Heard) → is_over s ≡ false
     → IsPrefixOf (owed address s) (owed address (sees s what))
 owed_grows address s what unended = owed-follows address s (sees s what) unended (sees-follows s what)
+
+-- of a list that begins with another, what is behind that
+behind_prefix : {A : Type 0} (old all : List A) (n : ℕ) → n ≡ length old → IsPrefixOf old all
+    → (n ≤ length all) × (all ≡ old ++ drop n all)
+behind_prefix {A} old all n size begins =
+    let long : length all ≡ length old + length begins.0 = ap length begins.1 ∙ length-append old begins.0 in
+    let rest : drop n all ≡ begins.0 =
+    ap (λ (m : ℕ). drop m all) size ∙ ap (λ (xs : List A). drop (length old) xs) begins.1 ∙ drop-append_seam old begins.0 in
+    (omega arith, begins.1 ∙ ap (λ (xs : List A). old ++ xs) (sym rest))
+
+-- what is owed once more was heard, where so much was owed before
+pub owed_behind : (address : Address) (s t : Seen) (what : Heard) (said : ℕ) (all : List Said) → is_over s ≡ false
+    → said ≡ length (owed address s) → t ≡ sees s what → all ≡ owed address t
+    → (said ≤ length all) × (all ≡ owed address s ++ drop said all)
+owed_behind address s t what said all unended size seen is =
+    let later : owed address (sees s what) ≡ all = ap (λ (u : Seen). owed address u) (sym seen) ∙ sym is in
+    behind_prefix (owed address s) all said size
+    (subst (λ (xs : List Said). IsPrefixOf (owed address s) xs) later (owed_grows address s what unended))

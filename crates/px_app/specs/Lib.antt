@@ -4,3 +4,4 @@ pub mod Due
 pub mod Faithful
 pub mod Words
 pub mod Lines
+pub mod Parts

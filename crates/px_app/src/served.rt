@@ -4,6 +4,7 @@ ghost use Rattle.px_app.specs.Seen.{nothing_seen, sees, is_over};
 ghost use Rattle.px_app.specs.Due.{owed};
 
 use crate::joined::Joined;
+use crate::owed::owed;
 use px_event::{Heard, Said};
 use px_message::Address;
 use px_text::NoMemory;
@@ -18,6 +19,19 @@ pub struct Served {
 }
 
 impl Served {
+    /// Nothing was heard yet.
+    pub fn new(alloc: Global, address: Address) -> Served
+        ensures address { result.address ≡ address }
+        ensures seen { result.seen ≡ nothing_seen }
+        ensures said { result.said ≡ 0 }
+    {
+        Served {
+            address,
+            seen: Joined::new(alloc),
+            said: 0,
+        }
+    }
+
     /// Takes what the conversation heard, and gives what is to be said. After `NoMemory` it may only be dropped.
     pub fn take(&mut self, heard: Heard) -> Result<Vec<Said>, NoMemory>
         requires all_said { self.old.said ≡ length (owed self.old.address self.old.seen) }
@@ -26,6 +40,13 @@ impl Served {
         ensures all_said { OnOk result (self.new.said ≡ length (owed self.new.address self.new.seen)) }
         ensures address { OnOk result (self.new.address ≡ self.old.address) }
     {
-        Err(NoMemory)
+        if self.seen.is_over(&self.address)? {
+            return Ok(Vec::new(self.seen.allocator()));
+        }
+        self.seen.hear(&self.address, heard)?;
+        let mut all = owed(&self.address, &self.seen)?;
+        let fresh = all.split_off(self.said)?;
+        self.said += fresh.len();
+        Ok(fresh)
     }
 }
