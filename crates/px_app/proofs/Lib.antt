@@ -1,3 +1,13 @@
 pub mod Growth
 pub mod PartLemmas
 pub mod ItemLemmas
+pub mod TraceLemmas
+pub mod SaidLemmas
+pub mod Growth
+pub mod SeenLemmas
+pub mod CountLemmas
+pub mod StepLemmas
+pub mod ServingLemmas
+pub mod WordLemmas
+pub mod NetLemmas
+pub mod RunLemmas

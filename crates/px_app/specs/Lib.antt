@@ -5,3 +5,6 @@ pub mod Faithful
 pub mod Words
 pub mod Lines
 pub mod Parts
+pub mod Statuses
+pub mod Run
+pub mod Serving

@@ -8,6 +8,16 @@ mod item;
 mod joined;
 mod owed;
 mod parts;
+mod conversation;
+mod dial;
+mod item;
+mod joined;
+mod local;
+mod program;
+mod serve;
 mod served;
+mod status;
+mod words;
 
 pub use dial::Dial;
+pub use program::run;

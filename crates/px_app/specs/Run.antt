@@ -1,0 +1,36 @@
+-- What a run promises by its status.
+use Rattle.std.specs.Prelude.{◌≡◌, ◌≢◌, ◌⊎◌, ℕ, Bool, true, false, List, Option, Some, None}
+use Rattle.px_event.specs.Trace.{Trace}
+use Rattle.px_message.specs.declared.address.Address.{Address}
+use Rattle.px_outside.specs.Net.{Listening, at}
+use Rattle.px_app.specs.Faithful.{IsFaithful, IsWhole}
+use Rattle.px_app.specs.Statuses.{heard_count, ends_heard}
+use Rattle.px_app.specs.declared.status.Status.{Status}
+use Rattle.px_app.specs.declared.status.Status.TheVariants.{Ended, BudgetSpent, NoMemory}
+
+-- this status comes only where the trace has its cause, and where it has it
+pub record IsEnd (budget : ℕ) (status : Status) (trace : Trace) : Type 0 where
+  pub ended : status ≡ Ended → ends_heard trace ≡ true
+  pub ends : ends_heard trace ≡ true → status ≡ Ended
+  pub count : status ≡ BudgetSpent → heard_count trace ≡ budget
+  pub goes_on : status ≡ BudgetSpent → ends_heard trace ≡ false
+  pub spent : heard_count trace ≡ budget → ends_heard trace ≡ false → (status ≡ BudgetSpent) ⊎ (status ≡ NoMemory)
+
+-- the trace of a run that ended with this status, where so many things may be heard
+pub record IsRun (address : Address) (budget : ℕ) (status : Status) (trace : Trace) : Type 0 where
+  pub faithful : IsFaithful address trace
+  pub whole : status ≢ NoMemory → IsWhole address trace
+  pub is_end : IsEnd budget status trace
+
+-- the fact holds of the trace, which is told
+pub record Tells (P : Trace → Type 0) (told : Option Trace) : Type 0 where
+  pub trace : Trace
+  pub tells : told ≡ Some trace
+  pub holds : P trace
+
+-- it listens for clients at this host and port, and for no operators
+pub record ListensAt (host : List ℕ) (port : ℕ) (listening : Listening) : Type 0 where
+  pub proxy : Address
+  pub here : listening ≡ at proxy None
+  pub at_host : proxy.host ≡ host
+  pub at_port : proxy.port ≡ port
