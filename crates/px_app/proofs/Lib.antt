@@ -3,7 +3,6 @@ pub mod PartLemmas
 pub mod ItemLemmas
 pub mod TraceLemmas
 pub mod SaidLemmas
-pub mod Growth
 pub mod SeenLemmas
 pub mod CountLemmas
 pub mod StepLemmas

@@ -9,7 +9,7 @@ use Rattle.px_event.specs.Trace.{Trace}
 use Rattle.px_outside.specs.Net.{Adds, Listening, at}
 use Rattle.px_app.specs.Run.{ListensAt}
 
-pub listens_at : {E : Type 0} (result : Result (Unit {0}) E) (host : List ℕ) (listening : Listening) (address : Address) → address.host ≡ host → address.port ≡ 8080 → 
+pub listens_at : {E : Type 0} (result : Result (Unit {0}) E) (host : List ℕ) (listening : Listening) (address : Address) → address.host ≡ host → address.port ≡ 8080 →
     OnOk result (listening ≡ at address None) → OnOk result (ListensAt host 8080 listening)
 listens_at (Ok _) host listening address same port here = record { proxy = address; here = here; at_host = same; at_port = port }
 listens_at (Err _) host listening address same port here = tt
@@ -28,7 +28,7 @@ says_more now next number out i x trace told adds within item =
     adds_told now next (steps.Said number x) (trace ++ map (steps.Said number) (take i out)) told adds
     ∙ ap Some (append_assoc trace (map (steps.Said number) (take i out)) (steps.Said number x ∷ [])
     ∙ ap (λ (l : Trace). trace ++ l)
-      (ap (λ (y : Said). map (steps.Said number) (take i out) ++ steps.Said number y ∷ []) item ∙ sym (map_more (steps.Said number) out i x within)))
+    (ap (λ (y : Said). map (steps.Said number) (take i out) ++ steps.Said number y ∷ []) item ∙ sym (map_more (steps.Said number) out i x within)))
 
 pub on_err : {T E : Type 0} (result : Result T E) (P : Type 0) → P → OnErr result P
 on_err (Ok _) P h = tt

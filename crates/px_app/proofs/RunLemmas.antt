@@ -101,10 +101,10 @@ tells_end address budget state trace moment what old new stands is tells adds =
     let last : ends_heard more ≡ true = ends_with_heard trace moment what ∙ end_is what is in
     let faithful : IsFaithful address more = heard_faithful address trace moment what stands.faithful stands.said in
     let same : conversation more ≡ conversation trace =
-      joined_more (None, []) trace (steps.Heard moment what) ∙ ap (λ (h : Heard). joined (conversation trace) (steps.Heard moment h)) is
-      ∙ joined_end (conversation trace) moment in
+    joined_more (None, []) trace (steps.Heard moment what) ∙ ap (λ (h : Heard). joined (conversation trace) (steps.Heard moment h)) is
+    ∙ joined_end (conversation trace) moment in
     let all : IsAllSaid address more = λ conv.
-      said_heard trace moment what conv ∙ stands.said conv ∙ ap (λ (p : Option ℕ × List Heard). due_to address p conv) (sym same) in
+    said_heard trace moment what conv ∙ stands.said conv ∙ ap (λ (p : Option ℕ × List Heard). due_to address p conv) (sym same) in
     record {
       trace = more;
       tells = adds_told old new (steps.Heard moment what) trace tells adds;

@@ -23,7 +23,7 @@ pub stands_at_start : (address : Address) (state : Conversation) → state.serve
     state.served.seen ≡ nothing_seen → state.served.said ≡ 0 → Stands address state []
 stands_at_start address state to number seen said =
     let nothing : owed state.served.address state.served.seen ≡ [] =
-      ap (λ (s : Seen). owed state.served.address s) seen in
+    ap (λ (s : Seen). owed state.served.address s) seen in
     record {
       to = to;
       number = number;

@@ -55,7 +55,7 @@ module _ (address : Address) where
       IsFaithful address (trace ++ steps.Heard moment what ∷ [])
   heard_faithful trace moment what faithful all = record {
     always = always_more (IsWithinDue address) trace (steps.Heard moment what) faithful.always
-      (within_due (trace ++ steps.Heard moment what ∷ []) (within_heard trace moment what all));
+        (within_due (trace ++ steps.Heard moment what ∷ []) (within_heard trace moment what all));
     sent = before_heard (IsAllSent address) trace moment what faithful.sent (all_sent trace all);
     said = before_heard (IsAllSaid address) trace moment what faithful.said all;
   }
@@ -80,7 +80,7 @@ module _ (address : Address) where
       IsFaithful address (trace ++ steps.Said number x ∷ [])
   said_faithful trace number x rest faithful owes = record {
     always = always_more (IsWithinDue address) trace (steps.Said number x) faithful.always
-      (within_due (trace ++ steps.Said number x ∷ []) (λ conv. ((if number == conv then rest else []), said_owes trace number x rest owes conv)));
+        (within_due (trace ++ steps.Said number x ∷ []) (λ conv. ((if number == conv then rest else []), said_owes trace number x rest owes conv)));
     sent = before_said (IsAllSent address) trace number x faithful.sent;
     said = before_said (IsAllSaid address) trace number x faithful.said;
   }
@@ -111,9 +111,9 @@ module _ (address : Address) where
       record { faithful = f.0; owes = f.1; same = f.2 }
   follows (x ∷ given) back trace number faithful owes =
       let f = follows_more trace (trace ++ steps.Said number x ∷ map (steps.Said number) given) number x given back
-        (append_assoc trace (steps.Said number x ∷ []) (map (steps.Said number) given))
-        (follows given back (trace ++ steps.Said number x ∷ []) number (said_faithful trace number x (given ++ back) faithful owes)
-          (said_owes trace number x (given ++ back) owes)) in
+      (append_assoc trace (steps.Said number x ∷ []) (map (steps.Said number) given))
+      (follows given back (trace ++ steps.Said number x ∷ []) number (said_faithful trace number x (given ++ back) faithful owes)
+      (said_owes trace number x (given ++ back) owes)) in
       record { faithful = f.0; owes = f.1; same = f.2 }
 
   -- nothing is left to say
@@ -160,11 +160,11 @@ module _ (address : Address) where
       Owes (trace ++ steps.Heard moment what ∷ []) number out
   owes_heard trace moment what was number before out all is due_before fresh after due_after conv =
       due_to_number (conversation (trace ++ steps.Heard moment what ∷ [])) number conv
-        (number_heard trace moment what ∙ ap (λ (o : Option ℕ). number_after o what) is ∙ after)
+      (number_heard trace moment what ∙ ap (λ (o : Option ℕ). number_after o what) is ∙ after)
       ∙ ap (λ (l : List Said). if number == conv then l else []) due_after
       ∙ append_by before out (number == conv)
       ∙ ap (λ (l : List Said). l ++ (if number == conv then out else []))
-        (sym (due_before_by (conversation trace) was what number conv before is due_before fresh after) ∙ sym (all conv) ∙ sym (said_heard trace moment what conv))
+      (sym (due_before_by (conversation trace) was what number conv before is due_before fresh after) ∙ sym (all conv) ∙ sym (said_heard trace moment what conv))
 
   pub was_none : (was : Option ℕ) (what : Heard) → number_after was what ≡ None → was ≡ None
   was_none None what after = refl
@@ -176,4 +176,4 @@ module _ (address : Address) where
   quiet_heard trace moment what was all is after conv =
       said_heard trace moment what conv ∙ all conv ∙ due_to_none (conversation trace) conv (is ∙ was_none was what after)
       ∙ sym (due_to_none (conversation (trace ++ steps.Heard moment what ∷ [])) conv
-        (number_heard trace moment what ∙ ap (λ (o : Option ℕ). number_after o what) is ∙ after))
+      (number_heard trace moment what ∙ ap (λ (o : Option ℕ). number_after o what) is ∙ after))

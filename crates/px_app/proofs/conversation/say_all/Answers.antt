@@ -10,8 +10,8 @@ loop-said-init g c = record { said = λ trace told. told ∙ ap Some (sym (appen
 pub loop-said-preserved : goal.loop-said-preserved
 loop-said-preserved g c = record {
   said = λ trace told.
-    says_more _ _ c.args.number c.args.out.now c.loop-said.said-index c.said-item.result trace (c.loop-said.invariant.said trace told)
-    c.in_ok-say.ensures.said (omega arith) c.said-item.is;
+      says_more _ _ c.args.number c.args.out.now c.loop-said.said-index c.said-item.result trace (c.loop-said.invariant.said trace told)
+      c.in_ok-say.ensures.said (omega arith) c.said-item.is;
   listening = c.in_ok-say.ensures.listening ∙ c.loop-said.invariant.listening;
   faults = c.in_ok-say.ensures.faults ∙ c.loop-said.invariant.faults;
 }

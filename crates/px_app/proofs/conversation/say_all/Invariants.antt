@@ -8,5 +8,5 @@ abbrev pub invariant-loop-said : goal.invariant-loop-said
 invariant-loop-said g l = record {
   said : (trace : Trace) → g.N.Net.trace l.initial.net ≡ Some trace → g.N.Net.trace l.net ≡ Some (trace ++ map (steps.Said l.number) (take l.said-index l.out));
   listening : g.N.Net.listening l.net ≡ g.N.Net.listening l.initial.net;
-  faults : g.N.Net.faults l.net ≡ g.N.Net.faults l.initial.net
+  faults : g.N.Net.faults l.net ≡ g.N.Net.faults l.initial.net;
 }

@@ -12,7 +12,7 @@ returns-in-Err-clause-run g c = λ told.
 pub turns-preserved : goal.turns-preserved
 turns-preserved g c = record {
   turn = λ told.
-    next_turn c.args.address c.turns.conversation c.step.new.self c.turns.turn _ _ (c.turns.invariant.turn told) (c.in_default-step.ensures.ok c.args.address);
+      next_turn c.args.address c.turns.conversation c.step.new.self c.turns.turn _ _ (c.turns.invariant.turn told) (c.in_default-step.ensures.ok c.args.address);
   all_said = c.in_default-step.ensures.all_said;
   listening = subst (λ l. ListensAt (codes "127.0.0.1") 8080 l) (sym c.in_default-step.ensures.listening) c.turns.invariant.listening;
   later = omega (arith, c.in_default-step.ensures.later);

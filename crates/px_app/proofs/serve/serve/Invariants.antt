@@ -9,5 +9,5 @@ invariant-turns g l = record {
   turn : g.N.Net.trace l.fn.net ≡ Some [] → TellsTurn l.fn.address l.conversation l.turn (g.N.Net.trace l.net);
   all_said : l.conversation.served.said ≡ length (owed l.conversation.served.address l.conversation.served.seen);
   listening : ListensAt (codes "127.0.0.1") 8080 (g.N.Net.listening l.net);
-  later : g.N.Net.faults l.fn.net ≤ g.N.Net.faults l.net
+  later : g.N.Net.faults l.fn.net ≤ g.N.Net.faults l.net;
 }

@@ -24,7 +24,7 @@ returns-in-Ok c =
     let words = three_are c.args.words.now _ _ _ c.in-len3.len_at_least c.in-len3.len_below c.command-item.is c.host-item.is c.port-item.is in
     let items : c.in_ok-from_slice.field-0.items ≡ string_bytes c.host-item.result = c.in_ok-from_slice.ensures.items ∙ c.as_bytes-2.ensures.value in
     let command : bytes_eq (string_bytes c.command-item.result) (codes "serve") ≡ true =
-      ap (λ (text : List ℕ). bytes_eq text (codes "serve")) (sym c.as_str.ensures.value) ∙ not_false _ _ c.if-ne.false c.ne.ensures in
+    ap (λ (text : List ℕ). bytes_eq text (codes "serve")) (sym c.as_str.ensures.value) ∙ not_false _ _ c.if-ne.false c.ne.ensures in
     let valid : IsHost (string_bytes c.host-item.result) = subst IsHost items c.in-Ok.ensures.ok.1 in
     let port : Some c.in-Some.port ≡ port_in_words (string_bytes c.port-item.result) = c.in-Some.ensures ∙ ap port_in_words c.as_bytes.ensures.value in
     ap (λ (host : List ℕ). Some (host, c.in-Some.port)) (c.in-Ok.ensures.ok.0 ∙ items)

@@ -22,7 +22,7 @@ returns-in-Some-clause-ok g c = λ address trace moment stands tells.
     let more = trace ++ steps.Heard moment c.args.heard ∷ [] in
     on_ok_map c.say_all.result _ _
     (λ told. goes_on_said address c.args.self.now c.hear.new.self trace moment c.args.heard stands c.in_ok-out.out.items hears _ c.in-Some.number c.requires.goes_on c.in-Some.is
-      (told ∙ ap (λ out. Some (more ++ map (steps.Said c.in-Some.number) out)) c.deref.ensures.value))
+    (told ∙ ap (λ out. Some (more ++ map (steps.Said c.in-Some.number) out)) c.deref.ensures.value))
     (c.say_all.ensures.said more tells)
 
 pub returns-in-Some-clause-err : goal.returns-in-Some-clause-err
@@ -37,7 +37,7 @@ returns-in-Some-clause-err g c = λ address trace moment stands tells.
     } in
     on_err_map c.say_all.result _ _
     (λ part. stops_within address c.args.self.now c.hear.new.self trace moment c.args.heard stands c.in_ok-out.out.items hears _ c.in-Some.number part.0 c.requires.goes_on c.in-Some.is
-      (part.1.0, sym c.deref.ensures.value ∙ part.1.1) part.2)
+    (part.1.0, sym c.deref.ensures.value ∙ part.1.1) part.2)
     (c.say_all.ensures.part (trace ++ steps.Heard moment c.args.heard ∷ []) tells)
 
 pub returns-clause-ok : goal.returns-clause-ok

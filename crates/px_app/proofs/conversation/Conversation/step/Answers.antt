@@ -10,4 +10,4 @@ pub returns-in_err-answer-clause-err : goal.returns-in_err-answer-clause-err
 returns-in_err-answer-clause-err g c = λ address trace budget stands tells goes_on below.
     if_err_memory c.from_residual-in_err-answer.result _ c.from_residual-in_err-answer.ensures.1
     (tells_memory address budget trace _
-      (c.in_err-answer.ensures.err address trace c.in_ok-heard.field-0-0 stands (adds_told _ _ _ trace tells c.in_ok-heard.ensures.heard)))
+    (c.in_err-answer.ensures.err address trace c.in_ok-heard.field-0-0 stands (adds_told _ _ _ trace tells c.in_ok-heard.ensures.heard)))
