@@ -3,16 +3,13 @@
 
 mod answered;
 mod asked;
-mod dial;
-mod item;
-mod joined;
-mod owed;
-mod parts;
 mod conversation;
 mod dial;
 mod item;
 mod joined;
 mod local;
+mod owed;
+mod parts;
 mod program;
 mod serve;
 mod served;
