@@ -11,9 +11,11 @@ adds_first a b old new h =
 
 -- and one of the second part, behind the first
 pub adds_second : (a b old middle new : List ℕ) → middle ≡ old ++ a → AddsPrefixOf b middle new → AddsPrefixOf (a ++ b) old new
-adds_second a b old middle new first h =
-    (a ++ h.0, (h.1.0, ap (λ l. a ++ l) h.1.1 ∙ sym (append_assoc a h.0 h.1.0)),
-    h.2 ∙ ap (λ l. l ++ h.0) first ∙ append_assoc old a h.0)
+adds_second a b old middle new first h = (
+  a ++ h.0,
+  (h.1.0, ap (λ l. a ++ l) h.1.1 ∙ sym (append_assoc a h.0 h.1.0)),
+  h.2 ∙ ap (λ l. l ++ h.0) first ∙ append_assoc old a h.0,
+)
 
 -- nothing added is a prefix of every text
 pub adds_nothing : (text old new : List ℕ) → new ≡ old → AddsPrefixOf text old new

@@ -40,7 +40,12 @@ pub fn write_last_chunk(trailers: &Fields, out: &mut Vec<u8>) -> Result<(), NoMe
 }
 
 /// Appends a whole body, with its trailers where the fields frame it in chunks.
-pub(crate) fn write_body(fields: &Fields, body: &Body, trailers: &Fields, out: &mut Vec<u8>) -> Result<(), NoMemory>
+pub(crate) fn write_body(
+    fields: &Fields,
+    body: &Body,
+    trailers: &Fields,
+    out: &mut Vec<u8>,
+) -> Result<(), NoMemory>
     ensures ok { OnOk result (out.new.items ≡ out.old.items ++ body_text fields.now body.now trailers.now) }
     ensures err { OnErr result (AddsPrefixOf (body_text fields.now body.now trailers.now) out.old.items out.new.items) }
 {

@@ -38,13 +38,16 @@ fn write_answer_head(status: &[u8], length: &[u8], out: &mut Vec<u8>) -> Result<
     ensures ok { OnOk result (out.new.items ≡ out.old.items ++ answer_head status.now length.now) }
     ensures err { OnErr result (AddsPrefixOf (answer_head status.now length.now) out.old.items out.new.items) }
 {
-    append(out, &[
-        b"HTTP/1.1 ",
-        status,
-        b"\r\nServer: mitm\r\nConnection: close\r\nContent-Type: text/plain\r\nContent-Length: ",
-        length,
-        b"\r\n\r\n",
-    ])
+    append(
+        out,
+        &[
+            b"HTTP/1.1 ",
+            status,
+            b"\r\nServer: mitm\r\nConnection: close\r\nContent-Type: text/plain\r\nContent-Length: ",
+            length,
+            b"\r\n\r\n",
+        ],
+    )
 }
 
 // The message on a line, or nothing to HEAD.
@@ -72,10 +75,8 @@ fn fault_status(fault: Fault) -> &'static [u8]
         | Fault::BadCoding
         | Fault::BadChunk => b"400 Bad Request",
         Fault::NotBuilt => b"501 Not Implemented",
-        Fault::NoConnection
-        | Fault::ServerClosed
-        | Fault::BadResponse
-        | Fault::UpstreamRefused => b"502 Bad Gateway",
+        Fault::NoConnection | Fault::ServerClosed | Fault::BadResponse | Fault::UpstreamRefused =>
+            b"502 Bad Gateway",
     }
 }
 

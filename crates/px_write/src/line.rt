@@ -11,7 +11,11 @@ use px_message::{Request, Response, Version};
 use px_text::NoMemory;
 
 /// Appends the line that begins the request.
-pub(crate) fn write_request_line(request: &Request, form: Form, out: &mut Vec<u8>) -> Result<(), NoMemory>
+pub(crate) fn write_request_line(
+    request: &Request,
+    form: Form,
+    out: &mut Vec<u8>,
+) -> Result<(), NoMemory>
     ensures ok { OnOk result (out.new.items ≡ out.old.items ++ request_line request.now.method (target_text form request.now.host request.now.port request.now.path) (version_text request.now.version)) }
     ensures err { OnErr result (AddsPrefixOf (request_line request.now.method (target_text form request.now.host request.now.port request.now.path) (version_text request.now.version)) out.old.items out.new.items) }
 {

@@ -43,7 +43,11 @@ pub fn write_response_head(response: &Response, out: &mut Vec<u8>) -> Result<(),
 /// Appends the whole response to a HEAD or to another method: its head, and its body where it can have one, in one chunk
 /// and with its trailers where its own codings frame it in chunks. After `NoMemory` the vector ends in the first bytes
 /// of it.
-pub fn write_response(response: &Response, asked_head: bool, out: &mut Vec<u8>) -> Result<(), NoMemory>
+pub fn write_response(
+    response: &Response,
+    asked_head: bool,
+    out: &mut Vec<u8>,
+) -> Result<(), NoMemory>
     ensures ok { OnOk result (out.new.items ≡ out.old.items ++ response_text response.now asked_head) }
     ensures err { OnErr result (AddsPrefixOf (response_text response.now asked_head) out.old.items out.new.items) }
 {
@@ -52,7 +56,11 @@ pub fn write_response(response: &Response, asked_head: bool, out: &mut Vec<u8>) 
 }
 
 // The body of a response, or nothing where it can have none.
-fn write_response_body(response: &Response, asked_head: bool, out: &mut Vec<u8>) -> Result<(), NoMemory>
+fn write_response_body(
+    response: &Response,
+    asked_head: bool,
+    out: &mut Vec<u8>,
+) -> Result<(), NoMemory>
     ensures ok { OnOk result (out.new.items ≡ out.old.items ++ response_body_text response.now asked_head) }
     ensures err { OnErr result (AddsPrefixOf (response_body_text response.now asked_head) out.old.items out.new.items) }
 {

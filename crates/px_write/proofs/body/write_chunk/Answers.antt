@@ -1,4 +1,4 @@
-use Rattle.std.proofs.Common.{◌≡◌, ◌∙◌, ◌==◌, ◌++◌, ℕ, List, [], length, false, append_assoc, sym}
+use Rattle.std.proofs.Common.{◌≡◌, ◌∙◌, ◌==◌, ◌++◌, ℕ, List, length, false, append_assoc, sym}
 use Rattle.std.proofs.lemmas.Bool.{cond-false}
 use Rattle.px_text.specs.Number.{hexadecimal}
 use Rattle.px_write.specs.Text.{chunk_text, crlf}

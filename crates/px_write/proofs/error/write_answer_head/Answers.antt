@@ -1,4 +1,4 @@
-use Rattle.std.proofs.Common.{◌≡◌, ◌++◌, ℕ, List, [], codes, append_assoc}
+use Rattle.std.proofs.Common.{◌≡◌, ◌++◌, ℕ, List, codes, append_assoc}
 use Rattle.px_write.specs.Error.{answer_head}
 use Rattle.px_write.proofs.PrefixLemmas.{err_same, ok_same}
 use Rattle.px_write.proofs.error.write_answer_head.Goals as goal
