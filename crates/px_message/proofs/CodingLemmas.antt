@@ -1,5 +1,5 @@
 -- The place of `chunked` among all codings of a message.
-use Rattle.std.proofs.Common.{◌≡◌, ◌∙◌, ◌==◌, ◌&&◌, ℕ, Bool, true, false, cond, not, List, [], ◌∷◌, length, map, filter, refl, sym, ap}
+use Rattle.std.proofs.Common.{◌≡◌, ◌∙◌, ◌==◌, ◌&&◌, ℕ, Bool, true, false, cond, not, List, [], ◌∷◌, length, refl, sym, ap}
 use Rattle.std.specs.List.{flat_map, fold, slice_split}
 use Rattle.px_message.specs.Codings.{chunking_after, chunking_next, chunking_with, is_last}
 use Rattle.px_message.specs.Fields.{elements, trim_blanks, values_of}

@@ -1,5 +1,5 @@
 -- Folds over the comma lists of fields: over all their elements, and value by value.
-use Rattle.std.proofs.Common.{◌≡◌, ◌∙◌, ℕ, Bool, true, false, cond, List, [], ◌∷◌, ◌++◌, ◌||◌, map, filter, refl, sym, ap}
+use Rattle.std.proofs.Common.{◌≡◌, ◌∙◌, ℕ, Bool, true, false, cond, List, [], ◌∷◌, ◌||◌, map, filter, refl, ap}
 use Rattle.std.specs.List.{flat_map, fold, list_any}
 use Rattle.std.proofs.lemmas.List.Sums.{fold-append}
 use Rattle.px_message.specs.Fields.{is_named, values_of}

@@ -1,5 +1,5 @@
 -- The length of a message's body (RFC 9112 section 6.3, in this proxy's profile): the first rule that applies decides.
-use Rattle.std.specs.Prelude.{ℕ, ◌/◌, Bool, true, false, ◌==◌, ◌&&◌, ◌||◌, not, if◌then◌else◌, List, [], ◌∷◌, map, codes, Option, Some, None, Result, Ok, Err, nat_le, nat_lt}
+use Rattle.std.specs.Prelude.{ℕ, ◌/◌, Bool, false, ◌==◌, ◌&&◌, ◌||◌, not, if◌then◌else◌, List, [], ◌∷◌, map, codes, Option, Some, None, Result, Ok, Err}
 use Rattle.std.specs.List.{list_any, flat_map}
 use Rattle.px_text.specs.Number.{decimal_value}
 use Rattle.px_message.specs.Fields.{is_named, is_same_name, values_of, parts, elements_of, has_element}
