@@ -25,6 +25,8 @@ mod cuts;
 mod escapes;
 mod script;
 mod show;
+#[cfg(test)]
+mod tests;
 
 pub use cuts::{byte_by_byte, cut_in_two, longest_piece};
 pub use escapes::{unescape, write_escaped};

@@ -56,21 +56,14 @@ fn end_line(out: &mut String, sending: Option<Peer>) -> Result<(), RowError> {
 }
 
 fn show_whole(out: &mut String, conv: u32, said: &Said) -> Result<(), RowError> {
+    show_conversation(out, conv)?;
     match said {
         Said::Close { side } => {
             out.push_str("close ")?;
-            show_peer(out, Peer { conv, side: *side })?;
+            show_side(out, *side)?;
         }
         Said::Dial { server, address } => {
-            out.push_str("dial ")?;
-            show_peer(
-                out,
-                Peer {
-                    conv,
-                    side: Side::Server(*server),
-                },
-            )?;
-            out.push(' ')?;
+            write!(out, "dial S{server} ")?;
             write_escaped(out, address.host.bytes())?;
             let port = address.port;
             write!(out, ":{port}")?;
@@ -82,11 +75,20 @@ fn show_whole(out: &mut String, conv: u32, said: &Said) -> Result<(), RowError> 
 }
 
 fn show_peer(out: &mut String, peer: Peer) -> Result<(), RowError> {
-    if peer.conv != 0 {
-        let conv = peer.conv;
+    show_conversation(out, peer.conv)?;
+    show_side(out, peer.side)
+}
+
+// A number and a colon, but for conversation 0.
+fn show_conversation(out: &mut String, conv: u32) -> Result<(), RowError> {
+    if conv != 0 {
         write!(out, "{conv}:")?;
     }
-    match peer.side {
+    Ok(())
+}
+
+fn show_side(out: &mut String, side: Side) -> Result<(), RowError> {
+    match side {
         Side::Client => out.push('C')?,
         Side::Server(server) => write!(out, "S{server}")?,
     }

@@ -1,0 +1,3 @@
+//! Rows of the run, and of the notation itself.
+mod first_path;
+mod notation;
