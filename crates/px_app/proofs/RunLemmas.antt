@@ -14,8 +14,8 @@ use Rattle.px_message.proofs.AddressLemmas.{address_eq}
 use Rattle.px_outside.specs.declared.net.NetError.{NetError}
 use Rattle.px_outside.specs.declared.net.NetError.TheVariants as net
 use Rattle.px_app.specs.Seen.{joined, conversation}
-use Rattle.px_app.specs.Due.{due_to, due_in}
-use Rattle.px_app.specs.Faithful.{IsFaithful, IsAllSaid, IsWhole}
+use Rattle.px_app.specs.Due.{due_to}
+use Rattle.px_app.specs.Faithful.{IsFaithful, IsAllSaid}
 use Rattle.px_app.specs.Lines.{line_of}
 use Rattle.px_app.specs.Statuses.{code_of, status_of, heard_count, is_end, ends_heard}
 use Rattle.px_app.specs.Run.{IsEnd, IsRun, Tells}

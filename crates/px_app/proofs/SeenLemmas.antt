@@ -1,7 +1,7 @@
 -- The served conversation, what was seen of it and what is due in it, from step to step.
 use Rattle.std.proofs.Common.{◌≡◌, ℕ, Bool, true, false, List, [], ◌∷◌, ◌++◌, Option, Some, None, refl, sym, ap, ◌∙◌, subst}
 use Rattle.std.specs.Prelude.{◌==◌, if◌then◌else◌}
-use Rattle.std.proofs.lemmas.List.{append-nil, append_assoc}
+use Rattle.std.proofs.lemmas.List.{append-nil}
 use Rattle.px_text.specs.Prefix.{IsPrefixOf}
 use Rattle.px_event.specs.declared.heard.Heard.{Heard}
 use Rattle.px_event.specs.declared.heard.Heard.TheVariants as heard
@@ -10,7 +10,7 @@ use Rattle.px_event.specs.declared.step.Step.{Step}
 use Rattle.px_event.specs.declared.step.Step.TheVariants as steps
 use Rattle.px_event.specs.Trace.{Trace}
 use Rattle.px_message.specs.declared.address.Address.{Address}
-use Rattle.px_app.specs.Seen.{Seen, accepts, accepted_at, heard_in, heard_by, joined, joined_all, conversation, sees, is_over, sees_all, seen, nothing_seen}
+use Rattle.px_app.specs.Seen.{Seen, heard_by, joined, joined_all, conversation, sees, is_over, sees_all, seen, nothing_seen}
 use Rattle.px_app.specs.Due.{owed, due, due_to, due_in}
 use Rattle.px_app.specs.Serving.{number_after, heard_where}
 use Rattle.px_app.proofs.Growth.{owed_grows}

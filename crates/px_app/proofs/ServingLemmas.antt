@@ -1,5 +1,5 @@
 -- The served conversation's state stands for the trace, from the end of a step to the end of the next.
-use Rattle.std.proofs.Common.{◌≡◌, ◌≢◌, ℕ, ◌+◌, false, List, [], ◌∷◌, ◌++◌, length, map, Option, Some, None, refl, sym, ap, ◌∙◌, subst, arith}
+use Rattle.std.proofs.Common.{◌≡◌, ◌≢◌, ℕ, List, [], ◌∷◌, ◌++◌, length, map, Option, Some, None, refl, sym, ap, ◌∙◌, subst}
 use Rattle.std.proofs.lemmas.List.{append-nil}
 use Rattle.px_text.specs.Prefix.{IsPrefixOf}
 use Rattle.px_event.specs.declared.heard.Heard.{Heard}
@@ -11,7 +11,6 @@ use Rattle.px_message.specs.declared.address.Address.{Address}
 use Rattle.px_app.specs.Seen.{Seen, conversation, sees_all, seen, nothing_seen}
 use Rattle.px_app.specs.Due.{owed}
 use Rattle.px_app.specs.Faithful.{IsFaithful, IsAllSaid}
-use Rattle.px_app.specs.Statuses.{heard_count, ends_heard}
 use Rattle.px_app.specs.Serving.{number_after, heard_where, Hears, Stands, TellsNext}
 use Rattle.px_app.specs.declared.conversation.Conversation.{Conversation}
 use Rattle.px_app.proofs.CountLemmas.{count_heard, count_said, ends_with_heard, ends_said, is_no_end}

@@ -1,22 +1,20 @@
 -- From the end of a step to the end of the next, and to any moment in between.
-use Rattle.std.proofs.Common.{◌≡◌, ◌≢◌, ℕ, Bool, true, false, List, [], ◌∷◌, ◌++◌, length, map, Option, Some, None, refl, sym, ap, ◌∙◌, subst}
+use Rattle.std.proofs.Common.{◌≡◌, ℕ, Bool, true, false, List, [], ◌∷◌, ◌++◌, map, Option, Some, None, refl, sym, ap, ◌∙◌, subst}
 use Rattle.std.specs.Prelude.{◌==◌, if◌then◌else◌}
 use Rattle.std.proofs.lemmas.List.{append-nil, append_assoc}
 use Rattle.px_text.specs.Prefix.{IsPrefixOf}
-use Rattle.px_event.specs.declared.side.Side.{Side}
 use Rattle.px_event.specs.declared.heard.Heard.{Heard}
 use Rattle.px_event.specs.declared.said.Said.{Said}
-use Rattle.px_event.specs.declared.step.Step.{Step}
 use Rattle.px_event.specs.declared.step.Step.TheVariants as steps
-use Rattle.px_event.specs.Trace.{Trace, said, said_in, bytes_to, Always, BeforeEachHeard}
+use Rattle.px_event.specs.Trace.{Trace, said, said_in, bytes_to}
 use Rattle.px_message.specs.declared.address.Address.{Address}
-use Rattle.px_app.specs.Seen.{Seen, conversation, sees_all, seen, nothing_seen}
+use Rattle.px_app.specs.Seen.{conversation, seen}
 use Rattle.px_app.specs.Due.{owed, due_to, due_in}
 use Rattle.px_app.specs.Faithful.{IsWithinDue, IsAllSent, IsAllSaid, IsFaithful, IsWhole}
-use Rattle.px_app.specs.Serving.{number_after, heard_where}
+use Rattle.px_app.specs.Serving.{number_after}
 use Rattle.px_app.proofs.TraceLemmas.{always_empty, always_more, before_empty, before_heard, before_said}
 use Rattle.px_app.proofs.SaidLemmas.{bytes_front, said_more, said_heard}
-use Rattle.px_app.proofs.SeenLemmas.{conversation_said, number_heard, events_heard, sees_append, due_heard, due_said}
+use Rattle.px_app.proofs.SeenLemmas.{conversation_said, number_heard, due_heard, due_said}
 
 module _ (address : Address) where
   -- texts, dials and closes that were said begin those that are due

@@ -1,5 +1,5 @@
 -- What a run promises by its status.
-use Rattle.std.specs.Prelude.{◌≡◌, ◌≢◌, ◌⊎◌, ℕ, Bool, true, false, List, Option, Some, None}
+use Rattle.std.specs.Prelude.{◌≡◌, ◌≢◌, ◌⊎◌, ℕ, true, false, List, Option, Some, None}
 use Rattle.px_event.specs.Trace.{Trace}
 use Rattle.px_message.specs.declared.address.Address.{Address}
 use Rattle.px_outside.specs.Net.{Listening, at}

@@ -1,5 +1,5 @@
 -- The statuses of a run, and the words on its trace that they speak of.
-use Rattle.std.specs.Prelude.{ℕ, Bool, true, false, List, [], ◌∷◌}
+use Rattle.std.specs.Prelude.{ℕ, Bool, true, false, [], ◌∷◌}
 use Rattle.std.specs.List.{count_by}
 use Rattle.px_event.specs.declared.heard.Heard.{Heard}
 use Rattle.px_event.specs.declared.heard.Heard.TheVariants as heard

@@ -1,5 +1,5 @@
 -- Two requests of the same parts are one value, whatever the proofs in them.
-use Rattle.std.proofs.Common.{◌≡◌, ◌≢◌, ◌∙◌, ℕ, Bool, codes, ap, subst, refl, sym}
+use Rattle.std.proofs.Common.{◌≡◌, ◌≢◌, ◌∙◌, ℕ, Bool, codes, ap, subst, sym}
 use Rattle.px_message.specs.declared.body.Body.{Body}
 use Rattle.px_message.specs.declared.fields.Fields.{Fields}
 use Rattle.px_message.specs.declared.host.Host.{Host}

@@ -1,7 +1,7 @@
 use Rattle.px_app.specs.Run.{ListensAt}
 use Rattle.px_app.proofs.StepLemmas.{empty_faithful, empty_all_said}
 use Rattle.std.proofs.Common.{refl, sym, subst, ◌∙◌, [], codes, arith}
-use Rattle.px_app.proofs.RunLemmas.{tells_error, next_turn, tells_spent}
+use Rattle.px_app.proofs.RunLemmas.{tells_error, next_turn}
 use Rattle.px_app.proofs.serve.serve.Goals as goal
 
 pub returns-in-Err-clause-run : goal.returns-in-Err-clause-run

@@ -1,4 +1,4 @@
-use Rattle.std.proofs.Common.{◌≡◌, refl}
+use Rattle.std.proofs.Common.{refl}
 use Rattle.px_message.proofs.FlowLemmas.{flow_eq}
 use Rattle.px_message.proofs.OptionLemmas.{same_option}
 use Rattle.px_message.proofs.flow.FlowClone.clone.Goals as goal
