@@ -4,7 +4,7 @@ use Rattle.std.specs.List.{list_any, flat_map}
 use Rattle.px_text.specs.Number.{decimal_value}
 use Rattle.px_message.specs.Fields.{is_named, is_same_name, values_of, parts, elements_of, has_element}
 use Rattle.px_message.specs.declared.length.Length.{Length}
-use Rattle.px_message.specs.declared.length.Length.TheVariants as length
+use Rattle.px_message.specs.declared.length.Length.TheVariants as lengths
 use Rattle.px_message.specs.declared.fault.Fault.{Fault}
 use Rattle.px_message.specs.declared.fault.Fault.TheVariants.{BothLengths, BadLength, BadCoding}
 
@@ -54,15 +54,15 @@ stated_length fields = agreed (map decimal_value (flat_map parts (values_of cont
 
 abbrev pub by_stated : Option ℕ → Result Length Fault
 by_stated None = Err BadLength
-by_stated (Some n) = Ok (length.Bytes n)
+by_stated (Some n) = Ok (lengths.Bytes n)
 
 -- the length of a request's body
 abbrev pub request_length : List (List ℕ × List ℕ) → Result Length Fault
 request_length fields =
     if stands transfer_encoding fields then (
     if stands content_length fields then Err BothLengths
-    else (if is_framed_in_chunks fields then Ok length.Chunked else Err BadCoding))
-    else (if stands content_length fields then by_stated (stated_length fields) else Ok length.None)
+    else (if is_framed_in_chunks fields then Ok lengths.Chunked else Err BadCoding))
+    else (if stands content_length fields then by_stated (stated_length fields) else Ok lengths.None)
 
 -- a response of this status code has no body: an interim one, 204 or 304; nor has an answer to HEAD (RFC 9110 section 6.4.1)
 abbrev pub has_no_body : ℕ → Bool → Bool
@@ -72,17 +72,17 @@ has_no_body code asked_head = asked_head || (code / 100 == 1) || code == 204 || 
 abbrev pub coded_length : List (List ℕ × List ℕ) → Result Length Fault
 coded_length fields =
     if has_element transfer_encoding (codes "chunked") fields
-    then (if is_framed_in_chunks fields then Ok length.Chunked else Err BadCoding)
-    else Ok length.ToClose
+    then (if is_framed_in_chunks fields then Ok lengths.Chunked else Err BadCoding)
+    else Ok lengths.ToClose
 
 -- the length of the body of a response that can have one
 abbrev pub framed_length : List (List ℕ × List ℕ) → Result Length Fault
 framed_length fields =
     if stands transfer_encoding fields then (
     if stands content_length fields then Err BothLengths else coded_length fields)
-    else (if stands content_length fields then by_stated (stated_length fields) else Ok length.ToClose)
+    else (if stands content_length fields then by_stated (stated_length fields) else Ok lengths.ToClose)
 
 -- the length of a response's body
 abbrev pub response_length : ℕ → Bool → List (List ℕ × List ℕ) → Result Length Fault
 response_length code asked_head fields =
-    if has_no_body code asked_head then Ok length.None else framed_length fields
+    if has_no_body code asked_head then Ok lengths.None else framed_length fields

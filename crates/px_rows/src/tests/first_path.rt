@@ -1,8 +1,9 @@
 //! One GET through `serve HOST PORT`: each row whole, byte by byte, and with its pieces cut at every place into two.
 use crate::{byte_by_byte, cut_in_two, longest_piece, read_script, show_said};
 use px_app::run;
-use px_event::Heard;
+use px_event::{Heard, Step};
 use px_outside::{MemFiles, ScriptNet, VecSink};
+use px_text::Bytes;
 use std::alloc::Global;
 use std::process::Abort;
 use std::test::Fail;
@@ -111,6 +112,14 @@ const ROWS: [Row; 19] = [
     },
 ];
 
+// What a run left.
+#[derive(Drop)]
+struct Played {
+    status: u8,
+    said: String,
+    printed: Bytes,
+}
+
 fn words(alloc: Global, texts: &[&str]) -> Result<Vec<String>, Fail> {
     let mut words = Vec::new(alloc);
     for text in texts {
@@ -119,35 +128,65 @@ fn words(alloc: Global, texts: &[&str]) -> Result<Vec<String>, Fail> {
     Ok(words)
 }
 
-// Runs `serve h 80` over the script, and compares what was said.
-fn check_row(
-    rt: &impl Abort,
-    alloc: Global,
-    row: &Row,
+// Runs with these words over the script. The net fails at its calls of these numbers, the sink at its.
+fn play(
+    words: &[String],
     script: Vec<(u64, Heard)>,
-) -> Result<(), Fail> {
-    let words = words(alloc, &["serve", "h", "80"])?;
-    let mut net = ScriptNet::new(alloc, script, Vec::new(alloc));
+    net_fails: Vec<u64>,
+    sink_fails: Vec<u64>,
+) -> Result<Played, Fail> {
+    let alloc = *script.allocator();
+    let mut net = ScriptNet::new(alloc, script, net_fails);
     let mut files = MemFiles::new(alloc, Vec::new(alloc), Vec::new(alloc));
-    let mut out = VecSink::new(alloc, Vec::new(alloc));
-    let status = run(alloc, &words, &mut net, &mut files, &mut out);
+    let mut out = VecSink::new(alloc, sink_fails);
+    let status = run(alloc, words, &mut net, &mut files, &mut out);
+    shown(alloc, status, net.trace(), out.written())
+}
+
+fn shown(alloc: Global, status: u8, trace: &[Step], printed: &[u8]) -> Result<Played, Fail> {
+    let said = show_said(alloc, trace).map_err(|_| "not shown")?;
+    let printed = Bytes::new(Vec::from_slice(alloc, printed)?);
+    Ok(Played {
+        status,
+        said,
+        printed,
+    })
+}
+
+// Runs `serve h 80` over the script, and compares what was said.
+fn check_row(rt: &impl Abort, row: &Row, script: Vec<(u64, Heard)>) -> Result<(), Fail> {
+    let alloc = *script.allocator();
+    let words = words(alloc, &["serve", "h", "80"])?;
+    let played = play(&words, script, Vec::new(alloc), Vec::new(alloc))?;
     let name = row.name;
-    assert_eq!(rt; status, 0, "{name}");
-    let said = show_said(alloc, net.trace()).map_err(|_| "not shown")?;
-    assert_eq!(rt; said.as_str(), row.said, "{name}");
-    assert!(rt; out.written().is_empty(), "{name}");
+    assert_eq!(rt; played.status, 0, "{name}");
+    assert_eq!(rt; played.said.as_str(), row.said, "{name}");
+    assert!(rt; played.printed.as_slice().is_empty(), "{name}");
     Ok(())
+}
+
+fn check_cut(
+    rt: &impl Abort,
+    row: &Row,
+    script: &[(u64, Heard)],
+    alloc: Global,
+    at: usize,
+) -> Result<(), Fail> {
+    let halves = cut_in_two(alloc, script, at).map_err(|_| "not cut")?;
+    check_row(rt, row, halves)
 }
 
 fn check_cuts(rt: &impl Abort, alloc: Global, row: &Row) -> Result<(), Fail> {
     let script = read_script(alloc, row.script).map_err(|_| "not read")?;
-    let bytes = byte_by_byte(alloc, &script).map_err(|_| "not cut")?;
-    check_row(rt, alloc, row, bytes)?;
+    check_row(
+        rt,
+        row,
+        byte_by_byte(alloc, &script).map_err(|_| "not cut")?,
+    )?;
     for at in 1..longest_piece(&script) {
-        let halves = cut_in_two(alloc, &script, at).map_err(|_| "not cut")?;
-        check_row(rt, alloc, row, halves)?;
+        check_cut(rt, row, &script, alloc, at)?;
     }
-    check_row(rt, alloc, row, script)
+    check_row(rt, row, script)
 }
 
 #[test]
@@ -158,15 +197,21 @@ fn each_row_is_said_at_every_cut(rt: HostRuntime) -> Result<(), Fail> {
     Ok(())
 }
 
-// The status and what is printed, of these words over a net whose calls of these numbers fail.
-fn status_of(alloc: Global, texts: &[&str], fails: Vec<u64>) -> Result<(u8, Vec<u8>), Fail> {
+// Runs with these words over one accepted connection, and compares the status and the line that is printed.
+fn check_status(
+    rt: &impl Abort,
+    texts: &[&str],
+    net_fails: Vec<u64>,
+    status: u8,
+    line: &str,
+) -> Result<(), Fail> {
+    let alloc = *net_fails.allocator();
     let words = words(alloc, texts)?;
     let script = read_script(alloc, "accept").map_err(|_| "not read")?;
-    let mut net = ScriptNet::new(alloc, script, fails);
-    let mut files = MemFiles::new(alloc, Vec::new(alloc), Vec::new(alloc));
-    let mut out = VecSink::new(alloc, Vec::new(alloc));
-    let status = run(alloc, &words, &mut net, &mut files, &mut out);
-    Ok((status, out.written().to_vec(alloc)?))
+    let played = play(&words, script, net_fails, Vec::new(alloc))?;
+    assert_eq!(rt; played.status, status, "{line}");
+    assert_eq!(rt; played.printed.as_slice(), line.as_bytes(), "{line}");
+    Ok(())
 }
 
 #[test]
@@ -183,34 +228,28 @@ fn words_without_a_form_print_the_usage(rt: HostRuntime) -> Result<(), Fail> {
         &["serve", "h", "080"],
     ];
     for texts in faulty {
-        let (status, printed) = status_of(rt.alloc(), texts, Vec::new(rt.alloc()))?;
-        assert_eq!(rt; status, 1);
-        assert_eq!(rt;
-            printed.as_slice(),
-            b"usage: mitm serve HOST PORT\n".as_slice()
-        );
+        check_status(
+            &rt,
+            texts,
+            Vec::new(rt.alloc()),
+            1,
+            "usage: mitm serve HOST PORT\n",
+        )?;
     }
-    let (status, printed) = status_of(
-        rt.alloc(),
+    check_status(
+        &rt,
         &["serve", "[::1]", "65535"],
         Vec::new(rt.alloc()),
-    )?;
-    assert_eq!(rt; status, 0);
-    assert!(rt; printed.is_empty());
-    Ok(())
+        0,
+        "",
+    )
 }
 
 #[test]
 fn a_net_that_fails_ends_the_run(rt: HostRuntime) -> Result<(), Fail> {
     for call in 0..3u64 {
         let fails = vec![in rt.alloc(); call]?;
-        let (status, printed) = status_of(rt.alloc(), &["serve", "h", "80"], fails)?;
-        assert_eq!(rt; status, 5, "call {call}");
-        assert_eq!(rt;
-            printed.as_slice(),
-            b"network fault\n".as_slice(),
-            "call {call}"
-        );
+        check_status(&rt, &["serve", "h", "80"], fails, 5, "network fault\n")?;
     }
     Ok(())
 }
@@ -219,11 +258,8 @@ fn a_net_that_fails_ends_the_run(rt: HostRuntime) -> Result<(), Fail> {
 fn a_sink_that_fails_changes_no_status(rt: HostRuntime) -> Result<(), Fail> {
     let alloc = rt.alloc();
     let words = words(alloc, &["serve"])?;
-    let mut net = ScriptNet::new(alloc, Vec::new(alloc), Vec::new(alloc));
-    let mut files = MemFiles::new(alloc, Vec::new(alloc), Vec::new(alloc));
-    let mut out = VecSink::new(alloc, vec![in alloc; 0]?);
-    assert_eq!(rt; run(alloc, &words, &mut net, &mut files, &mut out), 1);
-    assert!(rt; out.written().is_empty());
-    assert!(rt; files.calls().is_empty());
+    let played = play(&words, Vec::new(alloc), Vec::new(alloc), vec![in alloc; 0]?)?;
+    assert_eq!(rt; played.status, 1);
+    assert!(rt; played.printed.as_slice().is_empty());
     Ok(())
 }
