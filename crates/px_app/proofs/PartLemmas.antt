@@ -9,7 +9,7 @@ use Rattle.std.proofs.lemmas.List.Sums.{list_all-from_AllPass}
 use Rattle.px_head.specs.Laws.{IsPlainByte, IsValueText}
 use Rattle.px_message.specs.Fields.{elements, has_element, is_named, values_of}
 use Rattle.px_message.specs.Length.{by_stated, content_length, ends_chunked, has_no_body, is_framed_in_chunks, response_length, stands, stated_length, transfer_encoding}
-use Rattle.px_message.specs.declared.length.Length.TheVariants as length
+use Rattle.px_message.specs.declared.length.Length.TheVariants as lengths
 use Rattle.px_message.specs.declared.fault.Fault.TheVariants.{BothLengths, BadCoding}
 use Rattle.px_message.specs.Path.{is_path}
 use Rattle.px_message.specs.Target.{origin, absolute, authority, asterisk, target_form, path_form, authority_form, absolute_form}
@@ -97,10 +97,10 @@ unframed fields none =
     (no_items (values_of transfer_encoding fields) (has_items-values_of transfer_encoding fields ∙ none))
 
 bytes_by : (bodiless coded measured chunked framed : Bool) (stated : Option ℕ) (n : ℕ)
-    → (if bodiless then Ok length.None else (if coded then (if measured then Err BothLengths
-    else (if chunked then (if framed then Ok length.Chunked else Err BadCoding) else Ok length.ToClose))
-    else (if measured then by_stated stated else Ok length.ToClose)))
-    ≡ Ok (length.Bytes n)
+    → (if bodiless then Ok lengths.None else (if coded then (if measured then Err BothLengths
+    else (if chunked then (if framed then Ok lengths.Chunked else Err BadCoding) else Ok lengths.ToClose))
+    else (if measured then by_stated stated else Ok lengths.ToClose)))
+    ≡ Ok (lengths.Bytes n)
     → (bodiless ≡ false) × (coded ≡ false)
 bytes_by true coded measured chunked framed stated n is = absurd (let e = is in cc)
 bytes_by false true true chunked framed stated n is = absurd (let e = is in cc)
@@ -110,7 +110,7 @@ bytes_by false true false false framed stated n is = absurd (let e = is in cc)
 bytes_by false false measured chunked framed stated n is = (refl, refl)
 
 -- a response of a stated length may have a body, and has no codings
-pub measured_body : (code n : ℕ) (fields : List (List ℕ × List ℕ)) → response_length code false fields ≡ Ok (length.Bytes n)
+pub measured_body : (code n : ℕ) (fields : List (List ℕ × List ℕ)) → response_length code false fields ≡ Ok (lengths.Bytes n)
     → (has_no_body code false ≡ false) × (is_framed_in_chunks fields ≡ false)
 measured_body code n fields is =
     let both = bytes_by (has_no_body code false) (stands transfer_encoding fields) (stands content_length fields)
