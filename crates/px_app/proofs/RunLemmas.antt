@@ -1,6 +1,5 @@
 -- How a run ends, by its status.
 use Rattle.std.proofs.Common.{◌≡◌, ◌≢◌, ◌⊎◌, inl, inr, ℕ, ◌+◌, ◌<◌, Bool, true, false, List, [], ◌∷◌, ◌++◌, Option, Some, None, Result, Ok, Err, IfErr, refl, sym, ap, ◌∙◌, subst, arith}
-use Rattle.std.specs.Prelude.{◌==◌, if◌then◌else◌}
 use Rattle.std.specs.Result.{IsErrAnd}
 use Rattle.std.proofs.lemmas.List.{append-nil}
 use Rattle.px_event.specs.declared.heard.Heard.{Heard}
@@ -18,11 +17,11 @@ use Rattle.px_app.specs.Due.{due_to}
 use Rattle.px_app.specs.Faithful.{IsFaithful, IsAllSaid}
 use Rattle.px_app.specs.Lines.{line_of}
 use Rattle.px_app.specs.Statuses.{code_of, status_of, heard_count, is_end, ends_heard}
-use Rattle.px_app.specs.Run.{IsEnd, IsRun, Tells}
+use Rattle.px_app.specs.Run.{IsRun, Tells}
 use Rattle.px_app.specs.Serving.{Stands, TellsNext}
 use Rattle.px_app.specs.declared.conversation.Conversation.{Conversation}
 use Rattle.px_app.specs.declared.status.Status.{Status}
-use Rattle.px_app.specs.declared.status.Status.TheVariants.{Ended, Usage, NetFault, BudgetSpent, NoMemory}
+use Rattle.px_app.specs.declared.status.Status.TheVariants.{Ended, NetFault, BudgetSpent, NoMemory}
 use Rattle.px_app.proofs.NetLemmas.{adds_told}
 use Rattle.px_app.proofs.CountLemmas.{ends_with_heard}
 use Rattle.px_app.proofs.SaidLemmas.{said_heard}
@@ -161,23 +160,6 @@ tells_spent address state budget count told turn is = record {
   holds = spent_run address budget turn.trace turn.stands.faithful turn.goes_on turn.stands.said (turn.counts ∙ is);
 }
 
--- where the words have no form nothing was heard
-pub words_end : (budget : ℕ) (status : Status) (told : Option Trace) → 0 < budget → status ≢ Ended → status ≢ BudgetSpent → told ≡ Some [] → Tells (IsEnd budget status) told
-words_end budget status told some not_ended not_spent tells = record {
-  trace = [];
-  tells = tells;
-  holds = record {
-    ended = λ e. absurd (not_ended e);
-    ends = λ (is : ends_heard [] ≡ true). absurd (cc);
-    count = λ e. absurd (not_spent e);
-    goes_on = λ e. absurd (not_spent e);
-    spent = λ (e : heard_count [] ≡ budget) _. absurd (omega arith);
-  };
-}
-
-pub end_of_run : (address : Address) (budget : ℕ) (status : Status) (told : Option Trace) → Tells (IsRun address budget status) told → Tells (IsEnd budget status) told
-end_of_run address budget status told run = record { trace = run.trace; tells = run.tells; holds = run.holds.is_end }
-
 some_pair : (p q : List ℕ × ℕ) → Some p ≡ Some q → p ≡ q
 some_pair p q e = cc
 
@@ -194,45 +176,10 @@ one_trace a b e = cc
 pub told_trace : (P : Trace → Type 0) (told : Option Trace) (trace : Trace) → Tells P told → told ≡ Some trace → P trace
 told_trace P told trace h is = subst P (one_trace h.trace trace (sym h.tells ∙ is)) h.holds
 
--- ---- codes of statuses
-
-status_at : ℕ → Status
-status_at n = if n == 0 then Ended else (if n == 1 then Usage else (if n == 5 then NetFault else (if n == 6 then BudgetSpent else NoMemory)))
-
-status_at_code : (s : Status) → status_at (code_of s) ≡ s
-unfolding status_at
-status_at_code Ended = refl
-status_at_code Usage = refl
-status_at_code NetFault = refl
-status_at_code BudgetSpent = refl
-status_at_code NoMemory = refl
-
-code_is : (s t : Status) → code_of s ≡ code_of t → s ≡ t
-code_is s t e = sym (status_at_code s) ∙ ap status_at e ∙ status_at_code t
-
--- a status is printed, and answered unless memory ran out: `code` is that of what is answered
-module _ (status printed : Status) (code : ℕ) (prints : (printed ≡ status) ⊎ (printed ≡ NoMemory)) (is : code ≡ code_of printed) where
-  -- what another code than 8 says of the run's status
-  pub answers : (s : Status) → s ≢ NoMemory → code ≡ code_of s → status ≡ s
-  answers s other e =
-      let same : printed ≡ s = code_is printed s (sym is ∙ e) in
-      elim prints [ inl p ↦ sym p ∙ same | inr none ↦ absurd (other (sym same ∙ none)) ]
-
-  pub answers_other : code ≢ 8 → status ≢ NoMemory
-  answers_other other none =
-      elim prints [ inl p ↦ other (is ∙ ap code_of (p ∙ none)) | inr p ↦ other (is ∙ ap code_of p) ]
-
-  -- what the run's status says of the code
-  pub answered : (s : Status) → status ≡ s → (code ≡ code_of s) ⊎ (code ≡ 8)
-  answered s e = elim prints [ inl p ↦ inl (is ∙ ap code_of (p ∙ e)) | inr p ↦ inr (is ∙ ap code_of p) ]
-
--- each status has one of these codes
-pub a_code : (s : Status) (code : ℕ) → code ≡ code_of s → (code ≡ 0) ⊎ ((code ≡ 1) ⊎ ((code ≡ 5) ⊎ ((code ≡ 6) ⊎ (code ≡ 8))))
-a_code Ended code e = inl e
-a_code Usage code e = inr (inl e)
-a_code NetFault code e = inr (inr (inl e))
-a_code BudgetSpent code e = inr (inr (inr (inl e)))
-a_code NoMemory code e = inr (inr (inr (inr e)))
+-- a status is printed, and answered unless memory ran out; what another code than 8 says of the run's status
+pub answers_other : (status printed : Status) (code : ℕ) → (printed ≡ status) ⊎ (printed ≡ NoMemory) → code ≡ code_of printed → code ≢ 8 → status ≢ NoMemory
+answers_other status printed code prints is other none =
+    elim prints [ inl p ↦ other (is ∙ ap code_of (p ∙ none)) | inr p ↦ other (is ∙ ap code_of p) ]
 
 -- no line is written where nothing is
 pub writes_nothing : (line : List ℕ) (old new : Option (List ℕ)) → line ≡ [] → new ≡ old → Writes line old new

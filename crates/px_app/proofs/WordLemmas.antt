@@ -1,5 +1,5 @@
 -- The words of the command line, case by case.
-use Rattle.std.proofs.Common.{◌≡◌, ◌≢◌, ◌⊎◌, inl, inr, ℕ, ◌+◌, ◌*◌, ◌<◌, ◌≤◌, Bool, true, false, List, [], ◌∷◌, length, get_or, Option, Some, None, refl, sym, ap, ◌∙◌, arith}
+use Rattle.std.proofs.Common.{◌≡◌, ◌≢◌, ◌⊎◌, inl, inr, ℕ, ◌+◌, ◌*◌, ◌<◌, ◌≤◌, Bool, true, false, List, [], ◌∷◌, length, get_or, Option, Some, None, refl, sym, ap, ◌∙◌, arith, rules}
 use Rattle.std.specs.Prelude.{◌==◌, if◌then◌else◌, not, nat_lt, codes, bytes_eq}
 use Rattle.std.specs.Char.{digit_value}
 use Rattle.std.specs.Str.Parse.{digits_value_after, digits_value}
@@ -59,43 +59,22 @@ other_count (a ∷ b ∷ c ∷ d ∷ words) h = refl
 pub served_other_count : (words : List (List ℕ)) → (length words < 3) ⊎ (4 ≤ length words) → None ≡ served_at words
 served_other_count words h = sym (other_count words h)
 
-no_port : (host : List ℕ) (told : IsHost host ⊎ (IsHost host → ⊥)) → None ≡ by_host told None
-no_port host (inl valid) = refl
-no_port host (inr fails) = refl
-
-bad_host : (host : List ℕ) (told : IsHost host ⊎ (IsHost host → ⊥)) (port : Option ℕ) → ¬ (IsHost host) → None ≡ by_host told port
-bad_host host (inl valid) port refused = absurd (refused valid)
-bad_host host (inr fails) port refused = refl
-
 good_host : (host : List ℕ) (told : IsHost host ⊎ (IsHost host → ⊥)) (port : ℕ) → IsHost host → Some (host, port) ≡ by_host told (Some port)
 good_host host (inl _) port valid = refl
 good_host host (inr fails) port valid = absurd (fails valid)
 
-module _ (command host port : List ℕ) where
-  none_by : (same : Bool) (found : Option (List ℕ × ℕ)) → None ≡ found → None ≡ (if same then found else None)
-  none_by true found e = e
-  none_by false found e = refl
-
-  pub served_no_port : None ≡ port_in_words port → None ≡ served_at (command ∷ host ∷ port ∷ [])
-  served_no_port e =
-      none_by (bytes_eq command (codes "serve")) (by_host (tell_host host) (port_in_words port))
-      (no_port host (tell_host host) ∙ ap (λ (p : Option ℕ). by_host (tell_host host) p) e)
-
-  pub served_bad_host : ¬ (IsHost host) → None ≡ served_at (command ∷ host ∷ port ∷ [])
-  served_bad_host refused =
-      none_by (bytes_eq command (codes "serve")) (by_host (tell_host host) (port_in_words port))
-      (bad_host host (tell_host host) (port_in_words port) refused)
-
-  pub served_other_command : bytes_eq command (codes "serve") ≡ false → None ≡ served_at (command ∷ host ∷ port ∷ [])
-  served_other_command other = ap (λ (same : Bool). if same then by_host (tell_host host) (port_in_words port) else None) (sym other)
-
-  pub served_form : (n : ℕ) → bytes_eq command (codes "serve") ≡ true → IsHost host → Some n ≡ port_in_words port →
-      Some (host, n) ≡ served_at (command ∷ host ∷ port ∷ [])
-  served_form n same valid e =
-      good_host host (tell_host host) n valid
-      ∙ ap (λ (p : Option ℕ). by_host (tell_host host) p) e
-      ∙ ap (λ (b : Bool). if b then by_host (tell_host host) (port_in_words port) else None) (sym same)
+-- the words have the form
+pub served_form : (command host port : List ℕ) (n : ℕ) → bytes_eq command (codes "serve") ≡ true → IsHost host → Some n ≡ port_in_words port →
+    Some (host, n) ≡ served_at (command ∷ host ∷ port ∷ [])
+served_form command host port n same valid e =
+    good_host host (tell_host host) n valid
+    ∙ ap (λ (p : Option ℕ). by_host (tell_host host) p) e
+    ∙ ap (λ (b : Bool). if b then by_host (tell_host host) (port_in_words port) else None) (sym same)
 
 pub not_false : (b result : Bool) → result ≡ false → result ≡ not b → b ≡ true
 not_false true result is e = refl
 not_false false result is e = absurd (cc)
+
+-- the text of the loopback address is a host
+pub loopback_is_host : IsHost (codes "127.0.0.1")
+loopback_is_host = search rules

@@ -1,7 +1,7 @@
 use Rattle.px_app.specs.Run.{ListensAt}
 use Rattle.px_app.proofs.StepLemmas.{empty_faithful, empty_all_said}
-use Rattle.std.proofs.Common.{refl, sym, subst, ◌∙◌, [], codes, arith}
-use Rattle.px_app.proofs.RunLemmas.{tells_error, next_turn}
+use Rattle.std.proofs.Common.{◌≡◌, refl, sym, subst, ◌∙◌, [], codes, arith}
+use Rattle.px_app.proofs.RunLemmas.{tells_error, next_turn, tells_spent}
 use Rattle.px_app.proofs.serve.serve.Goals as goal
 
 pub returns-in-Err-clause-run : goal.returns-in-Err-clause-run
@@ -17,3 +17,6 @@ turns-preserved g c = record {
   listening = subst (λ l. ListensAt (codes "127.0.0.1") 8080 l) (sym c.in_default-step.ensures.listening) c.turns.invariant.listening;
   later = omega (arith, c.in_default-step.ensures.later);
 }
+
+pub returns-clause-run : goal.returns-clause-run
+returns-clause-run g c = λ told. let same : c.turns.turn ≡ c.args.budget = omega arith in tells_spent c.args.address c.turns.conversation c.args.budget c.turns.turn _ (c.turns.invariant.turn told) same
