@@ -1,1 +1,5 @@
+pub mod Chain
+pub mod Layer
+pub mod Stands
 pub mod Trace
+pub mod View

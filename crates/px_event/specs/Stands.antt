@@ -1,0 +1,36 @@
+-- What a state of a layer whose due is a chain stands for.
+use Rattle.std.specs.Prelude.{◌≡◌, ℕ, ◌+◌, List, [], ◌∷◌}
+use Rattle.px_event.specs.declared.event.Event.{Event}
+use Rattle.px_event.specs.declared.reply.Reply.{Reply}
+use Rattle.px_event.specs.declared.command.Command.{Command}
+use Rattle.px_event.specs.Chain.{Chain, Stop, Stamped, walk_from, due}
+use Rattle.px_event.specs.Layer.{Move, Took, Replied}
+use Rattle.px_event.specs.View.{View, seen_of}
+
+-- the events among the moves; a move's number, counted from 1, is its step
+abbrev pub events_in : ℕ → List Move → List (Stamped Event)
+events_in step [] = []
+events_in step (Took moment event ∷ moves) =
+    record { stamp = record { step = step; moment = moment }; value = event } ∷ events_in (step + 1) moves
+events_in step (Replied moment reply ∷ moves) = events_in (step + 1) moves
+
+-- the replies among the moves
+abbrev pub replies_in : ℕ → List Move → List (Stamped Reply)
+replies_in step [] = []
+replies_in step (Took moment event ∷ moves) = replies_in (step + 1) moves
+replies_in step (Replied moment reply ∷ moves) =
+    record { stamp = record { step = step; moment = moment }; value = reply } ∷ replies_in (step + 1) moves
+
+-- where the walk over the moves stops
+abbrev pub stop_of : {S : Type 0} → Chain S Event Reply Command → S → List Move → Stop S Event Reply Command
+stop_of chain start moves = walk_from chain start (events_in 1 moves) (replies_in 1 moves)
+
+-- what is due by the moves
+abbrev pub due_by : {S : Type 0} → Chain S Event Reply Command → S → List Move → List Command
+due_by chain start moves = due chain start (events_in 1 moves) (replies_in 1 moves)
+
+-- The state is at the place where the walk over the moves stops, and each view of what it gave is that view of what is due.
+pub record StandsAt {M S : Type 0} (chain : Chain S Event Reply Command) (start : S) (is_at : M → Stop S Event Reply Command → Type 0)
+    (state : M) (moves : List Move) (given : List Command) : Type 0 where
+  pub place : is_at state (stop_of chain start moves)
+  pub gave : (view : View) → seen_of view given ≡ seen_of view (due_by chain start moves)

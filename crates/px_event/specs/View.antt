@@ -1,0 +1,64 @@
+-- What one peer or one list sees of the commands of a conversation. A text may come in any number of sends, and what is
+-- said to one side is in no order with what is said to another; so what is due is compared in views.
+use Rattle.std.specs.Prelude.{ℕ, ◌==◌, if◌then◌else◌, List, [], ◌∷◌, map}
+use Rattle.std.specs.List.{flat_map}
+use Rattle.px_message.specs.declared.address.Address.{Address}
+use Rattle.px_message.specs.declared.flow.Flow.{Flow}
+use Rattle.px_event.specs.declared.ask.Ask.{Ask}
+use Rattle.px_event.specs.declared.side.Side.{Side}
+use Rattle.px_event.specs.declared.said.Said.{Said}
+use Rattle.px_event.specs.declared.said.Said.TheVariants as said
+use Rattle.px_event.specs.declared.command.Command.{Command}
+use Rattle.px_event.specs.declared.command.Command.TheVariants as command
+use Rattle.px_event.specs.declared.step.Step.{Step}
+use Rattle.px_event.specs.declared.step.Step.TheVariants as steps
+use Rattle.px_event.specs.Trace.{is_same_side}
+
+pub data View : Type 0 where
+  -- the bytes sent to a side
+  bytes : (side : Side) → View
+  -- the closes said to a side
+  closes : (side : Side) → View
+  -- the hooks asked and the servers dialled, in one order
+  questions : View
+  -- the flows that are finished
+  finished : View
+
+-- the least thing that a view has
+pub data Atom : Type 0 where
+  byte : (value : ℕ) → Atom
+  close : Atom
+  asked : (ask : Ask) → Atom
+  dialled : (server : ℕ) (address : Address) → Atom
+  done : (flow : Flow) → Atom
+
+-- what a view has of something said
+abbrev pub said_atoms : View → Said → List Atom
+said_atoms (bytes side) (said.Send other text) = if is_same_side other side then map byte text else []
+said_atoms (closes side) (said.Close other) = if is_same_side other side then close ∷ [] else []
+said_atoms questions (said.Dial server address) = dialled server address ∷ []
+said_atoms _ _ = []
+
+-- what a view has of a command
+abbrev pub command_atoms : View → Command → List Atom
+command_atoms (bytes side) (command.Send other text) = if is_same_side other side then map byte text else []
+command_atoms (closes side) (command.Close other) = if is_same_side other side then close ∷ [] else []
+command_atoms questions (command.Dial server address inside) = dialled server address ∷ []
+command_atoms questions (command.Ask ask flow) = asked ask ∷ []
+command_atoms finished (command.Done flow) = done flow ∷ []
+command_atoms _ _ = []
+
+-- what a view has of these commands
+abbrev pub seen_of : View → List Command → List Atom
+seen_of view commands = flat_map (command_atoms view) commands
+
+-- what a view of the conversation of this number has of a step
+abbrev pub step_atoms : View → ℕ → Step → List Atom
+step_atoms view conv (steps.Said other said) = if other == conv then said_atoms view said else []
+step_atoms questions conv (steps.Asked other ask) = if other == conv then asked ask ∷ [] else []
+step_atoms finished conv (steps.Done flow) = if flow.id.conv == conv then done flow ∷ [] else []
+step_atoms _ _ _ = []
+
+-- what a view of the conversation has of a trace
+abbrev pub seen_in : View → ℕ → List Step → List Atom
+seen_in view conv trace = flat_map (step_atoms view conv) trace
