@@ -1,4 +1,5 @@
 pub mod Chain
+pub mod Laws
 pub mod Layer
 pub mod Stands
 pub mod Trace

@@ -3,7 +3,7 @@ use Rattle.std.specs.Prelude.{◌≡◌, ℕ, ◌+◌, List, [], ◌∷◌}
 use Rattle.px_event.specs.declared.event.Event.{Event}
 use Rattle.px_event.specs.declared.reply.Reply.{Reply}
 use Rattle.px_event.specs.declared.command.Command.{Command}
-use Rattle.px_event.specs.Chain.{Chain, Stop, Stamped, walk_from, due}
+use Rattle.px_event.specs.Chain.{Chain, Look, Asks, Stop, Stamped, Timed, walk_from, due}
 use Rattle.px_event.specs.Layer.{Move, Took, Replied}
 use Rattle.px_event.specs.View.{View, seen_of}
 
@@ -29,8 +29,12 @@ stop_of chain start moves = walk_from chain start (events_in 1 moves) (replies_i
 abbrev pub due_by : {S : Type 0} → Chain S Event Reply Command → S → List Move → List Command
 due_by chain start moves = due chain start (events_in 1 moves) (replies_in 1 moves)
 
--- The state is at the place where the walk over the moves stops, and each view of what it gave is that view of what is due.
-pub record StandsAt {M S : Type 0} (chain : Chain S Event Reply Command) (start : S) (is_at : M → Stop S Event Reply Command → Type 0)
+-- The state is at the stage and over the events where the walk over the moves stops, and each view of what it gave is
+-- that view of what is due. It used each reply, and no event waits behind its ask.
+pub record StandsAt {M S : Type 0} (chain : Chain S Event Reply Command) (start : S) (is_at : M → S → List (Timed Event) → Type 0)
     (state : M) (moves : List Move) (given : List Command) : Type 0 where
-  pub place : is_at state (stop_of chain start moves)
+  pub place : is_at state (stop_of chain start moves).stage (stop_of chain start moves).front
+  pub used : (stop_of chain start moves).unused ≡ []
+  pub seen : (ask : Command) → chain.look (stop_of chain start moves).stage (stop_of chain start moves).front ≡ Asks ask →
+      (stop_of chain start moves).rest ≡ []
   pub gave : (view : View) → seen_of view given ≡ seen_of view (due_by chain start moves)
