@@ -163,7 +163,18 @@ module _ {M S : Type 0} (chain : Chain S Event Reply Command) (law : Settles cha
           (stopped chain law (replies_in 1 moves) never [] start [] (events_in 1 moves)).settled stands.place);
   }
 
-  -- after a call the state stands for something again
-  pub goes_sound : (before after : M) (move : Move) (out new_out : List Command) → IsSound (StandsAt chain start is_at) before →
-      Goes (StandsAt chain start is_at) before after move out new_out → IsSound (StandsAt chain start is_at) after
-  goes_sound before after move out new_out (past, given, stands) goes = (_, _, goes.stands past given stands)
+-- The chain and what it starts with may hang on what a state keeps, if the call keeps it.
+pub goes_for : {P M : Type 0} (standing : P → M → List Move → List Command → Type 0) (kept : M → P) (before after : M) (move : Move) (out new_out : List Command) →
+    kept after ≡ kept before → Goes (standing (kept before)) before after move out new_out → Goes (λ state. standing (kept state) state) before after move out new_out
+goes_for {P} standing kept before after move out new_out same goes = record {
+  more = goes.more;
+  grown = goes.grown;
+  stands = λ past given stands.
+    let Q : P → Type 0 = λ p. standing p after (past ++ move ∷ []) (given ++ goes.more) in
+    subst Q (sym same) (goes.stands past given stands);
+}
+
+-- after a call a state stands for something again
+pub sound_after : {M : Type 0} (standing : M → List Move → List Command → Type 0) (before after : M) (move : Move) (out new_out : List Command) →
+    IsSound standing before → Goes standing before after move out new_out → IsSound standing after
+sound_after standing before after move out new_out (past, given, stands) goes = (_, _, goes.stands past given stands)

@@ -1,0 +1,81 @@
+-- The chain of the server that echoes lines: its laws, and what one move does to where it is.
+use Rattle.std.proofs.Common.{◌≡◌, ℕ, ◌+◌, ◌-◌, ◌<◌, ◌≤◌, ◌==◌, Bool, true, false, List, [], ◌∷◌, ◌++◌, length, take, drop, Option, Some, None, refl, ap, sym, ◌∙◌, subst, arith, append_assoc, length-append, length-drop, nat_lt, cond}
+use Rattle.std.specs.List.{flat_map, position, position_or_len}
+use Rattle.std.specs.Option.{option_map}
+use Rattle.std.proofs.lemmas.Bool.{ltb-true}
+use Rattle.std.proofs.lemmas.Grind.{flat_map-append}
+use Rattle.std.proofs.lemmas.List.{append-nil, drop-append-le, drop-drop}
+use Rattle.px_text.specs.Prefix.{IsPrefixOf}
+use Rattle.px_message.specs.declared.flow.Flow.{Flow}
+use Rattle.px_event.specs.declared.event.Event.{Event}
+use Rattle.px_event.specs.declared.reply.Reply.{Reply}
+use Rattle.px_event.specs.declared.command.Command.{Command}
+use Rattle.px_event.specs.declared.command.Command.TheVariants as commands
+use Rattle.px_event.specs.declared.side.Side.TheVariants.{Client}
+use Rattle.px_event.specs.Chain.{Timed, Look, NotYet, Asks, Ends, Turn, Chain}
+use Rattle.px_event.specs.Laws.{IsSettled, Settles, SoFarGrows}
+use Rattle.px_event.specs.View.{View, seen_of}
+use Rattle.px_toy.specs.Echo.{piece_in, client_bytes, closes_client, is_closed, first_line, Stage, Reading, Over, unread, pass_by, pass, ask_about, look_by, look, is_kill, echoed, turn_by, turn_line, turn, echo_chain}
+
+-- a line has a byte at least, and is within the bytes
+at_within : (p : ℕ → Bool) (bytes : List ℕ) (at : ℕ) → position p bytes ≡ Some at → at < length bytes
+at_within p bytes at is = by (nat_lt (position_or_len p bytes) (length bytes)) refl is
+  where
+  by : (b : Bool) → nat_lt (position_or_len p bytes) (length bytes) ≡ b → cond b (Some (position_or_len p bytes)) None ≡ Some at → at < length bytes
+  by true less same = let e : position_or_len p bytes ≡ at = cc in let l = ltb-true (position_or_len p bytes) (length bytes) less in rw (← e) l
+  by false less same = absurd (let no : None ≡ Some at = same in cc)
+
+line_by : (bytes : List ℕ) (o : Option ℕ) (size : ℕ) → position (λ byte. byte == 10) bytes ≡ o → option_map (λ at. at + 1) o ≡ Some size → (0 < size) × (size ≤ length bytes)
+line_by bytes None size is same = absurd (let no : None ≡ Some size = same in cc)
+line_by bytes (Some at) size is same =
+    let e : at + 1 ≡ size = cc in let l = at_within (λ byte. byte == 10) bytes at is in (omega arith, omega arith)
+
+pub line_within : (bytes : List ℕ) (size : ℕ) → first_line bytes ≡ Some size → (0 < size) × (size ≤ length bytes)
+line_within bytes size is = line_by bytes (position (λ byte. byte == 10) bytes) size refl is
+
+-- one event more
+pub client_append : (front : List (Timed Event)) (e : Timed Event) → client_bytes (front ++ e ∷ []) ≡ client_bytes front ++ piece_in e.value
+client_append front e = flat_map-append (λ (e : Timed Event). piece_in e.value) front (e ∷ []) ∙ ap (λ l. client_bytes front ++ l) (append-nil (piece_in e.value))
+
+open_by : (b : Bool) (rest rest' : Bool) → cond b true rest ≡ false → rest' ≡ false → cond b true rest' ≡ false
+open_by true rest rest' same on = absurd (let no : true ≡ false = same in cc)
+open_by false rest rest' same on = on
+
+open_rest : (b rest : Bool) → cond b true rest ≡ false → rest ≡ false
+open_rest true rest same = absurd (let no : true ≡ false = same in cc)
+open_rest false rest same = same
+
+pub still_open : (front : List (Timed Event)) (e : Timed Event) → is_closed front ≡ false → closes_client e.value ≡ false → is_closed (front ++ e ∷ []) ≡ false
+still_open [] e is not = rw not refl
+still_open (f ∷ front) e is not =
+    open_by (closes_client f.value) (is_closed front) _ is (still_open front e (open_rest (closes_client f.value) (is_closed front) is) not)
+
+closed_by : (b rest : Bool) → rest ≡ true → cond b true rest ≡ true
+closed_by true rest on = refl
+closed_by false rest on = on
+
+pub now_closed : (front : List (Timed Event)) (e : Timed Event) → closes_client e.value ≡ true → is_closed (front ++ e ∷ []) ≡ true
+now_closed [] e closes = rw closes refl
+now_closed (f ∷ front) e closes = closed_by (closes_client f.value) _ (now_closed front e closes)
+
+pub unread_append : (used : ℕ) (front : List (Timed Event)) (e : Timed Event) → used ≤ length (client_bytes front) →
+    unread used (front ++ e ∷ []) ≡ unread used front ++ piece_in e.value
+unread_append used front e within = ap (λ l. drop used l) (client_append front e) ∙ drop-append-le used (client_bytes front) (piece_in e.value) within
+
+-- passing settles at once
+settles_by : (front : List (Timed Event)) (used : ℕ) (closed : Bool) (line : Option ℕ) → is_closed front ≡ closed → first_line (unread used front) ≡ line →
+    (flow : Flow) → IsSettled (echo_chain flow) (pass_by closed line used).stage front
+settles_by front used false line is first flow = record { stays = rw is refl; owes_nothing = rw is refl }
+settles_by front used true (Some size) is first flow = record { stays = rw (is, first) refl; owes_nothing = rw (is, first) refl }
+settles_by front used true None is first flow = record { stays = refl; owes_nothing = refl }
+
+settled_at : (flow : Flow) (stage : Stage) (front : List (Timed Event)) → IsSettled (echo_chain flow) (pass stage front).stage front
+settled_at flow (Reading used) front = settles_by front used (is_closed front) (first_line (unread used front)) refl refl flow
+settled_at flow Over front = record { stays = refl; owes_nothing = refl }
+
+pub settles : (flow : Flow) → Settles (echo_chain flow)
+settles flow = record { at = settled_at flow }
+
+-- it owes nothing while it waits, so what is owed grows
+pub so_far_grows : (flow : Flow) (view : View) → SoFarGrows (echo_chain flow) (seen_of view)
+so_far_grows flow view = record { grows = λ stage front event is. (_, refl) }

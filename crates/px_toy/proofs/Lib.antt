@@ -1,0 +1,3 @@
+pub mod EchoGoes
+pub mod EchoLaws
+pub mod EchoSteps
