@@ -28,6 +28,9 @@ abbrev pub awaited_in : Flow → Phase → Option Ask
 awaited_in flow (phases.Asked length) = Some (ask_about flow)
 awaited_in flow _ = None
 
+abbrev pub awaits : LineEcho → Option Ask
+awaits state = awaited_in state.flow state.phase
+
 abbrev pub is_over : Phase → Bool
 is_over phases.Over = Bool.true
 is_over _ = false

@@ -206,11 +206,11 @@ fn echo(reply: &Reply, line: Bytes, out: &mut Vec<Command>) -> Result<(), NoMemo
 impl Layer for LineEcho {
     ghost use Rattle.std.specs.Prelude.{ℕ, List, length};
     ghost use Rattle.px_toy.specs.Echo.{ask_about};
-    ghost use Rattle.px_toy.specs.Stands.{EchoStands, awaited_in, is_over};
+    ghost use Rattle.px_toy.specs.Stands.{EchoStands, awaits, is_over};
 
     ghost stands = { EchoStands };
 
-    ghost awaited = { λ echo. awaited_in echo.flow echo.phase };
+    ghost awaited = { awaits };
 
     ghost left = { λ echo. length echo.unread.items };
 

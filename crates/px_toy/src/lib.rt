@@ -10,5 +10,9 @@
 #![tactic(auto)]
 
 mod echo;
+mod law;
+#[cfg(test)]
+mod tests;
 
 pub use echo::LineEcho;
+pub use law::due_only_grows;
