@@ -2,7 +2,7 @@
 use Rattle.std.proofs.Common.{◌≡◌, List, [], ◌∷◌, ◌++◌, refl, ap, sym, ◌∙◌, subst, append_assoc}
 use Rattle.std.proofs.lemmas.List.{append-nil}
 use Rattle.px_text.specs.Prefix.{IsPrefixOf}
-use Rattle.px_event.specs.Chain.{Stamp, Stamped, Timed, worked_off, at_its_step, Chain, Turn, Look, NotYet, Asks, Ends, Reached, reach, reach_by, Stop, stop_at, walk, walk_by, found, owed_at}
+use Rattle.px_event.specs.Chain.{Stamp, Stamped, Timed, worked_off, at_its_step, Chain, Look, NotYet, Asks, Ends, Reached, reach, reach_by, Stop, walk, walk_by, owed_at}
 use Rattle.px_event.specs.Laws.{IsSettled, Settles, owed_here, owed_over, IsView, SoFarGrows}
 use Rattle.px_event.proofs.Walk.{more_events, more_replies, stopped}
 
@@ -55,13 +55,13 @@ module _ {S E R A V : Type 0} (chain : Chain S E R A) (view : List A → List V)
         let on = chain.pass s f in
         let further = f ++ worked_off last e ∷ [] in
         reach_by_grows (chain.look on.stage f) _ _ (before ++ owed_over chain s f)
-          (λ is.
-            let so_far : before ++ owed_over chain s f ≡ (before ++ on.owed) ++ chain.so_far on.stage f =
-                rw (is, append-nil) (sym (append_assoc before on.owed (chain.so_far on.stage f))) in
-            begins_trans _ _ _ (begins_self _ _ so_far)
-              (begins_trans _ _ _ (begins_behind (before ++ on.owed) _ _ (grows.grows on.stage f (worked_off last e) is))
-                (reach_grows last (before ++ on.owed) on.stage further es)))
-          (sym (append_assoc before _ _))
+        (λ is.
+        let so_far : before ++ owed_over chain s f ≡ (before ++ on.owed) ++ chain.so_far on.stage f =
+        rw (is, append-nil) (sym (append_assoc before on.owed (chain.so_far on.stage f))) in
+        begins_trans _ _ _ (begins_self _ _ so_far)
+        (begins_trans _ _ _ (begins_behind (before ++ on.owed) _ _ (grows.grows on.stage f (worked_off last e) is))
+        (reach_grows last (before ++ on.owed) on.stage further es)))
+        (sym (append_assoc before _ _))
 
     walk_by_grows : (l : Look A) (onward : A → Stop S E R A) (stop : Stop S E R A) (owed : List A) →
         ((ask : A) → l ≡ Asks ask → Begins owed (owed_at chain (onward ask))) → Begins owed (owed_at chain stop) →
@@ -79,16 +79,16 @@ module _ {S E R A V : Type 0} (chain : Chain S E R A) (view : List A → List V)
         let on = chain.turn here.stage here.front (at_its_step r) in
         let so_far = chain.so_far here.stage here.front in
         walk_by_grows (chain.look here.stage here.front) _ _ (before ++ owed_over chain s f)
-          (λ ask is.
-            let further : List A = here.before ++ (so_far ++ ask ∷ on.owed) in
-            let asked : further ≡ owed_there here ++ on.owed =
-                rw is (ap (λ l. here.before ++ l) (sym (append_assoc so_far (ask ∷ []) on.owed)) ∙ sym (append_assoc here.before (so_far ++ ask ∷ []) on.owed)) in
-            begins_trans _ _ _ (reach_grows last before s f es)
-              (begins_trans _ _ _ (begins_append (owed_there here) on.owed)
-                (begins_trans _ _ _ (begins_self _ _ (sym asked))
-                  (begins_trans _ _ _ (begins_append further (owed_over chain on.stage here.front))
-                    (walk_grows rs r.stamp further on.stage here.front here.rest)))))
-          (reach_grows last before s f es)
+        (λ ask is.
+        let further : List A = here.before ++ (so_far ++ ask ∷ on.owed) in
+        let asked : further ≡ owed_there here ++ on.owed =
+        rw is (ap (λ l. here.before ++ l) (sym (append_assoc so_far (ask ∷ []) on.owed)) ∙ sym (append_assoc here.before (so_far ++ ask ∷ []) on.owed)) in
+        begins_trans _ _ _ (reach_grows last before s f es)
+        (begins_trans _ _ _ (begins_append (owed_there here) on.owed)
+        (begins_trans _ _ _ (begins_self _ _ (sym asked))
+        (begins_trans _ _ _ (begins_append further (owed_over chain on.stage here.front))
+        (walk_grows rs r.stamp further on.stage here.front here.rest)))))
+        (reach_grows last before s f es)
 
     settled_owes : (w : Stop S E R A) → IsSettled chain w.stage w.front → owed_at chain w ≡ w.before ++ owed_over chain w.stage w.front
     settled_owes w settled = rw (settled.stays, settled.owes_nothing) refl
@@ -98,13 +98,13 @@ module _ {S E R A V : Type 0} (chain : Chain S E R A) (view : List A → List V)
     grows_by_events law rs last before s f es xs =
         let w = walk chain rs last before s f es in
         rw (more_events chain law rs last before s f es xs)
-          (begins_trans _ _ _ (begins_self _ _ (settled_owes w (stopped chain law rs last before s f es).settled))
-            (walk_grows w.unused w.last w.before w.stage w.front (w.rest ++ xs)))
+        (begins_trans _ _ _ (begins_self _ _ (settled_owes w (stopped chain law rs last before s f es).settled))
+        (walk_grows w.unused w.last w.before w.stage w.front (w.rest ++ xs)))
 
     pub grows_by_replies : Settles chain → (rs qs : List (Stamped R)) (last : Stamp) (before : List A) (s : S) (f : List (Timed E)) (es : List (Stamped E)) →
         IsPrefixOf (view (owed_at chain (walk chain rs last before s f es))) (view (owed_at chain (walk chain (rs ++ qs) last before s f es)))
     grows_by_replies law rs qs last before s f es =
         let w = walk chain rs last before s f es in
         rw (more_replies chain law rs qs last before s f es)
-          (begins_trans _ _ _ (begins_self _ _ (settled_owes w (stopped chain law rs last before s f es).settled))
-            (walk_grows (w.unused ++ qs) w.last w.before w.stage w.front w.rest))
+        (begins_trans _ _ _ (begins_self _ _ (settled_owes w (stopped chain law rs last before s f es).settled))
+        (walk_grows (w.unused ++ qs) w.last w.before w.stage w.front w.rest))

@@ -1,5 +1,5 @@
 -- The shortest front over which a stage finds something: found over more events it is the same, and it may be resumed.
-use Rattle.std.proofs.Common.{◌≡◌, ℕ, List, [], ◌∷◌, ◌++◌, refl, ap, sym, ◌∙◌, subst, append_assoc, map}
+use Rattle.std.proofs.Common.{◌≡◌, List, [], ◌∷◌, ◌++◌, refl, ap, sym, ◌∙◌, subst, append_assoc}
 use Rattle.std.proofs.lemmas.List.{append-nil, map-append}
 use Rattle.px_event.specs.Chain.{Stamp, Stamped, Timed, worked_off, Chain, Look, NotYet, Asks, Ends, Reached, reach, reach_by}
 use Rattle.px_event.specs.Laws.{IsSettled, Settles, IsFound, seen_values, waiting_values}
@@ -14,7 +14,7 @@ abbrev pub reach_on : {S E R A : Type 0} → Chain S E R A → Stamp → Reached
 reach_on chain last here xs = reach chain last here.before here.stage here.front (here.rest ++ xs)
 
 -- where a stage does not pass, the search stops before what was owed
-settled_stop : {S E R A : Type 0} (chain : Chain S E R A) (before : List A) (s : S) (f : List (Timed E)) (es : List (Stamped E)) →
+pub settled_stop : {S E R A : Type 0} (chain : Chain S E R A) (before : List A) (s : S) (f : List (Timed E)) (es : List (Stamped E)) →
     IsSettled chain s f → stopped_here chain before s f es ≡ record { before = before; stage = s; front = f; rest = es }
 settled_stop chain before s f es settled = rw (settled.stays, settled.owes_nothing, append-nil) refl
 
@@ -36,7 +36,7 @@ reach_found {S} chain last before s f es settled is =
     here_stopped chain last before s f es (subst P (sym settled.stays) is) ∙ settled_stop chain before s f es settled
 
 -- passing first changes nothing
-reach_pass : {S E R A : Type 0} (chain : Chain S E R A) → Settles chain → (last : Stamp) (before : List A) (s : S) (f : List (Timed E)) (xs : List (Stamped E)) →
+pub reach_pass : {S E R A : Type 0} (chain : Chain S E R A) → Settles chain → (last : Stamp) (before : List A) (s : S) (f : List (Timed E)) (xs : List (Stamped E)) →
     reach chain last before s f xs ≡ reach chain last (before ++ (chain.pass s f).owed) (chain.pass s f).stage f xs
 reach_pass chain law last before s f [] =
     sym (settled_stop chain (before ++ (chain.pass s f).owed) (chain.pass s f).stage f [] (law.at s f))
@@ -55,8 +55,8 @@ pub reach_more : {S E R A : Type 0} (chain : Chain S E R A) → Settles chain �
 reach_more chain law last before s f [] xs = reach_pass chain law last before s f xs
 reach_more chain law last before s f (e ∷ es) xs =
     more_by chain last xs (chain.look (chain.pass s f).stage f) _ _ _ _
-      (reach_more chain law last (before ++ (chain.pass s f).owed) (chain.pass s f).stage (f ++ worked_off last e ∷ []) es xs)
-      (reach_pass chain law last before s f (e ∷ es ++ xs))
+    (reach_more chain law last (before ++ (chain.pass s f).owed) (chain.pass s f).stage (f ++ worked_off last e ∷ []) es xs)
+    (reach_pass chain law last before s f (e ∷ es ++ xs))
 
 pub reach_again : {S E R A : Type 0} (chain : Chain S E R A) → Settles chain → (last : Stamp) (before : List A) (s : S) (f : List (Timed E)) (es : List (Stamped E)) →
     let here = reach chain last before s f es in reach chain last here.before here.stage here.front here.rest ≡ here
@@ -64,7 +64,7 @@ reach_again chain law last before s f es =
     let here = reach chain last before s f es in
     let on = reach_more chain law last before s f es [] in
     ap (λ ys. reach chain last here.before here.stage here.front ys) (sym (append-nil here.rest))
-      ∙ (sym on ∙ ap (λ ys. reach chain last before s f ys) (append-nil es))
+    ∙ (sym on ∙ ap (λ ys. reach chain last before s f ys) (append-nil es))
 
 settled_by : {S E R A : Type 0} (chain : Chain S E R A) (l : Look A) (further here : Reached S E A) →
     IsSettled chain further.stage further.front → IsSettled chain here.stage here.front →
@@ -79,8 +79,8 @@ pub reach_settled : {S E R A : Type 0} (chain : Chain S E R A) → Settles chain
 reach_settled chain law last before s f [] = law.at s f
 reach_settled chain law last before s f (e ∷ es) =
     settled_by chain (chain.look (chain.pass s f).stage f) _ _
-      (reach_settled chain law last (before ++ (chain.pass s f).owed) (chain.pass s f).stage (f ++ worked_off last e ∷ []) es)
-      (law.at s f)
+    (reach_settled chain law last (before ++ (chain.pass s f).owed) (chain.pass s f).stage (f ++ worked_off last e ∷ []) es)
+    (law.at s f)
 
 whole_by : {S E R A : Type 0} (chain : Chain S E R A) (l : Look A) (further here : Reached S E A) → chain.look here.stage here.front ≡ l →
     (chain.look further.stage further.front ≡ NotYet → further.rest ≡ []) →
@@ -95,7 +95,7 @@ pub reach_all : {S E R A : Type 0} (chain : Chain S E R A) (last : Stamp) (befor
 reach_all chain last before s f [] is = refl
 reach_all chain last before s f (e ∷ es) is =
     whole_by chain (chain.look (chain.pass s f).stage f) _ _ refl
-      (reach_all chain last (before ++ (chain.pass s f).owed) (chain.pass s f).stage (f ++ worked_off last e ∷ []) es) is
+    (reach_all chain last (before ++ (chain.pass s f).owed) (chain.pass s f).stage (f ++ worked_off last e ∷ []) es) is
 
 values_by : {S E A : Type 0} (l : Look A) (further here : Reached S E A) (all : List E) →
     seen_values further.front ++ waiting_values further.rest ≡ all → seen_values here.front ++ waiting_values here.rest ≡ all →
@@ -108,15 +108,15 @@ worked_off_value : {E : Type 0} (f : List (Timed E)) (last : Stamp) (e : Stamped
     seen_values (f ++ worked_off last e ∷ []) ++ waiting_values es ≡ seen_values f ++ waiting_values (e ∷ es)
 worked_off_value f last e es =
     ap (λ ys. ys ++ waiting_values es) (map-append (λ (t : Timed _). t.value) f (worked_off last e ∷ []))
-      ∙ append_assoc (seen_values f) (e.value ∷ []) (waiting_values es)
+    ∙ append_assoc (seen_values f) (e.value ∷ []) (waiting_values es)
 
 -- no event is lost or told twice
 pub reach_values : {S E R A : Type 0} (chain : Chain S E R A) (last : Stamp) (before : List A) (s : S) (f : List (Timed E)) (es : List (Stamped E)) →
     seen_values (reach chain last before s f es).front ++ waiting_values (reach chain last before s f es).rest
-      ≡ seen_values f ++ waiting_values es
+    ≡ seen_values f ++ waiting_values es
 reach_values chain last before s f [] = refl
 reach_values chain last before s f (e ∷ es) =
     values_by (chain.look (chain.pass s f).stage f) _ _ _
-      (reach_values chain last (before ++ (chain.pass s f).owed) (chain.pass s f).stage (f ++ worked_off last e ∷ []) es
-        ∙ worked_off_value f last e es)
-      refl
+    (reach_values chain last (before ++ (chain.pass s f).owed) (chain.pass s f).stage (f ++ worked_off last e ∷ []) es
+    ∙ worked_off_value f last e es)
+    refl

@@ -1,19 +1,17 @@
 -- One move more of a layer whose due is a chain: from what its machine does where the walk stopped, the layer's law.
 use Rattle.std.proofs.Common.{◌≡◌, ℕ, ◌+◌, ◌<◌, List, [], ◌∷◌, ◌++◌, length, refl, ap, sym, ◌∙◌, subst, arith, append_assoc}
-use Rattle.std.specs.List.{flat_map}
-use Rattle.std.proofs.lemmas.Grind.{flat_map-append}
 use Rattle.std.proofs.lemmas.List.{append-nil}
 use Rattle.px_event.specs.declared.event.Event.{Event}
 use Rattle.px_event.specs.declared.reply.Reply.{Reply}
 use Rattle.px_event.specs.declared.command.Command.{Command}
-use Rattle.px_event.specs.Chain.{Stamp, Stamped, Timed, never, worked_off, at_its_step, Chain, Turn, Look, NotYet, Asks, Ends, reach, Stop, stop_at, walk, owed_at, found}
+use Rattle.px_event.specs.Chain.{Stamped, Timed, never, worked_off, Chain, Look, NotYet, Asks, Ends, Stop, walk, owed_at}
 use Rattle.px_event.specs.Laws.{IsSettled, Settles, IsFound, owed_here, owed_over}
-use Rattle.px_event.specs.Layer.{Move, Took, Replied, IsSound, Goes}
-use Rattle.px_event.specs.View.{View, seen_of, command_atoms}
-use Rattle.px_event.specs.Stands.{events_in, replies_in, stop_of, due_by, StandsAt}
+use Rattle.px_event.specs.Layer.{Move, Took, Replied, Standing, IsSound, Goes}
+use Rattle.px_event.specs.View.{View, seen_of}
+use Rattle.px_event.specs.Stands.{events_in, replies_in, stop_of, StandsAt}
 use Rattle.px_event.proofs.Seen.{seen_append}
 use Rattle.px_event.proofs.Walk.{stopped}
-use Rattle.px_event.proofs.Stops.{event_on, reply_on, behind, one_event, behind_found, one_reply, owed_event_on, owed_reply_on}
+use Rattle.px_event.proofs.Stops.{event_on, reply_on, behind, one_event, behind_found, one_reply, reply_goes_on, owed_reply_on}
 use Rattle.px_event.proofs.Moves.{events_in-append, replies_in-append, replies_below, last_below, worked_off_now}
 
 -- What a machine does with an event where the walk stopped at this stage and over this front: it goes one event on, or the
@@ -24,7 +22,7 @@ pub data Takes {M S : Type 0} (chain : Chain S Event Reply Command) (is_at : M �
       chain.look stage front ≡ NotYet →
       is_at after (chain.pass stage (front ++ record { moment = moment; value = event } ∷ [])).stage (front ++ record { moment = moment; value = event } ∷ []) →
       ((view : View) → seen_of view (chain.so_far stage front) ++ seen_of view more
-        ≡ seen_of view (owed_over chain stage (front ++ record { moment = moment; value = event } ∷ []))) →
+      ≡ seen_of view (owed_over chain stage (front ++ record { moment = moment; value = event } ∷ []))) →
       Takes chain is_at after moment event more stage front
   past_end : (owed : List Command) →
       chain.look stage front ≡ Ends owed → is_at after stage front → ((view : View) → seen_of view more ≡ []) →
@@ -38,7 +36,7 @@ pub record Resumes {M S : Type 0} (chain : Chain S Event Reply Command) (is_at :
   pub place : is_at after (chain.pass (chain.turn stage front (record { moment = moment; value = reply })).stage front).stage front
   pub gives : (view : View) → seen_of view more
       ≡ seen_of view ((chain.turn stage front (record { moment = moment; value = reply })).owed
-          ++ owed_over chain (chain.turn stage front (record { moment = moment; value = reply })).stage front)
+      ++ owed_over chain (chain.turn stage front (record { moment = moment; value = reply })).stage front)
 
 module _ {M S : Type 0} (chain : Chain S Event Reply Command) (law : Settles chain) (start : S) (is_at : M → S → List (Timed Event) → Type 0) where
   -- what is true of a place is true of an equal one
@@ -67,7 +65,7 @@ module _ {M S : Type 0} (chain : Chain S Event Reply Command) (law : Settles cha
 
   after_event : (moves : List Move) (moment : ℕ) (event : Event) →
       stop_of chain start (moves ++ Took moment event ∷ [])
-        ≡ walk chain (replies_in 1 moves) never [] start [] (events_in 1 moves ++ record { stamp = record { step = 1 + length moves; moment = moment }; value = event } ∷ [])
+      ≡ walk chain (replies_in 1 moves) never [] start [] (events_in 1 moves ++ record { stamp = record { step = 1 + length moves; moment = moment }; value = event } ∷ [])
   after_event moves moment event =
       let es = events_in-append 1 moves (Took moment event ∷ []) in
       let rs = replies_in-append 1 moves (Took moment event ∷ []) ∙ append-nil (replies_in 1 moves) in
@@ -75,27 +73,20 @@ module _ {M S : Type 0} (chain : Chain S Event Reply Command) (law : Settles cha
 
   after_reply : (moves : List Move) (moment : ℕ) (reply : Reply) →
       stop_of chain start (moves ++ Replied moment reply ∷ [])
-        ≡ walk chain (replies_in 1 moves ++ record { stamp = record { step = 1 + length moves; moment = moment }; value = reply } ∷ []) never [] start [] (events_in 1 moves)
+      ≡ walk chain (replies_in 1 moves ++ record { stamp = record { step = 1 + length moves; moment = moment }; value = reply } ∷ []) never [] start [] (events_in 1 moves)
   after_reply moves moment reply =
       let es = events_in-append 1 moves (Replied moment reply ∷ []) ∙ append-nil (events_in 1 moves) in
       let rs = replies_in-append 1 moves (Replied moment reply ∷ []) in
       rw (es, rs) refl
 
-  -- what was given, and this more, is what is owed now
-  gave_more : (view : View) (given more before so_far over : List Command) →
-      seen_of view given ≡ seen_of view (before ++ so_far) → seen_of view so_far ++ seen_of view more ≡ seen_of view over →
-      seen_of view (given ++ more) ≡ seen_of view (before ++ over)
-  gave_more view given more before so_far over gave gives =
-      seen_append view given more
-        ∙ (ap (λ l. l ++ seen_of view more) (gave ∙ seen_append view before so_far)
-          ∙ (append_assoc (seen_of view before) (seen_of view so_far) (seen_of view more)
-            ∙ (ap (λ l. seen_of view before ++ l) gives ∙ sym (seen_append view before over))))
-
-  take_stands : (before after : M) (moment : ℕ) (event : Event) (more : List Command) (moves : List Move) (given : List Command) →
-      StandsAt chain start is_at before moves given →
-      Takes chain is_at after moment event more (stop_of chain start moves).stage (stop_of chain start moves).front →
-      StandsAt chain start is_at after (moves ++ Took moment event ∷ []) (given ++ more)
-  take_stands before after moment event more moves given stands (onward is place gives) =
+  -- where the walk stops after one move more: an event where nothing is found, an event behind what is found, and a reply
+  pub next_event : (moves : List Move) (moment : ℕ) (event : Event) →
+      (stop_of chain start moves).unused ≡ [] → chain.look (stop_of chain start moves).stage (stop_of chain start moves).front ≡ NotYet →
+      let w = stop_of chain start moves in
+      let front = w.front ++ record { moment = moment; value = event } ∷ [] in
+      stop_of chain start (moves ++ Took moment event ∷ [])
+      ≡ record { last = w.last; before = w.before ++ (chain.pass w.stage front).owed; stage = (chain.pass w.stage front).stage; front = front; rest = []; unused = [] }
+  next_event moves moment event used is =
       let w = stop_of chain start moves in
       let e : Stamped Event = record { stamp = record { step = 1 + length moves; moment = moment }; value = event } in
       let now : worked_off w.last e ≡ record { moment = moment; value = event } = worked_off_now w.last (1 + length moves) moment event (below_now moves) in
@@ -103,32 +94,59 @@ module _ {M S : Type 0} (chain : Chain S Event Reply Command) (law : Settles cha
       let on = chain.pass w.stage front in
       let there : Stop S Event Reply Command = record { last = w.last; before = w.before ++ on.owed; stage = on.stage; front = front; rest = []; unused = [] } in
       let same : event_on chain w e ≡ there = rw now refl in
-      let stop = after_event moves moment event ∙ (one_event chain law (replies_in 1 moves) never [] start [] (events_in 1 moves) e stands.used is ∙ same) in
+      after_event moves moment event ∙ (one_event chain law (replies_in 1 moves) never [] start [] (events_in 1 moves) e used is ∙ same)
+
+  pub next_behind : (moves : List Move) (moment : ℕ) (event : Event) →
+      IsFound (chain.look (stop_of chain start moves).stage (stop_of chain start moves).front) →
+      stop_of chain start (moves ++ Took moment event ∷ [])
+      ≡ behind (stop_of chain start moves) (record { stamp = record { step = 1 + length moves; moment = moment }; value = event } ∷ [])
+  next_behind moves moment event is =
+      after_event moves moment event ∙ behind_found chain law (replies_in 1 moves) never [] start [] (events_in 1 moves)
+      (record { stamp = record { step = 1 + length moves; moment = moment }; value = event } ∷ []) is
+
+  pub next_reply : (moves : List Move) (moment : ℕ) (reply : Reply) (ask : Command) →
+      chain.look (stop_of chain start moves).stage (stop_of chain start moves).front ≡ Asks ask →
+      let w = stop_of chain start moves in
+      let turn = chain.turn w.stage w.front (record { moment = moment; value = reply }) in
+      stop_of chain start (moves ++ Replied moment reply ∷ [])
+      ≡ walk chain [] (record { step = 1 + length moves; moment = moment }) (w.before ++ (chain.so_far w.stage w.front ++ ask ∷ turn.owed)) turn.stage w.front w.rest
+  next_reply moves moment reply ask is =
+      after_reply moves moment reply ∙ reply_goes_on chain law (replies_in 1 moves) never [] start [] (events_in 1 moves) ask
+      (record { stamp = record { step = 1 + length moves; moment = moment }; value = reply }) is
+
+  -- what was given, and this more, is what is owed now
+  gave_more : (view : View) (given more before so_far over : List Command) →
+      seen_of view given ≡ seen_of view (before ++ so_far) → seen_of view so_far ++ seen_of view more ≡ seen_of view over →
+      seen_of view (given ++ more) ≡ seen_of view (before ++ over)
+  gave_more view given more before so_far over gave gives =
+      seen_append view given more
+      ∙ (ap (λ l. l ++ seen_of view more) (gave ∙ seen_append view before so_far)
+      ∙ (append_assoc (seen_of view before) (seen_of view so_far) (seen_of view more)
+      ∙ (ap (λ l. seen_of view before ++ l) gives ∙ sym (seen_append view before over))))
+
+  take_stands : (before after : M) (moment : ℕ) (event : Event) (more : List Command) (moves : List Move) (given : List Command) →
+      StandsAt chain start is_at before moves given →
+      Takes chain is_at after moment event more (stop_of chain start moves).stage (stop_of chain start moves).front →
+      StandsAt chain start is_at after (moves ++ Took moment event ∷ []) (given ++ more)
+  take_stands before after moment event more moves given stands (onward is place gives) =
+      let w = stop_of chain start moves in
+      let front = w.front ++ record { moment = moment; value = event } ∷ [] in
+      let on = chain.pass w.stage front in
+      let stop = next_event moves moment event stands.used is in
+      let there : Stop S Event Reply Command = record { last = w.last; before = w.before ++ on.owed; stage = on.stage; front = front; rest = []; unused = [] } in
       let so_far : owed_at chain w ≡ w.before ++ chain.so_far w.stage w.front = rw (is, append-nil) refl in
       placed after (moves ++ Took moment event ∷ []) (given ++ more) there stop place refl (λ ask asked. refl)
-        (λ view. gave_more view given more w.before (chain.so_far w.stage w.front) (owed_over chain w.stage front)
-            (stands.gave view ∙ ap (λ l. seen_of view l) so_far) (gives view)
-          ∙ ap (λ l. seen_of view l) (sym (append_assoc w.before on.owed (owed_here chain on.stage front))))
+      (λ view. gave_more view given more w.before (chain.so_far w.stage w.front) (owed_over chain w.stage front)
+      (stands.gave view ∙ ap (λ l. seen_of view l) so_far) (gives view)
+      ∙ ap (λ l. seen_of view l) (sym (append_assoc w.before on.owed (owed_here chain on.stage front))))
   take_stands before after moment event more moves given stands (past_end owed is place gives) =
       let w = stop_of chain start moves in
       let e : Stamped Event = record { stamp = record { step = 1 + length moves; moment = moment }; value = event } in
       let P : Look Command → Type 0 = IsFound in
-      let stop = after_event moves moment event ∙ behind_found chain law (replies_in 1 moves) never [] start [] (events_in 1 moves) (e ∷ []) (subst P (sym is) tt) in
+      let stop = next_behind moves moment event (subst P (sym is) tt) in
       placed after (moves ++ Took moment event ∷ []) (given ++ more) (behind w (e ∷ [])) stop place stands.used
-        (λ ask asked. absurd (let no : Ends owed ≡ Asks ask = sym is ∙ asked in cc))
-        (λ view. seen_append view given more ∙ (ap (λ l. seen_of view given ++ l) (gives view) ∙ (append-nil (seen_of view given) ∙ stands.gave view)))
-
-  -- the law of a `take`
-  pub take_goes : (before after : M) (moment : ℕ) (event : Event) (more out new_out : List Command) → new_out ≡ out ++ more →
-      ((stage : S) (front : List (Timed Event)) → IsSettled chain stage front → is_at before stage front → Takes chain is_at after moment event more stage front) →
-      Goes (StandsAt chain start is_at) before after (Took moment event) out new_out
-  take_goes before after moment event more out new_out grown takes = record {
-    more = more;
-    grown = grown;
-    stands = λ moves given stands. take_stands before after moment event more moves given stands
-        (takes (stop_of chain start moves).stage (stop_of chain start moves).front
-          (stopped chain law (replies_in 1 moves) never [] start [] (events_in 1 moves)).settled stands.place);
-  }
+      (λ ask asked. absurd (let no : Ends owed ≡ Asks ask = sym is ∙ asked in cc))
+      (λ view. seen_append view given more ∙ (ap (λ l. seen_of view given ++ l) (gives view) ∙ (append-nil (seen_of view given) ∙ stands.gave view)))
 
   resume_stands : (before after : M) (moment : ℕ) (reply : Reply) (more : List Command) (moves : List Move) (given : List Command) →
       StandsAt chain start is_at before moves given →
@@ -142,39 +160,50 @@ module _ {M S : Type 0} (chain : Chain S Event Reply Command) (law : Settles cha
       let over = owed_over chain turn.stage w.front in
       let ask = resumes.ask in
       let stop = after_reply moves moment reply
-          ∙ one_reply chain law (replies_in 1 moves) never [] start [] (events_in 1 moves) ask r (stands.seen ask resumes.asked) resumes.asked in
+      ∙ one_reply chain law (replies_in 1 moves) never [] start [] (events_in 1 moves) ask r (stands.seen ask resumes.asked) resumes.asked in
       let asked : owed_at chain w ≡ w.before ++ (so_far ++ ask ∷ []) = rw resumes.asked refl in
       let regroup : w.before ++ ((so_far ++ ask ∷ []) ++ (turn.owed ++ over)) ≡ (w.before ++ (so_far ++ ask ∷ turn.owed)) ++ over = simp append_assoc in
       placed after (moves ++ Replied moment reply ∷ []) (given ++ more) (reply_on chain w ask r) stop resumes.place refl (λ ask asked. refl)
-        (λ view. gave_more view given more w.before (so_far ++ ask ∷ []) ((so_far ++ ask ∷ []) ++ (turn.owed ++ over))
-            (stands.gave view ∙ ap (λ l. seen_of view l) asked)
-            (ap (λ l. seen_of view (so_far ++ ask ∷ []) ++ l) (resumes.gives view) ∙ sym (seen_append view (so_far ++ ask ∷ []) (turn.owed ++ over)))
-          ∙ ap (λ l. seen_of view l) (regroup ∙ sym (owed_reply_on chain w ask r)))
+      (λ view. gave_more view given more w.before (so_far ++ ask ∷ []) ((so_far ++ ask ∷ []) ++ (turn.owed ++ over))
+      (stands.gave view ∙ ap (λ l. seen_of view l) asked)
+      (ap (λ l. seen_of view (so_far ++ ask ∷ []) ++ l) (resumes.gives view) ∙ sym (seen_append view (so_far ++ ask ∷ []) (turn.owed ++ over)))
+      ∙ ap (λ l. seen_of view l) (regroup ∙ sym (owed_reply_on chain w ask r)))
+
+-- The chain, its start and the places hang on how the layer was made.
+module _ {M S : Type 0} (chain : M → Chain S Event Reply Command) (law : (made : M) → Settles (chain made)) (start : M → S)
+    (is_at : M → M → S → List (Timed Event) → Type 0) where
+  -- what a state stands for
+  abbrev pub stands_at : M → M → List Move → List Command → Type 0
+  stands_at made = StandsAt (chain made) (start made) (is_at made)
+
+  settled_there : (made : M) (moves : List Move) → IsSettled (chain made) (stop_of (chain made) (start made) moves).stage (stop_of (chain made) (start made) moves).front
+  settled_there made moves = (stopped (chain made) (law made) (replies_in 1 moves) never [] (start made) [] (events_in 1 moves)).settled
+
+  -- the law of a `take`
+  pub take_goes : (before after : M) (moment : ℕ) (event : Event) (more out new_out : List Command) → new_out ≡ out ++ more →
+      ((made : M) (stage : S) (front : List (Timed Event)) → IsSettled (chain made) stage front → is_at made before stage front →
+      Takes (chain made) (is_at made) after moment event more stage front) →
+      Goes stands_at before after (Took moment event) out new_out
+  take_goes before after moment event more out new_out grown takes = record {
+    more = more;
+    grown = grown;
+    stands = λ made moves given stands. take_stands (chain made) (law made) (start made) (is_at made) before after moment event more moves given stands
+        (takes made (stop_of (chain made) (start made) moves).stage (stop_of (chain made) (start made) moves).front (settled_there made moves) stands.place);
+  }
 
   -- the law of a `resume`
   pub resume_goes : (before after : M) (moment : ℕ) (reply : Reply) (more out new_out : List Command) → new_out ≡ out ++ more →
-      ((stage : S) (front : List (Timed Event)) → IsSettled chain stage front → is_at before stage front → Resumes chain is_at after moment reply more stage front) →
-      Goes (StandsAt chain start is_at) before after (Replied moment reply) out new_out
+      ((made : M) (stage : S) (front : List (Timed Event)) → IsSettled (chain made) stage front → is_at made before stage front →
+      Resumes (chain made) (is_at made) after moment reply more stage front) →
+      Goes stands_at before after (Replied moment reply) out new_out
   resume_goes before after moment reply more out new_out grown resumes = record {
     more = more;
     grown = grown;
-    stands = λ moves given stands. resume_stands before after moment reply more moves given stands
-        (resumes (stop_of chain start moves).stage (stop_of chain start moves).front
-          (stopped chain law (replies_in 1 moves) never [] start [] (events_in 1 moves)).settled stands.place);
+    stands = λ made moves given stands. resume_stands (chain made) (law made) (start made) (is_at made) before after moment reply more moves given stands
+        (resumes made (stop_of (chain made) (start made) moves).stage (stop_of (chain made) (start made) moves).front (settled_there made moves) stands.place);
   }
 
--- The chain and what it starts with may hang on what a state keeps, if the call keeps it.
-pub goes_for : {P M : Type 0} (standing : P → M → List Move → List Command → Type 0) (kept : M → P) (before after : M) (move : Move) (out new_out : List Command) →
-    kept after ≡ kept before → Goes (standing (kept before)) before after move out new_out → Goes (λ state. standing (kept state) state) before after move out new_out
-goes_for {P} standing kept before after move out new_out same goes = record {
-  more = goes.more;
-  grown = goes.grown;
-  stands = λ past given stands.
-    let Q : P → Type 0 = λ p. standing p after (past ++ move ∷ []) (given ++ goes.more) in
-    subst Q (sym same) (goes.stands past given stands);
-}
-
 -- after a call a state stands for something again
-pub sound_after : {M : Type 0} (standing : M → List Move → List Command → Type 0) (before after : M) (move : Move) (out new_out : List Command) →
+pub sound_after : {M : Type 0} (standing : Standing M) (before after : M) (move : Move) (out new_out : List Command) →
     IsSound standing before → Goes standing before after move out new_out → IsSound standing after
-sound_after standing before after move out new_out (past, given, stands) goes = (_, _, goes.stands past given stands)
+sound_after standing before after move out new_out (made, past, given, stands) goes = (made, _, _, goes.stands made past given stands)

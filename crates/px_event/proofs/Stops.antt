@@ -1,8 +1,8 @@
 -- One event or one reply more, where a walk stopped: what a machine that follows the walk has to do.
 use Rattle.std.proofs.Common.{◌≡◌, List, [], ◌∷◌, ◌++◌, refl, ap, sym, ◌∙◌, subst, append_assoc}
 use Rattle.std.proofs.lemmas.List.{append-nil}
-use Rattle.px_event.specs.Chain.{Stamp, Stamped, Timed, worked_off, at_its_step, Chain, Turn, Look, NotYet, Asks, Ends, Reached, reach, Stop, stop_at, walk, walk_by, found, owed_at}
-use Rattle.px_event.specs.Laws.{IsSettled, Settles, IsFound, owed_here, owed_over, with_events, with_replies}
+use Rattle.px_event.specs.Chain.{Stamp, Stamped, Timed, worked_off, at_its_step, Chain, Look, NotYet, Asks, Ends, Stop, stop_at, walk, walk_by, found, owed_at}
+use Rattle.px_event.specs.Laws.{IsSettled, Settles, IsFound, owed_over, with_events, with_replies}
 use Rattle.px_event.proofs.Reach.{reach_found}
 use Rattle.px_event.proofs.Walk.{more_events, more_replies, stopped}
 
@@ -41,7 +41,7 @@ behind w xs = record { last = w.last; before = w.before; stage = w.stage; front 
 behind_by : {S E R A : Type 0} (chain : Chain S E R A) (r : Stamped R) (rs : List (Stamped R)) (last : Stamp) (before : List A) (s : S) (f : List (Timed E)) (rest : List (Stamped E)) →
     (l : Look A) → chain.look s f ≡ l → IsFound l → ((ask : A) → l ≡ Asks ask → r ∷ rs ≡ []) →
     walk_by l (λ ask. walk chain rs r.stamp (before ++ (chain.so_far s f ++ ask ∷ (chain.turn s f (at_its_step r)).owed)) (chain.turn s f (at_its_step r)).stage f rest)
-      (record { last = last; before = before; stage = s; front = f; rest = rest; unused = r ∷ rs })
+    (record { last = last; before = before; stage = s; front = f; rest = rest; unused = r ∷ rs })
     ≡ record { last = last; before = before; stage = s; front = f; rest = rest; unused = r ∷ rs }
 behind_by chain r rs last before s f rest NotYet is found none = absurd found
 behind_by chain r rs last before s f rest (Asks ask) is found none = absurd (let no : r ∷ rs ≡ [] = none ask refl in cc)
@@ -63,7 +63,7 @@ behind_found chain law rs last before s f es xs is =
     let w = walk chain rs last before s f es in
     let at = stopped chain law rs last before s f es in
     more_events chain law rs last before s f es xs
-      ∙ resumed_behind chain w.unused w.last w.before w.stage w.front (w.rest ++ xs) at.settled is at.asks
+    ∙ resumed_behind chain w.unused w.last w.before w.stage w.front (w.rest ++ xs) at.settled is at.asks
 
 resumed_reply : {S E R A : Type 0} (chain : Chain S E R A) (w : Stop S E R A) (ask : A) (r : Stamped R) →
     IsSettled chain w.stage w.front → w.unused ≡ [] → chain.look w.stage w.front ≡ Asks ask →
@@ -92,7 +92,7 @@ one_reply {S} {E} {R} {A} chain law rs last before s f es ask r rest is =
     let w = walk chain rs last before s f es in
     let turn = chain.turn w.stage w.front (at_its_step r) in
     reply_goes_on chain law rs last before s f es ask r is
-      ∙ ap (λ (ys : List (Stamped E)). walk chain [] r.stamp (w.before ++ (chain.so_far w.stage w.front ++ ask ∷ turn.owed)) turn.stage w.front ys) rest
+    ∙ ap (λ (ys : List (Stamped E)). walk chain [] r.stamp (w.before ++ (chain.so_far w.stage w.front ++ ask ∷ turn.owed)) turn.stage w.front ys) rest
 
 -- what is owed one event on
 pub owed_event_on : {S E R A : Type 0} (chain : Chain S E R A) (w : Stop S E R A) (e : Stamped E) →
@@ -102,5 +102,5 @@ owed_event_on chain w e = append_assoc w.before _ _
 pub owed_reply_on : {S E R A : Type 0} (chain : Chain S E R A) (w : Stop S E R A) (ask : A) (r : Stamped R) →
     let turn = chain.turn w.stage w.front (at_its_step r) in
     owed_at chain (reply_on chain w ask r)
-      ≡ (w.before ++ (chain.so_far w.stage w.front ++ ask ∷ turn.owed)) ++ owed_over chain turn.stage w.front
+    ≡ (w.before ++ (chain.so_far w.stage w.front ++ ask ∷ turn.owed)) ++ owed_over chain turn.stage w.front
 owed_reply_on chain w ask r = append_assoc (w.before ++ (chain.so_far w.stage w.front ++ ask ∷ (chain.turn w.stage w.front (at_its_step r)).owed)) _ _

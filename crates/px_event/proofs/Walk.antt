@@ -1,9 +1,8 @@
 -- A walk over more events or with more replies is the walk resumed from where it stopped.
-use Rattle.std.proofs.Common.{◌≡◌, ℕ, List, [], ◌∷◌, ◌++◌, refl, ap, sym, ◌∙◌, subst, append_assoc, map}
-use Rattle.std.proofs.lemmas.List.{append-nil}
-use Rattle.px_event.specs.Chain.{Stamp, Stamped, Timed, worked_off, at_its_step, Chain, Turn, Look, NotYet, Asks, Ends, Reached, reach, Stop, stop_at, walk, walk_by, found, owed_at}
+use Rattle.std.proofs.Common.{◌≡◌, List, [], ◌∷◌, ◌++◌, refl, ap, sym, ◌∙◌, subst}
+use Rattle.px_event.specs.Chain.{Stamp, Stamped, Timed, at_its_step, Chain, Look, NotYet, Asks, Ends, Reached, reach, Stop, stop_at, walk, walk_by}
 use Rattle.px_event.specs.Laws.{IsSettled, Settles, IsFound, with_events, with_replies, seen_values, waiting_values, Stopped}
-use Rattle.px_event.proofs.Reach.{reach_on, reach_more, reach_again, reach_found, reach_settled, reach_all, reach_values}
+use Rattle.px_event.proofs.Reach.{reach_more, reach_again, reach_found, reach_settled, reach_all, reach_values}
 
 -- the walk from where the first search stopped
 abbrev walk_on : {S E R A : Type 0} → Chain S E R A → List (Stamped R) → Stamp → Reached S E A → Stop S E R A
@@ -11,8 +10,8 @@ walk_on chain [] last here = stop_at last here []
 walk_on chain (r ∷ rs) last here =
     let on = chain.turn here.stage here.front (at_its_step r) in
     walk_by (chain.look here.stage here.front)
-      (λ ask. walk chain rs r.stamp (here.before ++ (chain.so_far here.stage here.front ++ ask ∷ on.owed)) on.stage here.front here.rest)
-      (stop_at last here (r ∷ rs))
+    (λ ask. walk chain rs r.stamp (here.before ++ (chain.so_far here.stage here.front ++ ask ∷ on.owed)) on.stage here.front here.rest)
+    (stop_at last here (r ∷ rs))
 
 walk_is : {S E R A : Type 0} (chain : Chain S E R A) (rs : List (Stamped R)) (last : Stamp) (before : List A) (s : S) (f : List (Timed E)) (es : List (Stamped E)) →
     walk chain rs last before s f es ≡ walk_on chain rs last (reach chain last before s f es)
@@ -25,7 +24,7 @@ walk_again : {S E R A : Type 0} (chain : Chain S E R A) → Settles chain → (q
 walk_again chain law qs last before s f es =
     let here = reach chain last before s f es in
     walk_is chain qs last here.before here.stage here.front here.rest
-      ∙ (ap (λ h. walk_on chain qs last h) (reach_again chain law last before s f es) ∙ sym (walk_is chain qs last before s f es))
+    ∙ (ap (λ h. walk_on chain qs last h) (reach_again chain law last before s f es) ∙ sym (walk_is chain qs last before s f es))
 
 walk_more : {S E R A : Type 0} (chain : Chain S E R A) → Settles chain → (qs : List (Stamped R)) (last : Stamp) (before : List A) (s : S) (f : List (Timed E)) (es xs : List (Stamped E)) →
     let here = reach chain last before s f es in
@@ -33,15 +32,15 @@ walk_more : {S E R A : Type 0} (chain : Chain S E R A) → Settles chain → (qs
 walk_more chain law qs last before s f es xs =
     let here = reach chain last before s f es in
     walk_is chain qs last before s f (es ++ xs)
-      ∙ (ap (λ h. walk_on chain qs last h) (reach_more chain law last before s f es xs)
-        ∙ sym (walk_is chain qs last here.before here.stage here.front (here.rest ++ xs)))
+    ∙ (ap (λ h. walk_on chain qs last h) (reach_more chain law last before s f es xs)
+    ∙ sym (walk_is chain qs last here.before here.stage here.front (here.rest ++ xs)))
 
 -- where an ask is found, more events stand behind it
 walk_more_asks : {S E R A : Type 0} (chain : Chain S E R A) (ask : A) (r : Stamped R) (rs : List (Stamped R)) (last : Stamp) (here : Reached S E A) (xs : List (Stamped E)) →
     IsSettled chain here.stage here.front → chain.look here.stage here.front ≡ Asks ask →
     let on = chain.turn here.stage here.front (at_its_step r) in
     walk chain (r ∷ rs) last here.before here.stage here.front (here.rest ++ xs)
-      ≡ walk chain rs r.stamp (here.before ++ (chain.so_far here.stage here.front ++ ask ∷ on.owed)) on.stage here.front (here.rest ++ xs)
+    ≡ walk chain rs r.stamp (here.before ++ (chain.so_far here.stage here.front ++ ask ∷ on.owed)) on.stage here.front (here.rest ++ xs)
 walk_more_asks chain ask r rs last here xs settled is =
     let P : Look _ → Type 0 = IsFound in
     let same = reach_found chain last here.before here.stage here.front (here.rest ++ xs) settled (subst P (sym is) tt) in
@@ -64,9 +63,9 @@ more_events chain law (r ∷ rs) last before s f es xs =
     let settled = reach_settled chain law last before s f es in
     let whole = walk_more chain law (r ∷ rs) last before s f es xs in
     more_by chain xs (chain.look here.stage here.front) _ _ _
-      (λ ask is. whole ∙ (walk_more_asks chain ask r rs last here xs settled is
-        ∙ more_events chain law rs r.stamp (here.before ++ (chain.so_far here.stage here.front ++ ask ∷ on.owed)) on.stage here.front here.rest xs))
-      whole
+    (λ ask is. whole ∙ (walk_more_asks chain ask r rs last here xs settled is
+    ∙ more_events chain law rs r.stamp (here.before ++ (chain.so_far here.stage here.front ++ ask ∷ on.owed)) on.stage here.front here.rest xs))
+    whole
 
 replies_by : {S E R A : Type 0} (chain : Chain S E R A) (qs : List (Stamped R)) (l : Look A) (onward' onward : A → Stop S E R A) (whole stop' stop : Stop S E R A) →
     whole ≡ walk_by l onward' stop' →
@@ -84,8 +83,8 @@ more_replies chain law (r ∷ rs) qs last before s f es =
     let here = reach chain last before s f es in
     let on = chain.turn here.stage here.front (at_its_step r) in
     replies_by chain qs (chain.look here.stage here.front) _ _ _ _ _ refl
-      (λ ask. more_replies chain law rs qs r.stamp (here.before ++ (chain.so_far here.stage here.front ++ ask ∷ on.owed)) on.stage here.front here.rest)
-      (sym (walk_again chain law (r ∷ rs ++ qs) last before s f es))
+    (λ ask. more_replies chain law rs qs r.stamp (here.before ++ (chain.so_far here.stage here.front ++ ask ∷ on.owed)) on.stage here.front here.rest)
+    (sym (walk_again chain law (r ∷ rs ++ qs) last before s f es))
 
 stopped_by : {S E R A : Type 0} (chain : Chain S E R A) (values : List E) (l : Look A) (onward : A → Stop S E R A) (stop : Stop S E R A) →
     chain.look stop.stage stop.front ≡ l →
@@ -110,10 +109,10 @@ stopped {S} {E} {R} {A} chain law (r ∷ rs) last before s f es =
     let whole = reach_values chain last before s f es in
     let P : List E → Type 0 = λ values. (ask : A) → Stopped chain values (walk chain rs r.stamp (here.before ++ (chain.so_far here.stage here.front ++ ask ∷ on.owed)) on.stage here.front here.rest) in
     stopped_by chain _ (chain.look here.stage here.front) _ _ refl
-      (subst P whole (λ ask. stopped chain law rs r.stamp (here.before ++ (chain.so_far here.stage here.front ++ ask ∷ on.owed)) on.stage here.front here.rest))
-      (λ no_ask. record {
-        settled = reach_settled chain law last before s f es;
-        not_yet = reach_all chain last before s f es;
-        asks = λ ask is. absurd (no_ask ask is);
-        whole = whole;
-      })
+    (subst P whole (λ ask. stopped chain law rs r.stamp (here.before ++ (chain.so_far here.stage here.front ++ ask ∷ on.owed)) on.stage here.front here.rest))
+    (λ no_ask. record {
+      settled = reach_settled chain law last before s f es;
+      not_yet = reach_all chain last before s f es;
+      asks = λ ask is. absurd (no_ask ask is);
+      whole = whole;
+    })

@@ -1,7 +1,7 @@
 -- The laws of a chain: what a chain has to keep so that the walk can be resumed, and what is owed only grows.
 use Rattle.std.specs.Prelude.{◌≡◌, List, [], ◌∷◌, ◌++◌, map}
 use Rattle.px_text.specs.Prefix.{IsPrefixOf}
-use Rattle.px_event.specs.Chain.{Stamp, Stamped, Timed, Chain, Turn, Look, NotYet, Asks, Ends, Stop, walk, found}
+use Rattle.px_event.specs.Chain.{Stamped, Timed, Chain, Look, NotYet, Asks, Ends, Stop, walk, found}
 
 -- a stage that does not pass at this front
 pub record IsSettled {S E R A : Type 0} (chain : Chain S E R A) (stage : S) (front : List (Timed E)) : Type 0 where

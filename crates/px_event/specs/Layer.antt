@@ -1,4 +1,4 @@
--- What a layer's state stands for: a list of moves that were made with it, and the list of commands that it gave.
+-- What a layer's state stands for: how the layer was made, the moves that were made with it, and the commands it gave.
 use Rattle.std.specs.Prelude.{◌≡◌, ℕ, ◌+◌, List, [], ◌∷◌, ◌++◌, length, Option, Some, option_to_list}
 use Rattle.std.specs.List.{flat_map}
 use Rattle.px_event.specs.declared.ask.Ask.{Ask}
@@ -15,15 +15,20 @@ pub data Move : Type 0 where
   Took : (moment : ℕ) (event : Event) → Move
   Replied : (moment : ℕ) (reply : Reply) → Move
 
+-- What a layer's states stand for: the layer that was made as the first state came by these moves to the second, and gave
+-- these commands.
+abbrev pub Standing : Type 0 → Type 1
+Standing S = S → S → List Move → List Command → Type 0
+
 -- the state stands for something
-abbrev pub IsSound : {S : Type 0} → (S → List Move → List Command → Type 0) → S → Type 0
-IsSound {S} standing state = (past : List Move) × (given : List Command) × standing state past given
+abbrev pub IsSound : {S : Type 0} → Standing S → S → Type 0
+IsSound {S} standing state = (made : S) × (past : List Move) × (given : List Command) × standing made state past given
 
 -- whatever the state before stood for, the one after stands for it with this move more and the commands that were added
-pub record Goes {S : Type 0} (standing : S → List Move → List Command → Type 0) (before after : S) (move : Move) (out new_out : List Command) : Type 0 where
+pub record Goes {S : Type 0} (standing : Standing S) (before after : S) (move : Move) (out new_out : List Command) : Type 0 where
   pub more : List Command
   pub grown : new_out ≡ out ++ more
-  pub stands : (past : List Move) (given : List Command) → standing before past given → standing after (past ++ move ∷ []) (given ++ more)
+  pub stands : (made : S) (past : List Move) (given : List Command) → standing made before past given → standing made after (past ++ move ∷ []) (given ++ more)
 
 -- what a command asks
 abbrev pub asks_in : Command → List Ask

@@ -1,9 +1,10 @@
 -- What a state of a layer whose due is a chain stands for.
-use Rattle.std.specs.Prelude.{◌≡◌, ℕ, ◌+◌, List, [], ◌∷◌}
+use Rattle.std.specs.Prelude.{◌≡◌, ℕ, ◌+◌, List, [], ◌∷◌, Option, Some, None}
+use Rattle.px_event.specs.declared.ask.Ask.{Ask}
 use Rattle.px_event.specs.declared.event.Event.{Event}
 use Rattle.px_event.specs.declared.reply.Reply.{Reply}
 use Rattle.px_event.specs.declared.command.Command.{Command}
-use Rattle.px_event.specs.Chain.{Chain, Look, Asks, Stop, Stamped, Timed, walk_from, due}
+use Rattle.px_event.specs.Chain.{Chain, Asks, Stop, Stamped, Timed, walk_from, due}
 use Rattle.px_event.specs.Layer.{Move, Took, Replied}
 use Rattle.px_event.specs.View.{View, seen_of}
 
@@ -38,3 +39,9 @@ pub record StandsAt {M S : Type 0} (chain : Chain S Event Reply Command) (start 
   pub seen : (ask : Command) → chain.look (stop_of chain start moves).stage (stop_of chain start moves).front ≡ Asks ask →
       (stop_of chain start moves).rest ≡ []
   pub gave : (view : View) → seen_of view given ≡ seen_of view (due_by chain start moves)
+
+-- Something is awaited exactly where the stage asks.
+pub record AwaitsWhatItAsks {M S : Type 0} (chain : Chain S Event Reply Command) (is_at : M → S → List (Timed Event) → Type 0) (awaited : M → Option Ask) : Type 0 where
+  pub free : (state : M) (stage : S) (front : List (Timed Event)) (ask : Command) → is_at state stage front → awaited state ≡ None → chain.look stage front ≡ Asks ask → ⊥
+  pub asks : (state : M) (stage : S) (front : List (Timed Event)) (ask : Ask) → is_at state stage front → awaited state ≡ Some ask →
+      (command : Command) × (chain.look stage front ≡ Asks command)

@@ -13,52 +13,36 @@ ghost use Rattle.px_event.specs.declared.command.Command.{Command as GivenComman
 
 /// A walk over more events, or with more replies, is the walk resumed from where it stopped.
 pub fn walks_resume<Stage>()
-    ensures events {
-        (chain : Chain Stage TakenEvent GivenReply GivenCommand) → Settles chain → (start : Stage) →
+    ensures events { (chain : Chain Stage TakenEvent GivenReply GivenCommand) → Settles chain → (start : Stage) →
         (events more : List (Stamped TakenEvent)) (replies : List (Stamped GivenReply)) →
-        walk_from chain start (events ++ more) replies ≡ with_events chain (walk_from chain start events replies) more
-    }
-    ensures replies {
-        (chain : Chain Stage TakenEvent GivenReply GivenCommand) → Settles chain → (start : Stage) →
+        walk_from chain start (events ++ more) replies ≡ with_events chain (walk_from chain start events replies) more }
+    ensures replies { (chain : Chain Stage TakenEvent GivenReply GivenCommand) → Settles chain → (start : Stage) →
         (events : List (Stamped TakenEvent)) (replies more : List (Stamped GivenReply)) →
-        walk_from chain start events (replies ++ more) ≡ with_replies chain (walk_from chain start events replies) more
-    }
-{
-}
+        walk_from chain start events (replies ++ more) ≡ with_replies chain (walk_from chain start events replies) more }
+{}
 
 /// Where a walk stops: where nothing is found all events were worked off, where something is asked all replies were
 /// used, and the events are those worked off and the rest.
 pub fn walks_stop<Stage>()
-    ensures {
-        (chain : Chain Stage TakenEvent GivenReply GivenCommand) → Settles chain → (start : Stage) →
+    ensures { (chain : Chain Stage TakenEvent GivenReply GivenCommand) → Settles chain → (start : Stage) →
         (events : List (Stamped TakenEvent)) (replies : List (Stamped GivenReply)) →
-        Stopped chain (waiting_values events) (walk_from chain start events replies)
-    }
-{
-}
+        Stopped chain (waiting_values events) (walk_from chain start events replies) }
+{}
 
 /// In each view what is due only grows: more events or more replies take nothing back.
 pub fn due_only_grows<Stage>()
-    ensures events {
-        (chain : Chain Stage TakenEvent GivenReply GivenCommand) → Settles chain → (view : View) → SoFarGrows chain (seen_of view) →
+    ensures events { (chain : Chain Stage TakenEvent GivenReply GivenCommand) → Settles chain → (view : View) → SoFarGrows chain (seen_of view) →
         (start : Stage) (events more : List (Stamped TakenEvent)) (replies : List (Stamped GivenReply)) →
-        IsPrefixOf (seen_of view (due chain start events replies)) (seen_of view (due chain start (events ++ more) replies))
-    }
-    ensures replies {
-        (chain : Chain Stage TakenEvent GivenReply GivenCommand) → Settles chain → (view : View) → SoFarGrows chain (seen_of view) →
+        IsPrefixOf (seen_of view (due chain start events replies)) (seen_of view (due chain start (events ++ more) replies)) }
+    ensures replies { (chain : Chain Stage TakenEvent GivenReply GivenCommand) → Settles chain → (view : View) → SoFarGrows chain (seen_of view) →
         (start : Stage) (events : List (Stamped TakenEvent)) (replies more : List (Stamped GivenReply)) →
-        IsPrefixOf (seen_of view (due chain start events replies)) (seen_of view (due chain start events (replies ++ more)))
-    }
-{
-}
+        IsPrefixOf (seen_of view (due chain start events replies)) (seen_of view (due chain start events (replies ++ more))) }
+{}
 
 /// Events behind an open ask change nothing of what is due.
 pub fn waiting_events_owe_nothing<Stage>()
-    ensures {
-        (chain : Chain Stage TakenEvent GivenReply GivenCommand) → Settles chain → (start : Stage) →
+    ensures { (chain : Chain Stage TakenEvent GivenReply GivenCommand) → Settles chain → (start : Stage) →
         (events more : List (Stamped TakenEvent)) (replies : List (Stamped GivenReply)) (ask : GivenCommand) →
         chain.look (walk_from chain start events replies).stage (walk_from chain start events replies).front ≡ Asks ask →
-        due chain start (events ++ more) replies ≡ due chain start events replies
-    }
-{
-}
+        due chain start (events ++ more) replies ≡ due chain start events replies }
+{}

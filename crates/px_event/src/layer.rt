@@ -1,16 +1,17 @@
 //! The one contract by which every layer is proved.
 //!
-//! A layer takes events and replies, and gives commands. Its state stands for a list of moves, each an event that it
-//! took or a reply that it was given at a moment, and for the list of the commands that it gave. Each call asks that the
-//! state stands for something, and says after Ok that the new one stands for the same with one move more and with the
-//! commands that the call added. So after want of memory, which says nothing of the state, a layer can only be dropped.
+//! A layer takes events and replies, and gives commands. Its state stands for how it was made, for a list of moves, each
+//! an event that it took or a reply that it was given at a moment, and for the list of the commands that it gave. Each
+//! call asks that the state stands for something, and says after Ok that the new one stands for the same with one move
+//! more and with the commands that the call added. So after want of memory, which says nothing of the state, a layer can
+//! only be dropped. What is due of a layer may hang on how it was made (its mode, its flow), and no call changes that.
 //!
 //! A layer that asked is paused: until the ask is answered no event may be handed to it. Two numbers bound its asks: a
 //! reply makes `left` smaller, an event raises it by at most `rate` times its weight, and `rate` never changes; so a loop
 //! that answers asks ends.
 //!
 //! A relation that always holds meets this trait. The strength of a layer is its own public relation, and the clause of
-//! its constructor: a new one stands for no moves and has given nothing.
+//! its constructor: a new one stands for itself, as it was made, by no moves, and has given nothing.
 ghost use Rattle.std.specs.Prelude.{◌≡◌, ◌+◌, ◌-◌, ◌*◌, ◌^◌, ◌<◌, ◌≤◌, ℕ, Bool, List, None, Option, OnOk, min};
 ghost use Rattle.px_event.specs.Layer.{Move, Took, Replied, IsSound, Goes, AsksOnly, MayAnswer, IsNews, weight};
 ghost use Rattle.px_event.specs.declared.command.Command.{Command as GivenCommand};
@@ -21,8 +22,8 @@ use px_text::NoMemory;
 
 /// A layer of a conversation.
 pub trait Layer: Drop {
-    /// The state stands for these moves and for these commands given.
-    ghost stands: { Self → List Move → List GivenCommand → Type 0 };
+    /// The layer that was made as the first state came by these moves to the second, and gave these commands.
+    ghost stands: { Self → Self → List Move → List GivenCommand → Type 0 };
 
     /// What was asked and is not answered.
     ghost awaited: { Self → Option AwaitedAsk };

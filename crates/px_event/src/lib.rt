@@ -8,6 +8,7 @@
 #![tactic(auto)]
 
 mod ask;
+mod chained;
 mod command;
 mod event;
 mod heard;
@@ -19,6 +20,7 @@ mod side;
 mod step;
 
 pub use ask::{Ask, Hook};
+pub use chained::Chained;
 pub use command::Command;
 pub use event::{Event, Rests};
 pub use heard::Heard;

@@ -8,9 +8,9 @@ use Rattle.px_event.specs.declared.ask.Ask.{Ask}
 use Rattle.px_event.specs.declared.event.Event.{Event}
 use Rattle.px_event.specs.declared.reply.Reply.{Reply}
 use Rattle.px_event.specs.declared.command.Command.{Command}
-use Rattle.px_event.specs.Layer.{Move, Took, Replied, IsSound, Goes, AsksOnly, MayAnswer, IsNews, weight, asks_in}
+use Rattle.px_event.specs.Layer.{Move, Took, Replied, Standing, IsSound, Goes, AsksOnly, MayAnswer, IsNews, asks_in}
 use Rattle.px_gate.specs.declared.gate.Gate.{Gate}
-use Rattle.px_gate.specs.Gate.{Standing, IsFree, IsOpen, IsAnsweredBy, WorksOff, emptied, stopped, one, Serves, none, at_once, queued, freed, AllNews, GateStands, WorkedOff, TakeAsksWhere, TakeAsks, gate_left}
+use Rattle.px_gate.specs.Gate.{WorksOff, emptied, stopped, one, Serves, none, at_once, queued, freed, AllNews, GateStands, WorkedOff, TakeAsksWhere, TakeAsks, gate_left}
 
 -- what the test of a loop says of what is awaited
 pub free_of : {A : Type 0} (o awaited : Option A) (test : Bool) → is_some o ≡ not test → o ≡ awaited → test ≡ true → awaited ≡ None
@@ -33,12 +33,12 @@ module _ {S : Type 0} (standing : Standing S) (awaited : S → Option Ask) where
   -- after a call the gate stands for something
   pub goes_sound : (before after : Gate S) (move : Move) (out new_out : List Command) → IsSound (GateStands standing awaited) before →
       Goes (GateStands standing awaited) before after move out new_out → IsSound (GateStands standing awaited) after
-  goes_sound before after move out new_out (past, given, stands) goes = (_, _, goes.stands past given stands)
+  goes_sound before after move out new_out (made, past, given, stands) goes = (made, _, _, goes.stands made past given stands)
 
-  pub new_stands : (gate : Gate S) → gate.queue.items ≡ [] → standing gate.layer [] [] → GateStands standing awaited gate [] []
+  pub new_stands : (gate : Gate S) → gate.queue.items ≡ [] → standing gate.layer gate.layer [] [] → GateStands standing awaited gate gate [] []
   new_stands gate empty stands = record {
     moves = [];
-    serves = let P : List Event → Type 0 = λ q. Serves standing awaited [] [] q in subst P (sym empty) none;
+    serves = let P : List Event → Type 0 = λ q. Serves standing awaited gate.layer [] [] q in subst P (sym empty) none;
     stands = stands;
     waits = λ _. empty;
     news = let P : List Event → Type 0 = AllNews in subst P (sym empty) tt;
@@ -51,12 +51,12 @@ module _ {S : Type 0} (standing : Standing S) (awaited : S → Option Ask) where
   take_waits gate after moment event ask out layer queue is news = record {
     more = [];
     grown = sym (append-nil out);
-    stands = λ calls given stands. record {
+    stands = λ made calls given stands. record {
       moves = stands.moves;
-      serves = let P : List Event → Type 0 = λ q. Serves standing awaited (calls ++ Took moment event ∷ []) stands.moves q in
+      serves = let P : List Event → Type 0 = λ q. Serves standing awaited made.layer (calls ++ Took moment event ∷ []) stands.moves q in
           subst P (sym queue) (queued calls stands.moves gate.queue.items moment event stands.serves (gate.layer, given, ask, stands.stands, is));
-      stands = let P : S → Type 0 = λ s. standing s stands.moves (given ++ []) in
-          let Q : List Command → Type 0 = λ l. standing gate.layer stands.moves l in
+      stands = let P : S → Type 0 = λ s. standing made.layer s stands.moves (given ++ []) in
+          let Q : List Command → Type 0 = λ l. standing made.layer gate.layer stands.moves l in
           subst P (sym layer) (subst Q (sym (append-nil given)) stands.stands);
       waits = λ no. absurd (let not : Some ask ≡ None = sym is ∙ (ap awaited (sym layer) ∙ no) in cc);
       news = let P : List Event → Type 0 = AllNews in subst P (sym queue) (news_append gate.queue.items event stands.news news);
@@ -70,18 +70,18 @@ module _ {S : Type 0} (standing : Standing S) (awaited : S → Option Ask) where
   take_at_once gate after moment event out new_out queue is goes = record {
     more = goes.more;
     grown = goes.grown;
-    stands = λ calls given stands.
-      let empty : gate.queue.items ≡ [] = stands.waits is in
-      let P : List Event → Type 0 = λ q. Serves standing awaited calls stands.moves q in
-      let Q : List Event → Type 0 = λ q. Serves standing awaited (calls ++ Took moment event ∷ []) (stands.moves ++ Took moment event ∷ []) q in
-      let R : List Event → Type 0 = AllNews in
-      record {
-        moves = stands.moves ++ Took moment event ∷ [];
-        serves = subst Q (sym (queue ∙ empty)) (at_once calls stands.moves moment event (subst P empty stands.serves) (gate.layer, given, stands.stands, is));
-        stands = goes.stands stands.moves given stands.stands;
-        waits = λ _. queue ∙ empty;
-        news = subst R (sym queue) stands.news;
-      };
+    stands = λ made calls given stands.
+        let empty : gate.queue.items ≡ [] = stands.waits is in
+        let P : List Event → Type 0 = λ q. Serves standing awaited made.layer calls stands.moves q in
+        let Q : List Event → Type 0 = λ q. Serves standing awaited made.layer (calls ++ Took moment event ∷ []) (stands.moves ++ Took moment event ∷ []) q in
+        let R : List Event → Type 0 = AllNews in
+        record {
+          moves = stands.moves ++ Took moment event ∷ [];
+          serves = subst Q (sym (queue ∙ empty)) (at_once calls stands.moves moment event (subst P empty stands.serves) (gate.layer, given, stands.stands, is));
+          stands = goes.stands made.layer stands.moves given stands.stands;
+          waits = λ _. queue ∙ empty;
+          news = subst R (sym queue) stands.news;
+        };
   }
 
   -- a reply, and then the queue worked off
@@ -93,26 +93,26 @@ module _ {S : Type 0} (standing : Standing S) (awaited : S → Option Ask) where
   resume_goes gate between after moment reply out between_out new_out queue may goes works = record {
     more = goes.more ++ works.more;
     grown = works.grown ∙ (ap (λ l. l ++ works.more) goes.grown ∙ append_assoc out goes.more works.more);
-    stands = λ calls given stands.
-      let worked = works.works (stands.moves ++ Replied moment reply ∷ []) (given ++ goes.more) (goes.stands stands.moves given stands.stands) in
-      let P : List Event → Type 0 = λ q. WorksOff standing awaited moment (stands.moves ++ Replied moment reply ∷ []) q worked.0 after.queue.items in
-      let Q : List Command → Type 0 = λ l. standing after.layer worked.0 l in
-      record {
-        moves = worked.0;
-        serves = freed calls stands.moves gate.queue.items moment reply worked.0 after.queue.items stands.serves (gate.layer, given, stands.stands, may) (subst P queue worked.1);
-        stands = subst Q (append_assoc given goes.more works.more) worked.2;
-        waits = works.waits;
-        news = works.news;
-      };
+    stands = λ made calls given stands.
+        let worked = works.works made.layer (stands.moves ++ Replied moment reply ∷ []) (given ++ goes.more) (goes.stands made.layer stands.moves given stands.stands) in
+        let P : List Event → Type 0 = λ q. WorksOff standing awaited made.layer moment (stands.moves ++ Replied moment reply ∷ []) q worked.0 after.queue.items in
+        let Q : List Command → Type 0 = λ l. standing made.layer after.layer worked.0 l in
+        record {
+          moves = worked.0;
+          serves = freed calls stands.moves gate.queue.items moment reply worked.0 after.queue.items stands.serves (gate.layer, given, stands.stands, may) (subst P queue worked.1);
+          stands = subst Q (append_assoc given goes.more works.more) worked.2;
+          waits = works.waits;
+          news = works.news;
+        };
   }
 
   -- where the loop over the queue is: whatever is worked off from here on is worked off from the start
   pub record AlongQueue (moment : ℕ) (first : S) (queue : List Event) (layer : S) (waiting : List Event) (out new_out : List Command) : Type 0 where
     pub more : List Command
     pub grown : new_out ≡ out ++ more
-    pub works : (moves : List Move) (given : List Command) → standing first moves given →
-        (here : List Move) × standing layer here (given ++ more)
-          × ((there : List Move) (last : List Event) → WorksOff standing awaited moment here waiting there last → WorksOff standing awaited moment moves queue there last)
+    pub works : (made : S) (moves : List Move) (given : List Command) → standing made first moves given →
+        (here : List Move) × standing made layer here (given ++ more)
+        × ((there : List Move) (last : List Event) → WorksOff standing awaited made moment here waiting there last → WorksOff standing awaited made moment moves queue there last)
     pub news : AllNews waiting
     pub asks : TakeAsks awaited first layer out new_out
 
@@ -124,9 +124,9 @@ module _ {S : Type 0} (standing : Standing S) (awaited : S → Option Ask) where
   along_start moment layer queue out news = record {
     more = [];
     grown = sym (append-nil out);
-    works = λ moves given stands.
-      let P : List Command → Type 0 = λ l. standing layer moves l in
-      (moves, subst P (sym (append-nil given)) stands, λ there last works. works);
+    works = λ made moves given stands.
+        let P : List Command → Type 0 = λ l. standing made layer moves l in
+        (moves, subst P (sym (append-nil given)) stands, λ there last works. works);
     news = news;
     asks = asks_start (awaited layer) (awaited layer) layer out refl;
   }
@@ -134,11 +134,12 @@ module _ {S : Type 0} (standing : Standing S) (awaited : S → Option Ask) where
   asks_step : (a : Option Ask) (first layer next : S) (out between new_out : List Command) → awaited first ≡ a → awaited layer ≡ None →
       TakeAsksWhere a (awaited layer) first layer out between → AsksOnly (awaited next) between new_out →
       TakeAsksWhere a (awaited next) first next out new_out
-  asks_step None first layer next out between new_out at free (more, grown, none_asked) (further, grown', asked) =
-      (more ++ further,
-        grown' ∙ (ap (λ l. l ++ further) grown ∙ append_assoc out more further),
-        flat_map-append asks_in more further
-          ∙ (ap (λ l. l ++ flat_map asks_in further) (none_asked ∙ ap option_to_list free) ∙ asked))
+  asks_step None first layer next out between new_out at free (more, grown, none_asked) (further, grown', asked) = (
+    more ++ further,
+    grown' ∙ (ap (λ l. l ++ further) grown ∙ append_assoc out more further),
+    flat_map-append asks_in more further
+        ∙ (ap (λ l. l ++ flat_map asks_in further) (none_asked ∙ ap option_to_list free) ∙ asked),
+  )
   asks_step (Some ask) first layer next out between new_out at free (same, kept) asks =
       absurd (let no : Some ask ≡ None = sym at ∙ (ap awaited (sym same) ∙ free) in cc)
 
@@ -149,12 +150,13 @@ module _ {S : Type 0} (standing : Standing S) (awaited : S → Option Ask) where
   along_step moment first queue layer next event waiting out between new_out along free goes asks = record {
     more = along.more ++ goes.more;
     grown = goes.grown ∙ (ap (λ l. l ++ goes.more) along.grown ∙ append_assoc out along.more goes.more);
-    works = λ moves given stands.
-      let far = along.works moves given stands in
-      let P : List Command → Type 0 = λ l. standing next (far.0 ++ Took moment event ∷ []) l in
-      (far.0 ++ Took moment event ∷ [],
-        subst P (append_assoc given along.more goes.more) (goes.stands far.0 (given ++ along.more) far.1),
-        λ there last works. far.2 there last (one far.0 event waiting there last (layer, given ++ along.more, far.1, free) works));
+    works = λ made moves given stands.
+        let far = along.works made moves given stands in
+        let P : List Command → Type 0 = λ l. standing made next (far.0 ++ Took moment event ∷ []) l in (
+          far.0 ++ Took moment event ∷ [],
+          subst P (append_assoc given along.more goes.more) (goes.stands made far.0 (given ++ along.more) far.1),
+          λ there last works. far.2 there last (one far.0 event waiting there last (layer, given ++ along.more, far.1, free) works),
+        );
     news = along.news.1;
     asks = asks_step (awaited first) first layer next out between new_out refl free along.asks asks;
   }
@@ -166,9 +168,9 @@ module _ {S : Type 0} (standing : Standing S) (awaited : S → Option Ask) where
   along_open moment first gate ask out new_out along is = record {
     more = along.more;
     grown = along.grown;
-    works = λ moves given stands.
-      let far = along.works moves given stands in
-      (far.0, far.2 far.0 gate.queue.items (stopped far.0 gate.queue.items (gate.layer, given ++ along.more, ask, far.1, is)), far.1);
+    works = λ made moves given stands.
+        let far = along.works made moves given stands in
+        (far.0, far.2 far.0 gate.queue.items (stopped far.0 gate.queue.items (gate.layer, given ++ along.more, ask, far.1, is)), far.1);
     waits = λ no. absurd (let not : Some ask ≡ None = sym is ∙ no in cc);
     news = along.news;
   }
@@ -180,10 +182,10 @@ module _ {S : Type 0} (standing : Standing S) (awaited : S → Option Ask) where
   along_empty moment first gate out new_out along empty = record {
     more = along.more;
     grown = along.grown;
-    works = λ moves given stands.
-      let far = along.works moves given stands in
-      let P : List Event → Type 0 = λ q. WorksOff standing awaited moment far.0 q far.0 q in
-      (far.0, far.2 far.0 gate.queue.items (subst P (sym empty) (emptied far.0)), far.1);
+    works = λ made moves given stands.
+        let far = along.works made moves given stands in
+        let P : List Event → Type 0 = λ q. WorksOff standing awaited made moment far.0 q far.0 q in
+        (far.0, far.2 far.0 gate.queue.items (subst P (sym empty) (emptied far.0)), far.1);
     waits = λ _. empty;
     news = along.news;
   }

@@ -1,1 +1,2 @@
+pub mod GateDue
 pub mod GateLaws

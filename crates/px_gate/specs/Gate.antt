@@ -4,62 +4,59 @@ use Rattle.px_event.specs.declared.ask.Ask.{Ask}
 use Rattle.px_event.specs.declared.event.Event.{Event}
 use Rattle.px_event.specs.declared.reply.Reply.{Reply}
 use Rattle.px_event.specs.declared.command.Command.{Command}
-use Rattle.px_event.specs.Layer.{Move, Took, Replied, AsksOnly, MayAnswer, IsNews, weight}
+use Rattle.px_event.specs.Layer.{Move, Took, Replied, Standing, AsksOnly, MayAnswer, IsNews, weight}
 use Rattle.px_gate.specs.declared.gate.Gate.{Gate}
 
--- what a layer's state stands for
-abbrev pub Standing : Type 0 → Type 1
-Standing S = S → List Move → List Command → Type 0
-
--- After these moves the layer awaits nothing: some state that stands for them does not.
-abbrev pub IsFree : {S : Type 0} → Standing S → (S → Option Ask) → List Move → Type 0
-IsFree {S} standing awaited moves = (state : S) × (given : List Command) × standing state moves given × (awaited state ≡ None)
+-- After these moves the layer, made so, awaits nothing: some state that stands for them does not.
+abbrev pub IsFree : {S : Type 0} → Standing S → (S → Option Ask) → S → List Move → Type 0
+IsFree {S} standing awaited made moves = (state : S) × (given : List Command) × standing made state moves given × (awaited state ≡ None)
 
 -- After these moves it awaits something.
-abbrev pub IsOpen : {S : Type 0} → Standing S → (S → Option Ask) → List Move → Type 0
-IsOpen {S} standing awaited moves =
-    (state : S) × (given : List Command) × (ask : Ask) × standing state moves given × (awaited state ≡ Some ask)
+abbrev pub IsOpen : {S : Type 0} → Standing S → (S → Option Ask) → S → List Move → Type 0
+IsOpen {S} standing awaited made moves =
+    (state : S) × (given : List Command) × (ask : Ask) × standing made state moves given × (awaited state ≡ Some ask)
 
 -- After these moves it awaits what this reply may answer.
-abbrev pub IsAnsweredBy : {S : Type 0} → Standing S → (S → Option Ask) → List Move → Reply → Type 0
-IsAnsweredBy {S} standing awaited moves reply =
-    (state : S) × (given : List Command) × standing state moves given × MayAnswer (awaited state) reply
+abbrev pub IsAnsweredBy : {S : Type 0} → Standing S → (S → Option Ask) → S → List Move → Reply → Type 0
+IsAnsweredBy {S} standing awaited made moves reply =
+    (state : S) × (given : List Command) × standing made state moves given × MayAnswer (awaited state) reply
 
 -- Working off the queue at one moment: its events are taken in their order, as long as the layer awaits nothing. The moves
 -- before, the queue, the moves after, and the events that still wait.
-pub data WorksOff {S : Type 0} (standing : Standing S) (awaited : S → Option Ask) (moment : ℕ) :
+pub data WorksOff {S : Type 0} (standing : Standing S) (awaited : S → Option Ask) (made : S) (moment : ℕ) :
     List Move → List Event → List Move → List Event → Type 0 where
-  emptied : (moves : List Move) → WorksOff standing awaited moment moves [] moves []
-  stopped : (moves : List Move) (queue : List Event) → IsOpen standing awaited moves → WorksOff standing awaited moment moves queue moves queue
+  emptied : (moves : List Move) → WorksOff standing awaited made moment moves [] moves []
+  stopped : (moves : List Move) (queue : List Event) → IsOpen standing awaited made moves → WorksOff standing awaited made moment moves queue moves queue
   one : (moves : List Move) (event : Event) (queue : List Event) (after : List Move) (waiting : List Event) →
-      IsFree standing awaited moves → WorksOff standing awaited moment (moves ++ Took moment event ∷ []) queue after waiting →
-      WorksOff standing awaited moment moves (event ∷ queue) after waiting
+      IsFree standing awaited made moves → WorksOff standing awaited made moment (moves ++ Took moment event ∷ []) queue after waiting →
+      WorksOff standing awaited made moment moves (event ∷ queue) after waiting
 
 -- The calls of a gate, the moves of its layer, and the events that wait. An event is taken at once where the layer awaits
 -- nothing and no event waits, and else waits; a reply is given to the layer, and then the queue is worked off at the
 -- reply's moment.
-pub data Serves {S : Type 0} (standing : Standing S) (awaited : S → Option Ask) : List Move → List Move → List Event → Type 0 where
-  none : Serves standing awaited [] [] []
-  at_once : (calls moves : List Move) (moment : ℕ) (event : Event) → Serves standing awaited calls moves [] → IsFree standing awaited moves →
-      Serves standing awaited (calls ++ Took moment event ∷ []) (moves ++ Took moment event ∷ []) []
-  queued : (calls moves : List Move) (queue : List Event) (moment : ℕ) (event : Event) → Serves standing awaited calls moves queue →
-      IsOpen standing awaited moves → Serves standing awaited (calls ++ Took moment event ∷ []) moves (queue ++ event ∷ [])
+pub data Serves {S : Type 0} (standing : Standing S) (awaited : S → Option Ask) (made : S) : List Move → List Move → List Event → Type 0 where
+  none : Serves standing awaited made [] [] []
+  at_once : (calls moves : List Move) (moment : ℕ) (event : Event) → Serves standing awaited made calls moves [] → IsFree standing awaited made moves →
+      Serves standing awaited made (calls ++ Took moment event ∷ []) (moves ++ Took moment event ∷ []) []
+  queued : (calls moves : List Move) (queue : List Event) (moment : ℕ) (event : Event) → Serves standing awaited made calls moves queue →
+      IsOpen standing awaited made moves → Serves standing awaited made (calls ++ Took moment event ∷ []) moves (queue ++ event ∷ [])
   freed : (calls moves : List Move) (queue : List Event) (moment : ℕ) (reply : Reply) (after : List Move) (waiting : List Event) →
-      Serves standing awaited calls moves queue → IsAnsweredBy standing awaited moves reply →
-      WorksOff standing awaited moment (moves ++ Replied moment reply ∷ []) queue after waiting →
-      Serves standing awaited (calls ++ Replied moment reply ∷ []) after waiting
+      Serves standing awaited made calls moves queue → IsAnsweredBy standing awaited made moves reply →
+      WorksOff standing awaited made moment (moves ++ Replied moment reply ∷ []) queue after waiting →
+      Serves standing awaited made (calls ++ Replied moment reply ∷ []) after waiting
 
 -- each is an event that a layer may take
 abbrev pub AllNews : List Event → Type 0
 AllNews [] = Unit {0}
 AllNews (event ∷ events) = IsNews event × AllNews events
 
--- What a gate stands for: its layer stands for the moves that its calls made, and gave what the gate gave. Events wait
+-- What a gate stands for: its layer, made as the first gate's layer, stands for the moves that its calls made, and gave
+-- what the gate gave. Events wait
 -- only while the layer awaits something.
-pub record GateStands {S : Type 0} (standing : Standing S) (awaited : S → Option Ask) (gate : Gate S) (calls : List Move) (given : List Command) : Type 0 where
+pub record GateStands {S : Type 0} (standing : Standing S) (awaited : S → Option Ask) (made gate : Gate S) (calls : List Move) (given : List Command) : Type 0 where
   pub moves : List Move
-  pub serves : Serves standing awaited calls moves gate.queue.items
-  pub stands : standing gate.layer moves given
+  pub serves : Serves standing awaited made.layer calls moves gate.queue.items
+  pub stands : standing made.layer gate.layer moves given
   pub waits : awaited gate.layer ≡ None → gate.queue.items ≡ []
   pub news : AllNews gate.queue.items
 
@@ -72,8 +69,8 @@ gate_left left rate gate = left gate.layer + rate gate.layer * sum_by weight gat
 pub record WorkedOff {S : Type 0} (standing : Standing S) (awaited : S → Option Ask) (moment : ℕ) (before after : Gate S) (out new_out : List Command) : Type 0 where
   pub more : List Command
   pub grown : new_out ≡ out ++ more
-  pub works : (moves : List Move) (given : List Command) → standing before.layer moves given →
-      (there : List Move) × WorksOff standing awaited moment moves before.queue.items there after.queue.items × standing after.layer there (given ++ more)
+  pub works : (made : S) (moves : List Move) (given : List Command) → standing made before.layer moves given →
+      (there : List Move) × WorksOff standing awaited made moment moves before.queue.items there after.queue.items × standing made after.layer there (given ++ more)
   pub waits : awaited after.layer ≡ None → after.queue.items ≡ []
   pub news : AllNews after.queue.items
 

@@ -25,9 +25,11 @@ pub struct Gate<L> {
 }
 
 impl<L: Layer> Gate<L> {
-    /// A gate before this layer; no event waits. Where the layer stands for no moves, the gate stands for no calls.
+    /// A gate before this layer; no event waits. Where the layer stands for itself by no moves, the gate stands for itself
+    /// by no calls.
     pub fn new(alloc: Global, layer: L) -> Gate<L>
-        ensures stands { L.stands layer [] [] → GateStands L.stands L.awaited result [] [] }
+        ensures stands { L.stands layer layer [] [] → GateStands L.stands L.awaited result result [] [] }
+        ensures sound { L.stands layer layer [] [] → IsSound (GateStands L.stands L.awaited) result }
         ensures layer { result.layer ≡ layer }
         ensures queue { result.queue.items ≡ [] }
     {
@@ -39,7 +41,12 @@ impl<L: Layer> Gate<L> {
 
     /// Takes an event that is no answer, at this moment in microseconds since 1970, and appends the commands that follow.
     /// While something is awaited the event waits, and nothing is given. After `NoMemory` the gate may only be dropped.
-    pub fn take(&mut self, moment: u64, event: Event, out: &mut Vec<Command>) -> Result<(), NoMemory>
+    pub fn take(
+        &mut self,
+        moment: u64,
+        event: Event,
+        out: &mut Vec<Command>,
+    ) -> Result<(), NoMemory>
         requires sound { IsSound (GateStands L.stands L.awaited) self.old }
         requires news { IsNews event }
         ensures goes { OnOk result (Goes (GateStands L.stands L.awaited) self.old self.new (Took moment event) out.old.items out.new.items) }
@@ -59,7 +66,12 @@ impl<L: Layer> Gate<L> {
 
     /// Gives the reply to what is awaited, and then takes the queued events at the same moment, until an ask is open
     /// again. After `NoMemory` the gate may only be dropped.
-    pub fn resume(&mut self, moment: u64, reply: Reply, out: &mut Vec<Command>) -> Result<(), NoMemory>
+    pub fn resume(
+        &mut self,
+        moment: u64,
+        reply: Reply,
+        out: &mut Vec<Command>,
+    ) -> Result<(), NoMemory>
         requires sound { IsSound (GateStands L.stands L.awaited) self.old }
         requires answers { MayAnswer (L.awaited self.old.layer) reply }
         ensures goes { OnOk result (Goes (GateStands L.stands L.awaited) self.old self.new (Replied moment reply) out.old.items out.new.items) }
@@ -93,7 +105,13 @@ impl<L: Layer> Gate<L> {
 
     /// Answers the ask, as `resume` does, where it is the one that is awaited. `NotAwaited` exactly where another ask, or
     /// none, is awaited; then nothing has changed. After `NoMemory` the gate may only be dropped.
-    pub fn answer(&mut self, moment: u64, ask: Ask, reply: Reply, out: &mut Vec<Command>) -> Result<(), GateError>
+    pub fn answer(
+        &mut self,
+        moment: u64,
+        ask: Ask,
+        reply: Reply,
+        out: &mut Vec<Command>,
+    ) -> Result<(), GateError>
         requires sound { IsSound (GateStands L.stands L.awaited) self.old }
         requires answers { MayAnswer (Some ask) reply }
         ensures goes { OnOk result (Goes (GateStands L.stands L.awaited) self.old self.new (Replied moment reply) out.old.items out.new.items) }

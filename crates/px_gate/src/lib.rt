@@ -3,6 +3,8 @@
 
 mod error;
 mod gate;
+mod law;
 
 pub use error::GateError;
 pub use gate::Gate;
+pub use law::gates_add_nothing;

@@ -1,5 +1,5 @@
 -- One move of the server that echoes lines, where it is: an event taken, and a reply given.
-use Rattle.std.proofs.Common.{◌≡◌, ℕ, ◌+◌, ◌-◌, ◌<◌, ◌≤◌, Bool, true, false, List, [], ◌∷◌, ◌++◌, length, take, drop, Option, Some, None, refl, ap, sym, ◌∙◌, subst, arith, append_assoc, length-append, length-drop}
+use Rattle.std.proofs.Common.{◌≡◌, ℕ, ◌+◌, ◌<◌, ◌≤◌, Bool, true, false, List, [], ◌∷◌, ◌++◌, length, take, drop, Option, Some, None, refl, ap, sym, ◌∙◌, subst, arith, length-append, length-drop}
 use Rattle.std.proofs.lemmas.List.{append-nil, drop-drop}
 use Rattle.px_message.specs.declared.flow.Flow.{Flow}
 use Rattle.px_event.specs.declared.event.Event.{Event}
@@ -8,16 +8,15 @@ use Rattle.px_event.specs.declared.reply.Reply.{Reply}
 use Rattle.px_event.specs.declared.command.Command.{Command}
 use Rattle.px_event.specs.declared.command.Command.TheVariants as commands
 use Rattle.px_event.specs.declared.side.Side.TheVariants.{Client, Server}
-use Rattle.px_event.specs.Chain.{Timed, Look, NotYet, Asks, Ends, Turn, Chain, found}
+use Rattle.px_event.specs.Chain.{Timed, Turn, found}
 use Rattle.px_event.specs.Laws.{owed_here, owed_over}
-use Rattle.px_event.specs.View.{View, seen_of}
+use Rattle.px_event.specs.View.{seen_of}
 use Rattle.px_event.proofs.Steps.{Takes, onward, past_end, Resumes}
 use Rattle.px_toy.specs.declared.echo.LineEcho.{LineEcho}
-use Rattle.px_toy.specs.declared.echo.Phase.{Phase}
 use Rattle.px_toy.specs.declared.echo.Phase.TheVariants as phases
-use Rattle.px_toy.specs.Echo.{piece_in, client_bytes, closes_client, is_closed, first_line, Stage, Reading, Over, unread, pass_by, pass, ask_about, look_by, look, is_kill, echoed, turn_by, turn_line, turn, echo_chain}
-use Rattle.px_toy.specs.Stands.{phase_at, asks_at, awaited_in, IsReading, IsOver, IsAt}
-use Rattle.px_toy.proofs.EchoLaws.{line_within, client_append, still_open, now_closed, unread_append}
+use Rattle.px_toy.specs.Echo.{piece_in, client_bytes, closes_client, is_closed, first_line, Stage, Reading, Over, unread, pass_by, pass, ask_about, look_by, is_kill, echoed, turn_by, turn, echo_chain}
+use Rattle.px_toy.specs.Stands.{phase_at, asks_at, awaited_in, IsReading, IsAt}
+use Rattle.px_toy.specs.Laws.{line_within, client_append, still_open, now_closed, unread_append}
 
 -- what a phase says of the first line
 no_line : (flow : Flow) (line : Option ℕ) → awaited_in flow (phase_at line) ≡ None → line ≡ None
@@ -45,47 +44,48 @@ no_piece (events.Piece (Server n) bytes) is = refl
 no_piece (events.Closed side) is = refl
 no_piece (events.Answered ask reply) is = refl
 
-module _ (before after : LineEcho) (moment : ℕ) (event : Event) (more : List Command) where
+module _ (flow : Flow) (before after : LineEcho) (moment : ℕ) (event : Event) (more : List Command) where
   -- where it is over nothing follows
-  pub over_takes : after ≡ before → more ≡ [] → before.phase ≡ phases.Over → (stage : Stage) (front : List (Timed Event)) → IsAt before stage front →
-      Takes (echo_chain before.flow) IsAt after moment event more stage front
+  pub over_takes : after ≡ before → more ≡ [] → before.phase ≡ phases.Over → (stage : Stage) (front : List (Timed Event)) → IsAt flow before stage front →
+      Takes (echo_chain flow) (IsAt flow) after moment event more stage front
   over_takes same none over (Reading used) front at = absurd (not_over (first_line (unread used front)) (sym at.phase ∙ over))
   over_takes same none over Over front at =
-      let P : LineEcho → Type 0 = λ s. IsAt s Over front in
+      let P : LineEcho → Type 0 = λ s. IsAt flow s Over front in
       past_end [] refl (subst P (sym same) at) (λ view. ap (seen_of view) none)
 
   -- an event that is no close
-  pub piece_takes : (before.phase ≡ phases.Over → ⊥) → awaited_in before.flow before.phase ≡ None → closes_client event ≡ false →
+  pub piece_takes : after.flow ≡ before.flow → (before.phase ≡ phases.Over → ⊥) → awaited_in before.flow before.phase ≡ None → closes_client event ≡ false →
       after.unread.items ≡ before.unread.items ++ piece_in event → after.phase ≡ phase_at (first_line (before.unread.items ++ piece_in event)) →
       more ≡ asks_at before.flow (first_line (before.unread.items ++ piece_in event)) →
-      (stage : Stage) (front : List (Timed Event)) → IsAt before stage front → Takes (echo_chain before.flow) IsAt after moment event more stage front
-  piece_takes live free no_close keeps phase gives Over front at = absurd (live at.phase)
-  piece_takes live free no_close keeps phase gives (Reading used) front at =
-      let chain = echo_chain before.flow in
+      (stage : Stage) (front : List (Timed Event)) → IsAt flow before stage front → Takes (echo_chain flow) (IsAt flow) after moment event more stage front
+  piece_takes same live free no_close keeps phase gives Over front at = absurd (live at.phase)
+  piece_takes same live free no_close keeps phase gives (Reading used) front at =
+      let chain = echo_chain flow in
       let e : Timed Event = record { moment = moment; value = event } in
       let longer : List (Timed Event) = front ++ e ∷ [] in
       let line : Option ℕ = first_line (unread used longer) in
       let no : first_line (unread used front) ≡ None = no_line before.flow _ (ap (λ p. awaited_in before.flow p) (sym at.phase) ∙ free) in
       let open_now : is_closed longer ≡ false = still_open front e at.open_still no_close in
       let bytes : before.unread.items ++ piece_in event ≡ unread used longer = ap (λ l. l ++ piece_in event) at.keeps ∙ sym (unread_append used front e at.within) in
-      let place : IsReading after used longer = record {
+      let place : IsReading flow after used longer = record {
+        same_flow = same ∙ at.same_flow;
         keeps = keeps ∙ bytes;
         phase = phase ∙ ap (λ l. phase_at (first_line l)) bytes;
         open_still = open_now;
         within = let w = at.within in let l = length-append (client_bytes front) (piece_in event) in rw (client_append front e) (omega arith);
       } in
-      let P : Bool → Type 0 = λ b. IsAt after (pass_by b line used).stage longer in
+      let P : Bool → Type 0 = λ b. IsAt flow after (pass_by b line used).stage longer in
       let Q : Bool → Type 0 = λ b. more ≡ (pass_by b line used).owed ++ owed_here chain (pass_by b line used).stage longer in
-      let owes : more ≡ found (look_by before.flow line) = gives ∙ (ap (λ l. asks_at before.flow (first_line l)) bytes ∙ asks_found before.flow line) in
+      let owes : more ≡ found (look_by flow line) = gives ∙ (ap (λ f. asks_at f (first_line (before.unread.items ++ piece_in event))) at.same_flow ∙ (ap (λ l. asks_at flow (first_line l)) bytes ∙ asks_found flow line)) in
       onward (rw no refl) (subst P (sym open_now) place) (λ view. ap (seen_of view) (subst Q (sym open_now) owes))
 
   -- the client's close
-  pub close_takes : (before.phase ≡ phases.Over → ⊥) → awaited_in before.flow before.phase ≡ None → closes_client event ≡ true →
+  pub close_takes : after.flow ≡ before.flow → (before.phase ≡ phases.Over → ⊥) → awaited_in before.flow before.phase ≡ None → closes_client event ≡ true →
       after.unread.items ≡ [] → after.phase ≡ phases.Over → more ≡ commands.Close Client ∷ [] →
-      (stage : Stage) (front : List (Timed Event)) → IsAt before stage front → Takes (echo_chain before.flow) IsAt after moment event more stage front
-  close_takes live free close keeps phase gives Over front at = absurd (live at.phase)
-  close_takes live free close keeps phase gives (Reading used) front at =
-      let chain = echo_chain before.flow in
+      (stage : Stage) (front : List (Timed Event)) → IsAt flow before stage front → Takes (echo_chain flow) (IsAt flow) after moment event more stage front
+  close_takes same live free close keeps phase gives Over front at = absurd (live at.phase)
+  close_takes same live free close keeps phase gives (Reading used) front at =
+      let chain = echo_chain flow in
       let e : Timed Event = record { moment = moment; value = event } in
       let longer : List (Timed Event) = front ++ e ∷ [] in
       let no : first_line (unread used front) ≡ None = no_line before.flow _ (ap (λ p. awaited_in before.flow p) (sym at.phase) ∙ free) in
@@ -93,72 +93,73 @@ module _ (before after : LineEcho) (moment : ℕ) (event : Event) (more : List C
       let none : first_line (unread used longer) ≡ None = ap first_line bytes ∙ no in
       let closed : is_closed longer ≡ true = now_closed front e close in
       let passes : pass (Reading used) longer ≡ record { owed = commands.Close Client ∷ []; stage = Over } = rw (closed, none) refl in
-      let P : Turn Stage Command → Type 0 = λ t. IsAt after t.stage longer in
+      let P : Turn Stage Command → Type 0 = λ t. IsAt flow after t.stage longer in
       let Q : Turn Stage Command → Type 0 = λ t. more ≡ t.owed ++ owed_here chain t.stage longer in
-      onward (rw no refl) (subst P (sym passes) (record { keeps = keeps; phase = phase })) (λ view. ap (seen_of view) (subst Q (sym passes) gives))
+      onward (rw no refl) (subst P (sym passes) (record { same_flow = same ∙ at.same_flow; keeps = keeps; phase = phase })) (λ view. ap (seen_of view) (subst Q (sym passes) gives))
 
-asked_at : (before : LineEcho) (size : ℕ) (stage : Stage) (front : List (Timed Event)) → before.phase ≡ phases.Asked size → IsAt before stage front →
-    (used : ℕ) × IsReading before used front × (first_line (unread used front) ≡ Some size)
-asked_at before size (Reading used) front asked at = (used, at, a_line _ size (sym at.phase ∙ asked))
-asked_at before size Over front asked at = absurd (let no : phases.Over ≡ phases.Asked size = sym at.phase ∙ asked in cc)
+asked_at : (flow : Flow) (before : LineEcho) (size : ℕ) (stage : Stage) (front : List (Timed Event)) → before.phase ≡ phases.Asked size → IsAt flow before stage front →
+    (used : ℕ) × IsReading flow before used front × (first_line (unread used front) ≡ Some size)
+asked_at flow before size (Reading used) front asked at = (used, at, a_line _ size (sym at.phase ∙ asked))
+asked_at flow before size Over front asked at = absurd (let no : phases.Over ≡ phases.Asked size = sym at.phase ∙ asked in cc)
 
 -- the line that is asked about is within what it keeps
-pub asked_within : (before : LineEcho) (size : ℕ) (stage : Stage) (front : List (Timed Event)) → before.phase ≡ phases.Asked size → IsAt before stage front →
+pub asked_within : (flow : Flow) (before : LineEcho) (size : ℕ) (stage : Stage) (front : List (Timed Event)) → before.phase ≡ phases.Asked size → IsAt flow before stage front →
     (0 < size) × (size ≤ length before.unread.items)
-asked_within before size stage front asked at =
-    let there = asked_at before size stage front asked at in
+asked_within flow before size stage front asked at =
+    let there = asked_at flow before size stage front asked at in
     rw (there.1.keeps) (line_within (unread there.0 front) size there.2)
 
-module _ (before after : LineEcho) (moment : ℕ) (reply : Reply) (size : ℕ) (more : List Command) where
+module _ (flow : Flow) (before after : LineEcho) (moment : ℕ) (reply : Reply) (size : ℕ) (more : List Command) where
   turned : (used : ℕ) (front : List (Timed Event)) (kill : Bool) → first_line (unread used front) ≡ Some size → is_kill reply ≡ kill →
       turn (Reading used) front (record { moment = moment; value = reply }) ≡ turn_by kill reply size (unread used front) used
   turned used front kill line is = rw (line, is) refl
 
   -- a reply that ends it
-  pub kill_resumes : before.phase ≡ phases.Asked size → is_kill reply ≡ true → after.unread.items ≡ [] → after.phase ≡ phases.Over → more ≡ commands.Close Client ∷ [] →
-      (stage : Stage) (front : List (Timed Event)) → IsAt before stage front → Resumes (echo_chain before.flow) IsAt after moment reply more stage front
-  kill_resumes asked kill keeps phase gives Over front at = absurd (let no : phases.Over ≡ phases.Asked size = sym at.phase ∙ asked in cc)
-  kill_resumes asked kill keeps phase gives (Reading used) front at =
-      let chain = echo_chain before.flow in
+  pub kill_resumes : after.flow ≡ before.flow → before.phase ≡ phases.Asked size → is_kill reply ≡ true → after.unread.items ≡ [] → after.phase ≡ phases.Over → more ≡ commands.Close Client ∷ [] →
+      (stage : Stage) (front : List (Timed Event)) → IsAt flow before stage front → Resumes (echo_chain flow) (IsAt flow) after moment reply more stage front
+  kill_resumes same asked kill keeps phase gives Over front at = absurd (let no : phases.Over ≡ phases.Asked size = sym at.phase ∙ asked in cc)
+  kill_resumes same asked kill keeps phase gives (Reading used) front at =
+      let chain = echo_chain flow in
       let line : first_line (unread used front) ≡ Some size = a_line _ size (sym at.phase ∙ asked) in
       let turns = turned used front true line kill in
-      let P : Turn Stage Command → Type 0 = λ t. IsAt after (pass t.stage front).stage front in
+      let P : Turn Stage Command → Type 0 = λ t. IsAt flow after (pass t.stage front).stage front in
       let Q : Turn Stage Command → Type 0 = λ t. more ≡ t.owed ++ owed_over chain t.stage front in
       record {
-        ask = commands.Ask (ask_about before.flow) before.flow;
+        ask = commands.Ask (ask_about flow) flow;
         asked = rw line refl;
-        place = subst P (sym turns) (record { keeps = keeps; phase = phase });
+        place = subst P (sym turns) (record { same_flow = same ∙ at.same_flow; keeps = keeps; phase = phase });
         gives = λ view. ap (seen_of view) (subst Q (sym turns) gives);
       }
 
   -- and one that does not
-  pub line_resumes : before.phase ≡ phases.Asked size → is_kill reply ≡ false → after.unread.items ≡ drop size before.unread.items →
+  pub line_resumes : after.flow ≡ before.flow → before.phase ≡ phases.Asked size → is_kill reply ≡ false → after.unread.items ≡ drop size before.unread.items →
       after.phase ≡ phase_at (first_line (drop size before.unread.items)) →
       more ≡ echoed reply (take size before.unread.items) ++ asks_at before.flow (first_line (drop size before.unread.items)) →
-      (stage : Stage) (front : List (Timed Event)) → IsAt before stage front → Resumes (echo_chain before.flow) IsAt after moment reply more stage front
-  line_resumes asked kill keeps phase gives Over front at = absurd (let no : phases.Over ≡ phases.Asked size = sym at.phase ∙ asked in cc)
-  line_resumes asked kill keeps phase gives (Reading used) front at =
-      let chain = echo_chain before.flow in
+      (stage : Stage) (front : List (Timed Event)) → IsAt flow before stage front → Resumes (echo_chain flow) (IsAt flow) after moment reply more stage front
+  line_resumes same asked kill keeps phase gives Over front at = absurd (let no : phases.Over ≡ phases.Asked size = sym at.phase ∙ asked in cc)
+  line_resumes same asked kill keeps phase gives (Reading used) front at =
+      let chain = echo_chain flow in
       let line : first_line (unread used front) ≡ Some size = a_line _ size (sym at.phase ∙ asked) in
       let turns = turned used front false line kill in
       let rest : drop size before.unread.items ≡ unread (used + size) front = ap (λ l. drop size l) at.keeps ∙ drop-drop size used (client_bytes front) in
       let short = line_within (unread used front) size line in
       let next : Option ℕ = first_line (unread (used + size) front) in
-      let place : IsReading after (used + size) front = record {
+      let place : IsReading flow after (used + size) front = record {
+        same_flow = same ∙ at.same_flow;
         keeps = keeps ∙ rest;
         phase = phase ∙ ap (λ l. phase_at (first_line l)) rest;
         open_still = at.open_still;
         within = let l = length-drop used (client_bytes front) in let w = at.within in let s = short.1 in omega arith;
       } in
-      let owes : more ≡ echoed reply (take size (unread used front)) ++ found (look_by before.flow next) =
-          gives ∙ (ap (λ l. echoed reply (take size l) ++ asks_at before.flow (first_line (drop size before.unread.items))) at.keeps
-            ∙ ap (λ l. echoed reply (take size (unread used front)) ++ l) (ap (λ l. asks_at before.flow (first_line l)) rest ∙ asks_found before.flow next)) in
-      let P : Turn Stage Command → Type 0 = λ t. IsAt after (pass t.stage front).stage front in
+      let owes : more ≡ echoed reply (take size (unread used front)) ++ found (look_by flow next) =
+      gives ∙ (ap (λ l. echoed reply (take size l) ++ asks_at before.flow (first_line (drop size before.unread.items))) at.keeps
+      ∙ ap (λ l. echoed reply (take size (unread used front)) ++ l) (ap (λ f. asks_at f (first_line (drop size before.unread.items))) at.same_flow ∙ (ap (λ l. asks_at flow (first_line l)) rest ∙ asks_found flow next))) in
+      let P : Turn Stage Command → Type 0 = λ t. IsAt flow after (pass t.stage front).stage front in
       let Q : Turn Stage Command → Type 0 = λ t. more ≡ t.owed ++ owed_over chain t.stage front in
-      let R : Bool → Type 0 = λ b. IsAt after (pass_by b next (used + size)).stage front in
+      let R : Bool → Type 0 = λ b. IsAt flow after (pass_by b next (used + size)).stage front in
       let T : Bool → Type 0 = λ b. more ≡ echoed reply (take size (unread used front)) ++ ((pass_by b next (used + size)).owed ++ owed_here chain (pass_by b next (used + size)).stage front) in
       record {
-        ask = commands.Ask (ask_about before.flow) before.flow;
+        ask = commands.Ask (ask_about flow) flow;
         asked = rw line refl;
         place = subst P (sym turns) (subst R (sym at.open_still) place);
         gives = λ view. ap (seen_of view) (subst Q (sym turns) (subst T (sym at.open_still) owes));

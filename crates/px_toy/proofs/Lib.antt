@@ -1,3 +1,2 @@
 pub mod EchoGoes
-pub mod EchoLaws
 pub mod EchoSteps

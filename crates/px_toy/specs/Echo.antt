@@ -1,5 +1,5 @@
 -- What is due of a server that echoes lines and asks before each.
-use Rattle.std.specs.Prelude.{◌≡◌, ℕ, ◌+◌, ◌==◌, Bool, true, false, if◌then◌else◌, List, [], ◌∷◌, ◌++◌, Option, Some, None, take, drop}
+use Rattle.std.specs.Prelude.{ℕ, ◌+◌, ◌==◌, Bool, true, false, if◌then◌else◌, List, [], ◌∷◌, Option, Some, None, take, drop}
 use Rattle.std.specs.List.{flat_map, position}
 use Rattle.std.specs.Option.{option_map}
 use Rattle.px_message.specs.declared.flow.Flow.{Flow}

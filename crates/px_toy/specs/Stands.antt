@@ -36,20 +36,22 @@ is_over phases.Over = Bool.true
 is_over _ = false
 
 -- It keeps the bytes that are not used, and is asked or reads as the first line of them says; no close was worked off.
-pub record IsReading (state : LineEcho) (used : ℕ) (front : List (Timed Event)) : Type 0 where
+pub record IsReading (flow : Flow) (state : LineEcho) (used : ℕ) (front : List (Timed Event)) : Type 0 where
+  pub same_flow : state.flow ≡ flow
   pub keeps : state.unread.items ≡ unread used front
   pub phase : state.phase ≡ phase_at (first_line (unread used front))
   pub open_still : is_closed front ≡ false
   pub within : used ≤ length (client_bytes front)
 
-pub record IsOver (state : LineEcho) : Type 0 where
+pub record IsOver (flow : Flow) (state : LineEcho) : Type 0 where
+  pub same_flow : state.flow ≡ flow
   pub keeps : state.unread.items ≡ []
   pub phase : state.phase ≡ phases.Over
 
-abbrev pub IsAt : LineEcho → Stage → List (Timed Event) → Type 0
-IsAt state (Reading used) front = IsReading state used front
-IsAt state Over front = IsOver state
+abbrev pub IsAt : Flow → LineEcho → Stage → List (Timed Event) → Type 0
+IsAt flow state (Reading used) front = IsReading flow state used front
+IsAt flow state Over front = IsOver flow state
 
--- what a state stands for
-abbrev pub EchoStands : LineEcho → List Move → List Command → Type 0
-EchoStands state moves given = StandsAt (echo_chain state.flow) (Reading 0) IsAt state moves given
+-- what a state stands for: its chain is that of the flow with which it was made
+abbrev pub EchoStands : LineEcho → LineEcho → List Move → List Command → Type 0
+EchoStands made state moves given = StandsAt (echo_chain made.flow) (Reading 0) (IsAt made.flow) state moves given

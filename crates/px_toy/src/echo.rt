@@ -35,9 +35,9 @@ pub struct LineEcho {
 }
 
 impl LineEcho {
-    /// A server that asks about this flow. It stands for no moves, and has given nothing.
+    /// A server that asks about this flow. It stands for itself by no moves, and has given nothing.
     pub fn new(alloc: Global, flow: Flow) -> LineEcho
-        ensures stands { EchoStands result [] [] }
+        ensures stands { EchoStands result result [] [] }
         ensures flow { result.flow ≡ flow }
     {
         LineEcho {
@@ -175,7 +175,10 @@ fn client_piece(event: &Event) -> &[u8]
     ensures { result.now ≡ piece_in event.now }
 {
     match event {
-        Event::Piece { side: Side::Client, bytes } => bytes.as_slice(),
+        Event::Piece {
+            side: Side::Client,
+            bytes,
+        } => bytes.as_slice(),
         _ => &[],
     }
 }
@@ -224,7 +227,12 @@ impl Layer for LineEcho {
         self.hear(&event, out)
     }
 
-    fn resume(&mut self, _moment: u64, reply: Reply, out: &mut Vec<Command>) -> Result<(), NoMemory> {
+    fn resume(
+        &mut self,
+        _moment: u64,
+        reply: Reply,
+        out: &mut Vec<Command>,
+    ) -> Result<(), NoMemory> {
         self.answer(&reply, out)
     }
 

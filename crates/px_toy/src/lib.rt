@@ -9,10 +9,9 @@
 //! buffer in it. The code keeps the bytes that were not used yet, and `IsReading` and `IsOver` say how they relate.
 #![tactic(auto)]
 
+mod chained;
 mod echo;
-mod law;
 #[cfg(test)]
 mod tests;
 
 pub use echo::LineEcho;
-pub use law::due_only_grows;

@@ -6,7 +6,7 @@ ghost use Rattle.px_toy.specs.Stands.{EchoStands, awaits};
 
 use crate::LineEcho;
 use px_event::{Ask, Command, Event, Hook, Reply, Side};
-use px_gate::{Gate, GateError};
+use px_gate::{Gate, GateError, gates_add_nothing};
 use px_message::{Body, Fields, Flow, FlowId, Host, Name, Path, Replayed, Request, Times, Version};
 use px_text::{Bytes, NoMemory, push_decimal};
 use std::alloc::Global;
@@ -79,7 +79,12 @@ fn hand(gate: &mut Gate<LineEcho>, event: Event, out: &mut Vec<Command>) -> Resu
 }
 
 /// Answers, and tells whether it was awaited.
-fn reply(gate: &mut Gate<LineEcho>, ask: Ask, reply: Reply, out: &mut Vec<Command>) -> Result<bool, NoMemory>
+fn reply(
+    gate: &mut Gate<LineEcho>,
+    ask: Ask,
+    reply: Reply,
+    out: &mut Vec<Command>,
+) -> Result<bool, NoMemory>
     requires sound { IsSound (GateStands EchoStands awaits) gate.old }
     requires answers { MayAnswer (Some ask) reply }
     ensures { OnOk result (IsSound (GateStands EchoStands awaits) gate.new) }
@@ -92,7 +97,13 @@ fn reply(gate: &mut Gate<LineEcho>, ask: Ask, reply: Reply, out: &mut Vec<Comman
 }
 
 /// Makes one call, and tells whether an answer was awaited.
-fn make(alloc: Global, flow: &Flow, gate: &mut Gate<LineEcho>, call: Call, out: &mut Vec<Command>) -> Result<bool, NoMemory>
+fn make(
+    alloc: Global,
+    flow: &Flow,
+    gate: &mut Gate<LineEcho>,
+    call: Call,
+    out: &mut Vec<Command>,
+) -> Result<bool, NoMemory>
     requires { IsSound (GateStands EchoStands awaits) gate.old }
     ensures { OnOk result (IsSound (GateStands EchoStands awaits) gate.new) }
 {
@@ -146,7 +157,13 @@ fn write_command(command: &Command, text: &mut Vec<u8>) -> Result<(), NoMemory> 
 }
 
 /// Makes a call, and writes what it gave: an `x` for an answer that was not awaited, and the commands.
-fn play_call(alloc: Global, flow: &Flow, gate: &mut Gate<LineEcho>, call: Call, text: &mut Vec<u8>) -> Result<(), NoMemory>
+fn play_call(
+    alloc: Global,
+    flow: &Flow,
+    gate: &mut Gate<LineEcho>,
+    call: Call,
+    text: &mut Vec<u8>,
+) -> Result<(), NoMemory>
     requires { IsSound (GateStands EchoStands awaits) gate.old }
     ensures { OnOk result (IsSound (GateStands EchoStands awaits) gate.new) }
 {
@@ -166,7 +183,13 @@ fn write_commands(out: &[Command], text: &mut Vec<u8>) -> Result<(), NoMemory> {
 }
 
 /// Makes the calls, and writes what each gave, and then how many events wait.
-fn play_all(alloc: Global, flow: &Flow, gate: &mut Gate<LineEcho>, calls: &[Call], text: &mut Vec<u8>) -> Result<(), NoMemory>
+fn play_all(
+    alloc: Global,
+    flow: &Flow,
+    gate: &mut Gate<LineEcho>,
+    calls: &[Call],
+    text: &mut Vec<u8>,
+) -> Result<(), NoMemory>
     requires { IsSound (GateStands EchoStands awaits) gate.old }
 {
     for call in calls {
@@ -193,17 +216,61 @@ fn gives(alloc: Global, calls: &[Call], want: &str) -> bool {
     }
 }
 
+/// The law of gates holds of this layer.
+#[test]
+fn gates_add_nothing_to_the_echo(rt: HostRuntime) {
+    gates_add_nothing::<LineEcho>();
+    assert!(rt; gives(rt.alloc(), &[], "0"));
+}
+
 #[test]
 fn lines_wait_for_their_answers(rt: HostRuntime) {
     let rows: [(&[Call], &str); 9] = [
         (&[Call::Piece("a\nb\n"), Call::Go, Call::Go], "?a\n?b\n0"),
-        (&[Call::Piece("a"), Call::Piece("\nb"), Call::Go, Call::Piece("\n"), Call::Go], "?a\n?b\n0"),
+        (
+            &[
+                Call::Piece("a"),
+                Call::Piece("\nb"),
+                Call::Go,
+                Call::Piece("\n"),
+                Call::Go,
+            ],
+            "?a\n?b\n0",
+        ),
         (&[Call::Piece("a\n"), Call::Piece("b\n"), Call::Close], "?2"),
-        (&[Call::Piece("a\n"), Call::Piece("b\n"), Call::Close, Call::Go], "?a\n?1"),
-        (&[Call::Piece("a\n"), Call::Piece("b\n"), Call::Close, Call::Go, Call::Go], "?a\n?b\n!0"),
+        (
+            &[
+                Call::Piece("a\n"),
+                Call::Piece("b\n"),
+                Call::Close,
+                Call::Go,
+            ],
+            "?a\n?1",
+        ),
+        (
+            &[
+                Call::Piece("a\n"),
+                Call::Piece("b\n"),
+                Call::Close,
+                Call::Go,
+                Call::Go,
+            ],
+            "?a\n?b\n!0",
+        ),
         (&[Call::Piece("a\n"), Call::ServerPiece], "?1"),
-        (&[Call::Go, Call::Piece("a\n"), Call::DialAnswer, Call::Go], "x?xa\n0"),
-        (&[Call::Piece("a\nb\n"), Call::Kill, Call::Piece("c\n"), Call::Close], "?!0"),
+        (
+            &[Call::Go, Call::Piece("a\n"), Call::DialAnswer, Call::Go],
+            "x?xa\n0",
+        ),
+        (
+            &[
+                Call::Piece("a\nb\n"),
+                Call::Kill,
+                Call::Piece("c\n"),
+                Call::Close,
+            ],
+            "?!0",
+        ),
         (&[Call::Piece("a\nb\n"), Call::Discard, Call::Go], "??b\n0"),
     ];
     for (calls, want) in rows {

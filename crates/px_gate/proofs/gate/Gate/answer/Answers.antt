@@ -1,4 +1,4 @@
-use Rattle.std.proofs.Common.{rules, ◌≡◌, true, false, not, ap, Option, Some, sym, ◌∙◌}
+use Rattle.std.proofs.Common.{rules, ◌≡◌, true, false, not, ap, Option, Some, ◌∙◌}
 use Rattle.std.specs.Option.{option_eq}
 use Rattle.std.specs.Cmp.Rules.{comparing}
 use Rattle.px_event.specs.declared.ask.Ask.{Ask}
@@ -12,5 +12,5 @@ pub returns-then-ne-clause-awaited : goal.returns-then-ne-clause-awaited
 returns-then-ne-clause-awaited g c = λ is _.
     let asked : c.waiting.result ≡ Some c.args.ask = c.waiting.ensures ∙ is in
     let equal : option_eq eq-value.it c.waiting.result (Some c.args.ask) ≡ true =
-        ap (λ (o : Option Ask). option_eq eq-value.it o (Some c.args.ask)) asked ∙ same_ask c.args.ask in
+    ap (λ (o : Option Ask). option_eq eq-value.it o (Some c.args.ask)) asked ∙ same_ask c.args.ask in
     let wrong : true ≡ false = c.if-ne.ensures ∙ ap not equal in cc

@@ -1,8 +1,8 @@
-use Rattle.std.proofs.Common.{List, ◌≡◌, ◌≤◌, ◌∷◌, ℕ, ◌+◌, ◌*◌, sym, ◌∙◌, subst, refl, ap, arith, sum_by}
+use Rattle.std.proofs.Common.{List, sym, ◌∙◌, subst, refl, ap, arith, sum_by}
 use Rattle.px_event.specs.declared.event.Event.{Event}
 use Rattle.std.proofs.lemmas.List.Sums.{sum_by-cons}
 use Rattle.px_event.specs.Layer.{weight}
-use Rattle.px_gate.proofs.GateLaws.{AlongQueue, empty_of, free_of, open_of, along_start, along_step, along_open, along_empty, left_step, LoopKeeps}
+use Rattle.px_gate.proofs.GateLaws.{AlongQueue, empty_of, free_of, open_of, along_start, along_step, along_open, along_empty, left_step}
 use Rattle.px_gate.proofs.gate.Gate.work_off.Goals as goal
 
 pub loop-self-init : goal.loop-self-init
@@ -27,7 +27,7 @@ loop-self-preserved g c =
     let along = subst P popped before.along in
     record {
       along = along_step g.L.Layer.stands g.L.Layer.awaited c.args.moment c.args.self.now.layer c.args.self.now.queue.items c.loop-self.self.layer c.take.new.self c.in-Some.event c.pop_front.new.self.items
-        c.args.out.now.items c.loop-self.out.items c.take.new.out.items along free c.in_ok-take.ensures.goes c.in_ok-take.ensures.asks;
+          c.args.out.now.items c.loop-self.out.items c.take.new.out.items along free c.in_ok-take.ensures.goes c.in_ok-take.ensures.asks;
       sound = c.in_ok-take.ensures.sound;
       within = left_step _ _ _ _ (weight c.in-Some.event) (sum_by weight c.loop-self.self.queue.items) _ _ c.in_ok-take.ensures.left c.in_ok-take.ensures.rate (ap (sum_by weight) popped ∙ sum_by-cons weight c.in-Some.event c.pop_front.new.self.items) before.within;
       same_rate = c.in_ok-take.ensures.rate ∙ before.same_rate;

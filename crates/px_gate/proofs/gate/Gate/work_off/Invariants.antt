@@ -1,4 +1,4 @@
-use Rattle.std.proofs.Common.{ℕ, ◌≤◌, ◌≡◌, length}
+use Rattle.std.proofs.Common.{length}
 use Rattle.px_gate.proofs.GateLaws.{LoopKeeps}
 use Rattle.px_gate.proofs.gate.Gate.work_off.Given as goal
 

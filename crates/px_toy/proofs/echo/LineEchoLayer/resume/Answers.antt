@@ -1,6 +1,5 @@
-use Rattle.std.proofs.Common.{◌≡◌, ℕ, length, None, ap, subst}
 use Rattle.std.proofs.lemmas.Result.{on_ok_weaker}
-use Rattle.px_event.specs.Layer.{Replied, MayAnswer}
+use Rattle.px_event.specs.Layer.{Replied}
 use Rattle.px_event.proofs.Steps.{sound_after}
 use Rattle.px_toy.specs.Stands.{EchoStands}
 use Rattle.px_toy.proofs.echo.LineEchoLayer.resume.Goals as goal

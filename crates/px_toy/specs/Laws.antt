@@ -1,29 +1,29 @@
 -- The chain of the server that echoes lines: its laws, and what one move does to where it is.
-use Rattle.std.proofs.Common.{◌≡◌, ℕ, ◌+◌, ◌-◌, ◌<◌, ◌≤◌, ◌==◌, Bool, true, false, List, [], ◌∷◌, ◌++◌, length, take, drop, Option, Some, None, refl, ap, sym, ◌∙◌, subst, arith, append_assoc, length-append, length-drop, nat_lt, cond}
-use Rattle.std.specs.List.{flat_map, position, position_or_len}
+use Rattle.std.proofs.Common.{◌≡◌, ℕ, ◌+◌, ◌<◌, ◌≤◌, ◌==◌, Bool, true, false, List, [], ◌∷◌, ◌++◌, length, drop, Option, Some, None, refl, ap, sym, ◌∙◌, arith, nat_lt, cond}
+use Rattle.std.specs.List.{position, position_or_len}
 use Rattle.std.specs.Option.{option_map}
 use Rattle.std.proofs.lemmas.Bool.{ltb-true}
 use Rattle.std.proofs.lemmas.Grind.{flat_map-append}
-use Rattle.std.proofs.lemmas.List.{append-nil, drop-append-le, drop-drop}
-use Rattle.px_text.specs.Prefix.{IsPrefixOf}
+use Rattle.std.proofs.lemmas.List.{append-nil, drop-append-le}
 use Rattle.px_message.specs.declared.flow.Flow.{Flow}
+use Rattle.px_event.specs.declared.ask.Ask.{Ask}
 use Rattle.px_event.specs.declared.event.Event.{Event}
-use Rattle.px_event.specs.declared.reply.Reply.{Reply}
 use Rattle.px_event.specs.declared.command.Command.{Command}
-use Rattle.px_event.specs.declared.command.Command.TheVariants as commands
-use Rattle.px_event.specs.declared.side.Side.TheVariants.{Client}
-use Rattle.px_event.specs.Chain.{Timed, Look, NotYet, Asks, Ends, Turn, Chain}
+use Rattle.px_event.specs.Chain.{Timed, NotYet, Asks, Ends}
 use Rattle.px_event.specs.Laws.{IsSettled, Settles, SoFarGrows}
 use Rattle.px_event.specs.View.{View, seen_of}
-use Rattle.px_toy.specs.Echo.{piece_in, client_bytes, closes_client, is_closed, first_line, Stage, Reading, Over, unread, pass_by, pass, ask_about, look_by, look, is_kill, echoed, turn_by, turn_line, turn, echo_chain}
+use Rattle.px_event.specs.Stands.{AwaitsWhatItAsks}
+use Rattle.px_toy.specs.declared.echo.LineEcho.{LineEcho}
+use Rattle.px_toy.specs.Stands.{phase_at, awaited_in, awaits, IsAt}
+use Rattle.px_toy.specs.Echo.{piece_in, client_bytes, closes_client, is_closed, first_line, Stage, Reading, Over, unread, pass_by, pass, ask_about, look_by, look, echo_chain}
 
 -- a line has a byte at least, and is within the bytes
 at_within : (p : ℕ → Bool) (bytes : List ℕ) (at : ℕ) → position p bytes ≡ Some at → at < length bytes
 at_within p bytes at is = by (nat_lt (position_or_len p bytes) (length bytes)) refl is
   where
-  by : (b : Bool) → nat_lt (position_or_len p bytes) (length bytes) ≡ b → cond b (Some (position_or_len p bytes)) None ≡ Some at → at < length bytes
-  by true less same = let e : position_or_len p bytes ≡ at = cc in let l = ltb-true (position_or_len p bytes) (length bytes) less in rw (← e) l
-  by false less same = absurd (let no : None ≡ Some at = same in cc)
+    by : (b : Bool) → nat_lt (position_or_len p bytes) (length bytes) ≡ b → cond b (Some (position_or_len p bytes)) None ≡ Some at → at < length bytes
+    by true less same = let e : position_or_len p bytes ≡ at = cc in let l = ltb-true (position_or_len p bytes) (length bytes) less in rw (← e) l
+    by false less same = absurd (let no : None ≡ Some at = same in cc)
 
 line_by : (bytes : List ℕ) (o : Option ℕ) (size : ℕ) → position (λ byte. byte == 10) bytes ≡ o → option_map (λ at. at + 1) o ≡ Some size → (0 < size) × (size ≤ length bytes)
 line_by bytes None size is same = absurd (let no : None ≡ Some size = same in cc)
@@ -79,3 +79,27 @@ settles flow = record { at = settled_at flow }
 -- it owes nothing while it waits, so what is owed grows
 pub so_far_grows : (flow : Flow) (view : View) → SoFarGrows (echo_chain flow) (seen_of view)
 so_far_grows flow view = record { grows = λ stage front event is. (_, refl) }
+
+-- it awaits something exactly where the stage asks
+awaits_by : (flow : Flow) (line : Option ℕ) (ask : Command) → awaited_in flow (phase_at line) ≡ None → look_by flow line ≡ Asks ask → ⊥
+awaits_by flow None ask is asks = let no : NotYet ≡ Asks ask = asks in cc
+awaits_by flow (Some size) ask is asks = let no : Some (ask_about flow) ≡ None = is in cc
+
+asks_by : (flow : Flow) (line : Option ℕ) (ask : Ask) → awaited_in flow (phase_at line) ≡ Some ask → (command : Command) × (look_by flow line ≡ Asks command)
+asks_by flow None ask is = absurd (let no : None ≡ Some ask = is in cc)
+asks_by flow (Some size) ask is = (_, refl)
+
+free_at : (flow : Flow) (state : LineEcho) (stage : Stage) (front : List (Timed Event)) (ask : Command) → IsAt flow state stage front → awaits state ≡ None → look flow stage front ≡ Asks ask → ⊥
+free_at flow state (Reading used) front ask at is asks =
+    awaits_by flow (first_line (unread used front)) ask (ap (λ p. awaited_in flow p) (sym at.phase) ∙ (ap (λ f. awaited_in f state.phase) (sym at.same_flow) ∙ is)) asks
+free_at flow state Over front ask at is asks = let no : Ends [] ≡ Asks ask = asks in cc
+
+asks_at_place : (flow : Flow) (state : LineEcho) (stage : Stage) (front : List (Timed Event)) (ask : Ask) → IsAt flow state stage front → awaits state ≡ Some ask →
+    (command : Command) × (look flow stage front ≡ Asks command)
+asks_at_place flow state (Reading used) front ask at is =
+    asks_by flow (first_line (unread used front)) ask (ap (λ p. awaited_in flow p) (sym at.phase) ∙ (ap (λ f. awaited_in f state.phase) (sym at.same_flow) ∙ is))
+asks_at_place flow state Over front ask at is =
+    absurd (let no : None ≡ Some ask = ap (λ p. awaited_in state.flow p) (sym at.phase) ∙ is in cc)
+
+pub awaits_what_it_asks : (flow : Flow) → AwaitsWhatItAsks (echo_chain flow) (IsAt flow) awaits
+awaits_what_it_asks flow = record { free = free_at flow; asks = asks_at_place flow }

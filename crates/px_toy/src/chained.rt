@@ -1,0 +1,25 @@
+//! What is due of the server is a chain of stages; so the laws of every chain hold of it.
+ghost use Rattle.px_toy.specs.Echo.{Stage, Reading, echo_chain};
+ghost use Rattle.px_toy.specs.Stands.{IsAt};
+ghost use Rattle.px_toy.specs.Laws.{settles, so_far_grows, awaits_what_it_asks};
+
+use crate::LineEcho;
+use px_event::Chained;
+
+impl Chained for LineEcho {
+    ghost Stage = { Stage };
+
+    ghost chain = { λ made. echo_chain made.flow };
+
+    ghost start = { λ made. Reading 0 };
+
+    ghost is_at = { λ made. IsAt made.flow };
+
+    ghost stands_at = { λ made state moves given stands. stands };
+
+    ghost settles = { λ made. settles made.flow };
+
+    ghost grows = { λ made. so_far_grows made.flow };
+
+    ghost asks = { λ made. awaits_what_it_asks made.flow };
+}
