@@ -1,5 +1,6 @@
 -- Folds over the comma lists of fields: over all their elements, and value by value.
-use Rattle.std.proofs.Common.{◌≡◌, ◌∙◌, ℕ, Bool, true, false, cond, List, [], ◌∷◌, ◌||◌, map, filter, refl, ap}
+use Rattle.std.proofs.Common.{◌≡◌, ◌∙◌, ℕ, Bool, true, false, cond, List, [], ◌∷◌, ◌||◌, map, filter, Option, None, Some, MatchOption, refl, sym, ap}
+use Rattle.std.specs.Prelude.{is_some}
 use Rattle.std.specs.List.{flat_map, fold, list_any}
 use Rattle.std.proofs.lemmas.List.Sums.{fold-append}
 use Rattle.px_message.specs.Fields.{is_named, values_of}
@@ -47,3 +48,9 @@ has_items-values_of name (field ∷ fields) = by_test (is_named name field) (has
         ≡ (b || list_any (is_named name) fields)
     by_test true rest = refl
     by_test false rest = rest
+
+-- a first item is there where there are items
+pub is_some-first : {A X : Type 0} (view : X → A) (items rest : List A) (first : Option X) →
+    MatchOption first ((items ≡ []) × (rest ≡ [])) (λ x. items ≡ view x ∷ rest) → is_some first ≡ has_items items
+is_some-first view items rest None h = ap has_items (sym h.0)
+is_some-first view items rest (Some x) h = ap has_items (sym h)

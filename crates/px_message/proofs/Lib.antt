@@ -1,7 +1,7 @@
 pub mod AddressLemmas
-mod RequestLemmas
+pub mod RequestLemmas
 mod OptionLemmas
-mod FlowLemmas
+pub mod FlowLemmas
 pub mod AuthorityLemmas
 pub mod HostLemmas
 pub mod UrlLemmas
@@ -10,6 +10,9 @@ pub mod AddressTextLemmas
 mod ListLemmas
 mod SetLemmas
 pub mod FieldLaws
-mod FoldLemmas
+pub mod FoldLemmas
 mod CodingLemmas
 mod StatedLemmas
+pub mod DecimalLemmas
+pub mod SettleLemmas
+mod FramingLemmas

@@ -1,5 +1,5 @@
 -- Lists of fields, each a name and a value, and the comma lists in their values.
-use Rattle.std.specs.Prelude.{ℕ, Bool, List, [], ◌∷◌, ◌==◌, ◌||◌, not, if◌then◌else◌, length, map, filter, bytes_eq}
+use Rattle.std.specs.Prelude.{ℕ, Bool, List, [], ◌∷◌, ◌==◌, ◌&&◌, ◌||◌, not, if◌then◌else◌, length, map, filter, bytes_eq}
 use Rattle.std.specs.List.{list_any, flat_map, slice_split}
 use Rattle.std.proofs.Common.{reverse}
 use Rattle.px_text.specs.Ascii.{lowercase}
@@ -11,6 +11,10 @@ is_same_name a b = bytes_eq (lowercase a) (lowercase b)
 -- the field is of that name
 abbrev pub is_named : List ℕ → List ℕ × List ℕ → Bool
 is_named name field = is_same_name field.0 name
+
+-- the field has that name and that value, both in any case
+abbrev pub is_valued : List ℕ → List ℕ → List ℕ × List ℕ → Bool
+is_valued name value field = is_named name field && is_same_name field.1 value
 
 -- the values of the fields of that name, in their order
 abbrev pub values_of : List ℕ → List (List ℕ × List ℕ) → List (List ℕ)

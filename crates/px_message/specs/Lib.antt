@@ -12,3 +12,5 @@ pub mod Fields
 pub mod Length
 pub mod Codings
 pub mod Stated
+pub mod Settle
+pub mod Valid

@@ -5,16 +5,21 @@
 //! their order (section 5.3): they are read by `get_all`, or by `has_element` where they are comma lists.
 //! Each change is one of the whole list: `add` puts a field at the end, `remove` takes away all of a name, and `set`
 //! leaves one of a name, at the place of the first.
-ghost use Rattle.std.specs.Prelude.{◌≡◌, ◌<◌, ◌≤◌, ◌==◌, [], ◌∷◌, ◌++◌, length, take, drop, position, nat_eq, slice_get, IfOk, OnOk, OnErr};
+ghost use Rattle.std.specs.Prelude.{◌≡◌, ◌<◌, ◌≤◌, ◌==◌, [], ◌∷◌, ◌++◌, not, filter, length, take, drop, position, nat_eq, slice_get, IfOk, OnOk, OnErr};
 ghost use Rattle.std.specs.Iterator.{YieldsFirstRef, item_count};
+ghost use Rattle.std.specs.List.{AllPass, list_any};
 ghost use Rattle.std.specs.Ordering.{eq_of_both, on};
 ghost use Rattle.std.specs.Cmp.Lexicographic.{pointwise};
 ghost use Rattle.std.proofs.Common.{rules};
 ghost use Rattle.std.specs.Cmp.Rules.{comparing};
-ghost use Rattle.px_message.specs.Fields.{has_element, is_named, set_in, values_of, without};
+ghost use Rattle.px_message.specs.Fields.{has_element, is_named, is_valued, set_in, values_of, without};
+ghost use Rattle.px_message.specs.Valid.{is_field};
+
+mod framing;
 
 use crate::elements::{is_among_elements, is_same_name};
 use crate::{Name, Value};
+pub use framing::settle_streamed;
 use px_text::NoMemory;
 use std::alloc::{AllocError, Global};
 use std::marker::Model;
@@ -131,6 +136,20 @@ impl Fields {
             .retain(|pair| !is_same_name(pair.0.bytes(), name));
     }
 
+    /// Whether a field of that name with that value stands, both in any case.
+    pub fn has_value(&self, name: &[u8], value: &[u8]) -> bool
+        ensures { result ≡ list_any (is_valued name.now value.now) self.now }
+    {
+        self.pairs.iter().any(|pair| is_valued(pair, name, value))
+    }
+
+    /// Takes away the fields of that name with that value, both in any case. It takes no memory.
+    pub fn remove_value(&mut self, name: &[u8], value: &[u8])
+        ensures { self.new ≡ filter (λ field. not (is_valued name.now value.now field)) self.old }
+    {
+        self.pairs.retain(|pair| !is_valued(pair, name, value));
+    }
+
     /// Puts the field at the place of the first of its name, in any case, and takes away the others of that name; without
     /// one it puts the field at the end. After `NoMemory` the list is as before.
     pub fn set(&mut self, name: Name, value: Value) -> Result<(), NoMemory>
@@ -152,6 +171,25 @@ impl Fields {
         ensures { IfOk result (λ copy. copy ≡ self.now) }
     {
         Ok(self.clone()?)
+    }
+}
+
+// The field has that name and that value, both in any case.
+fn is_valued(pair: &(Name, Value), name: &[u8], value: &[u8]) -> bool
+    ensures { result ≡ is_valued name.now value.now pair.now }
+{
+    is_same_name(pair.0.bytes(), name) && is_same_name(pair.1.bytes(), value)
+}
+
+/// A law: what the type guarantees of a list of fields. Each name is a token, and no value has a CR, an LF or a NUL. It
+/// only looks at them.
+pub fn fields_are_valid(fields: &Fields)
+    ensures { AllPass is_field fields.now }
+{
+    for i in 0..fields.len() {
+        let (name, value) = fields.pair(i);
+        let _name = name.bytes();
+        let _value = value.bytes();
     }
 }
 

@@ -12,9 +12,6 @@ use crate::codings::{TRANSFER_ENCODING, is_framed_in_chunks};
 use crate::stated::{CONTENT_LENGTH, stated_length};
 use crate::{Fault, Fields};
 
-#[cfg(test)]
-mod tests;
-
 /// The length of a message's body, by its own head (RFC 9112 section 6.3).
 #[derive(Clone, Copy, Debug, PartialEq, Eq)]
 pub enum Length {
@@ -80,8 +77,8 @@ fn framed_length(fields: &Fields) -> Result<Length, Fault>
     }
 }
 
-// The length of a response's body by its codings.
-fn by_codings(fields: &Fields) -> Result<Length, Fault>
+/// The length of a response's body by its codings.
+pub(crate) fn by_codings(fields: &Fields) -> Result<Length, Fault>
     ensures { result ≡ coded_length fields.now }
 {
     if !fields.has_element(TRANSFER_ENCODING, b"chunked") {
@@ -103,8 +100,8 @@ fn by_stated(fields: &Fields) -> Result<Length, Fault>
     }
 }
 
-// Whether a field of that name stands.
-fn stands(name: &[u8], fields: &Fields) -> bool
+/// Whether a field of that name stands.
+pub(crate) fn stands(name: &[u8], fields: &Fields) -> bool
     ensures { result ≡ stands name.now fields.now }
 {
     fields.get_all(name).next().is_some()

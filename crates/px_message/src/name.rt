@@ -3,7 +3,7 @@ ghost use Rattle.std.specs.Prelude.{◌≡◌, true, false, IfOk, IfErr};
 ghost use Rattle.httparse.specs.Grammar.{is_token};
 
 use px_text::{Bytes, NoMemory};
-use std::alloc::AllocError;
+use std::alloc::{AllocError, Global};
 use std::marker::Model;
 
 /// The name of a field, or a method: a token (RFC 9110 section 5.6.2), in the sender's spelling.
@@ -53,6 +53,16 @@ impl Name {
         } else {
             Err(BadName(bytes))
         }
+    }
+
+    /// A name of a text that is known to be a token, copied.
+    pub fn of_token(alloc: Global, text: &[u8]) -> Result<Name, NoMemory>
+        requires { is_token text.now ≡ true }
+        ensures { IfOk result (λ name. name ≡ text.now) }
+    {
+        Ok(Name {
+            bytes: Bytes::new(text.to_vec(alloc)?),
+        })
     }
 
     /// The bytes.

@@ -1,3 +1,6 @@
 //! Worked rows of the calls.
 mod fields;
+mod given;
+mod length;
+mod settle;
 mod values;

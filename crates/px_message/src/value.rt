@@ -1,9 +1,10 @@
 //! Values of fields: bytes that end no line.
-ghost use Rattle.std.specs.Prelude.{◌≡◌, IsTrue, true, false, IfOk, IfErr};
+ghost use Rattle.std.specs.Prelude.{◌≡◌, true, false, decimal, IfOk, IfErr};
 ghost use Rattle.px_message.specs.Value.{is_value};
 
+use itoa::Buffer;
 use px_text::{Bytes, NoMemory};
-use std::alloc::AllocError;
+use std::alloc::{AllocError, Global};
 use std::marker::Model;
 
 /// The value of a field, or a response's reason: any bytes but CR, LF and NUL (RFC 9110 section 5.5).
@@ -52,6 +53,26 @@ impl Value {
         } else {
             Err(BadValue(bytes))
         }
+    }
+
+    /// A value of a text that is known to have no CR, LF and NUL, copied.
+    pub fn of_text(alloc: Global, text: &[u8]) -> Result<Value, NoMemory>
+        requires { is_value text.now ≡ true }
+        ensures { IfOk result (λ value. value ≡ text.now) }
+    {
+        Ok(Value {
+            bytes: Bytes::new(text.to_vec(alloc)?),
+        })
+    }
+
+    /// The decimal digits of the number.
+    #[tactic(auto, using(crate::proofs::DecimalLemmas::decimal_is_value))]
+    pub fn of_number(alloc: Global, n: u64) -> Result<Value, NoMemory>
+        ensures { IfOk result (λ value. value ≡ decimal n) }
+    {
+        let mut digits = Buffer::new();
+        let text = digits.format(n).as_bytes();
+        Value::of_text(alloc, text)
     }
 
     /// The bytes.
