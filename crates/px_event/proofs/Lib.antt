@@ -1,7 +1,9 @@
 pub mod Growth
 pub mod Moves
+pub mod Only
 pub mod Reach
 pub mod Seen
 pub mod Steps
 pub mod Stops
+pub mod TraceLemmas
 pub mod Walk

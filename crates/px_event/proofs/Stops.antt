@@ -65,6 +65,21 @@ behind_found chain law rs last before s f es xs is =
     more_events chain law rs last before s f es xs
     ∙ resumed_behind chain w.unused w.last w.before w.stage w.front (w.rest ++ xs) at.settled is at.asks
 
+-- Nor do events and replies behind the end.
+pub behind_end : {S E R A : Type 0} (chain : Chain S E R A) → Settles chain → (rs qs : List (Stamped R)) (last : Stamp) (before : List A) (s : S) (f : List (Timed E)) (es xs : List (Stamped E)) (owed : List A) →
+    let w = walk chain rs last before s f es in
+    chain.look w.stage w.front ≡ Ends owed → owed_at chain (walk chain (rs ++ qs) last before s f (es ++ xs)) ≡ owed_at chain w
+behind_end {A = A} chain law rs qs last before s f es xs owed is =
+    let w = walk chain rs last before s f es in
+    let P : Look A → Type 0 = IsFound in
+    let found = behind_found chain law rs last before s f es xs (subst P (sym is) tt) in
+    let none : (ask : A) → chain.look w.stage w.front ≡ Asks ask → w.unused ++ qs ≡ [] =
+    λ ask asks. absurd (let no : Ends owed ≡ Asks ask = sym is ∙ asks in cc) in
+    let settled = (stopped chain law rs last before s f es).settled in
+    ap (λ v. owed_at chain v) (more_replies chain law rs qs last before s f (es ++ xs)
+    ∙ (ap (λ v. with_replies chain v qs) found
+    ∙ resumed_behind chain (w.unused ++ qs) w.last w.before w.stage w.front (w.rest ++ xs) settled (subst P (sym is) tt) none))
+
 resumed_reply : {S E R A : Type 0} (chain : Chain S E R A) (w : Stop S E R A) (ask : A) (r : Stamped R) →
     IsSettled chain w.stage w.front → w.unused ≡ [] → chain.look w.stage w.front ≡ Asks ask →
     let turn = chain.turn w.stage w.front (at_its_step r) in

@@ -1,10 +1,10 @@
 -- What a state of a layer whose due is a chain stands for.
-use Rattle.std.specs.Prelude.{◌≡◌, ℕ, ◌+◌, List, [], ◌∷◌, Option, Some, None}
+use Rattle.std.specs.Prelude.{◌≡◌, ℕ, ◌+◌, Bool, true, List, [], ◌∷◌, Option, Some, None}
 use Rattle.px_event.specs.declared.ask.Ask.{Ask}
 use Rattle.px_event.specs.declared.event.Event.{Event}
 use Rattle.px_event.specs.declared.reply.Reply.{Reply}
 use Rattle.px_event.specs.declared.command.Command.{Command}
-use Rattle.px_event.specs.Chain.{Chain, Asks, Stop, Stamped, Timed, walk_from, due}
+use Rattle.px_event.specs.Chain.{Chain, Asks, Ends, Stop, Stamped, Timed, walk_from, due}
 use Rattle.px_event.specs.Layer.{Move, Took, Replied}
 use Rattle.px_event.specs.View.{View, seen_of}
 
@@ -45,3 +45,8 @@ pub record AwaitsWhatItAsks {M S : Type 0} (chain : Chain S Event Reply Command)
   pub free : (state : M) (stage : S) (front : List (Timed Event)) (ask : Command) → is_at state stage front → awaited state ≡ None → chain.look stage front ≡ Asks ask → ⊥
   pub asks : (state : M) (stage : S) (front : List (Timed Event)) (ask : Ask) → is_at state stage front → awaited state ≡ Some ask →
       (command : Command) × (chain.look stage front ≡ Asks command)
+
+-- It has ended only where the stage ends.
+pub record EndsWhereItEnds {M S : Type 0} (chain : Chain S Event Reply Command) (is_at : M → S → List (Timed Event) → Type 0) (ended : M → Bool) : Type 0 where
+  pub ends : (state : M) (stage : S) (front : List (Timed Event)) → is_at state stage front → ended state ≡ true →
+      (owed : List Command) × (chain.look stage front ≡ Ends owed)

@@ -23,6 +23,8 @@ pub data View : Type 0 where
   questions : View
   -- the flows that are finished
   finished : View
+  -- the hooks asked, each with its flow
+  flows : View
 
 -- the least thing that a view has
 pub data Atom : Type 0 where
@@ -31,6 +33,7 @@ pub data Atom : Type 0 where
   asked : (ask : Ask) → Atom
   dialled : (server : ℕ) (address : Address) → Atom
   done : (flow : Flow) → Atom
+  about : (ask : Ask) (flow : Flow) → Atom
 
 -- what a view has of something said
 abbrev pub said_atoms : View → Said → List Atom
@@ -46,11 +49,17 @@ command_atoms (closes side) (command.Close other) = if is_same_side other side t
 command_atoms questions (command.Dial server address inside) = dialled server address ∷ []
 command_atoms questions (command.Ask ask flow) = asked ask ∷ []
 command_atoms finished (command.Done flow) = done flow ∷ []
+command_atoms flows (command.Ask ask flow) = about ask flow ∷ []
 command_atoms _ _ = []
 
 -- what a view has of these commands
 abbrev pub seen_of : View → List Command → List Atom
 seen_of view commands = flat_map (command_atoms view) commands
+
+-- A trace tells each view but one: it has the hooks that were asked, and not their flows.
+abbrev pub IsTold : View → Type 0
+IsTold flows = ⊥
+IsTold _ = Unit {0}
 
 -- what a view of the conversation of this number has of a step
 abbrev pub step_atoms : View → ℕ → Step → List Atom

@@ -3,7 +3,7 @@ ghost use Rattle.std.specs.Prelude.{List};
 ghost use Rattle.px_event.specs.Chain.{Chain, Timed};
 ghost use Rattle.px_event.specs.Laws.{Settles, SoFarGrows};
 ghost use Rattle.px_event.specs.Layer.{Move};
-ghost use Rattle.px_event.specs.Stands.{StandsAt, AwaitsWhatItAsks};
+ghost use Rattle.px_event.specs.Stands.{StandsAt, AwaitsWhatItAsks, EndsWhereItEnds};
 ghost use Rattle.px_event.specs.View.{View, seen_of};
 ghost use Rattle.px_event.specs.declared.event.Event.{Event as TakenEvent};
 ghost use Rattle.px_event.specs.declared.reply.Reply.{Reply as GivenReply};
@@ -39,4 +39,7 @@ pub trait Chained: Layer {
 
     /// Something is awaited exactly where the stage asks.
     ghost asks: { (made : Self) → AwaitsWhatItAsks (chain made) (is_at made) Self.awaited };
+
+    /// It has ended only where the stage ends.
+    ghost ends: { (made : Self) → EndsWhereItEnds (chain made) (is_at made) Self.ended };
 }

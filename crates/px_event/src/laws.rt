@@ -4,7 +4,7 @@
 //! Neither speaks of bytes or of a protocol, so a chain of any protocol gets the laws for these two premises.
 ghost use Rattle.std.specs.Prelude.{◌≡◌, List, [], ◌++◌};
 ghost use Rattle.px_text.specs.Prefix.{IsPrefixOf};
-ghost use Rattle.px_event.specs.Chain.{Chain, Stamped, Asks, walk_from, due};
+ghost use Rattle.px_event.specs.Chain.{Chain, Stamped, Asks, Ends, walk_from, due};
 ghost use Rattle.px_event.specs.Laws.{Settles, SoFarGrows, with_events, with_replies, Stopped, waiting_values};
 ghost use Rattle.px_event.specs.View.{View, seen_of};
 ghost use Rattle.px_event.specs.declared.event.Event.{Event as TakenEvent};
@@ -45,4 +45,12 @@ pub fn waiting_events_owe_nothing<Stage>()
         (events more : List (Stamped TakenEvent)) (replies : List (Stamped GivenReply)) (ask : GivenCommand) →
         chain.look (walk_from chain start events replies).stage (walk_from chain start events replies).front ≡ Asks ask →
         due chain start (events ++ more) replies ≡ due chain start events replies }
+{}
+
+/// Where the walk has ended, more events and more replies change nothing of what is due.
+pub fn nothing_is_due_past_the_end<Stage>()
+    ensures { (chain : Chain Stage TakenEvent GivenReply GivenCommand) → Settles chain → (start : Stage) →
+        (events more : List (Stamped TakenEvent)) (replies further : List (Stamped GivenReply)) (owed : List GivenCommand) →
+        chain.look (walk_from chain start events replies).stage (walk_from chain start events replies).front ≡ Ends owed →
+        due chain start (events ++ more) (replies ++ further) ≡ due chain start events replies }
 {}

@@ -24,7 +24,10 @@ pub use chained::Chained;
 pub use command::Command;
 pub use event::{Event, Rests};
 pub use heard::Heard;
-pub use laws::{due_only_grows, waiting_events_owe_nothing, walks_resume, walks_stop};
+pub use laws::{
+    due_only_grows, nothing_is_due_past_the_end, waiting_events_owe_nothing, walks_resume,
+    walks_stop,
+};
 pub use layer::Layer;
 pub use reply::Reply;
 pub use said::Said;

@@ -12,9 +12,9 @@ use Rattle.px_event.specs.declared.command.Command.{Command}
 use Rattle.px_event.specs.Chain.{Timed, NotYet, Asks, Ends}
 use Rattle.px_event.specs.Laws.{IsSettled, Settles, SoFarGrows}
 use Rattle.px_event.specs.View.{View, seen_of}
-use Rattle.px_event.specs.Stands.{AwaitsWhatItAsks}
+use Rattle.px_event.specs.Stands.{AwaitsWhatItAsks, EndsWhereItEnds}
 use Rattle.px_toy.specs.declared.echo.LineEcho.{LineEcho}
-use Rattle.px_toy.specs.Stands.{phase_at, awaited_in, awaits, IsAt}
+use Rattle.px_toy.specs.Stands.{phase_at, awaited_in, awaits, is_over, IsAt}
 use Rattle.px_toy.specs.Echo.{piece_in, client_bytes, closes_client, is_closed, first_line, Stage, Reading, Over, unread, pass_by, pass, ask_about, look_by, look, echo_chain}
 
 -- a line has a byte at least, and is within the bytes
@@ -103,3 +103,16 @@ asks_at_place flow state Over front ask at is =
 
 pub awaits_what_it_asks : (flow : Flow) → AwaitsWhatItAsks (echo_chain flow) (IsAt flow) awaits
 awaits_what_it_asks flow = record { free = free_at flow; asks = asks_at_place flow }
+
+-- it has ended only where the stage ends
+over_by : (line : Option ℕ) → is_over (phase_at line) ≡ true → ⊥
+over_by None is = let no : false ≡ true = is in cc
+over_by (Some size) is = let no : false ≡ true = is in cc
+
+ends_at : (flow : Flow) (state : LineEcho) (stage : Stage) (front : List (Timed Event)) → IsAt flow state stage front → is_over state.phase ≡ true →
+    (owed : List Command) × (look flow stage front ≡ Ends owed)
+ends_at flow state (Reading used) front at is = absurd (over_by (first_line (unread used front)) (ap is_over (sym at.phase) ∙ is))
+ends_at flow state Over front at is = ([], refl)
+
+pub ends_where_it_ends : (flow : Flow) → EndsWhereItEnds (echo_chain flow) (IsAt flow) (λ state. is_over state.phase)
+ends_where_it_ends flow = record { ends = ends_at flow }

@@ -1,7 +1,7 @@
 //! What is due of the server is a chain of stages; so the laws of every chain hold of it.
 ghost use Rattle.px_toy.specs.Echo.{Stage, Reading, echo_chain};
 ghost use Rattle.px_toy.specs.Stands.{IsAt};
-ghost use Rattle.px_toy.specs.Laws.{settles, so_far_grows, awaits_what_it_asks};
+ghost use Rattle.px_toy.specs.Laws.{settles, so_far_grows, awaits_what_it_asks, ends_where_it_ends};
 
 use crate::LineEcho;
 use px_event::Chained;
@@ -22,4 +22,6 @@ impl Chained for LineEcho {
     ghost grows = { λ made. so_far_grows made.flow };
 
     ghost asks = { λ made. awaits_what_it_asks made.flow };
+
+    ghost ends = { λ made. ends_where_it_ends made.flow };
 }
