@@ -1,15 +1,17 @@
-//! Reads a head again and again, whole or one byte at a time, so that its cost can be taken from outside.
+//! Reads messages, so that what it costs can be taken from outside.
 //!
-//! The words are `whole` or `bytes`, the number of fields of 1,000 bytes each, and how often the head is read. The
-//! program times nothing itself: take `time` or `perf stat`.
+//! With `whole` or `bytes`, the number of fields of 1,000 bytes each, and how often, a head is read again and again, whole
+//! or one byte at a time. With `counted` or `chunked`, the size of a piece and how many, a response is read whose body
+//! comes in such pieces, each a chunk where it is chunked. The program times nothing itself: take `time` or `perf stat`.
 #![tactic(auto)]
 
-ghost use Rattle.std.specs.Prelude.{◌≡◌, IfOk};
+ghost use Rattle.std.specs.Prelude.{◌≡◌, false, IfOk, OnOk};
 ghost use Rattle.px_head.specs.Front.{request_front};
 ghost use Rattle.px_head.specs.Reader.{answer};
 
 use px_head::{Found, HeadReader};
-use px_text::{NoMemory, read_decimal};
+use px_read::{MessageReader, Part};
+use px_text::{NoMemory, push_decimal, push_hex, read_decimal};
 use std::alloc::Global;
 use std::process::ExitCode;
 use std::{env, io};
@@ -21,12 +23,28 @@ enum Pieces {
     Bytes,
 }
 
-/// What is to be read, and how often.
+/// How a body is framed.
+#[derive(Clone, Copy, Debug, PartialEq, Eq)]
+enum Framing {
+    Counted,
+    Chunked,
+}
+
+/// What is to be read.
 #[derive(Clone, Copy, Debug)]
-struct Order {
-    pieces: Pieces,
-    fields: u64,
-    times: u64,
+enum Order {
+    /// A head of so many fields, so often.
+    Head {
+        pieces: Pieces,
+        fields: u64,
+        times: u64,
+    },
+    /// A body of so many pieces of this size.
+    Body {
+        framing: Framing,
+        size: u64,
+        pieces: u64,
+    },
 }
 
 fn read_pieces(word: &str) -> Option<Pieces> {
@@ -37,14 +55,31 @@ fn read_pieces(word: &str) -> Option<Pieces> {
     }
 }
 
+fn read_framing(word: &str) -> Option<Framing> {
+    match word {
+        "counted" => Some(Framing::Counted),
+        "chunked" => Some(Framing::Chunked),
+        _ => None,
+    }
+}
+
 fn read_order(words: &[String]) -> Option<Order> {
-    let [pieces, fields, times] = words else {
+    let [kind, first, second] = words else {
         return None;
     };
-    Some(Order {
-        pieces: read_pieces(pieces.as_str())?,
-        fields: read_decimal(fields.as_str().as_bytes())?,
-        times: read_decimal(times.as_str().as_bytes())?,
+    let first = read_decimal(first.as_str().as_bytes())?;
+    let second = read_decimal(second.as_str().as_bytes())?;
+    if let Some(framing) = read_framing(kind.as_str()) {
+        return Some(Order::Body {
+            framing,
+            size: first,
+            pieces: second,
+        });
+    }
+    Some(Order::Head {
+        pieces: read_pieces(kind.as_str())?,
+        fields: first,
+        times: second,
     })
 }
 
@@ -81,16 +116,73 @@ fn read_by_bytes(alloc: Global, head: &[u8]) -> Result<Found, NoMemory> {
 }
 
 // How many fields all the heads that were read have together.
-fn count_fields(alloc: Global, order: Order, head: &[u8]) -> Result<u64, NoMemory> {
+fn count_fields(alloc: Global, pieces: Pieces, times: u64, head: &[u8]) -> Result<u64, NoMemory> {
     let mut count = 0u64;
-    for _ in 0..order.times {
-        let found = match order.pieces {
+    for _ in 0..times {
+        let found = match pieces {
             Pieces::Whole => read_whole(alloc, head)?,
             Pieces::Bytes => read_by_bytes(alloc, head)?,
         };
         if let Found::Head(raw) = found {
             count = count.saturating_add(raw.pairs.len() as u64);
         }
+    }
+    Ok(count)
+}
+
+// The head of a response with a body of so many bytes.
+fn make_response(alloc: Global, framing: Framing, total: u64) -> Result<Vec<u8>, NoMemory> {
+    let mut head = Vec::from_slice(alloc, b"HTTP/1.1 200 OK\r\n")?;
+    match framing {
+        Framing::Counted => {
+            head.extend_from_slice(b"Content-Length: ")?;
+            push_decimal(&mut head, total)?;
+        }
+        Framing::Chunked => head.extend_from_slice(b"Transfer-Encoding: chunked")?,
+    }
+    head.extend_from_slice(b"\r\n\r\n")?;
+    Ok(head)
+}
+
+// A piece of a body of so many bytes, as it stands on the wire.
+fn make_piece(alloc: Global, framing: Framing, size: u64) -> Result<Vec<u8>, NoMemory> {
+    let mut piece = Vec::new(alloc);
+    if let Framing::Chunked = framing {
+        push_hex(&mut piece, size)?;
+        piece.extend_from_slice(b"\r\n")?;
+    }
+    for _ in 0..size {
+        piece.push(b'x')?;
+    }
+    if let Framing::Chunked = framing {
+        piece.extend_from_slice(b"\r\n")?;
+    }
+    Ok(piece)
+}
+
+// How many bytes of a body the reader gives of what it was fed.
+fn count_given(reader: &mut MessageReader) -> Result<u64, NoMemory>
+    ensures { OnOk result (reader.new.closed ≡ reader.old.closed) }
+{
+    let mut count = 0u64;
+    for _ in 0..8 {
+        match reader.next()? {
+            Part::More | Part::End(_) | Part::Bad(_) => return Ok(count),
+            Part::Piece(bytes) => count = count.saturating_add(bytes.as_slice().len() as u64),
+            _ => {}
+        }
+    }
+    Ok(count)
+}
+
+// How many bytes the body has that was read.
+fn count_body(alloc: Global, head: &[u8], piece: &[u8], pieces: u64) -> Result<u64, NoMemory> {
+    let mut reader = MessageReader::response(alloc, false);
+    reader.feed(head)?;
+    let mut count = 0u64;
+    for _ in 0..pieces {
+        reader.feed(piece)?;
+        count = count.saturating_add(count_given(&mut reader)?);
     }
     Ok(count)
 }
@@ -103,21 +195,40 @@ fn read_words(rt: &HostRuntime) -> io::Result<Vec<String>> {
     Ok(words)
 }
 
-fn measure(alloc: Global, order: Order) -> Result<(usize, u64), NoMemory> {
-    let head = make_head(alloc, order.fields)?;
-    let count = count_fields(alloc, order, head.as_slice())?;
-    Ok((head.len(), count))
+fn measure(alloc: Global, order: Order) -> Result<String, NoMemory> {
+    match order {
+        Order::Head {
+            pieces,
+            fields,
+            times,
+        } => {
+            let head = make_head(alloc, fields)?;
+            let count = count_fields(alloc, pieces, times, head.as_slice())?;
+            let len = head.len();
+            Ok(format!(in alloc; "{len} bytes, read {times} times: {count} fields")?)
+        }
+        Order::Body {
+            framing,
+            size,
+            pieces,
+        } => {
+            let head = make_response(alloc, framing, size.saturating_mul(pieces))?;
+            let piece = make_piece(alloc, framing, size)?;
+            let count = count_body(alloc, head.as_slice(), piece.as_slice(), pieces)?;
+            Ok(format!(in alloc; "{pieces} pieces of {size} bytes: {count} bytes")?)
+        }
+    }
 }
 
 fn main(rt: HostRuntime) -> io::Result<ExitCode> {
     let words = read_words(&rt)?;
     let Some(order) = read_order(words.as_slice()) else {
-        println!(rt; "measure whole|bytes FIELDS TIMES")?;
+        println!(rt; "measure whole|bytes FIELDS TIMES, or counted|chunked SIZE PIECES")?;
         return Ok(ExitCode::from(2));
     };
     match measure(rt.alloc(), order) {
-        Ok((len, count)) => {
-            println!(rt; "{len} bytes, read {} times: {count} fields", order.times)?;
+        Ok(line) => {
+            println!(rt; "{line}")?;
             Ok(ExitCode::SUCCESS)
         }
         Err(NoMemory) => Ok(ExitCode::from(8)),

@@ -1,0 +1,6 @@
+use Rattle.px_read.proofs.AnswerLemmas.{answers_carry}
+use Rattle.px_read.proofs.LawLemmas.{chunk_laws}
+use Rattle.px_read.proofs.laws.final_stays.Goals as goal
+
+pub returns : goal.returns
+returns c asked_head closed bytes more = (answers_carry chunk_laws asked_head closed bytes more).final.stays

@@ -1,0 +1,6 @@
+use Rattle.px_read.proofs.GrowthLemmas.{response_grows}
+use Rattle.px_read.proofs.LawLemmas.{chunk_laws}
+use Rattle.px_read.proofs.laws.response_grows.Goals as goal
+
+pub returns : goal.returns
+returns c asked_head closed bytes more = (response_grows chunk_laws asked_head closed bytes more).marks

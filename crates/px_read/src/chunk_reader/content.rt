@@ -1,0 +1,67 @@
+//! The content of a chunk, as far as the bytes go, and the CRLF behind it.
+ghost use Rattle.std.specs.Prelude.{◌<◌, ◌≤◌, [], length};
+ghost use Rattle.px_read.specs.Chunks.{at_cr, at_lf, behind_content};
+ghost use Rattle.px_read.specs.ChunkTurns.{Turns};
+
+use super::ChunkError;
+use super::stage::{Stage, Turn};
+use crate::ChunkPart;
+use px_text::Bytes;
+use std::alloc::Global;
+
+/// Hears bytes of a content of which so many are to come.
+pub fn hear_content(alloc: Global, left: u64, bytes: &[u8]) -> Result<Turn, ChunkError>
+    requires left { 0 < left }
+    requires some { 0 < length bytes.now }
+    ensures { Turns (behind_content left) bytes.now [] result }
+{
+    let count = piece_length(left, bytes);
+    let piece = Vec::from_slice(alloc, &bytes[..count])?;
+    Ok(Turn {
+        used: count,
+        part: Some(ChunkPart::Piece(Bytes::new(piece))),
+        stage: Stage::Content(left - count as u64),
+    })
+}
+
+fn piece_length(left: u64, bytes: &[u8]) -> usize
+    ensures left { result ≤ left }
+    ensures within { result ≤ length bytes.now }
+    ensures some { 0 < left → 0 < length bytes.now → 0 < result }
+{
+    if bytes.len() as u64 <= left {
+        bytes.len()
+    } else {
+        left as usize
+    }
+}
+
+/// Hears the CR behind a content.
+pub fn hear_return(bytes: &[u8]) -> Result<Turn, ChunkError>
+    requires { 0 < length bytes.now }
+    ensures { Turns at_cr bytes.now [] result }
+{
+    if bytes[0] != b'\r' {
+        return Err(ChunkError::BadChunk);
+    }
+    Ok(Turn {
+        used: 1,
+        part: None,
+        stage: Stage::LineFeed,
+    })
+}
+
+/// Hears the LF behind a content and its CR.
+pub fn hear_line_feed(bytes: &[u8]) -> Result<Turn, ChunkError>
+    requires { 0 < length bytes.now }
+    ensures { Turns at_lf bytes.now [] result }
+{
+    if bytes[0] != b'\n' {
+        return Err(ChunkError::BadChunk);
+    }
+    Ok(Turn {
+        used: 1,
+        part: Some(ChunkPart::EndOfChunk),
+        stage: Stage::Line,
+    })
+}

@@ -1,0 +1,111 @@
+//! Laws of what stands at the front of a stream, each the contract of a function that does nothing.
+//!
+//! What is told stays told, whatever bytes follow and whether the server closes behind them. So a reader may forget what
+//! it gave, and who looks again over more bytes finds the same.
+ghost use Rattle.px_read.specs.Laws as law;
+ghost use Rattle.px_read.specs.ReaderLaws as reader;
+
+/// No bytes are no request.
+pub fn no_bytes_are_no_request()
+    ensures { law.NoBytesAreNoRequest }
+{}
+
+/// No bytes are no response, interim or final.
+pub fn no_bytes_are_no_answers()
+    ensures { law.NoBytesAreNoAnswers }
+{}
+
+/// A request's head that stands is the same whatever follows.
+pub fn request_head_stays()
+    ensures { law.RequestHeadStays }
+{}
+
+/// A request that is whole or refused is the same whatever follows.
+pub fn request_stays()
+    ensures { law.RequestStays }
+{}
+
+/// What is told of a request only grows.
+pub fn request_grows()
+    ensures { law.RequestGrows }
+{}
+
+/// A whole request uses at least one byte, and none that is not there.
+pub fn request_used_is_within()
+    ensures { law.RequestUsedIsWithin }
+{}
+
+/// A response's head that stands is the same whatever follows, a close too.
+pub fn response_head_stays()
+    ensures { law.ResponseHeadStays }
+{}
+
+/// A response that is whole or refused is the same whatever follows, a close too.
+pub fn response_stays()
+    ensures { law.ResponseStays }
+{}
+
+/// What is told of a response only grows.
+pub fn response_grows()
+    ensures { law.ResponseGrows }
+{}
+
+/// A whole response uses at least one byte, and none that is not there.
+pub fn response_used_is_within()
+    ensures { law.ResponseUsedIsWithin }
+{}
+
+/// A list of answers looks for as many interim responses as there can be.
+pub fn most_is_enough()
+    ensures { law.MostIsEnough }
+{}
+
+/// Interim responses are only added.
+pub fn interim_grow()
+    ensures { law.InterimGrow }
+{}
+
+/// No interim response is added once the final one has begun.
+pub fn interim_stay()
+    ensures { law.InterimStay }
+{}
+
+/// The final response's head that stands is the same whatever follows, a close too.
+pub fn final_head_stays()
+    ensures { law.FinalHeadStays }
+{}
+
+/// A final response that is whole or refused is the same whatever follows, a close too.
+pub fn final_stays()
+    ensures { law.FinalStays }
+{}
+
+/// The interim responses use no byte that is not there.
+pub fn interim_used_is_within()
+    ensures { law.InterimUsedIsWithin }
+{}
+
+/// A whole final response uses at least one byte of those behind the interim ones, and none that is not there.
+pub fn final_used_is_within()
+    ensures { law.FinalUsedIsWithin }
+{}
+
+/// What a reader told and what it has to come are what the bytes that it was fed tell, however they were cut.
+pub fn told_is_read()
+    ensures { reader.ToldIsRead }
+{}
+
+/// Behind `End` the message is whole with what was told, and the reader's rest is what it did not use.
+pub fn end_is_whole()
+    ensures { reader.EndIsWhole }
+{}
+
+/// Behind `Bad` the message is refused with what was told.
+pub fn bad_is_refused()
+    ensures { reader.BadIsRefused }
+{}
+
+/// `More` is given exactly where nothing is told and the message goes on, `End` where it is whole, `Bad` where it is refused.
+pub fn next_is_exact()
+    ensures { reader.NextIsExact }
+{}

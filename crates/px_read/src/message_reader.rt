@@ -1,0 +1,134 @@
+//! A reader that is fed the bytes of one message and gives its parts.
+//!
+//! It keeps what was fed and not used, and where in the message these bytes begin; of what it gave it keeps nothing. So its
+//! state says what is to come of it, and the parts that it gave are the first of what the bytes tell
+//! (`specs/Reader.antt`, `Reads`): each call keeps this, so it holds for every cut.
+ghost use Rattle.std.specs.Prelude.{◌≡◌, ℕ, ◌++◌, Bool, true, false, List, [], IfOk, OnOk};
+ghost use Rattle.px_read.specs.Marks.{Mark, marks_of};
+ghost use Rattle.px_read.specs.Reader.{Message, request, response, Reads, IsNext, HasStopped, has_stopped, to_come, before_all};
+
+mod body;
+mod head;
+mod pending;
+mod stage;
+#[cfg(test)]
+mod tests;
+
+use crate::Part;
+use pending::Pending;
+use px_head::HeadReader;
+use px_message::Fault;
+use px_text::NoMemory;
+use stage::{Stage, take_turn};
+use std::alloc::Global;
+use std::marker::Model;
+use std::mem;
+
+/// A reader of one request or one response, interim or final. In a contract it is where in the message the next byte stands,
+/// the bytes that were fed and not used, and whether its sender has closed.
+///
+/// A message costs a small multiple of its bytes, however they are cut. After `NoMemory` the reader may only be dropped.
+#[derive(Debug, Drop)]
+pub struct MessageReader {
+    alloc: Global,
+    stage: Stage,
+    rest: Pending,
+    closed: bool,
+}
+
+impl Model for MessageReader {
+    ghost use Rattle.px_read.specs.Reader.{State};
+    ghost use Rattle.px_read.specs.Stages.{IsStage, seen_as};
+
+    ghost Value = { State };
+
+    ghost view = { λ r. seen_as r.stage r.rest r.closed };
+
+    ghost invariant = { λ r. IsStage r.stage };
+}
+
+impl MessageReader {
+    /// A reader of a request.
+    pub fn request(alloc: Global) -> MessageReader
+        ensures state { result ≡ before_all request [] false }
+        ensures reads { Reads request [] [] false result }
+    {
+        MessageReader {
+            alloc,
+            stage: Stage::Request(HeadReader::new(alloc)),
+            rest: Pending::new(Vec::new(alloc)),
+            closed: false,
+        }
+    }
+
+    /// A reader of a response, to a HEAD or not.
+    pub fn response(alloc: Global, asked_head: bool) -> MessageReader
+        ensures state { result ≡ before_all (response asked_head) [] false }
+        ensures reads { Reads (response asked_head) [] [] false result }
+    {
+        MessageReader {
+            alloc,
+            stage: Stage::Response {
+                asked_head,
+                reader: HeadReader::new(alloc),
+            },
+            rest: Pending::new(Vec::new(alloc)),
+            closed: false,
+        }
+    }
+
+    /// Adds a piece of the sender's bytes behind those that came before. None comes behind the sender's close.
+    pub fn feed(&mut self, bytes: &[u8]) -> Result<(), NoMemory>
+        requires before_close { self.old.closed ≡ false }
+        ensures state { OnOk result (self.new ≡ record self.old { rest = self.old.rest ++ bytes.now }) }
+        ensures reads { (message : Message) (told : List Mark) (fed : List ℕ) → Reads message told fed false self.old → OnOk result (Reads message told (fed ++ bytes.now) false self.new) }
+    {
+        match &mut self.stage {
+            Stage::Request(reader) => reader.feed(bytes),
+            Stage::Response { reader, .. } => reader.feed(bytes),
+            _ => self.rest.feed(bytes),
+        }
+    }
+
+    /// The sender has closed. It changes nothing of a request; a response up to the close is whole, and any other that is not
+    /// whole is refused, for `ServerClosed`, when all that came of it is given.
+    pub fn close(&mut self)
+        ensures state { self.new ≡ record self.old { closed = true } }
+        ensures reads { (message : Message) (told : List Mark) (fed : List ℕ) (closed : Bool) → Reads message told fed closed self.old → Reads message told fed true self.new }
+    {
+        self.closed = true;
+    }
+
+    /// The next part of what was fed.
+    ///
+    /// `More` comes exactly where nothing further is told and the message goes on, `End` where nothing further is told and
+    /// it is whole, and `Bad` where it is refused: then nothing changes any more, and the same part is given for ever. A
+    /// head is given before a fault of the body behind it, and before a fault of its length too where it is a request's. Each
+    /// fault of a response is `BadResponse`, but for `ServerClosed`.
+    pub fn next(&mut self) -> Result<Part, NoMemory>
+        ensures next { IfOk result (λ part. IsNext part (to_come self.old)) }
+        ensures reads { (message : Message) (told : List Mark) (fed : List ℕ) (closed : Bool) → Reads message told fed closed self.old → IfOk result (λ part. Reads message (told ++ marks_of part) fed closed self.new) }
+        ensures stopped { IfOk result (λ part. HasStopped part self.new) }
+        ensures closed { OnOk result (self.new.closed ≡ self.old.closed) }
+        ensures again { has_stopped self.old.place ≡ true → OnOk result (self.new ≡ self.old) }
+    {
+        let stage = mem::replace(&mut self.stage, Stage::Refused(Fault::BadResponse));
+        let rest = mem::replace(&mut self.rest, Pending::new(Vec::new(self.alloc)));
+        let turn = take_turn(self.alloc, stage, rest, self.closed)?;
+        self.stage = turn.stage;
+        self.rest = turn.rest;
+        Ok(turn.part)
+    }
+
+    /// The bytes that were fed and not used, without taking memory. After `End` they are those behind the message.
+    pub fn into_rest(self) -> Vec<u8>
+        ensures { result.items ≡ self.rest }
+    {
+        let MessageReader { stage, rest, .. } = self;
+        match stage {
+            Stage::Request(reader) => reader.into_rest(),
+            Stage::Response { reader, .. } => reader.into_rest(),
+            _ => rest.into_vec(),
+        }
+    }
+}

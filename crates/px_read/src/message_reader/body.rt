@@ -1,0 +1,170 @@
+//! Bodies: counted, in chunks, or up to the close (RFC 9112 section 6.3). Each piece is as long as what is there.
+ghost use Rattle.std.specs.Prelude.{◌≡◌, ◌≤◌, ◌<◌, take, drop, length, IfOk};
+ghost use Rattle.px_read.specs.Chunking.{reads};
+ghost use Rattle.px_read.specs.Chunks.{Place};
+ghost use Rattle.px_read.specs.Reader.{IsTurn, has_shut, in_counted, in_chunks, up_to_close};
+ghost use Rattle.px_read.specs.Stages.{IsStage, chunk_place, fault_of, seen_as, state_at};
+ghost use Rattle.px_read.specs.Waits.{given};
+ghost use Rattle.px_message.specs.declared.fault.Fault.TheVariants.{BadChunk};
+
+use super::pending::Pending;
+use super::stage::{Sender, Stage, Turn, end, refuse, wait};
+use crate::chunk_reader::ChunkError;
+use crate::{ChunkPart, ChunkReader, Part};
+use px_message::{Fault, Fields};
+use px_text::{Bytes, NoMemory};
+use std::alloc::Global;
+
+/// A piece of a body of which so many bytes are to come, or its end.
+pub fn take_counted(
+    alloc: Global,
+    sender: Sender,
+    left: u64,
+    rest: Pending,
+    closed: bool,
+) -> Result<Turn, NoMemory>
+    ensures turn { IfOk result (λ turn. IsTurn (state_at (in_counted sender left) rest closed) turn.part (seen_as turn.stage turn.rest closed)) }
+    ensures stage { IfOk result (λ turn. IsStage turn.stage) }
+{
+    if left == 0 {
+        return end(Fields::new(alloc), rest);
+    }
+    let count = piece_length(left, rest.bytes());
+    if count == 0 {
+        return Ok(wait(
+            Stage::Counted { sender, left },
+            rest,
+            is_shut(sender, closed),
+        ));
+    }
+    let left = left - count as u64;
+    take_piece(alloc, count, Stage::Counted { sender, left }, rest)
+}
+
+/// A piece of a body up to the close, or its end.
+pub fn take_to_close(
+    alloc: Global,
+    sender: Sender,
+    rest: Pending,
+    closed: bool,
+) -> Result<Turn, NoMemory>
+    ensures turn { IfOk result (λ turn. IsTurn (state_at (up_to_close sender) rest closed) turn.part (seen_as turn.stage turn.rest closed)) }
+    ensures stage { IfOk result (λ turn. IsStage turn.stage) }
+{
+    let count = rest.bytes().len();
+    if count > 0 {
+        return take_piece(alloc, count, Stage::ToClose { sender }, rest);
+    }
+    if is_shut(sender, closed) {
+        return end(Fields::new(alloc), rest);
+    }
+    Ok(Turn {
+        part: Part::More,
+        stage: Stage::ToClose { sender },
+        rest,
+    })
+}
+
+// How many bytes of a body are there, of those that are to come.
+fn piece_length(left: u64, bytes: &[u8]) -> usize
+    ensures left { result ≤ left }
+    ensures within { result ≤ length bytes.now }
+    ensures all { result ≡ 0 → 0 < left → length bytes.now ≡ 0 }
+{
+    if bytes.len() as u64 <= left {
+        bytes.len()
+    } else {
+        left as usize
+    }
+}
+
+// A piece of so many bytes, and this stage behind it.
+fn take_piece(
+    alloc: Global,
+    count: usize,
+    stage: Stage,
+    mut rest: Pending,
+) -> Result<Turn, NoMemory>
+    requires { count ≤ length rest }
+    ensures { IfOk result (λ turn. turn ≡ record { part = Part.Piece (take count rest); stage = stage; rest = drop count rest }) }
+{
+    let piece = Bytes::new(Vec::from_slice(alloc, &rest.bytes()[..count])?);
+    rest.skip(count);
+    Ok(Turn {
+        part: Part::Piece(piece),
+        stage,
+        rest,
+    })
+}
+
+// Whether the close counts.
+fn is_shut(sender: Sender, closed: bool) -> bool
+    ensures { result ≡ has_shut sender closed }
+{
+    match sender {
+        Sender::Client => false,
+        Sender::Server => closed,
+    }
+}
+
+/// A part of a chunked body, or its end.
+pub fn take_chunk(
+    sender: Sender,
+    mut reader: ChunkReader,
+    mut rest: Pending,
+    closed: bool,
+) -> Result<Turn, NoMemory>
+    requires { (place : Place) × (reader ≡ reads place) }
+    ensures turn { IfOk result (λ turn. IsTurn (state_at (chunk_place sender reader) rest closed) turn.part (seen_as turn.stage turn.rest closed)) }
+    ensures stage { IfOk result (λ turn. IsStage turn.stage) }
+{
+    match reader.step(rest.bytes()) {
+        Ok(step) => {
+            rest.skip(step.used);
+            let stage = Stage::Chunked { sender, reader };
+            give(step.part, stage, rest, is_shut(sender, closed))
+        }
+        Err(ChunkError::BadChunk) => Ok(refuse(chunk_fault(sender), rest)),
+        Err(ChunkError::NoMemory) => Err(NoMemory),
+    }
+}
+
+// The part of a chunked body as a part of the message, with this stage behind it.
+fn give(
+    part: Option<ChunkPart>,
+    stage: Stage,
+    rest: Pending,
+    is_cut_off: bool,
+) -> Result<Turn, NoMemory>
+    ensures { IfOk result (λ turn. turn ≡ given part stage rest is_cut_off) }
+{
+    match part {
+        None => Ok(wait(stage, rest, is_cut_off)),
+        Some(ChunkPart::Size(size)) => Ok(Turn {
+            part: Part::ChunkStart(size),
+            stage,
+            rest,
+        }),
+        Some(ChunkPart::Piece(bytes)) => Ok(Turn {
+            part: Part::Piece(bytes),
+            stage,
+            rest,
+        }),
+        Some(ChunkPart::EndOfChunk) => Ok(Turn {
+            part: Part::ChunkEnd,
+            stage,
+            rest,
+        }),
+        Some(ChunkPart::Trailers(trailers)) => end(trailers, rest),
+    }
+}
+
+// What a malformed chunked body is told as.
+fn chunk_fault(sender: Sender) -> Fault
+    ensures { result ≡ fault_of sender BadChunk }
+{
+    match sender {
+        Sender::Client => Fault::BadChunk,
+        Sender::Server => Fault::BadResponse,
+    }
+}

@@ -1,0 +1,126 @@
+//! Heads, and what follows each of them by its length (RFC 9112 section 6.3).
+ghost use Rattle.std.specs.Prelude.{◌≡◌, ℕ, Bool, List, None, IfOk};
+ghost use Rattle.px_message.specs.Length.{response_length};
+ghost use Rattle.px_read.specs.Reader.{IsTurn, at_head, request, response};
+ghost use Rattle.px_read.specs.Stages.{answered, IsStage, body_place, request_place, seen_as, state_at};
+
+use super::pending::Pending;
+use super::stage::{Sender, Stage, Turn, refuse};
+use crate::parts::{read_request_head, read_response_head};
+use crate::{ChunkReader, Part, ResponseHead};
+use px_head::{Found, HeadReader, RawHead};
+use px_message::{Fault, Fields, Length, length_of_request, length_of_response};
+use px_text::NoMemory;
+use std::alloc::Global;
+
+/// The head of a request. It is given before a fault of its length.
+pub fn take_request(
+    alloc: Global,
+    mut reader: HeadReader,
+    rest: Pending,
+    closed: bool,
+) -> Result<Turn, NoMemory>
+    requires { reader.failed ≡ None }
+    ensures turn { IfOk result (λ turn. IsTurn (state_at (at_head request) reader.rest closed) turn.part (seen_as turn.stage turn.rest closed)) }
+    ensures stage { IfOk result (λ turn. IsStage turn.stage) }
+{
+    match reader.take_request()? {
+        Found::Partial => Ok(Turn {
+            part: Part::More,
+            stage: Stage::Request(reader),
+            rest,
+        }),
+        Found::TooLong => Ok(refuse(Fault::TooLong, Pending::new(reader.into_rest()))),
+        Found::BadHead => Ok(refuse(Fault::BadHead, Pending::new(reader.into_rest()))),
+        Found::Head(raw) => {
+            let head = read_request_head(alloc, raw)?;
+            let stage = behind_request(alloc, length_of_request(&head.fields));
+            Ok(Turn {
+                part: Part::Request(head),
+                stage,
+                rest: Pending::new(reader.into_rest()),
+            })
+        }
+    }
+}
+
+/// The head of a response. Where its length is at fault, it is refused and not given.
+pub fn take_response(
+    alloc: Global,
+    asked_head: bool,
+    mut reader: HeadReader,
+    rest: Pending,
+    closed: bool,
+) -> Result<Turn, NoMemory>
+    requires { reader.failed ≡ None }
+    ensures turn { IfOk result (λ turn. IsTurn (state_at (at_head (response asked_head)) reader.rest closed) turn.part (seen_as turn.stage turn.rest closed)) }
+    ensures stage { IfOk result (λ turn. IsStage turn.stage) }
+{
+    match reader.take_response()? {
+        Found::Partial if closed => Ok(refuse(
+            Fault::ServerClosed,
+            Pending::new(reader.into_rest()),
+        )),
+        Found::Partial => Ok(Turn {
+            part: Part::More,
+            stage: Stage::Response { asked_head, reader },
+            rest,
+        }),
+        Found::TooLong => Ok(refuse_response(reader)),
+        Found::BadHead => Ok(refuse_response(reader)),
+        Found::Head(raw) => {
+            let head = read_response_head(alloc, raw)?;
+            let rest = Pending::new(reader.into_rest());
+            Ok(give_response(alloc, asked_head, head, rest))
+        }
+    }
+}
+
+// A response without a head.
+fn refuse_response(reader: HeadReader) -> Turn
+    ensures { result ≡ record { part = Part.Bad Fault.BadResponse; stage = Stage.Refused Fault.BadResponse; rest = reader.rest } }
+{
+    refuse(Fault::BadResponse, Pending::new(reader.into_rest()))
+}
+
+// The head of a response, or its refusal for a fault of its length.
+fn give_response(alloc: Global, asked_head: bool, head: ResponseHead, rest: Pending) -> Turn
+    ensures turn { (closed : Bool) → (result.part, seen_as result.stage result.rest closed) ≡ answered (response_length head.code asked_head head.fields) head rest closed }
+    ensures stage { IsStage result.stage }
+{
+    match length_of_response(head.code, asked_head, &head.fields) {
+        Err(_) => refuse(Fault::BadResponse, rest),
+        Ok(length) => Turn {
+            part: Part::Response(head),
+            stage: behind_head(alloc, Sender::Server, length),
+            rest,
+        },
+    }
+}
+
+// What follows the head of a request.
+fn behind_request(alloc: Global, length: Result<Length, Fault>) -> Stage
+    ensures seen { (rest : List ℕ) (closed : Bool) → seen_as result rest closed ≡ state_at (request_place length) rest closed }
+    ensures stage { IsStage result }
+{
+    match length {
+        Ok(length) => behind_head(alloc, Sender::Client, length),
+        Err(fault) => Stage::Refused(fault),
+    }
+}
+
+// What follows a head, by the length of its body.
+fn behind_head(alloc: Global, sender: Sender, length: Length) -> Stage
+    ensures seen { (rest : List ℕ) (closed : Bool) → seen_as result rest closed ≡ state_at (body_place sender length) rest closed }
+    ensures stage { IsStage result }
+{
+    match length {
+        Length::None => Stage::Ended(Fields::new(alloc)),
+        Length::Bytes(left) => Stage::Counted { sender, left },
+        Length::Chunked => Stage::Chunked {
+            sender,
+            reader: ChunkReader::new(alloc),
+        },
+        Length::ToClose => Stage::ToClose { sender },
+    }
+}

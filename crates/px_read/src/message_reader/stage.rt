@@ -1,0 +1,115 @@
+//! Where a reader is in its message, and one turn of it: the next part, and where it is behind it.
+ghost use Rattle.std.specs.Prelude.{◌≡◌, IfOk};
+ghost use Rattle.px_read.specs.Reader.{IsTurn};
+ghost use Rattle.px_read.specs.Stages.{IsStage, seen_as};
+ghost use Rattle.px_read.specs.Waits.{waited};
+
+use super::body::{take_chunk, take_counted, take_to_close};
+use super::head::{take_request, take_response};
+use super::pending::Pending;
+use crate::{ChunkReader, Part};
+use px_head::HeadReader;
+use px_message::{Fault, Fields};
+use px_text::NoMemory;
+use std::alloc::Global;
+
+/// Whose message it is: a server's close counts, and its faults are one.
+#[derive(Clone, Copy, Debug, PartialEq, Eq)]
+pub enum Sender {
+    Client,
+    Server,
+}
+
+/// What the next byte belongs to.
+#[derive(Debug, Drop)]
+pub enum Stage {
+    /// The head of a request. Its reader keeps the bytes.
+    Request(HeadReader),
+    /// The head of a response, to a HEAD or not. Its reader keeps the bytes.
+    Response {
+        asked_head: bool,
+        reader: HeadReader,
+    },
+    /// A body of which so many bytes are to come.
+    Counted {
+        sender: Sender,
+        left: u64,
+    },
+    /// A chunked body.
+    Chunked {
+        sender: Sender,
+        reader: ChunkReader,
+    },
+    /// A body up to the close.
+    ToClose {
+        sender: Sender,
+    },
+    /// Nothing: the message is whole, with these trailers.
+    Ended(Fields),
+    /// Nothing: the message is refused.
+    Refused(Fault),
+}
+
+/// A part, and where the reader is behind it.
+#[derive(Debug, Drop)]
+pub struct Turn {
+    pub part: Part,
+    pub stage: Stage,
+    pub rest: Pending,
+}
+
+/// The next part of the bytes.
+pub fn take_turn(alloc: Global, stage: Stage, rest: Pending, closed: bool) -> Result<Turn, NoMemory>
+    requires { IsStage stage }
+    ensures turn { IfOk result (λ turn. IsTurn (seen_as stage rest closed) turn.part (seen_as turn.stage turn.rest closed)) }
+    ensures stage { IfOk result (λ turn. IsStage turn.stage) }
+{
+    match stage {
+        Stage::Request(reader) => take_request(alloc, reader, rest, closed),
+        Stage::Response { asked_head, reader } => {
+            take_response(alloc, asked_head, reader, rest, closed)
+        }
+        Stage::Counted { sender, left } => take_counted(alloc, sender, left, rest, closed),
+        Stage::Chunked { sender, reader } => take_chunk(sender, reader, rest, closed),
+        Stage::ToClose { sender } => take_to_close(alloc, sender, rest, closed),
+        Stage::Ended(trailers) => end(trailers, rest),
+        Stage::Refused(fault) => Ok(refuse(fault, rest)),
+    }
+}
+
+/// The message is whole.
+pub fn end(trailers: Fields, rest: Pending) -> Result<Turn, NoMemory>
+    ensures { IfOk result (λ turn. turn ≡ record { part = Part.End trailers; stage = Stage.Ended trailers; rest = rest }) }
+{
+    Ok(Turn {
+        part: Part::End(trailers.try_clone()?),
+        stage: Stage::Ended(trailers),
+        rest,
+    })
+}
+
+/// The message is refused.
+pub fn refuse(fault: Fault, rest: Pending) -> Turn
+    ensures { result ≡ record { part = Part.Bad fault; stage = Stage.Refused fault; rest = rest } }
+{
+    Turn {
+        part: Part::Bad(fault),
+        stage: Stage::Refused(fault),
+        rest,
+    }
+}
+
+/// Nothing further is told: the message waits, unless its server has closed.
+pub fn wait(stage: Stage, rest: Pending, is_cut_off: bool) -> Turn
+    ensures { result ≡ waited is_cut_off stage rest }
+{
+    if is_cut_off {
+        refuse(Fault::ServerClosed, rest)
+    } else {
+        Turn {
+            part: Part::More,
+            stage,
+            rest,
+        }
+    }
+}

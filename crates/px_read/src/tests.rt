@@ -1,0 +1,2 @@
+//! Worked rows of bodies and messages.
+mod chunks;
