@@ -1,1 +1,7 @@
+pub mod TargetTextLemmas
+pub mod PlainLemmas
+pub mod ReadBackLemmas
+pub mod TargetLemmas
+pub mod ChunkTextLemmas
 pub mod PrefixLemmas
+mod FramingLemmas

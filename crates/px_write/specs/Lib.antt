@@ -1,2 +1,5 @@
 pub mod Error
 pub mod Text
+pub mod Short
+pub mod Framing
+pub mod ReadBack

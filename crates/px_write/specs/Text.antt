@@ -52,9 +52,12 @@ request_head_text request form =
     request_line request.method (target_text form request.host request.port request.path) (version_text request.version)
     ++ fields_text request.fields
 
+-- the head of a response: a status line and fields; an interim response is one, and has no more (RFC 9110 section 15.2)
+abbrev pub interim_text : Version → ℕ → List ℕ → List (List ℕ × List ℕ) → List ℕ
+interim_text version code reason fields = status_line (version_text version) code reason ++ fields_text fields
+
 abbrev pub response_head_text : Response → List ℕ
-response_head_text response =
-    status_line (version_text response.version) response.status response.reason ++ fields_text response.fields
+response_head_text response = interim_text response.version response.status response.reason response.fields
 
 -- a chunk of this content, or none where there is none (RFC 9112 section 7.1)
 abbrev pub chunk_text : List ℕ → List ℕ

@@ -80,9 +80,9 @@ fn fault_status(fault: Fault) -> &'static [u8]
     }
 }
 
-// What is said of it.
+/// What is said of it, to the client and in the flow's error.
 #[tactic(auto, unfolding(crate::specs::Error::fault_message))]
-fn fault_message(fault: Fault) -> &'static [u8]
+pub fn fault_message(fault: Fault) -> &'static [u8]
     ensures { result.now ≡ fault_message fault }
 {
     match fault {

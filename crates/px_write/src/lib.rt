@@ -15,12 +15,18 @@ mod body;
 mod error;
 mod fields;
 mod form;
+pub mod framing;
 mod line;
 mod message;
+pub mod read_back;
+mod short;
 #[cfg(test)]
 mod tests;
 
 pub use body::{write_chunk_end, write_chunk_start, write_last_chunk};
-pub use error::error_text;
+pub use error::{error_text, fault_message};
 pub use form::Form;
-pub use message::{write_request, write_request_head, write_response, write_response_head};
+pub use message::{
+    write_interim, write_request, write_request_head, write_response, write_response_head,
+};
+pub use short::short_response;

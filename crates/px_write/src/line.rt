@@ -7,7 +7,7 @@ ghost use Rattle.px_write.specs.Text.{request_line, status_line, target_text, ve
 use crate::Form;
 use crate::append::{CRLF, append};
 use itoa::Buffer;
-use px_message::{Request, Response, Version};
+use px_message::{Request, Value, Version};
 use px_text::NoMemory;
 
 /// Appends the line that begins the request.
@@ -30,15 +30,20 @@ pub(crate) fn write_request_line(
     }
 }
 
-/// Appends the line that begins the response.
-pub(crate) fn write_status_line(response: &Response, out: &mut Vec<u8>) -> Result<(), NoMemory>
-    ensures ok { OnOk result (out.new.items ≡ out.old.items ++ status_line (version_text response.now.version) response.now.status response.now.reason) }
-    ensures err { OnErr result (AddsPrefixOf (status_line (version_text response.now.version) response.now.status response.now.reason) out.old.items out.new.items) }
+/// Appends the line that begins a response.
+pub(crate) fn write_status_line(
+    version: Version,
+    code: u16,
+    reason: &Value,
+    out: &mut Vec<u8>,
+) -> Result<(), NoMemory>
+    ensures ok { OnOk result (out.new.items ≡ out.old.items ++ status_line (version_text version) code reason.now) }
+    ensures err { OnErr result (AddsPrefixOf (status_line (version_text version) code reason.now) out.old.items out.new.items) }
 {
-    let version = version_name(response.version);
-    let mut digits = Buffer::new();
-    let code = digits.format(response.status.code()).as_bytes();
-    write_line(version, code, response.reason.bytes(), out)
+    let name = version_name(version);
+    let mut buffer = Buffer::new();
+    let digits = buffer.format(code).as_bytes();
+    write_line(name, digits, reason.bytes(), out)
 }
 
 // A line of three parts.
