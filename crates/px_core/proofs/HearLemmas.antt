@@ -1,0 +1,244 @@
+-- What is heard of a conversation: its calls one step further, and what a call that is worked off makes of it.
+use Rattle.std.proofs.Common.{◌≡◌, ◌≢◌, ◌⊎◌, inl, inr, ℕ, Bool, true, false, ◌==◌, List, [], ◌∷◌, ◌++◌, Option, Some, None, refl, ap, sym, ◌∙◌, subst, append_assoc, option_to_list, cond}
+use Rattle.std.specs.List.{flat_map}
+use Rattle.std.proofs.lemmas.List.{append-nil}
+use Rattle.std.proofs.lemmas.Bool.{ne_eqb}
+use Rattle.px_event.specs.declared.ask.Ask.{Ask}
+use Rattle.px_event.specs.declared.ask.Ask.TheVariants as asks
+use Rattle.px_event.specs.declared.ask.Hook.{Hook}
+use Rattle.px_event.specs.declared.command.Command.{Command}
+use Rattle.px_event.specs.declared.event.Event.{Event}
+use Rattle.px_event.specs.declared.heard.Heard.{Heard}
+use Rattle.px_event.specs.declared.side.Side.{Side}
+use Rattle.px_event.specs.declared.step.Step.{Step}
+use Rattle.px_event.specs.declared.step.Step.TheVariants as steps
+use Rattle.px_event.specs.Layer.{Move, Took, Replied, Standing, Goes, AsksOnly, asks_in}
+use Rattle.px_event.specs.Trace.{Trace}
+use Rattle.px_event.specs.View.{View, bytes, closes, questions, finished, flows, IsTold, seen_of, seen_in, step_atoms}
+use Rattle.px_core.specs.declared.held.Held.{Held}
+use Rattle.px_core.specs.declared.news.News.{News}
+use Rattle.px_core.specs.declared.news.News.TheVariants as news
+use Rattle.px_core.specs.Answers.{Answering}
+use Rattle.px_core.specs.Calls.{Calls, calls, calls_of, calls_on, hears_by, takes, addressed, is_connected, is_dialling, dial_ends, dial_reply, connected_by, moved}
+use Rattle.px_core.specs.Conversation.{AllNamed, AsksWhile}
+use Rattle.px_core.specs.Due.{Due, IsServed}
+use Rattle.px_core.specs.Held.{AllOf, dial_from, dial_of, IsSettled, IsReady, IsOneOn, Gives, Within, Stood, WorkedTo, Works, Takes, Hears}
+use Rattle.px_core.proofs.AskLemmas.{asks_one, dial_now, quiet}
+use Rattle.px_core.proofs.CallLemmas.{calls_more, seen_more, same_number}
+
+pub heard_seen : (view : View) (conv moment : ℕ) (heard : Heard) → step_atoms view conv (steps.Heard moment heard) ≡ []
+heard_seen (bytes side) conv moment heard = refl
+heard_seen (closes side) conv moment heard = refl
+heard_seen questions conv moment heard = refl
+heard_seen finished conv moment heard = refl
+heard_seen flows conv moment heard = refl
+
+pub seen_heard : (view : View) (conv : ℕ) (trace : Trace) (moment : ℕ) (heard : Heard) → seen_in view conv (trace ++ steps.Heard moment heard ∷ []) ≡ seen_in view conv trace
+seen_heard view conv trace moment heard =
+    seen_more view conv trace (steps.Heard moment heard) ∙ (ap (λ l. seen_in view conv trace ++ l) (heard_seen view conv moment heard) ∙ append-nil (seen_in view conv trace))
+
+by_news : (conv moment : ℕ) (c : Calls) (a : Option (ℕ × News)) (what : News) → a ≡ Some (conv, what) → hears_by conv moment c a ≡ takes moment c what
+by_news conv moment c a what is = ap (hears_by conv moment c) is ∙ (rw (same_number conv) refl)
+
+-- what was heard of this conversation
+pub calls_heard : (conv : ℕ) (trace : Trace) (moment : ℕ) (heard : Heard) (what : News) → addressed heard ≡ Some (conv, what) →
+    calls conv (trace ++ steps.Heard moment heard ∷ []) ≡ record (takes moment (calls conv trace) what) { moment = moment }
+calls_heard conv trace moment heard what is =
+    calls_more conv trace (steps.Heard moment heard)
+    ∙ ap (λ (c : Calls). record c { moment = moment }) (by_news conv moment (calls conv trace) (addressed heard) what is)
+
+by_other : (conv moment number : ℕ) (c : Calls) (a : Option (ℕ × News)) (what : News) → a ≡ Some (number, what) → number ≢ conv → hears_by conv moment c a ≡ c
+by_other conv moment number c a what is apart =
+    let no : (number == conv) ≡ false = ne_eqb number conv apart in ap (hears_by conv moment c) is ∙ (rw no refl)
+
+-- of another
+pub calls_heard_other : (conv number : ℕ) (trace : Trace) (moment : ℕ) (heard : Heard) (what : News) → addressed heard ≡ Some (number, what) → number ≢ conv →
+    calls conv (trace ++ steps.Heard moment heard ∷ []) ≡ record (calls conv trace) { moment = moment }
+calls_heard_other conv number trace moment heard what is apart =
+    calls_more conv trace (steps.Heard moment heard)
+    ∙ ap (λ (c : Calls). record c { moment = moment }) (by_other conv moment number (calls conv trace) (addressed heard) what is apart)
+
+-- or of none
+pub calls_heard_none : (conv : ℕ) (trace : Trace) (moment : ℕ) (heard : Heard) → addressed heard ≡ None →
+    calls conv (trace ++ steps.Heard moment heard ∷ []) ≡ record (calls conv trace) { moment = moment }
+calls_heard_none conv trace moment heard is =
+    calls_more conv trace (steps.Heard moment heard)
+    ∙ ap (λ (c : Calls). record c { moment = moment }) (ap (hears_by conv moment (calls conv trace)) is)
+
+-- what an event that was taken gave
+pub gives_event : {C : Type 0} (standing : Standing C) (awaited : C → Option Ask) (conv : ℕ) (move : Move) (before after : C) (given : List Command) (was : Option Ask) →
+    awaited before ≡ was → AllNamed conv given → Goes standing before after move [] given → AsksWhile was (awaited after) [] given →
+    Gives standing awaited move (dial_of (awaited before)) before after given
+gives_event standing awaited conv move before after given None is named goes (more, grown, one) = record {
+  goes = goes;
+  dials =
+      let asked : flat_map asks_in given ≡ option_to_list (awaited after) = ap (λ l. flat_map asks_in l) grown ∙ one in
+      ap (λ a. dial_from (dial_of a) given) is ∙ ((asks_one conv (awaited after) None given named asked).dials ∙ dial_now (awaited after));
+}
+gives_event standing awaited conv move before after given (Some ask) is named goes (still, (more, grown, none)) = record {
+  goes = goes;
+  dials =
+      let asked : flat_map asks_in given ≡ [] = ap (λ l. flat_map asks_in l) grown ∙ none in
+      (quiet given asked None (dial_of (awaited before))).dials ∙ ap dial_of (is ∙ sym still);
+}
+
+pub ready_event : {C : Type 0} (awaited : C → Option Ask) (before after : Held C) (given : List Command) (was : Option Ask) →
+    awaited before.conversation ≡ was → IsSettled awaited before → after.draft ≡ before.draft → AsksWhile was (awaited after.conversation) [] given → IsReady awaited after given
+ready_event awaited before after given None is settled same (more, grown, one) = inl (ap (λ l. flat_map asks_in l) grown ∙ one)
+ready_event awaited before after given (Some ask) is settled same (still, (more, grown, none)) =
+    inr (ap (λ l. flat_map asks_in l) grown ∙ none, λ flow hook waits. rw same (settled flow hook (is ∙ (sym still ∙ waits))))
+
+-- what the end of a dial gave
+pub gives_end : {C : Type 0} (standing : Standing C) (awaited : C → Option Ask) (conv : ℕ) (move : Move) (before after : C) (given : List Command) →
+    AllNamed conv given → Goes standing before after move [] given → flat_map asks_in given ≡ option_to_list (awaited after) →
+    Gives standing awaited move None before after given
+gives_end standing awaited conv move before after given named goes one = record {
+  goes = goes;
+  dials = (asks_one conv (awaited after) None given named one).dials ∙ dial_now (awaited after);
+}
+
+module _ {C : Type 0} (standing : Standing C) (awaited : C → Option Ask) (number : C → ℕ) (made_due : C → List Move → List Command) where
+  -- a call was taken, and its commands are still to be told
+  taken_within : (due : Due) (conv moment : ℕ) (move : Move) (dial : Option ℕ) (sides : List ℕ) (before after : Held C) (trace next : Trace) (given : List Command) →
+      Stood standing awaited number made_due due conv before.conversation trace → IsOneOn conv moment move dial sides trace next → number after.conversation ≡ conv →
+      Gives standing awaited move dial before.conversation after.conversation given → sides ≡ after.connected.items →
+      Within standing awaited number made_due due conv after next given
+  taken_within due conv moment move dial sides before after trace next given w on named gives same =
+      let P : List Move → Type 0 = λ l. standing w.made after.conversation l (w.earlier ++ given) in
+      let Q : List Command → Type 0 = λ l. standing w.made after.conversation (calls_of conv trace ++ move ∷ []) l in
+      let all : (w.earlier ++ []) ++ gives.goes.more ≡ w.earlier ++ given =
+      ap (λ l. l ++ gives.goes.more) (append-nil w.earlier) ∙ ap (λ l. w.earlier ++ l) (sym gives.goes.grown) in
+      record {
+        made = w.made;
+        earlier = w.earlier;
+        stands = subst P (sym on.moves) (subst Q all (gives.goes.stands w.made (calls_of conv trace) (w.earlier ++ []) w.stands));
+        owes = w.owes;
+        tells = λ view told. w.tells view told ∙ sym (on.sees view told);
+        named = named;
+        begun = on.begun;
+        sides = on.connected ∙ same;
+        dial = ap (λ d. dial_from d given) on.dials ∙ gives.dials;
+      }
+
+  module _ {S : Type 0} (answers : Answering S) where
+    pub works_taken : (conv moment : ℕ) (move : Move) (dial : Option ℕ) (sides : List ℕ) (before between after : Held C) (given : List Command) (out new_out : List Step) →
+        number between.conversation ≡ conv → Gives standing awaited move dial before.conversation between.conversation given → sides ≡ between.connected.items →
+        Works standing awaited number made_due answers conv moment given between after None out new_out →
+        Takes standing awaited number made_due answers conv moment move dial sides before after out new_out
+    works_taken conv moment move dial sides before between after given out new_out named gives same works = record {
+      more = works.more;
+      grown = works.grown;
+      own = works.own;
+      takes = λ due trace next w on served.
+          let to = works.works due next (taken_within due conv moment move dial sides before between trace next given w on named gives same) on.now served in
+          (to.within, to.served);
+      settled = works.next;
+    }
+
+    -- the same where a side was noted before the call
+    pub works_end : (conv moment : ℕ) (move : Move) (dial : Option ℕ) (sides : List ℕ) (before noted between after : Held C) (given : List Command) (out new_out : List Step) →
+        noted.conversation ≡ before.conversation → number between.conversation ≡ conv → Gives standing awaited move dial noted.conversation between.conversation given → sides ≡ between.connected.items →
+        Works standing awaited number made_due answers conv moment given between after None out new_out →
+        Takes standing awaited number made_due answers conv moment move dial sides before after out new_out
+    works_end conv moment move dial sides before noted between after given out new_out same named gives sides_are works =
+        let P : C → Type 0 = λ s. Gives standing awaited move dial s between.conversation given in
+        works_taken conv moment move dial sides before between after given out new_out named (subst P same gives) sides_are works
+
+    -- news that are no call
+    pub ignored : (conv moment : ℕ) (what : News) (held : Held C) (out : List Step) →
+        ((c : Calls) → c.begun ≡ true → c.connected ≡ held.connected.items → c.dial ≡ dial_of (awaited held.conversation) → takes moment c what ≡ c) → IsSettled awaited held →
+        Hears standing awaited number made_due answers conv moment what held held out out
+    ignored conv moment what held out nothing settled = record {
+      more = [];
+      grown = sym (append-nil out);
+      own = tt;
+      hears = λ due trace heard is w served.
+          let on : calls conv (trace ++ steps.Heard moment heard ∷ []) ≡ record (calls conv trace) { moment = moment } =
+          calls_heard conv trace moment heard what is ∙ ap (λ (c : Calls). record c { moment = moment }) (nothing (calls conv trace) w.begun w.sides w.dial) in
+          let P : List Move → Type 0 = λ l. standing w.made held.conversation l (w.earlier ++ []) in
+          let Q : Trace → Type 0 = λ t. Within standing awaited number made_due due conv held t [] × IsServed answers due t in
+          subst Q (sym (append-nil (trace ++ steps.Heard moment heard ∷ []))) (
+            record {
+              made = w.made;
+              earlier = w.earlier;
+              stands = subst P (sym (ap (λ (c : Calls). c.moves) on)) w.stands;
+              owes = w.owes;
+              tells = λ view told. w.tells view told ∙ sym (seen_heard view conv trace moment heard);
+              named = w.named;
+              begun = ap (λ (c : Calls). c.begun) on ∙ w.begun;
+              sides = ap (λ (c : Calls). c.connected) on ∙ w.sides;
+              dial = ap (λ (c : Calls). c.dial) on ∙ w.dial;
+            },
+            served,
+          );
+      settled = settled;
+    }
+
+    -- news that are a call
+    pub taken : (conv moment : ℕ) (what : News) (move : Move) (dial : Option ℕ) (sides : List ℕ) (before after : Held C) (out new_out : List Step) →
+        ((c : Calls) → c.begun ≡ true → c.connected ≡ before.connected.items → c.dial ≡ dial_of (awaited before.conversation) →
+        (takes moment c what).moves ≡ c.moves ++ move ∷ [] × ((takes moment c what).begun ≡ true) × ((takes moment c what).dial ≡ dial) × ((takes moment c what).connected ≡ sides)) →
+        Takes standing awaited number made_due answers conv moment move dial sides before after out new_out →
+        Hears standing awaited number made_due answers conv moment what before after out new_out
+    taken conv moment what move dial sides before after out new_out one t = record {
+      more = t.more;
+      grown = t.grown;
+      own = t.own;
+      hears = λ due trace heard is w served.
+          let on = calls_heard conv trace moment heard what is in
+          let facts = one (calls conv trace) w.begun w.sides w.dial in
+          t.takes due trace (trace ++ steps.Heard moment heard ∷ []) (record { made = w.made; earlier = w.earlier; stands = w.stands; owes = w.owes; tells = w.tells }) (record {
+            moves = ap (λ (c : Calls). c.moves) on ∙ facts.0;
+            begun = ap (λ (c : Calls). c.begun) on ∙ facts.1;
+            dials = ap (λ (c : Calls). c.dial) on ∙ facts.2;
+            connected = ap (λ (c : Calls). c.connected) on ∙ facts.3;
+            now = ap (λ (c : Calls). c.moment) on;
+            sees = λ view told. seen_heard view conv trace moment heard;
+          }) served;
+      settled = t.settled;
+    }
+
+-- what each news takes
+pub takes_begun : (moment : ℕ) (c : Calls) → c.begun ≡ true → takes moment c news.Begun ≡ c
+takes_begun moment c is = rw is refl
+
+pub takes_not_connected : (moment : ℕ) (c : Calls) (side : Side) (event : Event) (sides : List ℕ) → c.begun ≡ true → c.connected ≡ sides → is_connected side sides ≡ false →
+    takes moment c (news.Event side event) ≡ c
+takes_not_connected moment c side event sides begun same not =
+    let no : is_connected side c.connected ≡ false = ap (is_connected side) same ∙ not in rw (begun, no) refl
+
+pub takes_connected : (moment : ℕ) (c : Calls) (side : Side) (event : Event) (sides : List ℕ) → c.begun ≡ true → c.connected ≡ sides → is_connected side sides ≡ true →
+    takes moment c (news.Event side event) ≡ moved (Took moment event) c
+takes_connected moment c side event sides begun same is =
+    let yes : is_connected side c.connected ≡ true = ap (is_connected side) same ∙ is in rw (begun, yes) refl
+
+pub takes_no_end : (moment : ℕ) (c : Calls) (server : ℕ) (ok : Bool) (dial : Option ℕ) → c.dial ≡ dial → is_dialling server dial ≡ false →
+    takes moment c (news.Dialled server ok) ≡ c
+takes_no_end moment c server ok dial same not =
+    let no : is_dialling server c.dial ≡ false = ap (is_dialling server) same ∙ not in rw no refl
+
+pub takes_end : (moment : ℕ) (c : Calls) (server : ℕ) (ok : Bool) (dial : Option ℕ) → c.dial ≡ dial → is_dialling server dial ≡ true →
+    takes moment c (news.Dialled server ok) ≡ dial_ends moment server ok c
+takes_end moment c server ok dial same is =
+    let yes : is_dialling server c.dial ≡ true = ap (is_dialling server) same ∙ is in rw yes refl
+
+module _ {C : Type 0} (standing : Standing C) (awaited : C → Option Ask) (number : C → ℕ) (made_due : C → List Move → List Command) {S : Type 0} (answers : Answering S) where
+  pub heard_event : (conv moment : ℕ) (what : News) (side : Side) (event : Event) (before after : Held C) (out new_out : List Step) → what ≡ news.Event side event →
+      is_connected side before.connected.items ≡ true →
+      Takes standing awaited number made_due answers conv moment (Took moment event) (dial_of (awaited before.conversation)) before.connected.items before after out new_out →
+      Hears standing awaited number made_due answers conv moment what before after out new_out
+  heard_event conv moment what side event before after out new_out is connected t =
+      taken standing awaited number made_due answers conv moment what (Took moment event) (dial_of (awaited before.conversation)) before.connected.items before after out new_out
+      (λ c begun sides dial.
+      let on : takes moment c what ≡ moved (Took moment event) c = ap (takes moment c) is ∙ takes_connected moment c side event before.connected.items begun sides connected in
+      (ap (λ (c : Calls). c.moves) on, ap (λ (c : Calls). c.begun) on ∙ begun, ap (λ (c : Calls). c.dial) on ∙ dial, ap (λ (c : Calls). c.connected) on ∙ sides)) t
+
+  pub heard_end : (conv moment : ℕ) (what : News) (server : ℕ) (ok : Bool) (before after : Held C) (out new_out : List Step) → what ≡ news.Dialled server ok →
+      is_dialling server (dial_of (awaited before.conversation)) ≡ true →
+      Takes standing awaited number made_due answers conv moment (Replied moment (dial_reply ok)) None (connected_by server ok before.connected.items) before after out new_out →
+      Hears standing awaited number made_due answers conv moment what before after out new_out
+  heard_end conv moment what server ok before after out new_out is dialling t =
+      taken standing awaited number made_due answers conv moment what (Replied moment (dial_reply ok)) None (connected_by server ok before.connected.items) before after out new_out
+      (λ c begun sides dial.
+      let on : takes moment c what ≡ dial_ends moment server ok c = ap (takes moment c) is ∙ takes_end moment c server ok (dial_of (awaited before.conversation)) dial dialling in
+      (ap (λ (c : Calls). c.moves) on, ap (λ (c : Calls). c.begun) on ∙ begun, ap (λ (c : Calls). c.dial) on, ap (λ (c : Calls). c.connected) on ∙ ap (connected_by server ok) sides)) t

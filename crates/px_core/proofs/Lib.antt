@@ -1,0 +1,10 @@
+pub mod AskLemmas
+pub mod CallLemmas
+pub mod EchoRunLemmas
+pub mod HearLemmas
+pub mod NamedLemmas
+pub mod ResultLemmas
+pub mod RouteLemmas
+pub mod RunLemmas
+pub mod ServedLemmas
+pub mod WorkLemmas

@@ -1,0 +1,527 @@
+-- From the end of a step to the end of the next, for a table of conversations.
+use Rattle.std.proofs.Common.{◌≡◌, ◌≢◌, ◌⊎◌, inl, inr, ℕ, Bool, true, false, ◌==◌, List, [], ◌∷◌, ◌++◌, Option, Some, None, refl, ap, sym, ◌∙◌, subst, append_assoc, is_some, arith}
+use Rattle.std.specs.Prelude.{if◌then◌else◌}
+use Rattle.std.proofs.lemmas.List.{append-nil}
+use Rattle.std.proofs.lemmas.Bool.Decides.{eqb_tells, nat_tests}
+use Rattle.slab.specs.Slab as slab
+use Rattle.std.specs.BTreeMap as tree
+use Rattle.std.specs.BTreeMap.{is_at}
+use Rattle.std.specs.Ordering.{nat_cmp}
+use Rattle.px_text.specs.Prefix.{IsPrefixOf}
+use Rattle.px_event.proofs.Growth.{prefix_self}
+use Rattle.px_event.specs.declared.ask.Ask.{Ask}
+use Rattle.px_event.specs.declared.reply.Reply.{Reply}
+use Rattle.px_event.specs.declared.command.Command.{Command}
+use Rattle.px_event.specs.declared.event.Event.TheVariants as events
+use Rattle.px_event.specs.declared.heard.Heard.{Heard}
+use Rattle.px_event.specs.declared.step.Step.{Step}
+use Rattle.px_event.specs.declared.step.Step.TheVariants as steps
+use Rattle.px_event.specs.Layer.{Move, Took, Standing}
+use Rattle.px_event.specs.Trace.{Trace}
+use Rattle.px_event.specs.View.{View, Atom, IsTold, seen_of, seen_in}
+use Rattle.px_event.proofs.TraceLemmas.{always_empty, always_more, before_empty, before_heard}
+use Rattle.px_core.specs.declared.held.Held.{Held}
+use Rattle.px_core.specs.declared.news.News.{News}
+use Rattle.px_core.specs.declared.news.News.TheVariants as news
+use Rattle.px_core.specs.declared.table.Place.{Place}
+use Rattle.px_core.specs.declared.table.Place.TheVariants as place
+use Rattle.px_core.specs.declared.table.Table.{Table}
+use Rattle.px_core.specs.Answers.{Answering}
+use Rattle.px_core.specs.Calls.{Calls, calls, calls_of, takes, moved, addressed, is_connected, is_dialling, dial_ends}
+use Rattle.px_core.specs.Due.{Due, due_in, IsWithinDue, IsAllTold, EndsMet, IsServed}
+use Rattle.px_core.specs.Held.{AllOf, dial_of, IsSettled, Within, Hears, Takes}
+use Rattle.px_core.specs.Router.{Found, unknown, over, lost, live, found_at, found_by, place_of, found, IsUnknown, IsOver, IsLive, StandsIn, TableStands, HearsAt, Hands, Admits, Routes, IsAtKey, OwesNothing}
+use Rattle.px_core.proofs.CallLemmas.{others_calls, others_seen}
+use Rattle.px_core.proofs.HearLemmas.{seen_heard, calls_heard, calls_heard_other, calls_heard_none}
+use Rattle.px_core.proofs.ServedLemmas.{due_is, last_step}
+
+-- nothing of the conversation is new
+record Same (conv : ℕ) (trace next : Trace) : Type 0 where
+  moves : calls_of conv next ≡ calls_of conv trace
+  begun : (calls conv next).begun ≡ (calls conv trace).begun
+  dial : (calls conv next).dial ≡ (calls conv trace).dial
+  connected : (calls conv next).connected ≡ (calls conv trace).connected
+  sees : (view : View) → IsTold view → seen_in view conv next ≡ seen_in view conv trace
+
+same_by : (conv moment : ℕ) (trace next : Trace) → calls conv next ≡ record (calls conv trace) { moment = moment } →
+    ((view : View) → IsTold view → seen_in view conv next ≡ seen_in view conv trace) → Same conv trace next
+same_by conv moment trace next on sees = record {
+  moves = ap (λ (c : Calls). c.moves) on;
+  begun = ap (λ (c : Calls). c.begun) on;
+  dial = ap (λ (c : Calls). c.dial) on;
+  connected = ap (λ (c : Calls). c.connected) on;
+  sees = sees;
+}
+
+other_same : (conv other moment : ℕ) (trace more : Trace) (heard : Heard) (what : News) → addressed heard ≡ Some (conv, what) → AllOf conv more → conv ≢ other →
+    Same other trace ((trace ++ steps.Heard moment heard ∷ []) ++ more)
+other_same conv other moment trace more heard what is all apart =
+    same_by other moment trace ((trace ++ steps.Heard moment heard ∷ []) ++ more)
+    (others_calls conv other (trace ++ steps.Heard moment heard ∷ []) more all apart ∙ calls_heard_other other conv trace moment heard what is apart)
+    (λ view told. others_seen view conv other (trace ++ steps.Heard moment heard ∷ []) more all apart ∙ seen_heard view other trace moment heard)
+
+none_same : (conv moment : ℕ) (trace : Trace) (heard : Heard) → addressed heard ≡ None → Same conv trace (trace ++ steps.Heard moment heard ∷ [])
+none_same conv moment trace heard is =
+    same_by conv moment trace (trace ++ steps.Heard moment heard ∷ []) (calls_heard_none conv trace moment heard is) (λ view told. seen_heard view conv trace moment heard)
+
+-- at most one call is new
+abbrev IsGrown : List Move → List Move → Type 0
+IsGrown before after = (after ≡ before) ⊎ ((move : Move) × (after ≡ before ++ move ∷ []))
+
+takes_moves : (moment : ℕ) (c : Calls) (what : News) → IsGrown c.moves (takes moment c what).moves
+takes_moves moment c news.Begun = by c.begun
+  where
+    by : (b : Bool) → IsGrown c.moves (if b then c else record c { begun = true; moves = c.moves ++ Took moment events.Begun ∷ [] }).moves
+    by true = inl refl
+    by false = inr (_, refl)
+takes_moves moment c (news.Event side event) = by c.begun (is_connected side c.connected)
+  where
+    by : (b d : Bool) → IsGrown c.moves (if b then (if d then moved (Took moment event) c else c) else c).moves
+    by true true = inr (_, refl)
+    by true false = inl refl
+    by false true = inl refl
+    by false false = inl refl
+takes_moves moment c (news.Dialled server ok) = by (is_dialling server c.dial)
+  where
+    by : (b : Bool) → IsGrown c.moves (if b then dial_ends moment server ok c else c).moves
+    by true = inr (_, refl)
+    by false = inl refl
+
+heard_moves : (conv : ℕ) (trace : Trace) (moment : ℕ) (heard : Heard) → IsGrown (calls_of conv trace) (calls_of conv (trace ++ steps.Heard moment heard ∷ []))
+heard_moves conv trace moment heard = by (addressed heard) refl
+  where
+    here : (what : News) → addressed heard ≡ Some (conv, what) → IsGrown (calls_of conv trace) (calls_of conv (trace ++ steps.Heard moment heard ∷ []))
+    here what is = let P : List Move → Type 0 = IsGrown (calls_of conv trace) in
+        subst P (sym (ap (λ (c : Calls). c.moves) (calls_heard conv trace moment heard what is))) (takes_moves moment (calls conv trace) what)
+
+    of : (number : ℕ) (what : News) → addressed heard ≡ Some (number, what) → ((number == conv) ≡ true) × (number ≡ conv) ⊎ ((number == conv) ≡ false) × (number ≢ conv) →
+        IsGrown (calls_of conv trace) (calls_of conv (trace ++ steps.Heard moment heard ∷ []))
+    of number what is (inl same) = here what (is ∙ ap (λ n. Some (n, what)) same.1)
+    of number what is (inr apart) = inl (ap (λ (c : Calls). c.moves) (calls_heard_other conv number trace moment heard what is apart.1))
+
+    by : (a : Option (ℕ × News)) → addressed heard ≡ a → IsGrown (calls_of conv trace) (calls_of conv (trace ++ steps.Heard moment heard ∷ []))
+    by None is = inl (ap (λ (c : Calls). c.moves) (calls_heard_none conv trace moment heard is))
+    by (Some (number, what)) is = of number what is (eqb_tells number conv)
+
+no_answer_heard : (moment conv : ℕ) (heard : Heard) (ask : Ask) (reply : Reply) → steps.Answered conv ask reply ≡ steps.Heard moment heard → ⊥
+no_answer_heard moment conv heard ask reply e = cc
+
+-- where nothing of an ended conversation changes what is due
+over_grown : (due : Due) (conv : ℕ) (trace next : Trace) → IsOver due conv trace → IsGrown (calls_of conv trace) (calls_of conv next) → (view : View) →
+    due_in due view conv next ≡ due_in due view conv trace
+over_grown due conv trace next w (inl same) view = ap (λ l. seen_of view (due conv l)) same
+over_grown due conv trace next w (inr (move, is)) view = ap (λ l. seen_of view (due conv l)) is ∙ w.stays view (move ∷ [])
+
+over_stays : (due : Due) (conv : ℕ) (trace next : Trace) → IsOver due conv trace → IsGrown (calls_of conv trace) (calls_of conv next) → (view : View) (more : List Move) →
+    seen_of view (due conv (calls_of conv next ++ more)) ≡ due_in due view conv trace
+over_stays due conv trace next w (inl same) view more = ap (λ l. seen_of view (due conv (l ++ more))) same ∙ w.stays view more
+over_stays due conv trace next w (inr (move, is)) view more =
+    ap (λ l. seen_of view (due conv (l ++ more))) is ∙ (ap (λ l. seen_of view (due conv l)) (append_assoc (calls_of conv trace) (move ∷ []) more) ∙ w.stays view (move ∷ more))
+
+pub over_next : (due : Due) (conv : ℕ) (trace next : Trace) → IsOver due conv trace → IsGrown (calls_of conv trace) (calls_of conv next) →
+    ((view : View) → IsTold view → seen_in view conv next ≡ seen_in view conv trace) → IsOver due conv next
+over_next due conv trace next w grown sees = record {
+  told = λ view told. sees view told ∙ (w.told view told ∙ sym (over_grown due conv trace next w grown view));
+  stays = λ view more. over_stays due conv trace next w grown view more ∙ sym (over_grown due conv trace next w grown view);
+}
+
+-- a number that is not under the key that changed
+pub same_found : {X : Type 0} (before after : slab.Slab X) (was now : Option Place) (key : ℕ) → now ≡ was → ((k : ℕ) → k ≢ key → slab.get after k ≡ slab.get before k) →
+    (was ≡ Some (place.Live key) → ⊥) → found_by after now ≡ found_by before was
+same_found before after None now key same others not = ap (found_by after) same
+same_found before after (Some place.Ended) now key same others not = ap (found_by after) same
+same_found before after (Some (place.Live k)) now key same others not =
+    ap (found_by after) same ∙ ap found_at (others k (λ is. not (ap (λ n. Some (place.Live n)) is)))
+
+not_at : (conv other : ℕ) → conv ≢ other → is_at (nat_cmp conv) other ≡ false
+not_at conv other apart = grind (arith, nat_tests)
+
+unplaced : {A : Type 0} (o : Option A) → is_some o ≡ false → o ≡ None
+unplaced None is = refl
+unplaced (Some a) is = absurd (let no : true ≡ false = is in cc)
+
+module _ {C : Type 0} (standing : Standing C) (awaited : C → Option Ask) (number : C → ℕ) (made_due : C → List Move → List Command) where
+  stands_same : (due : Due) (conv : ℕ) (trace next : Trace) → Same conv trace next → (x : Found (Held C)) → StandsIn standing awaited number made_due due conv trace x →
+      StandsIn standing awaited number made_due due conv next x
+  stands_same due conv trace next s unknown w = record {
+    begun = s.begun ∙ w.begun;
+    dial = s.dial ∙ w.dial;
+    connected = s.connected ∙ w.connected;
+    moves = s.moves ∙ w.moves;
+    sees = λ view told. s.sees view told ∙ w.sees view told;
+    owes = w.owes;
+  }
+  stands_same due conv trace next s over w = over_next due conv trace next w (inl s.moves) s.sees
+  stands_same due conv trace next s lost w = w
+  stands_same due conv trace next s (live held) w =
+      let v = w.within in
+      let P : List Move → Type 0 = λ l. standing v.made held.conversation l (v.earlier ++ []) in
+      record {
+        within = record {
+          made = v.made;
+          earlier = v.earlier;
+          stands = subst P (sym s.moves) v.stands;
+          owes = v.owes;
+          tells = λ view told. v.tells view told ∙ sym (s.sees view told);
+          named = v.named;
+          begun = s.begun ∙ v.begun;
+          sides = s.connected ∙ v.sides;
+          dial = s.dial ∙ v.dial;
+        };
+        settled = w.settled;
+      }
+
+  -- a table in which nothing was admitted
+  pub new_stands : {S : Type 0} (answers : Answering S) (due : Due) → OwesNothing due → (table : Table C) → ((conv : ℕ) → place_of table conv ≡ None) →
+      TableStands standing awaited number made_due answers due table []
+  new_stands answers due owes table empty = record {
+    at = λ conv.
+        let P : Found (Held C) → Type 0 = StandsIn standing awaited number made_due due conv [] in
+        let u : IsUnknown due conv [] = record { begun = refl; dial = refl; connected = refl; moves = refl; sees = λ view told. refl; owes = owes conv } in
+        subst P (sym (ap (found_by table.live) (empty conv))) u;
+    served = record {
+      within = always_empty (IsWithinDue due) (λ conv view told. (due_in due view conv [], refl));
+      told = before_empty (IsAllTold due);
+      met = always_empty (EndsMet answers due) (λ front conv ask reply e. absurd (no_end front (steps.Answered conv ask reply) e));
+    };
+  }
+    where
+      no_end : (front : List Step) (step : Step) → [] ≡ front ++ step ∷ [] → ⊥
+      no_end [] step e = cc
+      no_end (x ∷ front) step e = cc
+
+  module _ (gave : (made state : C) (moves : List Move) (given : List Command) → standing made state moves given →
+      (view : View) → seen_of view given ≡ seen_of view (made_due made moves))
+      (grows : (made : C) (moves : List Move) (move : Move) (view : View) → IsPrefixOf (seen_of view (made_due made moves)) (seen_of view (made_due made (moves ++ move ∷ []))))
+      {S : Type 0} (answers : Answering S) where
+    told_in : (due : Due) (conv : ℕ) (trace : Trace) (x : Found (Held C)) → StandsIn standing awaited number made_due due conv trace x → (view : View) → IsTold view →
+        seen_in view conv trace ≡ due_in due view conv trace
+    told_in due conv trace unknown w view told = w.sees view told ∙ sym (ap (λ l. seen_of view (due conv l)) w.moves ∙ w.owes view)
+    told_in due conv trace over w view told = w.told view told
+    told_in due conv trace lost w view told = absurd w
+    told_in due conv trace (live held) w view told =
+        sym (due_is answers due standing awaited number made_due gave conv held trace [] w.within view ∙ (append-nil (seen_of view w.within.earlier) ∙ w.within.tells view told))
+
+    pub all_told : (due : Due) (table : Table C) (trace : Trace) → TableStands standing awaited number made_due answers due table trace → IsAllTold due trace
+    all_told due table trace stands conv view told = told_in due conv trace (found table conv) (stands.at conv) view told
+
+    grown_within : (due : Due) (conv : ℕ) (trace next : Trace) (move : Move) (x : Found (Held C)) → StandsIn standing awaited number made_due due conv trace x →
+        calls_of conv next ≡ calls_of conv trace ++ move ∷ [] → (view : View) → IsTold view → IsPrefixOf (seen_in view conv trace) (due_in due view conv next)
+    grown_within due conv trace next move unknown w is view told =
+        let P : List Atom → Type 0 = λ l. IsPrefixOf l (due_in due view conv next) in subst P (sym (w.sees view told)) (due_in due view conv next, refl)
+    grown_within due conv trace next move over w is view told =
+        let P : List Atom → Type 0 = λ l. IsPrefixOf (seen_in view conv trace) l in
+        subst P (w.told view told ∙ sym (over_grown due conv trace next w (inr (move, is)) view)) (prefix_self (seen_in view conv trace))
+    grown_within due conv trace next move lost w is view told = absurd w
+    grown_within due conv trace next move (live held) w is view told =
+        let v = w.within in
+        let P : List Atom → Type 0 = λ l. IsPrefixOf l (seen_of view (made_due v.made (calls_of conv trace ++ move ∷ []))) in
+        let Q : List Atom → Type 0 = λ l. IsPrefixOf (seen_in view conv trace) l in
+        let before : seen_of view (made_due v.made (calls_of conv trace)) ≡ seen_in view conv trace =
+        ap (seen_of view) (v.owes (calls_of conv trace)) ∙ sym (told_in due conv trace (live held) w view told) in
+        let after : seen_of view (made_due v.made (calls_of conv trace ++ move ∷ [])) ≡ due_in due view conv next =
+        ap (seen_of view) (v.owes (calls_of conv trace ++ move ∷ [])) ∙ ap (λ l. seen_of view (due conv l)) (sym is) in
+        subst Q after (subst P before (grows v.made (calls_of conv trace) move view))
+
+    next_within : (due : Due) (conv : ℕ) (trace next : Trace) (x : Found (Held C)) → StandsIn standing awaited number made_due due conv trace x →
+        IsGrown (calls_of conv trace) (calls_of conv next) → (view : View) → IsTold view → seen_in view conv next ≡ seen_in view conv trace →
+        IsPrefixOf (seen_in view conv next) (due_in due view conv next)
+    next_within due conv trace next x w (inl same) view told sees =
+        let P : List Atom → Type 0 = λ l. IsPrefixOf (seen_in view conv next) l in
+        subst P (sees ∙ (told_in due conv trace x w view told ∙ ap (λ l. seen_of view (due conv l)) (sym same))) (prefix_self (seen_in view conv next))
+    next_within due conv trace next x w (inr (move, is)) view told sees =
+        let P : List Atom → Type 0 = λ l. IsPrefixOf l (due_in due view conv next) in subst P (sym sees) (grown_within due conv trace next move x w is view told)
+
+    -- what was heard takes nothing back
+    pub heard_served : (due : Due) (table : Table C) (trace : Trace) (moment : ℕ) (heard : Heard) → TableStands standing awaited number made_due answers due table trace →
+        IsServed answers due (trace ++ steps.Heard moment heard ∷ [])
+    heard_served due table trace moment heard stands = record {
+      within = always_more (IsWithinDue due) trace (steps.Heard moment heard) stands.served.within
+          (λ conv view told. next_within due conv trace (trace ++ steps.Heard moment heard ∷ []) (found table conv) (stands.at conv) (heard_moves conv trace moment heard) view told (seen_heard view conv trace moment heard));
+      told = before_heard (IsAllTold due) trace moment heard stands.served.told (all_told due table trace stands);
+      met = always_more (EndsMet answers due) trace (steps.Heard moment heard) stands.served.met
+          (λ front conv ask reply e. absurd (no_answer_heard moment conv heard ask reply (last_step trace front (steps.Heard moment heard) (steps.Answered conv ask reply) e).1));
+    }
+
+    -- the others stay, and this one stands
+    next_stands : (due : Due) (conv moment : ℕ) (what : News) (before after : Table C) (trace more : Trace) (heard : Heard) → addressed heard ≡ Some (conv, what) →
+        AllOf conv more → ((other : ℕ) → conv ≢ other → found after other ≡ found before other) → TableStands standing awaited number made_due answers due before trace →
+        StandsIn standing awaited number made_due due conv ((trace ++ steps.Heard moment heard ∷ []) ++ more) (found after conv) →
+        IsServed answers due ((trace ++ steps.Heard moment heard ∷ []) ++ more) →
+        TableStands standing awaited number made_due answers due after ((trace ++ steps.Heard moment heard ∷ []) ++ more)
+    next_stands due conv moment what before after trace more heard is own others stands here served = record {
+      at = λ other. by other (eqb_tells conv other);
+      served = served;
+    }
+      where
+        next : Trace
+        next = (trace ++ steps.Heard moment heard ∷ []) ++ more
+
+        by : (other : ℕ) → ((conv == other) ≡ true) × (conv ≡ other) ⊎ ((conv == other) ≡ false) × (conv ≢ other) →
+            StandsIn standing awaited number made_due due other ((trace ++ steps.Heard moment heard ∷ []) ++ more) (found after other)
+        by other (inl same) =
+            let P : ℕ → Type 0 = λ k. StandsIn standing awaited number made_due due k ((trace ++ steps.Heard moment heard ∷ []) ++ more) (found after k) in subst P same.1 here
+        by other (inr apart) =
+            let P : Found (Held C) → Type 0 = λ x. StandsIn standing awaited number made_due due other ((trace ++ steps.Heard moment heard ∷ []) ++ more) x in
+            subst P (sym (others other apart.1)) (stands_same due other trace ((trace ++ steps.Heard moment heard ∷ []) ++ more) (other_same conv other moment trace more heard what is own apart.1) (found before other) (stands.at other))
+
+    module _ (ended : C → Bool) (ends : (made state : C) (moves : List Move) (given : List Command) → standing made state moves given → ended state ≡ true →
+        (more : List Move) (view : View) → seen_of view (made_due made (moves ++ more)) ≡ seen_of view (made_due made moves)) where
+      -- a conversation that has ended
+      over_of : (due : Due) (conv : ℕ) (held : Held C) (trace : Trace) → IsLive standing awaited number made_due due conv held trace → ended held.conversation ≡ true → IsOver due conv trace
+      over_of due conv held trace w is = record {
+        told = told_in due conv trace (live held) w;
+        stays = λ view more.
+            ap (seen_of view) (sym (w.within.owes (calls_of conv trace ++ more)))
+            ∙ (ends w.within.made held.conversation (calls_of conv trace) (w.within.earlier ++ []) w.within.stands is more view
+            ∙ ap (seen_of view) (w.within.owes (calls_of conv trace)));
+      }
+
+      -- what became of the conversation is held, or it has ended
+      abbrev pub IsHeldOr : Held C → Found (Held C) → Type 0
+      IsHeldOr held x = (x ≡ live held) ⊎ ((x ≡ over) × (ended held.conversation ≡ true))
+
+      here_stands : (due : Due) (conv : ℕ) (held : Held C) (trace : Trace) (x : Found (Held C)) → IsLive standing awaited number made_due due conv held trace → IsHeldOr held x →
+          StandsIn standing awaited number made_due due conv trace x
+      here_stands due conv held trace x w (inl is) = let P : Found (Held C) → Type 0 = StandsIn standing awaited number made_due due conv trace in subst P (sym is) w
+      here_stands due conv held trace x w (inr (is, end)) =
+          let P : Found (Held C) → Type 0 = StandsIn standing awaited number made_due due conv trace in subst P (sym is) (over_of due conv held trace w end)
+
+      live_in : (due : Due) (conv : ℕ) (held : Held C) (trace : Trace) (x : Found (Held C)) → x ≡ live held → StandsIn standing awaited number made_due due conv trace x →
+          IsLive standing awaited number made_due due conv held trace
+      live_in due conv held trace x is w = let P : Found (Held C) → Type 0 = StandsIn standing awaited number made_due due conv trace in subst P is w
+
+      pub hands_of : (conv moment : ℕ) (what : News) (before after : Table C) (held new_held : Held C) (out new_out : List Step) → found before conv ≡ live held →
+          Hears standing awaited number made_due answers conv moment what held new_held out new_out → IsHeldOr new_held (found after conv) →
+          ((other : ℕ) → conv ≢ other → found after other ≡ found before other) → Hands standing awaited number made_due answers conv moment what before after out new_out
+      hands_of conv moment what before after held new_held out new_out was hears there others = record {
+        more = hears.more;
+        grown = hears.grown;
+        own = hears.own;
+        others = others;
+        stands = λ due trace heard is stands.
+            let w = live_in due conv held trace (found before conv) was (stands.at conv) in
+            let next = hears.hears due trace heard is w.within (heard_served due before trace moment heard stands) in
+            next_stands due conv moment what before after trace hears.more heard is hears.own others stands
+            (here_stands due conv new_held ((trace ++ steps.Heard moment heard ∷ []) ++ hears.more) (found after conv) (record { within = next.0; settled = hears.settled }) there) next.1;
+      }
+
+      pub admits_of : (conv moment : ℕ) (conversation : C) (before after : Table C) (held new_held : Held C) (out new_out : List Step) → found before conv ≡ unknown →
+          held.conversation ≡ conversation → standing conversation conversation [] [] →
+          Takes standing awaited number made_due answers conv moment (Took moment events.Begun) None [] held new_held out new_out → IsHeldOr new_held (found after conv) →
+          ((other : ℕ) → conv ≢ other → found after other ≡ found before other) → Admits standing awaited number made_due answers conv moment conversation before after out new_out
+      admits_of conv moment conversation before after held new_held out new_out was same fresh t there others = record {
+        more = t.more;
+        grown = t.grown;
+        own = t.own;
+        others = others;
+        stands = λ due trace heard is owes stands.
+            let P : Found (Held C) → Type 0 = StandsIn standing awaited number made_due due conv trace in
+            let w : IsUnknown due conv trace = subst P was (stands.at conv) in
+            let on = calls_heard conv trace moment heard news.Begun is in
+            let took : takes moment (calls conv trace) news.Begun ≡ record (calls conv trace) { begun = true; moves = calls_of conv trace ++ Took moment events.Begun ∷ [] } = rw w.begun refl in
+            let Q : C → Type 0 = λ s. standing conversation s (calls_of conv trace) [] in
+            let R : List Move → Type 0 = λ l. standing conversation conversation l [] in
+            let next = t.takes due trace (trace ++ steps.Heard moment heard ∷ [])
+            (record { made = conversation; earlier = []; stands = subst Q (sym same) (subst R (sym w.moves) fresh); owes = owes; tells = λ view told. sym (w.sees view told) })
+            (record {
+              moves = ap (λ (c : Calls). c.moves) on ∙ ap (λ (c : Calls). c.moves) took;
+              begun = ap (λ (c : Calls). c.begun) on ∙ ap (λ (c : Calls). c.begun) took;
+              dials = ap (λ (c : Calls). c.dial) on ∙ (ap (λ (c : Calls). c.dial) took ∙ w.dial);
+              connected = ap (λ (c : Calls). c.connected) on ∙ (ap (λ (c : Calls). c.connected) took ∙ w.connected);
+              now = ap (λ (c : Calls). c.moment) on;
+              sees = λ view told. seen_heard view conv trace moment heard;
+            })
+            (heard_served due before trace moment heard stands) in
+            next_stands due conv moment news.Begun before after trace t.more heard is t.own others stands
+            (here_stands due conv new_held ((trace ++ steps.Heard moment heard ∷ []) ++ t.more) (found after conv) (record { within = next.0; settled = t.settled }) there) next.1;
+      }
+
+    -- news that the table ignores
+    ignored_hands : (conv moment : ℕ) (what : News) (table : Table C) (out : List Step) →
+        ((due : Due) (trace : Trace) (heard : Heard) → addressed heard ≡ Some (conv, what) → StandsIn standing awaited number made_due due conv trace (found table conv) →
+        StandsIn standing awaited number made_due due conv (trace ++ steps.Heard moment heard ∷ []) (found table conv)) →
+        Hands standing awaited number made_due answers conv moment what table table out out
+    ignored_hands conv moment what table out here = record {
+      more = [];
+      grown = sym (append-nil out);
+      own = tt;
+      others = λ other apart. refl;
+      stands = λ due trace heard is stands.
+          let P : Trace → Type 0 = λ t. StandsIn standing awaited number made_due due conv t (found table conv) in
+          let Q : Trace → Type 0 = IsServed answers due in
+          let same = sym (append-nil (trace ++ steps.Heard moment heard ∷ [])) in
+          next_stands due conv moment what table table trace [] heard is tt (λ other apart. refl) stands
+          (subst P same (here due trace heard is (stands.at conv))) (subst Q same (heard_served due table trace moment heard stands));
+    }
+
+    pub over_hands : (conv moment : ℕ) (what : News) (table : Table C) (out : List Step) → found table conv ≡ over → Hands standing awaited number made_due answers conv moment what table table out out
+    over_hands conv moment what table out was = ignored_hands conv moment what table out (λ due trace heard is w.
+        let P : Found (Held C) → Type 0 = StandsIn standing awaited number made_due due conv trace in
+        let Q : Found (Held C) → Type 0 = StandsIn standing awaited number made_due due conv (trace ++ steps.Heard moment heard ∷ []) in
+        subst Q (sym was) (over_next due conv trace (trace ++ steps.Heard moment heard ∷ []) (subst P was w) (heard_moves conv trace moment heard) (λ view told. seen_heard view conv trace moment heard)))
+
+    takes_nothing : (moment : ℕ) (c : Calls) (what : News) → (what ≡ news.Begun → ⊥) → c.begun ≡ false → c.dial ≡ None → takes moment c what ≡ c
+    takes_nothing moment c news.Begun not begun dial = absurd (not refl)
+    takes_nothing moment c (news.Event side event) not begun dial = rw begun refl
+    takes_nothing moment c (news.Dialled server ok) not begun dial = rw dial refl
+
+    pub unknown_hands : (conv moment : ℕ) (what : News) (table : Table C) (out : List Step) → found table conv ≡ unknown → (what ≡ news.Begun → ⊥) →
+        Hands standing awaited number made_due answers conv moment what table table out out
+    unknown_hands conv moment what table out was not = ignored_hands conv moment what table out (λ due trace heard is w.
+        let P : Found (Held C) → Type 0 = StandsIn standing awaited number made_due due conv trace in
+        let Q : Found (Held C) → Type 0 = StandsIn standing awaited number made_due due conv (trace ++ steps.Heard moment heard ∷ []) in
+        let u : IsUnknown due conv trace = subst P was w in
+        let same = same_by conv moment trace (trace ++ steps.Heard moment heard ∷ [])
+        (calls_heard conv trace moment heard what is ∙ ap (λ (c : Calls). record c { moment = moment }) (takes_nothing moment (calls conv trace) what not u.begun u.dial))
+        (λ view told. seen_heard view conv trace moment heard) in
+        subst Q (sym was) (stands_same due conv trace (trace ++ steps.Heard moment heard ∷ []) same unknown u))
+
+    -- what was heard of no conversation
+    pub routes_none : (moment : ℕ) (heard : Heard) (table : Table C) (out : List Step) → addressed heard ≡ None → Routes standing awaited number made_due answers moment heard table table out out
+    routes_none moment heard table out is = record {
+      more = [];
+      grown = sym (append-nil out);
+      own = λ conv what some. tt;
+      none = λ _. (refl, refl);
+      others = λ conv other what some apart. refl;
+      stands = λ due trace stands.
+          let P : Trace → Type 0 = TableStands standing awaited number made_due answers due table in
+          subst P (sym (append-nil (trace ++ steps.Heard moment heard ∷ []))) (record {
+            at = λ conv. stands_same due conv trace (trace ++ steps.Heard moment heard ∷ []) (none_same conv moment trace heard is) (found table conv) (stands.at conv);
+            served = heard_served due table trace moment heard stands;
+          });
+    }
+
+    same_pair : (p q : ℕ × News) → Some p ≡ Some q → p.0 ≡ q.0
+    same_pair p q e = let s : p ≡ q = cc in ap (λ (r : ℕ × News). r.0) s
+
+    pub routes_of : (moment : ℕ) (heard : Heard) (conv : ℕ) (what : News) (before after : Table C) (out new_out : List Step) → addressed heard ≡ Some (conv, what) →
+        Hands standing awaited number made_due answers conv moment what before after out new_out → Routes standing awaited number made_due answers moment heard before after out new_out
+    routes_of moment heard conv what before after out new_out is hands = record {
+      more = hands.more;
+      grown = hands.grown;
+      own = λ other what' some. let P : ℕ → Type 0 = λ k. AllOf k hands.more in subst P (same_pair (conv, what) (other, what') (sym is ∙ some)) hands.own;
+      none = λ no. absurd (let wrong : Some (conv, what) ≡ None = sym is ∙ no in cc);
+      others = λ first other what' some apart. hands.others other (λ same. apart (sym (same_pair (conv, what) (first, what') (sym is ∙ some)) ∙ same));
+      stands = λ due trace stands. hands.stands due trace heard is stands;
+    }
+
+    pub routes_out : (moment : ℕ) (heard : Heard) (before after : Table C) (empty given out new_out : List Step) → empty ≡ [] → new_out ≡ out ++ given →
+        Routes standing awaited number made_due answers moment heard before after empty given → Routes standing awaited number made_due answers moment heard before after out new_out
+    routes_out moment heard before after empty given out new_out none grown r = record {
+      more = r.more;
+      grown = grown ∙ ap (λ l. out ++ l) (r.grown ∙ ap (λ l. l ++ r.more) none);
+      own = r.own;
+      none = r.none;
+      others = r.others;
+      stands = r.stands;
+    }
+
+    pub admits_out : (conv moment : ℕ) (conversation : C) (before after : Table C) (empty given out new_out : List Step) → empty ≡ [] → new_out ≡ out ++ given →
+        Admits standing awaited number made_due answers conv moment conversation before after empty given → Admits standing awaited number made_due answers conv moment conversation before after out new_out
+    admits_out conv moment conversation before after empty given out new_out none grown r = record {
+      more = r.more;
+      grown = grown ∙ ap (λ l. out ++ l) (r.grown ∙ ap (λ l. l ++ r.more) none);
+      own = r.own;
+      others = r.others;
+      stands = r.stands;
+    }
+
+    -- no two numbers share a key
+    pub apart_keys : (due : Due) (table : Table C) (trace : Trace) (conv other key : ℕ) (held : Held C) → TableStands standing awaited number made_due answers due table trace →
+        slab.get table.live key ≡ Some held → number held.conversation ≡ conv → conv ≢ other → place_of table other ≡ Some (place.Live key) → ⊥
+    apart_keys due table trace conv other key held stands is named apart at =
+        let there : found table other ≡ live held = ap (found_by table.live) at ∙ ap found_at is in
+        let P : Found (Held C) → Type 0 = StandsIn standing awaited number made_due due other trace in
+        let w : IsLive standing awaited number made_due due other held trace = subst P there (stands.at other) in
+        apart (sym named ∙ w.within.named)
+
+    pub no_vacant_key : (due : Due) (table : Table C) (trace : Trace) (other key : ℕ) → TableStands standing awaited number made_due answers due table trace →
+        slab.get table.live key ≡ None → place_of table other ≡ Some (place.Live key) → ⊥
+    no_vacant_key due table trace other key stands is at =
+        let there : found table other ≡ lost = ap (found_by table.live) at ∙ ap found_at is in
+        let P : Found (Held C) → Type 0 = StandsIn standing awaited number made_due due other trace in subst P there (stands.at other)
+
+    first_takes : (conv moment : ℕ) (conversation : C) (held new_held : Held C) (out new_out : List Step) → held.conversation ≡ conversation → held.connected.items ≡ [] →
+        awaited conversation ≡ None →
+        Takes standing awaited number made_due answers conv moment (Took moment events.Begun) (dial_of (awaited held.conversation)) held.connected.items held new_held out new_out →
+        Takes standing awaited number made_due answers conv moment (Took moment events.Begun) None [] held new_held out new_out
+    first_takes conv moment conversation held new_held out new_out same sides free t =
+        let P : Option ℕ → Type 0 = λ d. Takes standing awaited number made_due answers conv moment (Took moment events.Begun) d [] held new_held out new_out in
+        let Q : List ℕ → Type 0 = λ l. Takes standing awaited number made_due answers conv moment (Took moment events.Begun) (dial_of (awaited held.conversation)) l held new_held out new_out in
+        subst P (ap (λ s. dial_of (awaited s)) same ∙ ap dial_of free) (subst Q sides t)
+
+    pub at_key : (due : Due) (table : Table C) (trace : Trace) (conv key : ℕ) → TableStands standing awaited number made_due answers due table trace →
+        place_of table conv ≡ Some (place.Live key) → IsAtKey standing awaited number made_due conv key table
+    at_key due table trace conv key stands at = by (slab.get table.live key) refl
+      where
+        by : (o : Option (Held C)) → slab.get table.live key ≡ o → IsAtKey standing awaited number made_due conv key table
+        by None is = absurd (no_vacant_key due table trace conv key stands is at)
+        by (Some held) is =
+            let there : found table conv ≡ live held = ap (found_by table.live) at ∙ ap found_at is in
+            let P : Found (Held C) → Type 0 = StandsIn standing awaited number made_due due conv trace in
+            let w : IsLive standing awaited number made_due due conv held trace = subst P there (stands.at conv) in
+            record {
+              held = held;
+              is = is;
+              sound = (w.within.made, calls_of conv trace, w.within.earlier ++ [], w.within.stands);
+              named = w.within.named;
+              settled = w.settled;
+            }
+
+    module _ (ended : C → Bool) (ends : (made state : C) (moves : List Move) (given : List Command) → standing made state moves given → ended state ≡ true →
+        (more : List Move) (view : View) → seen_of view (made_due made (moves ++ more)) ≡ seen_of view (made_due made moves)) where
+      named_at : (due : Due) (table : Table C) (trace : Trace) (conv key : ℕ) (held : Held C) → TableStands standing awaited number made_due answers due table trace →
+          place_of table conv ≡ Some (place.Live key) → slab.get table.live key ≡ Some held → number held.conversation ≡ conv
+      named_at due table trace conv key held stands at is =
+          let P : Found (Held C) → Type 0 = StandsIn standing awaited number made_due due conv trace in
+          let w : IsLive standing awaited number made_due due conv held trace = subst P (ap (found_by table.live) at ∙ ap found_at is) (stands.at conv) in
+          w.within.named
+
+      pub hands_live : (conv moment key : ℕ) (what : News) (before after : Table C) (over_now : Bool) (out new_out : List Step) →
+          (due : Due) × (trace : Trace) × TableStands standing awaited number made_due answers due before trace → place_of before conv ≡ Some (place.Live key) →
+          HearsAt standing awaited number made_due answers ended conv moment what key before after over_now out new_out →
+          Hands standing awaited number made_due answers conv moment what before after out new_out
+      hands_live conv moment key what before after over_now out new_out (due, trace, stands) at h =
+          hands_of ended ends conv moment what before after h.held h.new_held out new_out (ap (found_by before.live) at ∙ ap found_at h.was) h.hears
+          (inl (ap (found_by after.live) (ap (λ m. tree.get nat_cmp m conv) h.places ∙ at) ∙ ap found_at h.live_now.changed))
+          (λ other apart. same_found before.live after.live (place_of before other) (place_of after other) key (ap (λ m. tree.get nat_cmp m other) h.places) h.live_now.others
+          (apart_keys due before trace conv other key h.held stands h.was (named_at due before trace conv key h.held stands at h.was) apart))
+
+      pub hands_ended : (conv moment key : ℕ) (what : News) (before between after : Table C) (over_now : Bool) (out new_out : List Step) →
+          (due : Due) × (trace : Trace) × TableStands standing awaited number made_due answers due before trace → place_of before conv ≡ Some (place.Live key) →
+          HearsAt standing awaited number made_due answers ended conv moment what key before between over_now out new_out → over_now ≡ true →
+          slab.Updates between.live after.live key None → tree.Updates nat_cmp between.places after.places conv (Some place.Ended) →
+          Hands standing awaited number made_due answers conv moment what before after out new_out
+      hands_ended conv moment key what before between after over_now out new_out (due, trace, stands) at h is_over_now removed noted =
+          hands_of ended ends conv moment what before after h.held h.new_held out new_out (ap (found_by before.live) at ∙ ap found_at h.was) h.hears
+          (inr (ap (found_by after.live) noted.1, sym h.ends ∙ is_over_now))
+          (λ other apart. same_found before.live after.live (place_of before other) (place_of after other) key
+          (noted.2 other (not_at conv other apart) ∙ ap (λ m. tree.get nat_cmp m other) h.places)
+          (λ k k_apart. removed.others k k_apart ∙ h.live_now.others k k_apart)
+          (apart_keys due before trace conv other key h.held stands h.was (named_at due before trace conv key h.held stands at h.was) apart))
+
+      pub admits_added : (conv moment key : ℕ) (conversation : C) (before after : Table C) (held new_held : Held C) (out new_out : List Step) →
+          (due : Due) × (trace : Trace) × TableStands standing awaited number made_due answers due before trace → is_some (place_of before conv) ≡ false →
+          held.conversation ≡ conversation → held.connected.items ≡ [] → awaited conversation ≡ None → standing conversation conversation [] [] →
+          Takes standing awaited number made_due answers conv moment (Took moment events.Begun) (dial_of (awaited held.conversation)) held.connected.items held new_held out new_out →
+          slab.Updates before.live after.live key (Some new_held) → slab.get before.live key ≡ None → tree.Updates nat_cmp before.places after.places conv (Some (place.Live key)) →
+          Admits standing awaited number made_due answers conv moment conversation before after out new_out
+      admits_added conv moment key conversation before after held new_held out new_out (due, trace, stands) fresh same sides free new t added vacant noted =
+          admits_of ended ends conv moment conversation before after held new_held out new_out (ap (found_by before.live) (unplaced (place_of before conv) fresh)) same new
+          (first_takes conv moment conversation held new_held out new_out same sides free t)
+          (inl (ap (found_by after.live) noted.1 ∙ ap found_at added.changed))
+          (λ other apart. same_found before.live after.live (place_of before other) (place_of after other) key (noted.2 other (not_at conv other apart)) added.others
+          (no_vacant_key due before trace other key stands vacant))
+
+      pub admits_ended : (conv moment : ℕ) (conversation : C) (before after : Table C) (held new_held : Held C) (out new_out : List Step) → is_some (place_of before conv) ≡ false →
+          held.conversation ≡ conversation → held.connected.items ≡ [] → awaited conversation ≡ None → standing conversation conversation [] [] →
+          Takes standing awaited number made_due answers conv moment (Took moment events.Begun) (dial_of (awaited held.conversation)) held.connected.items held new_held out new_out →
+          ended new_held.conversation ≡ true → after.live ≡ before.live → tree.Updates nat_cmp before.places after.places conv (Some place.Ended) →
+          Admits standing awaited number made_due answers conv moment conversation before after out new_out
+      admits_ended conv moment conversation before after held new_held out new_out fresh same sides free new t is_over_now kept noted =
+          admits_of ended ends conv moment conversation before after held new_held out new_out (ap (found_by before.live) (unplaced (place_of before conv) fresh)) same new
+          (first_takes conv moment conversation held new_held out new_out same sides free t)
+          (inr (ap (found_by after.live) noted.1, is_over_now))
+          (λ other apart. ap (λ l. found_by l (place_of after other)) kept ∙ ap (found_by before.live) (noted.2 other (not_at conv other apart)))

@@ -1,0 +1,162 @@
+-- What a trace promises, one step of a conversation further.
+use Rattle.std.proofs.Common.{◌≡◌, ◌≢◌, ◌⊎◌, inl, inr, ℕ, Bool, true, false, ◌==◌, List, [], ◌∷◌, ◌++◌, map, Option, Some, None, refl, ap, sym, ◌∙◌, subst, append_assoc}
+use Rattle.std.proofs.lemmas.List.{append-nil}
+use Rattle.std.proofs.lemmas.Bool.Decides.{eqb_tells}
+use Rattle.px_text.specs.Prefix.{IsPrefixOf}
+use Rattle.px_event.specs.declared.ask.Ask.{Ask}
+use Rattle.px_event.specs.declared.reply.Reply.{Reply}
+use Rattle.px_event.specs.declared.command.Command.{Command}
+use Rattle.px_event.specs.declared.command.Command.TheVariants as commands
+use Rattle.px_event.specs.declared.heard.Heard.{Heard}
+use Rattle.px_event.specs.declared.step.Step.{Step}
+use Rattle.px_event.specs.declared.step.Step.TheVariants as steps
+use Rattle.px_event.specs.Layer.{Move, Standing}
+use Rattle.px_event.specs.Trace.{Trace, Always, BeforeEachHeard}
+use Rattle.px_event.specs.View.{View, Atom, IsTold, seen_of, seen_in, command_atoms, step_atoms}
+use Rattle.px_event.proofs.Seen.{seen_append}
+use Rattle.px_event.proofs.TraceLemmas.{front_of_more, IsFrontOfMore, always_more, before_other}
+use Rattle.px_core.specs.declared.held.Held.{Held}
+use Rattle.px_core.specs.Answers.{Answering}
+use Rattle.px_core.specs.Calls.{Calls, calls, calls_of, calls_on}
+use Rattle.px_core.specs.Conversation.{IsNamed, AllNamed}
+use Rattle.px_core.specs.Due.{Due, due_in, IsWithinDue, IsAllTold, IsMet, EndsMet, IsServed}
+use Rattle.px_core.specs.Held.{step_of, IsOf, AllOf, dial_by, dial_from, Within}
+use Rattle.px_core.proofs.CallLemmas.{calls_more, seen_more, others_calls, others_seen, told_calls, told_seen, told_own}
+
+-- the last elements of two equal lists
+last_in : (x y : Step) (trace front : Trace) → IsFrontOfMore trace x front (y ∷ []) → (front ≡ trace) × (y ≡ x)
+last_in x y trace front (inl h) = absurd (let no : y ∷ [] ≡ [] = h.1 in cc)
+last_in x y trace front (inr h) = by h.0 h.1 h.2
+  where
+    by : (most : List Step) → trace ≡ front ++ most → y ∷ [] ≡ most ++ x ∷ [] → (front ≡ trace) × (y ≡ x)
+    by [] whole is = (sym (append-nil front) ∙ sym whole, cc)
+    by (m ∷ most) whole is = absurd (none most (cc))
+      where
+        none : (most : List Step) → [] ≡ most ++ x ∷ [] → ⊥
+        none [] e = cc
+        none (n ∷ most) e = cc
+
+pub last_step : (trace front : Trace) (x y : Step) → trace ++ x ∷ [] ≡ front ++ y ∷ [] → (front ≡ trace) × (y ≡ x)
+last_step trace front x y e = last_in x y trace front (front_of_more trace x front (y ∷ []) e)
+
+no_answer : (conv number : ℕ) (ask : Ask) (reply : Reply) (command : Command) → steps.Answered number ask reply ≡ step_of conv command → ⊥
+no_answer conv number ask reply (commands.Send side text) e = cc
+no_answer conv number ask reply (commands.Close side) e = cc
+no_answer conv number ask reply (commands.Dial server address inside) e = cc
+no_answer conv number ask reply (commands.Ask other flow) e = cc
+no_answer conv number ask reply (commands.Done flow) e = cc
+
+no_heard : (conv : ℕ) (step : Step) → IsOf conv step → (moment : ℕ) (heard : Heard) → step ≡ steps.Heard moment heard → ⊥
+no_heard conv step of moment heard is = let P : Step → Type 0 = IsOf conv in let no : ⊥ = subst P is of in no
+
+module _ {S : Type 0} (answers : Answering S) (due : Due) where
+  -- the others stay within what is due to them
+  pub step_within : (conv : ℕ) (trace : Trace) (step : Step) → IsOf conv step → IsWithinDue due trace →
+      ((view : View) → IsTold view → IsPrefixOf (seen_in view conv (trace ++ step ∷ [])) (due_in due view conv (trace ++ step ∷ []))) →
+      IsWithinDue due (trace ++ step ∷ [])
+  step_within conv trace step of before own other view told = by (eqb_tells conv other)
+    where
+      by : ((conv == other) ≡ true) × (conv ≡ other) ⊎ ((conv == other) ≡ false) × (conv ≢ other) →
+          IsPrefixOf (seen_in view other (trace ++ step ∷ [])) (due_in due view other (trace ++ step ∷ []))
+      by (inl same) = let P : ℕ → Type 0 = λ k. IsPrefixOf (seen_in view k (trace ++ step ∷ [])) (due_in due view k (trace ++ step ∷ [])) in subst P same.1 (own view told)
+      by (inr apart) =
+          let seen = others_seen view conv other trace (step ∷ []) (of, tt) apart.1 in
+          let made = others_calls conv other trace (step ∷ []) (of, tt) apart.1 in
+          let P : List Atom → Type 0 = λ l. IsPrefixOf l (due_in due view other (trace ++ step ∷ [])) in
+          let Q : Calls → Type 0 = λ c. IsPrefixOf (seen_in view other trace) (seen_of view (due other c.moves)) in
+          subst P (sym seen) (subst Q (sym made) (before other view told))
+
+  now_of : (P : Trace → Type 0) (trace : Trace) → Always P trace → P trace
+  now_of P trace always = always.at trace [] (sym (append-nil trace))
+
+  pub served_step : (conv : ℕ) (trace : Trace) (step : Step) → IsOf conv step → IsServed answers due trace →
+      ((view : View) → IsTold view → IsPrefixOf (seen_in view conv (trace ++ step ∷ [])) (due_in due view conv (trace ++ step ∷ []))) →
+      EndsMet answers due (trace ++ step ∷ []) → IsServed answers due (trace ++ step ∷ [])
+  served_step conv trace step of served own met = record {
+    within = always_more (IsWithinDue due) trace step served.within (step_within conv trace step of (now_of (IsWithinDue due) trace served.within) own);
+    told = before_other (IsAllTold due) trace step (no_heard conv step of) served.told;
+    met = always_more (EndsMet answers due) trace step served.met met;
+  }
+
+  -- a trace that ends with an answer that is met
+  pub ends_met : (conv : ℕ) (trace : Trace) (ask : Ask) (reply : Reply) → IsMet answers due trace conv ask reply →
+      EndsMet answers due (trace ++ steps.Answered conv ask reply ∷ [])
+  ends_met conv trace ask reply met front number other answer e =
+      let last = last_step trace front (steps.Answered conv ask reply) (steps.Answered number other answer) e in
+      let parts = answered number conv other ask answer reply last.1 in
+      let P : Trace → Type 0 = λ t. IsMet answers due t number other answer in
+      let Q : ℕ → Type 0 = λ k. IsMet answers due trace k other answer in
+      let R : Ask → Type 0 = λ a. IsMet answers due trace conv a answer in
+      let T : Reply → Type 0 = λ r. IsMet answers due trace conv ask r in
+      subst P (sym last.0) (subst Q (sym parts.0) (subst R (sym parts.1) (subst T (sym parts.2) met)))
+    where
+      answered : (a b : ℕ) (x y : Ask) (r s : Reply) → steps.Answered a x r ≡ steps.Answered b y s → (a ≡ b) × (x ≡ y) × (r ≡ s)
+      answered a b x y r s e = (cc, cc, cc)
+
+  pub ends_told : (conv : ℕ) (trace : Trace) (command : Command) → EndsMet answers due (trace ++ step_of conv command ∷ [])
+  ends_told conv trace command front number ask reply e =
+      absurd (no_answer conv number ask reply command (last_step trace front (step_of conv command) (steps.Answered number ask reply) e).1)
+
+  module _ {C : Type 0} (standing : Standing C) (awaited : C → Option Ask) (number : C → ℕ) (made_due : C → List Move → List Command)
+      (gave : (made state : C) (moves : List Move) (given : List Command) → standing made state moves given →
+      (view : View) → seen_of view given ≡ seen_of view (made_due made moves)) where
+    -- what is due is what the trace has, and what is still to be told
+    pub due_is : (conv : ℕ) (held : Held C) (trace : Trace) (rest : List Command) (w : Within standing awaited number made_due due conv held trace rest) (view : View) →
+        due_in due view conv trace ≡ seen_of view w.earlier ++ seen_of view rest
+    due_is conv held trace rest w view =
+        ap (seen_of view) (sym (w.owes (calls_of conv trace)))
+        ∙ (sym (gave w.made held.conversation (calls_of conv trace) (w.earlier ++ rest) w.stands view) ∙ seen_append view w.earlier rest)
+
+    pub within_due : (conv : ℕ) (held : Held C) (trace : Trace) (rest : List Command) → Within standing awaited number made_due due conv held trace rest →
+        (view : View) → IsTold view → IsPrefixOf (seen_in view conv trace) (due_in due view conv trace)
+    within_due conv held trace rest w view told =
+        (seen_of view rest, due_is conv held trace rest w view ∙ ap (λ l. l ++ seen_of view rest) (w.tells view told))
+
+    -- one command is told
+    told_within : (conv : ℕ) (held : Held C) (trace : Trace) (command : Command) (rest : List Command) →
+        Within standing awaited number made_due due conv held trace (command ∷ rest) → IsNamed conv command →
+        Within standing awaited number made_due due conv held (trace ++ step_of conv command ∷ []) rest
+    told_within conv held trace command rest w named =
+        let on : calls conv (trace ++ step_of conv command ∷ []) ≡ record (calls conv trace) { dial = dial_by command (calls conv trace).dial } =
+        calls_more conv trace (step_of conv command) ∙ told_calls conv (calls conv trace) command in
+        let P : List Move → Type 0 = λ l. standing w.made held.conversation l ((w.earlier ++ command ∷ []) ++ rest) in
+        let Q : List Command → Type 0 = λ l. standing w.made held.conversation (calls_of conv trace) l in
+        record {
+          made = w.made;
+          earlier = w.earlier ++ command ∷ [];
+          stands = subst P (sym (ap (λ (c : Calls). c.moves) on)) (subst Q (sym (append_assoc w.earlier (command ∷ []) rest)) w.stands);
+          owes = w.owes;
+          tells = λ view told.
+              seen_append view w.earlier (command ∷ [])
+              ∙ (ap (λ l. seen_of view w.earlier ++ l) (append-nil (command_atoms view command) ∙ sym (told_seen view conv command told named))
+              ∙ (ap (λ l. l ++ step_atoms view conv (step_of conv command)) (w.tells view told) ∙ sym (seen_more view conv trace (step_of conv command))));
+          named = w.named;
+          begun = ap (λ (c : Calls). c.begun) on ∙ w.begun;
+          sides = ap (λ (c : Calls). c.connected) on ∙ w.sides;
+          dial = ap (λ (c : Calls). dial_from c.dial rest) on ∙ w.dial;
+        }
+
+    -- where all are told
+    pub record Told (conv moment : ℕ) (held : Held C) (trace : Trace) : Type 0 where
+      pub within : Within standing awaited number made_due due conv held trace []
+      pub now : (calls conv trace).moment ≡ moment
+      pub served : IsServed answers due trace
+
+    pub told_all : (conv moment : ℕ) (held : Held C) (given : List Command) (trace : Trace) → Within standing awaited number made_due due conv held trace given →
+        (calls conv trace).moment ≡ moment → IsServed answers due trace → AllNamed conv given → Told conv moment held (trace ++ map (step_of conv) given)
+    told_all conv moment held [] trace w now served named =
+        let P : Trace → Type 0 = Told conv moment held in subst P (sym (append-nil trace)) (record { within = w; now = now; served = served })
+    told_all conv moment held (command ∷ given) trace w now served named =
+        let step = step_of conv command in
+        let next = told_within conv held trace command given w named.0 in
+        let same : (calls conv (trace ++ step ∷ [])).moment ≡ moment =
+        ap (λ (c : Calls). c.moment) (calls_more conv trace step ∙ told_calls conv (calls conv trace) command) ∙ now in
+        let P : Trace → Type 0 = Told conv moment held in
+        subst P (append_assoc trace (step ∷ []) (map (step_of conv) given))
+        (told_all conv moment held given (trace ++ step ∷ []) next same
+        (served_step conv trace step (told_own conv command named.0) served (within_due conv held (trace ++ step ∷ []) given next) (ends_told conv trace command))
+        named.1)
+
+pub all_own : (conv : ℕ) (given : List Command) → AllNamed conv given → AllOf conv (map (step_of conv) given)
+all_own conv [] named = tt
+all_own conv (command ∷ given) named = (told_own conv command named.0, all_own conv given named.1)

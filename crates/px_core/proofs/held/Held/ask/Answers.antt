@@ -1,0 +1,20 @@
+use Rattle.std.proofs.Common.{refl}
+use Rattle.std.proofs.lemmas.Result.{IfOk-weaker}
+use Rattle.px_core.proofs.ResultLemmas.{if_ok_both}
+use Rattle.px_core.proofs.WorkLemmas.{wait_works, reply_works, turns_less}
+use Rattle.px_core.proofs.held.Held.ask.Goals as goal
+
+pub returns-in-Wait-clause-asks : goal.returns-in-Wait-clause-asks
+returns-in-Wait-clause-asks g c =
+    wait_works g.C.Conversation.stands g.C.Conversation.awaited g.C.Conversation.number g.C.Owes.due g.met.C.Owes.gave g.A.Answerer.answers
+    c.args.call.conv c.args.call.moment c.args.question c.args.self.now _ c.args.steps.now.items _ refl refl refl (λ flow hook is. refl)
+
+pub returns-clause-asks : goal.returns-clause-asks
+returns-clause-asks g c =
+    if_ok_both c.reply.result _ _ (λ now_open named replies.
+    reply_works g.C.Conversation.stands g.C.Conversation.awaited g.C.Conversation.number g.C.Owes.due g.met.C.Owes.gave g.A.Answerer.answers
+    c.args.call.conv c.args.call.moment c.args.question c.in-Reply.reply c.args.self.now _ now_open _ _ _ _ _ _ c.requires.next named _ c.in_ok-draft.ensures.answers c.in-Reply.is replies)
+    c.reply.ensures.number c.reply.ensures.replies
+
+pub returns-clause-left : goal.returns-clause-left
+returns-clause-left g c = IfOk-weaker c.reply.result _ _ (λ now_open less. turns_less _ _ now_open less) c.reply.ensures.left

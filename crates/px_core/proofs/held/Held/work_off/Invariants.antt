@@ -1,0 +1,15 @@
+use Rattle.std.proofs.Common.{◌≡◌}
+use Rattle.px_event.specs.Layer.{IsSound}
+use Rattle.px_core.specs.Held.{Works, turns_left}
+use Rattle.px_core.proofs.held.Held.work_off.Given as goal
+
+-- what was worked off so far
+abbrev pub invariant-loop-open : goal.invariant-loop-open
+invariant-loop-open g l = record {
+  works : Works g.C.Conversation.stands g.C.Conversation.awaited g.C.Conversation.number g.C.Owes.due g.A.Answerer.answers l.fn.call.conv l.fn.call.moment l.fn.commands.items l.fn.self l.self l.open l.fn.steps.items l.steps.items;
+  sound : IsSound g.C.Conversation.stands l.self.conversation;
+  number : g.C.Conversation.number l.self.conversation ≡ l.fn.call.conv;
+}
+
+abbrev pub decreases-loop-open : goal.decreases-loop-open
+decreases-loop-open g l = turns_left (g.C.Conversation.left l.self.conversation) l.open

@@ -1,0 +1,44 @@
+use Rattle.std.proofs.Common.{◌∙◌, ap, ◌++◌, ◌∷◌, [], Some, subst, sym}
+use Rattle.std.proofs.lemmas.Result.{on_ok_weaker}
+use Rattle.px_event.specs.declared.step.Step.TheVariants as steps
+use Rattle.std.specs.List.{flat_map}
+use Rattle.px_core.specs.Run.{done_of}
+use Rattle.px_event.specs.Trace.{Trace}
+use Rattle.px_core.specs.Due.{IsServed}
+use Rattle.px_core.proofs.ResultLemmas.{on_ok_of, on_ok_both}
+use Rattle.px_core.proofs.RouteLemmas.{heard_served}
+use Rattle.px_core.proofs.RunLemmas.{done_behind, on_err, at_err, served_part, served_none}
+use Rattle.px_core.proofs.work.work_off.Goals as goal
+
+pub returns-in_err-steps-clause-err : goal.returns-in_err-steps-clause-err
+returns-in_err-steps-clause-err g c = λ due trace owes stands told.
+    on_err c.from_residual.result (served_none g.A.Answerer.answers due (trace ++ steps.Heard c.args.moment c.args.heard ∷ []) _
+    (heard_served g.C.Conversation.stands g.C.Conversation.awaited g.C.Conversation.number g.C.Owes.due g.met.C.Owes.gave g.C.Owes.grows g.A.Answerer.answers
+    due c.args.router.now.table trace c.args.moment c.args.heard stands) told)
+
+pub returns-clause-ok : goal.returns-clause-ok
+returns-clause-ok g c = λ due trace owes stands told. on_ok_weaker c.tell_all.result
+    (λ is. record {
+      more = c.in_ok-steps.steps.items;
+      is = is ∙ ap (λ l. Some ((trace ++ steps.Heard c.args.moment c.args.heard ∷ []) ++ l)) c.deref.ensures.value;
+      holds = c.in_ok-steps.ensures.stands due trace owes stands;
+    }) (c.tell_all.ensures.told _ told)
+
+pub returns-clause-err : goal.returns-clause-err
+returns-clause-err g c = λ due trace owes stands told. at_err c.tell_all.result
+    (λ part. served_part g.A.Answerer.answers due (trace ++ steps.Heard c.args.moment c.args.heard ∷ []) c.deref.result.now _
+    (let served = (c.in_ok-steps.ensures.stands due trace owes stands).served in
+    let same = ap (λ l. (trace ++ steps.Heard c.args.moment c.args.heard ∷ []) ++ l) (sym c.deref.ensures.value) in
+    let P : Trace → Type 0 = IsServed g.A.Answerer.answers due in subst P same served) part) (c.tell_all.ensures.part _ told)
+
+pub returns-clause-stands : goal.returns-clause-stands
+returns-clause-stands g c = λ due trace owes stands. on_ok_of c.tell_all.result (c.in_ok-steps.steps.items, c.in_ok-steps.ensures.stands due trace owes stands)
+
+pub returns-clause-taken : goal.returns-clause-taken
+returns-clause-taken g c = λ trace told before. on_ok_both c.tell_all.result
+    (λ is taken. record {
+      more = c.in_ok-steps.steps.items;
+      is = is ∙ ap (λ l. Some ((trace ++ steps.Heard c.args.moment c.args.heard ∷ []) ++ l)) c.deref.ensures.value;
+      holds = taken ∙ (ap (λ l. g.T.Taker.taken c.args.taker.now ++ flat_map done_of l) c.deref.ensures.value
+          ∙ (ap (λ l. l ++ flat_map done_of c.in_ok-steps.steps.items) before ∙ sym (done_behind trace c.in_ok-steps.steps.items c.args.moment c.args.heard)));
+    }) (c.tell_all.ensures.told _ told) c.tell_all.ensures.taken

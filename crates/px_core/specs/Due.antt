@@ -1,0 +1,58 @@
+-- The promise on a trace of many conversations, for any due.
+use Rattle.std.specs.Prelude.{◌≡◌, ℕ, List, [], ◌∷◌, ◌++◌}
+use Rattle.px_text.specs.Prefix.{IsPrefixOf}
+use Rattle.px_message.specs.declared.flow.Flow.{Flow}
+use Rattle.px_event.specs.declared.ask.Ask.{Ask}
+use Rattle.px_event.specs.declared.ask.Ask.TheVariants as asks
+use Rattle.px_event.specs.declared.ask.Hook.{Hook}
+use Rattle.px_event.specs.declared.reply.Reply.{Reply}
+use Rattle.px_event.specs.declared.command.Command.{Command}
+use Rattle.px_event.specs.declared.step.Step.{Step}
+use Rattle.px_event.specs.declared.step.Step.TheVariants as steps
+use Rattle.px_event.specs.Layer.{Move}
+use Rattle.px_event.specs.Trace.{Trace, Always, BeforeEachHeard}
+use Rattle.px_event.specs.View.{View, Atom, about, flows, IsTold, seen_of, seen_in}
+use Rattle.px_core.specs.declared.answerer.Answer.TheVariants as answer
+use Rattle.px_core.specs.Answers.{Answering, FilesMeaning}
+use Rattle.px_core.specs.Calls.{calls_of}
+
+-- what is due in the conversation of each number, by its calls
+abbrev pub Due : Type 0
+Due = ℕ → List Move → List Command
+
+-- what a view has of what is due in a conversation of a trace
+abbrev pub due_in : Due → View → ℕ → Trace → List Atom
+due_in due view conv trace = seen_of view (due conv (calls_of conv trace))
+
+-- in each conversation and each view, what the trace has begins what is due
+abbrev pub IsWithinDue : Due → Trace → Type 0
+IsWithinDue due trace = (conv : ℕ) (view : View) → IsTold view → IsPrefixOf (seen_in view conv trace) (due_in due view conv trace)
+
+-- in each conversation and each view, the trace has what is due
+abbrev pub IsAllTold : Due → Trace → Type 0
+IsAllTold due trace = (conv : ℕ) (view : View) → IsTold view → seen_in view conv trace ≡ due_in due view conv trace
+
+-- An answer after this trace is one that the answerer may give to the hook about the flow with which it was asked last.
+pub record IsMet {S : Type 0} (answers : Answering S) (due : Due) (trace : Trace) (conv : ℕ) (ask : Ask) (reply : Reply) : Type 0 where
+  pub hook : Hook
+  pub flow : Flow
+  pub asked : ask ≡ asks.Hook flow.id.index hook
+  pub earlier : List Atom
+  pub last : due_in due flows conv trace ≡ earlier ++ about ask flow ∷ []
+  pub old : S
+  pub old_files : FilesMeaning
+  pub new : S
+  pub new_files : FilesMeaning
+  pub answers_so : answers hook flow old old_files new new_files (answer.Reply reply)
+
+-- so is the answer with which the trace ends, where it ends with one
+abbrev pub EndsMet : {S : Type 0} → Answering S → Due → Trace → Type 0
+EndsMet answers due trace = (front : Trace) (conv : ℕ) (ask : Ask) (reply : Reply) →
+    trace ≡ front ++ steps.Answered conv ask reply ∷ [] → IsMet answers due front conv ask reply
+
+-- At every moment what the trace has begins what is due, and directly before each thing heard it has all of it; each answer
+-- is one that the answerer may give.
+pub record IsServed {S : Type 0} (answers : Answering S) (due : Due) (trace : Trace) : Type 0 where
+  pub within : Always (IsWithinDue due) trace
+  pub told : BeforeEachHeard (IsAllTold due) trace
+  pub met : Always (EndsMet answers due) trace

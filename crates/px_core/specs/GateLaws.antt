@@ -1,0 +1,81 @@
+-- What a gate before a layer whose due is a chain owes: it is a function of the gate's calls that only grows, and ends
+-- where the layer ends.
+use Rattle.std.proofs.Common.{◌≡◌, ℕ, ◌+◌, Bool, true, List, [], ◌∷◌, ◌++◌, length, Option, refl, ap, sym, ◌∙◌, subst}
+use Rattle.std.proofs.lemmas.List.{append-nil}
+use Rattle.px_text.specs.Prefix.{IsPrefixOf}
+use Rattle.px_event.specs.declared.ask.Ask.{Ask}
+use Rattle.px_event.specs.declared.event.Event.{Event}
+use Rattle.px_event.specs.declared.reply.Reply.{Reply}
+use Rattle.px_event.specs.declared.command.Command.{Command}
+use Rattle.px_event.specs.Chain.{Stamped, Timed, never, Chain, Look, Ends, due}
+use Rattle.px_event.specs.Laws.{Settles, SoFarGrows}
+use Rattle.px_event.specs.Layer.{Move, Took, Replied, Standing}
+use Rattle.px_event.specs.Stands.{events_in, replies_in, stop_of, due_by, StandsAt, AwaitsWhatItAsks, EndsWhereItEnds}
+use Rattle.px_event.specs.View.{View, seen_of}
+use Rattle.px_event.proofs.Growth.{grows_by_events, grows_by_replies}
+use Rattle.px_event.proofs.Moves.{events_in-append, replies_in-append}
+use Rattle.px_event.proofs.Seen.{seen_is_view}
+use Rattle.px_event.proofs.Stops.{behind_end}
+use Rattle.px_gate.specs.declared.gate.Gate.{Gate}
+use Rattle.px_gate.specs.Gate.{Serves, GateStands}
+use Rattle.px_gate.proofs.GateDue.{gate_gave, calls_as}
+
+module _ {S : Type 0} (chain : Chain S Event Reply Command) (law : Settles chain) (start : S) where
+  event_grows : (moves : List Move) (view : View) → SoFarGrows chain (seen_of view) → (more : List (Stamped Event)) (moves' : List Move) →
+      events_in 1 moves' ≡ events_in 1 moves ++ more → replies_in 1 moves' ≡ replies_in 1 moves →
+      IsPrefixOf (seen_of view (due_by chain start moves)) (seen_of view (due_by chain start moves'))
+  event_grows moves view grows more moves' events replies =
+      let P : List (Stamped Event) → List (Stamped Reply) → Type 0 = λ es rs. IsPrefixOf (seen_of view (due_by chain start moves)) (seen_of view (due chain start es rs)) in
+      let Q : List (Stamped Reply) → Type 0 = λ rs. P (events_in 1 moves') rs in
+      let R : List (Stamped Event) → Type 0 = λ es. P es (replies_in 1 moves) in
+      subst Q (sym replies) (subst R (sym events)
+      (grows_by_events chain (seen_of view) (seen_is_view view) grows law (replies_in 1 moves) never [] start [] (events_in 1 moves) more))
+
+  reply_grows : (moves : List Move) (view : View) → SoFarGrows chain (seen_of view) → (more : List (Stamped Reply)) (moves' : List Move) →
+      events_in 1 moves' ≡ events_in 1 moves → replies_in 1 moves' ≡ replies_in 1 moves ++ more →
+      IsPrefixOf (seen_of view (due_by chain start moves)) (seen_of view (due_by chain start moves'))
+  reply_grows moves view grows more moves' events replies =
+      let P : List (Stamped Event) → List (Stamped Reply) → Type 0 = λ es rs. IsPrefixOf (seen_of view (due_by chain start moves)) (seen_of view (due chain start es rs)) in
+      let Q : List (Stamped Event) → Type 0 = λ es. P es (replies_in 1 moves') in
+      let R : List (Stamped Reply) → Type 0 = λ rs. P (events_in 1 moves) rs in
+      subst Q (sym events) (subst R (sym replies)
+      (grows_by_replies chain (seen_of view) (seen_is_view view) grows law (replies_in 1 moves) more never [] start [] (events_in 1 moves)))
+
+  -- one call more takes nothing back
+  pub calls_grow : (grows : (view : View) → SoFarGrows chain (seen_of view)) (moves : List Move) (move : Move) (view : View) →
+      IsPrefixOf (seen_of view (due_by chain start moves)) (seen_of view (due_by chain start (moves ++ move ∷ [])))
+  calls_grow grows moves (Took moment event) view =
+      event_grows moves view (grows view) (events_in (1 + length moves) (Took moment event ∷ [])) (moves ++ Took moment event ∷ [])
+      (events_in-append 1 moves (Took moment event ∷ [])) (replies_in-append 1 moves (Took moment event ∷ []) ∙ append-nil (replies_in 1 moves))
+  calls_grow grows moves (Replied moment reply) view =
+      reply_grows moves view (grows view) (replies_in (1 + length moves) (Replied moment reply ∷ [])) (moves ++ Replied moment reply ∷ [])
+      (events_in-append 1 moves (Replied moment reply ∷ []) ∙ append-nil (events_in 1 moves)) (replies_in-append 1 moves (Replied moment reply ∷ []))
+
+  module _ {M : Type 0} (is_at : M → S → List (Timed Event) → Type 0) (awaited : M → Option Ask) (ties : AwaitsWhatItAsks chain is_at awaited)
+      (standing : Standing M) (made : M) (stands_at : (state : M) (moves : List Move) (given : List Command) → standing made state moves given → StandsAt chain start is_at state moves given) where
+    -- what the gate gave is what is due by its calls
+    pub calls_gave : (first gate : Gate M) (calls : List Move) (given : List Command) → first.layer ≡ made → GateStands standing awaited first gate calls given →
+        (view : View) → seen_of view given ≡ seen_of view (due_by chain start calls)
+    calls_gave first gate calls given is stands view =
+        gate_gave chain law start is_at awaited ties standing made stands_at first gate calls given is stands view
+
+    -- where its layer has ended no call changes what is due
+    pub calls_over : (ended : M → Bool) → EndsWhereItEnds chain is_at ended → (first gate : Gate M) (calls : List Move) (given : List Command) →
+        first.layer ≡ made → GateStands standing awaited first gate calls given → ended gate.layer ≡ true →
+        (more : List Move) (view : View) → seen_of view (due_by chain start (calls ++ more)) ≡ seen_of view (due_by chain start calls)
+    calls_over ended ends first gate calls given is stands over more view =
+        let P : M → Type 0 = λ m. Serves standing awaited m calls stands.moves gate.queue.items in
+        let Q : M → Type 0 = λ m. standing m gate.layer stands.moves given in
+        let like = (calls_as chain law start is_at awaited ties standing made stands_at calls stands.moves gate.queue.items (subst P is stands.serves)).as_moves in
+        let place = (stands_at gate.layer stands.moves given (subst Q is stands.stands)).place in
+        let end = ends.ends gate.layer _ _ place over in
+        let here : chain.look (stop_of chain start calls).stage (stop_of chain start calls).front ≡ Ends end.0 =
+        ap (λ s. chain.look s (stop_of chain start calls).front) like.stage
+        ∙ (ap (λ f. chain.look (stop_of chain start stands.moves).stage f) like.front ∙ end.1) in
+        let events = events_in (1 + length calls) more in
+        let replies = replies_in (1 + length calls) more in
+        let same : due chain start (events_in 1 calls ++ events) (replies_in 1 calls ++ replies) ≡ due_by chain start calls =
+        behind_end chain law (replies_in 1 calls) replies never [] start [] (events_in 1 calls) events end.0 here in
+        ap (λ l. seen_of view l)
+        (ap (λ es. due chain start es (replies_in 1 (calls ++ more))) (events_in-append 1 calls more)
+        ∙ (ap (λ rs. due chain start (events_in 1 calls ++ events) rs) (replies_in-append 1 calls more) ∙ same))

@@ -1,0 +1,206 @@
+-- What a held conversation is in a trace, within a step and at its end.
+use Rattle.std.specs.Prelude.{◌≡◌, ℕ, ◌+◌, Bool, true, List, [], ◌∷◌, ◌++◌, map, Option, Some, None, IsSome, option_to_list, ◌⊎◌}
+use Rattle.std.specs.List.{flat_map}
+use Rattle.px_message.specs.declared.flow.Flow.{Flow}
+use Rattle.px_event.specs.declared.ask.Ask.{Ask}
+use Rattle.px_event.specs.declared.ask.Ask.TheVariants as asks
+use Rattle.px_event.specs.declared.ask.Hook.{Hook}
+use Rattle.px_event.specs.declared.reply.Reply.{Reply}
+use Rattle.px_event.specs.declared.command.Command.{Command}
+use Rattle.px_event.specs.declared.command.Command.TheVariants as commands
+use Rattle.px_event.specs.declared.said.Said.TheVariants as said
+use Rattle.px_event.specs.declared.step.Step.{Step}
+use Rattle.px_event.specs.declared.step.Step.TheVariants as steps
+use Rattle.px_event.specs.declared.heard.Heard.{Heard}
+use Rattle.px_event.specs.Layer.{Move, Took, Replied, Standing, Goes, IsNews, asks_in}
+use Rattle.px_event.specs.Trace.{Trace}
+use Rattle.px_event.specs.View.{View, Atom, about, flows, IsTold, seen_of, seen_in}
+use Rattle.px_core.specs.declared.held.Held.{Held}
+use Rattle.px_core.specs.declared.held.Question.{Question}
+use Rattle.px_core.specs.Answers.{Answering}
+use Rattle.px_core.specs.declared.news.News.{News}
+use Rattle.px_core.specs.declared.news.News.TheVariants as news
+use Rattle.px_core.specs.Calls.{calls, calls_of, addressed}
+use Rattle.px_core.specs.Conversation.{AllNamed}
+use Rattle.px_core.specs.Due.{Due, due_in, IsServed}
+
+-- the step by which a command is carried out
+abbrev pub step_of : ℕ → Command → Step
+step_of conv (commands.Send side bytes) = steps.Said conv (said.Send side bytes)
+step_of conv (commands.Close side) = steps.Said conv (said.Close side)
+step_of conv (commands.Dial server address inside) = steps.Said conv (said.Dial server address)
+step_of conv (commands.Ask ask flow) = steps.Asked conv ask
+step_of conv (commands.Done flow) = steps.Done flow
+
+-- a step of the conversation of this number
+abbrev pub IsOf : ℕ → Step → Type 0
+IsOf conv (steps.Heard moment heard) = ⊥
+IsOf conv (steps.Asked number ask) = number ≡ conv
+IsOf conv (steps.Answered number ask reply) = number ≡ conv
+IsOf conv (steps.Said number what) = number ≡ conv
+IsOf conv (steps.Done flow) = flow.id.conv ≡ conv
+
+abbrev pub AllOf : ℕ → List Step → Type 0
+AllOf conv [] = Unit {0}
+AllOf conv (step ∷ rest) = IsOf conv step × AllOf conv rest
+
+-- the hook that a command asks
+abbrev pub question_about : Ask → Flow → Option Question
+question_about (asks.Hook index hook) flow = Some (record { ask = asks.Hook index hook; hook = hook; flow = flow })
+question_about (asks.Dial server) flow = None
+
+abbrev pub question_in : Command → Option Question
+question_in (commands.Ask ask flow) = question_about ask flow
+question_in _ = None
+
+-- the later question, if there is one
+abbrev pub question_by : Option Question → Option Question → Option Question
+question_by None earlier = earlier
+question_by (Some later) earlier = Some later
+
+-- the last hook that these ask
+abbrev pub asked_from : Option Question → List Command → Option Question
+asked_from question [] = question
+asked_from question (command ∷ rest) = asked_from (question_by (question_in command) question) rest
+
+-- the server of the last dial
+abbrev pub dial_by : Command → Option ℕ → Option ℕ
+dial_by (commands.Dial server address inside) dial = Some server
+dial_by _ dial = dial
+
+abbrev pub dial_from : Option ℕ → List Command → Option ℕ
+dial_from dial [] = dial
+dial_from dial (command ∷ rest) = dial_from (dial_by command dial) rest
+
+-- the server of a dial that is awaited
+abbrev pub dial_of : Option Ask → Option ℕ
+dial_of (Some (asks.Dial server)) = Some server
+dial_of _ = None
+
+-- a hook that is awaited waits with its draft
+abbrev pub IsSettled : {C : Type 0} → (C → Option Ask) → Held C → Type 0
+IsSettled awaited held = (flow : ℕ) (hook : Hook) → awaited held.conversation ≡ Some (asks.Hook flow hook) → IsSome held.draft
+
+-- the question is what is awaited; where there is none, a hook that is awaited waits with its draft
+abbrev pub IsNext : {C : Type 0} → (C → Option Ask) → Held C → Option Question → Type 0
+IsNext awaited held None = IsSettled awaited held
+IsNext awaited held (Some question) =
+    (awaited held.conversation ≡ Some question.ask) × (question.ask ≡ asks.Hook question.flow.id.index question.hook)
+
+-- these commands have the one ask that is awaited, or none, and then a hook that is awaited waits with its draft
+abbrev pub IsReady : {C : Type 0} → (C → Option Ask) → Held C → List Command → Type 0
+IsReady awaited held given =
+    (flat_map asks_in given ≡ option_to_list (awaited held.conversation)) ⊎ ((flat_map asks_in given ≡ []) × IsSettled awaited held)
+
+-- the flow that was asked about last is the question's
+abbrev pub IsAbout : Due → ℕ → Trace → Option Question → Type 0
+IsAbout due conv trace None = Unit {0}
+IsAbout due conv trace (Some question) =
+    (earlier : List Atom) × (due_in due flows conv trace ≡ earlier ++ about question.ask question.flow ∷ [])
+
+-- how often the loop that answers can still turn
+abbrev pub turns_left : ℕ → Option Question → ℕ
+turns_left left None = left
+turns_left left (Some question) = left + 1
+
+-- A reply that was given: it stands in the trace before what it causes.
+pub record Replies {C : Type 0} (standing : Standing C) (awaited : C → Option Ask) (conv moment : ℕ) (ask : Ask) (reply : Reply)
+    (before after : Held C) (question : Option Question) (out new_out : List Step) : Type 0 where
+  pub given : List Command
+  pub grown : new_out ≡ (out ++ steps.Answered conv ask reply ∷ []) ++ map (step_of conv) given
+  pub goes : Goes standing before.conversation after.conversation (Replied moment reply) [] given
+  pub asks_one : flat_map asks_in given ≡ option_to_list (awaited after.conversation)
+  pub named : AllNamed conv given
+  pub asked : question ≡ asked_from None given
+  pub same_sides : after.connected ≡ before.connected
+  pub same_draft : after.draft ≡ before.draft
+
+-- A call gave these commands; with what was dialled before, they dial what is awaited.
+pub record Gives {C : Type 0} (standing : Standing C) (awaited : C → Option Ask) (move : Move) (dial : Option ℕ) (before after : C) (given : List Command) : Type 0 where
+  pub goes : Goes standing before after move [] given
+  pub dials : dial_from dial given ≡ dial_of (awaited after)
+
+-- The trace goes on by one call of the conversation, at this moment; then this dial awaits its end, and these sides are
+-- connected. No view has more of it.
+pub record IsOneOn (conv moment : ℕ) (move : Move) (dial : Option ℕ) (sides : List ℕ) (trace next : Trace) : Type 0 where
+  pub moves : calls_of conv next ≡ calls_of conv trace ++ move ∷ []
+  pub begun : (calls conv next).begun ≡ true
+  pub dials : (calls conv next).dial ≡ dial
+  pub connected : (calls conv next).connected ≡ sides
+  pub now : (calls conv next).moment ≡ moment
+  pub sees : (view : View) → IsTold view → seen_in view conv next ≡ seen_in view conv trace
+
+-- the news is no answer
+abbrev pub IsHeardNews : News → Type 0
+IsHeardNews (news.Event side event) = IsNews event
+IsHeardNews _ = Unit {0}
+
+module _ {C : Type 0} (standing : Standing C) (awaited : C → Option Ask) (number : C → ℕ) (made_due : C → List Move → List Command) where
+  -- The conversation stands for its calls in the trace. It gave what the trace has of it, and these commands behind, which
+  -- are still to be told.
+  pub record Within (due : Due) (conv : ℕ) (held : Held C) (trace : Trace) (rest : List Command) : Type 0 where
+    pub made : C
+    pub earlier : List Command
+    pub stands : standing made held.conversation (calls_of conv trace) (earlier ++ rest)
+    pub owes : (moves : List Move) → made_due made moves ≡ due conv moves
+    pub tells : (view : View) → IsTold view → seen_of view earlier ≡ seen_in view conv trace
+    pub named : number held.conversation ≡ conv
+    pub begun : (calls conv trace).begun ≡ true
+    pub sides : (calls conv trace).connected ≡ held.connected.items
+    pub dial : dial_from (calls conv trace).dial rest ≡ dial_of (awaited held.conversation)
+
+  -- The conversation stands for its calls in the trace, and gave what the trace has of it.
+  pub record Stood (due : Due) (conv : ℕ) (state : C) (trace : Trace) : Type 0 where
+    pub made : C
+    pub earlier : List Command
+    pub stands : standing made state (calls_of conv trace) (earlier ++ [])
+    pub owes : (moves : List Move) → made_due made moves ≡ due conv moves
+    pub tells : (view : View) → IsTold view → seen_of view earlier ≡ seen_in view conv trace
+
+  module _ {S : Type 0} (answers : Answering S) where
+    -- where a conversation is worked off to, with this question open
+    pub record WorkedTo (due : Due) (conv moment : ℕ) (held : Held C) (question : Option Question) (trace : Trace) : Type 0 where
+      pub within : Within due conv held trace []
+      pub now : (calls conv trace).moment ≡ moment
+      pub served : IsServed answers due trace
+      pub last : IsAbout due conv trace question
+
+    -- Answering its open hook, or letting it wait, does so too.
+    pub record Asks (conv moment : ℕ) (question : Question) (before after : Held C) (open_now : Option Question) (out new_out : List Step) : Type 0 where
+      pub more : List Step
+      pub grown : new_out ≡ out ++ more
+      pub own : AllOf conv more
+      pub works : (due : Due) (trace : Trace) → WorkedTo due conv moment before (Some question) trace → WorkedTo due conv moment after open_now (trace ++ more)
+      pub next : IsNext awaited after open_now
+
+    -- Working off a conversation that has these commands still to be told adds steps of its own; wherever it stood in a
+    -- trace, it stands in that trace with these steps more.
+    pub record Works (conv moment : ℕ) (rest : List Command) (before after : Held C) (question : Option Question) (out new_out : List Step) : Type 0 where
+      pub more : List Step
+      pub grown : new_out ≡ out ++ more
+      pub own : AllOf conv more
+      pub works : (due : Due) (trace : Trace) → Within due conv before trace rest → (calls conv trace).moment ≡ moment → IsServed answers due trace →
+          WorkedTo due conv moment after question (trace ++ more)
+      pub next : IsNext awaited after question
+
+    -- A call that was taken and worked off adds steps of the conversation's; wherever it stood in a trace that goes on by
+    -- that call, it stands in that trace with these steps more.
+    pub record Takes (conv moment : ℕ) (move : Move) (dial : Option ℕ) (sides : List ℕ) (before after : Held C) (out new_out : List Step) : Type 0 where
+      pub more : List Step
+      pub grown : new_out ≡ out ++ more
+      pub own : AllOf conv more
+      pub takes : (due : Due) (trace next : Trace) → Stood due conv before.conversation trace → IsOneOn conv moment move dial sides trace next → IsServed answers due next →
+          Within due conv after (next ++ more) [] × IsServed answers due (next ++ more)
+      pub settled : IsSettled awaited after
+
+    -- News that a conversation took add steps of its own; wherever it stood in a trace, it stands in that trace with what
+    -- was heard and these steps more.
+    pub record Hears (conv moment : ℕ) (what : News) (before after : Held C) (out new_out : List Step) : Type 0 where
+      pub more : List Step
+      pub grown : new_out ≡ out ++ more
+      pub own : AllOf conv more
+      pub hears : (due : Due) (trace : Trace) (heard : Heard) → addressed heard ≡ Some (conv, what) →
+          Within due conv before trace [] → IsServed answers due (trace ++ steps.Heard moment heard ∷ []) →
+          Within due conv after ((trace ++ steps.Heard moment heard ∷ []) ++ more) []
+          × IsServed answers due ((trace ++ steps.Heard moment heard ∷ []) ++ more)
+      pub settled : IsSettled awaited after

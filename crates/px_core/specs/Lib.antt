@@ -1,0 +1,12 @@
+pub mod Answers
+pub mod Calls
+pub mod Conversation
+pub mod Due
+pub mod EchoNamed
+pub mod EchoRuns
+pub mod GateLaws
+pub mod Held
+pub mod Named
+pub mod Router
+pub mod Run
+pub mod Turns

@@ -1,0 +1,64 @@
+//! Who answers hooks.
+ghost use Rattle.std.specs.Prelude.{◌≡◌, IfOk};
+ghost use Rattle.px_core.specs.Answers.{Answering};
+
+use px_event::{Hook, Reply};
+use px_message::{Flow, Response};
+use px_outside::Files;
+use px_text::NoMemory;
+
+/// What is to become of a flow that is asked about.
+#[derive(Debug, Drop, PartialEq, Eq)]
+pub enum Verdict {
+    /// It goes on.
+    Go,
+    /// Its request is answered with this response.
+    Respond(Response),
+    /// It ends, with its conversation.
+    Kill,
+    /// The WebSocket's message is dropped.
+    Discard,
+}
+
+/// A flow as its answer will have it, with the verdict so far. At a head hook, a body above `stream` bytes may be streamed.
+#[derive(Debug, Drop, PartialEq, Eq)]
+pub struct Draft {
+    pub flow: Flow,
+    pub stream: Option<u64>,
+    pub verdict: Verdict,
+}
+
+/// The answer to a hook, or the draft of one that waits for the operator.
+#[derive(Debug, Drop, PartialEq, Eq)]
+pub enum Answer {
+    /// The hook is answered.
+    Reply(Reply),
+    /// The hook waits with this draft.
+    Wait(Draft),
+}
+
+/// Rules, addons or whoever else answers hooks.
+pub trait Answerer {
+    ghost use Rattle.px_core.specs.Answers.{FilesMeaning};
+
+    /// The states that it can mean.
+    ghost State: { Type 0 };
+
+    /// Its state.
+    ghost state: { Self → State };
+
+    /// Which answers it gives: a hook, its flow, the state and the files before and after, and the answer.
+    ghost answers: { Answering State };
+
+    /// Answers a hook about this flow, or lets it wait. After `NoMemory` the answerer may only be dropped.
+    fn answer<F: Files>(
+        &mut self,
+        hook: Hook,
+        flow: &Flow,
+        files: &mut F,
+    ) -> Result<Answer, NoMemory>
+        ensures answers { IfOk result (λ answer. answers hook flow.now
+            (state self.old) (record { contents = F.contents files.old; calls = F.calls files.old; misses = F.misses files.old; faults = F.faults files.old; losses = F.losses files.old })
+            (state self.new) (record { contents = F.contents files.new; calls = F.calls files.new; misses = F.misses files.new; faults = F.faults files.new; losses = F.losses files.new })
+            answer) };
+}

@@ -1,0 +1,353 @@
+//! A conversation as the router holds it.
+//!
+//! Within a step the trace lags behind the conversation: it gave commands that are not told yet. So `Within` says where it
+//! stands with the commands that are still to be told, and each step that is told takes one of them. An answer stands in
+//! the trace before what it causes; so each front of the steps has no more than is due by the calls in that front.
+ghost use Rattle.std.specs.Prelude.{◌≡◌, ◌==◌, ◌<◌, true, ◌++◌, ℕ, None, Some, OnOk, IfOk, map};
+ghost use Rattle.std.specs.List.{list_any};
+ghost use Rattle.px_event.specs.Layer.{IsSound, IsNews, MayAnswer, Took, Replied};
+ghost use Rattle.px_event.specs.declared.ask.Ask.TheVariants.{Hook as AsksHook, Dial as AsksDial};
+ghost use Rattle.px_core.specs.Calls.{dial_reply, connected_by, is_connected, is_dialling};
+ghost use Rattle.px_core.specs.Conversation.{AllNamed};
+ghost use Rattle.px_core.specs.Held.{step_of, question_about, question_by, question_in, asked_from, dial_of, Replies, Gives, Works, Takes, Hears, IsHeardNews, Asks, IsNext, IsReady, IsSettled, turns_left};
+
+use crate::news::News;
+use crate::{Answer, Answerer, Draft, Owes};
+use px_event::{Ask, Command, Event, Hook, Reply, Said, Side, Step};
+use px_message::{Fault, Flow};
+use px_outside::Files;
+use px_text::NoMemory;
+use std::alloc::Global;
+
+/// A live conversation, the server sides that are connected, and the draft of its hook if that waits.
+#[derive(Drop)]
+pub struct Held<C> {
+    pub(crate) conversation: C,
+    pub(crate) connected: Vec<u32>,
+    pub(crate) draft: Option<Draft>,
+}
+
+/// A hook that is asked and not answered.
+#[derive(Debug, Drop)]
+pub struct Question {
+    ask: Ask,
+    hook: Hook,
+    flow: Flow,
+}
+
+/// The call in which a conversation is worked off.
+#[derive(Clone, Copy)]
+pub struct Call {
+    pub(crate) alloc: Global,
+    pub(crate) conv: u32,
+    pub(crate) moment: u64,
+}
+
+impl<C: Owes> Held<C> {
+    /// Takes news of the conversation, and works it off. An event counts where its side is connected, the end of a dial
+    /// where that dial is awaited.
+    pub(crate) fn hear<A: Answerer, F: Files>(
+        &mut self,
+        call: Call,
+        news: News,
+        answerer: &mut A,
+        files: &mut F,
+        steps: &mut Vec<Step>,
+    ) -> Result<(), NoMemory>
+        requires sound { IsSound C.stands self.old.conversation }
+        requires number { C.number self.old.conversation ≡ call.conv }
+        requires settled { IsSettled C.awaited self.old }
+        requires news { IsHeardNews news }
+        ensures hears { OnOk result (Hears C.stands C.awaited C.number C.due A.answers call.conv call.moment news self.old self.new steps.old.items steps.new.items) }
+    {
+        match news {
+            News::Begun => Ok(()),
+            News::Event { side, event } => {
+                if self.is_connected(side) {
+                    self.hand(call, event, answerer, files, steps)
+                } else {
+                    Ok(())
+                }
+            }
+            News::Dialled { server, ok } => {
+                if self.is_dialling(server) {
+                    self.end_dial(call, server, ok, answerer, files, steps)
+                } else {
+                    Ok(())
+                }
+            }
+        }
+    }
+
+    /// Takes an event, and works it off.
+    pub(crate) fn hand<A: Answerer, F: Files>(
+        &mut self,
+        call: Call,
+        event: Event,
+        answerer: &mut A,
+        files: &mut F,
+        steps: &mut Vec<Step>,
+    ) -> Result<(), NoMemory>
+        requires sound { IsSound C.stands self.old.conversation }
+        requires number { C.number self.old.conversation ≡ call.conv }
+        requires settled { IsSettled C.awaited self.old }
+        requires news { IsNews event }
+        ensures takes { OnOk result (Takes C.stands C.awaited C.number C.due A.answers call.conv call.moment (Took call.moment event) (dial_of (C.awaited self.old.conversation)) self.old.connected.items self.old self.new steps.old.items steps.new.items) }
+    {
+        let commands = self.take_event(call, event)?;
+        self.work_off(call, commands, answerer, files, steps)
+    }
+
+    /// Takes the end of the dial that is awaited, and works it off.
+    fn end_dial<A: Answerer, F: Files>(
+        &mut self,
+        call: Call,
+        server: u32,
+        ok: bool,
+        answerer: &mut A,
+        files: &mut F,
+        steps: &mut Vec<Step>,
+    ) -> Result<(), NoMemory>
+        requires sound { IsSound C.stands self.old.conversation }
+        requires number { C.number self.old.conversation ≡ call.conv }
+        requires awaited { C.awaited self.old.conversation ≡ Some (AsksDial server) }
+        ensures takes { OnOk result (Takes C.stands C.awaited C.number C.due A.answers call.conv call.moment (Replied call.moment (dial_reply ok)) None (connected_by server ok self.old.connected.items) self.old self.new steps.old.items steps.new.items) }
+    {
+        self.connect(server, ok)?;
+        let commands = self.take_end(call, server, ok)?;
+        self.work_off(call, commands, answerer, files, steps)
+    }
+
+    /// Whether the side is the client, or a server that is connected.
+    fn is_connected(&self, side: Side) -> bool
+        ensures { result ≡ is_connected side self.now.connected.items }
+    {
+        match side {
+            Side::Client => true,
+            Side::Server(number) => self.has_server(number),
+        }
+    }
+
+    /// Whether the server of this number is connected.
+    fn has_server(&self, number: u32) -> bool
+        ensures { result ≡ list_any (λ other. other == number) self.now.connected.items }
+    {
+        self.connected.iter().any(|other| *other == number)
+    }
+
+    /// Whether the end of the dial of this server is awaited.
+    fn is_dialling(&self, server: u32) -> bool
+        ensures dialling { result ≡ is_dialling server (dial_of (C.awaited self.now.conversation)) }
+        ensures awaited { result ≡ true → C.awaited self.now.conversation ≡ Some (AsksDial server) }
+    {
+        match self.conversation.waiting() {
+            Some(Ask::Dial { server: other }) => other == server,
+            _ => false,
+        }
+    }
+
+    /// Notes the server, if it is connected.
+    fn connect(&mut self, server: u32, ok: bool) -> Result<(), NoMemory>
+        ensures connected { OnOk result (self.new.connected.items ≡ connected_by server ok self.old.connected.items) }
+        ensures conversation { self.new.conversation ≡ self.old.conversation }
+    {
+        if ok {
+            self.connected.push(server)?;
+        }
+        Ok(())
+    }
+
+    /// Has the conversation take an event, and gives its commands.
+    fn take_event(&mut self, call: Call, event: Event) -> Result<Vec<Command>, NoMemory>
+        requires sound { IsSound C.stands self.old.conversation }
+        requires number { C.number self.old.conversation ≡ call.conv }
+        requires settled { IsSettled C.awaited self.old }
+        requires news { IsNews event }
+        ensures gives { IfOk result (λ given. Gives C.stands C.awaited (Took call.moment event) (dial_of (C.awaited self.old.conversation)) self.old.conversation self.new.conversation given.items) }
+        ensures sound { OnOk result (IsSound C.stands self.new.conversation) }
+        ensures number { OnOk result (C.number self.new.conversation ≡ call.conv) }
+        ensures named { IfOk result (λ given. AllNamed call.conv given.items) }
+        ensures ready { IfOk result (λ given. IsReady C.awaited self.new given.items) }
+        ensures connected { self.new.connected ≡ self.old.connected }
+    {
+        let mut commands = Vec::new(call.alloc);
+        self.conversation.take(call.moment, event, &mut commands)?;
+        Ok(commands)
+    }
+
+    /// Has the conversation take the end of the dial that is awaited, and gives its commands.
+    fn take_end(&mut self, call: Call, server: u32, ok: bool) -> Result<Vec<Command>, NoMemory>
+        requires sound { IsSound C.stands self.old.conversation }
+        requires number { C.number self.old.conversation ≡ call.conv }
+        requires awaited { C.awaited self.old.conversation ≡ Some (AsksDial server) }
+        ensures gives { IfOk result (λ given. Gives C.stands C.awaited (Replied call.moment (dial_reply ok)) None self.old.conversation self.new.conversation given.items) }
+        ensures sound { OnOk result (IsSound C.stands self.new.conversation) }
+        ensures number { OnOk result (C.number self.new.conversation ≡ call.conv) }
+        ensures named { IfOk result (λ given. AllNamed call.conv given.items) }
+        ensures ready { IfOk result (λ given. IsReady C.awaited self.new given.items) }
+        ensures connected { self.new.connected ≡ self.old.connected }
+    {
+        let mut commands = Vec::new(call.alloc);
+        let ask = Ask::Dial { server };
+        let reply = end_of_dial(ok);
+        self.conversation
+            .take(call.moment, Event::Answered { ask, reply }, &mut commands)?;
+        Ok(commands)
+    }
+
+    /// Tells the commands that the conversation gave, and answers hooks until none is open or one waits.
+    fn work_off<A: Answerer, F: Files>(
+        &mut self,
+        call: Call,
+        commands: Vec<Command>,
+        answerer: &mut A,
+        files: &mut F,
+        steps: &mut Vec<Step>,
+    ) -> Result<(), NoMemory>
+        requires sound { IsSound C.stands self.old.conversation }
+        requires number { C.number self.old.conversation ≡ call.conv }
+        requires named { AllNamed call.conv commands.items }
+        requires ready { IsReady C.awaited self.old commands.items }
+        ensures works { OnOk result (Works C.stands C.awaited C.number C.due A.answers call.conv call.moment commands.items self.old self.new None steps.old.items steps.new.items) }
+        ensures sound { OnOk result (IsSound C.stands self.new.conversation) }
+        ensures number { OnOk result (C.number self.new.conversation ≡ call.conv) }
+    {
+        let mut open = tell(call.conv, commands, steps)?;
+        while let Some(question) = open {
+            open = self.ask(call, question, answerer, files, steps)?;
+        }
+        Ok(())
+    }
+
+    /// Has the hook answered, and tells what follows; or lets it wait.
+    fn ask<A: Answerer, F: Files>(
+        &mut self,
+        call: Call,
+        question: Question,
+        answerer: &mut A,
+        files: &mut F,
+        steps: &mut Vec<Step>,
+    ) -> Result<Option<Question>, NoMemory>
+        requires sound { IsSound C.stands self.old.conversation }
+        requires number { C.number self.old.conversation ≡ call.conv }
+        requires next { IsNext C.awaited self.old (Some question) }
+        ensures asks { IfOk result (λ now_open. Asks C.stands C.awaited C.number C.due A.answers call.conv call.moment question self.old self.new now_open steps.old.items steps.new.items) }
+        ensures sound { OnOk result (IsSound C.stands self.new.conversation) }
+        ensures number { OnOk result (C.number self.new.conversation ≡ call.conv) }
+        ensures left { IfOk result (λ now_open. turns_left (C.left self.new.conversation) now_open < turns_left (C.left self.old.conversation) (Some question)) }
+    {
+        match answerer.answer(question.hook, &question.flow, files)? {
+            Answer::Wait(draft) => {
+                self.draft = Some(draft);
+                Ok(None)
+            }
+            Answer::Reply(reply) => self.reply(call, question.ask, reply, steps),
+        }
+    }
+
+    /// Gives the reply to the hook that is awaited, and tells what follows.
+    fn reply(
+        &mut self,
+        call: Call,
+        ask: Ask,
+        reply: Reply,
+        steps: &mut Vec<Step>,
+    ) -> Result<Option<Question>, NoMemory>
+        requires sound { IsSound C.stands self.old.conversation }
+        requires number { C.number self.old.conversation ≡ call.conv }
+        requires awaited { C.awaited self.old.conversation ≡ Some ask }
+        requires hook { (flow : _) × (hook : _) × (ask ≡ AsksHook flow hook) }
+        ensures replies { IfOk result (λ question. Replies C.stands C.awaited call.conv call.moment ask reply self.old self.new question steps.old.items steps.new.items) }
+        ensures sound { OnOk result (IsSound C.stands self.new.conversation) }
+        ensures number { OnOk result (C.number self.new.conversation ≡ call.conv) }
+        ensures left { OnOk result (C.left self.new.conversation < C.left self.old.conversation) }
+    {
+        let answered = Step::Answered {
+            conv: call.conv,
+            ask,
+            reply: reply.try_clone()?,
+        };
+        steps.push(answered)?;
+        let mut commands = Vec::new(call.alloc);
+        self.conversation
+            .take(call.moment, Event::Answered { ask, reply }, &mut commands)?;
+        tell(call.conv, commands, steps)
+    }
+}
+
+/// What the end of a dial says to the conversation.
+fn end_of_dial(ok: bool) -> Reply
+    ensures reply { result ≡ dial_reply ok }
+    ensures may { (server : ℕ) → MayAnswer (Some (AsksDial server)) result }
+{
+    if ok {
+        Reply::Dialled
+    } else {
+        Reply::Refused(Fault::NoConnection)
+    }
+}
+
+/// Adds the step of each command, and gives the last hook that they ask.
+fn tell(
+    conv: u32,
+    commands: Vec<Command>,
+    steps: &mut Vec<Step>,
+) -> Result<Option<Question>, NoMemory>
+    ensures told { OnOk result (steps.new.items ≡ steps.old.items ++ map (step_of conv) commands.items) }
+    ensures asked { IfOk result (λ question. question ≡ asked_from None commands.items) }
+{
+    let mut open = None;
+    for command in commands {
+        let (step, question) = told(conv, command);
+        open = later(question, open);
+        steps.push(step)?;
+    }
+    Ok(open)
+}
+
+/// The later question, if there is one.
+fn later(question: Option<Question>, earlier: Option<Question>) -> Option<Question>
+    ensures { result ≡ question_by question earlier }
+{
+    match question {
+        Some(question) => Some(question),
+        None => earlier,
+    }
+}
+
+/// The step of a command, and the hook that it asks.
+fn told(conv: u32, command: Command) -> (Step, Option<Question>)
+    ensures step { result.0 ≡ step_of conv command }
+    ensures question { result.1 ≡ question_in command }
+{
+    match command {
+        Command::Send { side, bytes } => {
+            let said = Said::Send { side, bytes };
+            (Step::Said { conv, said }, None)
+        }
+        Command::Close { side } => {
+            let said = Said::Close { side };
+            (Step::Said { conv, said }, None)
+        }
+        Command::Dial {
+            server,
+            address,
+            ..
+        } => {
+            let said = Said::Dial { server, address };
+            (Step::Said { conv, said }, None)
+        }
+        Command::Ask { ask, flow } => (Step::Asked { conv, ask }, asking(ask, flow)),
+        Command::Done { flow } => (Step::Done { flow }, None),
+    }
+}
+
+/// The hook that is asked about this flow.
+fn asking(ask: Ask, flow: Flow) -> Option<Question>
+    ensures { result ≡ question_about ask flow }
+{
+    match ask {
+        Ask::Hook { hook, .. } => Some(Question { ask, hook, flow }),
+        Ask::Dial { .. } => None,
+    }
+}

@@ -1,0 +1,32 @@
+//! Many conversations over one network.
+//!
+//! What is due in a conversation is a function of its calls, and its calls are a function of the trace
+//! (`specs/Calls.antt`). So the promise on a trace names no program: at every moment, in each conversation and each view,
+//! the trace has a beginning of what is due by the calls so far; directly before each thing heard it has all of it; and
+//! each answer to a hook is one that the answerer may give about the flow with which the hook was asked
+//! (`specs/Due.antt`, `IsServed`). `work_off` keeps it in every exit, for any conversation whose due only grows (`Owes`).
+#![tactic(auto)]
+
+mod answerer;
+mod conversation;
+mod gated;
+mod gates;
+mod held;
+mod maker;
+mod news;
+mod numbered;
+mod owes;
+mod router;
+mod table;
+#[cfg(test)]
+mod tests;
+mod work;
+
+pub use answerer::{Answer, Answerer, Draft, Verdict};
+pub use conversation::Conversation;
+pub use gates::{Gates, LayerMaker};
+pub use maker::{Maker, Taker};
+pub use numbered::Numbered;
+pub use owes::Owes;
+pub use router::Router;
+pub use work::work_off;

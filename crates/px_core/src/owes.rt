@@ -1,0 +1,29 @@
+//! What is due of a conversation, as a function of how it was made and of its calls.
+//!
+//! Three laws carry every theorem on runs: in each view a state gave what is due by its calls; one call more takes nothing
+//! back; and where a state has ended, no call changes what is due.
+ghost use Rattle.std.specs.Prelude.{◌≡◌, true, List, [], ◌∷◌, ◌++◌};
+ghost use Rattle.px_text.specs.Prefix.{IsPrefixOf};
+ghost use Rattle.px_event.specs.Layer.{Move};
+ghost use Rattle.px_event.specs.View.{View, seen_of};
+ghost use Rattle.px_event.specs.declared.command.Command.{Command as GivenCommand};
+
+use crate::Conversation;
+
+/// A conversation whose due is a function of its calls.
+pub trait Owes: Conversation {
+    /// What is due of a conversation that was made so, by these calls.
+    ghost due: { Self → List Move → List GivenCommand };
+
+    /// What a state gave is what is due.
+    ghost gave: { (made state : Self) (moves : List Move) (given : List GivenCommand) → Self.stands made state moves given →
+        (view : View) → seen_of view given ≡ seen_of view (due made moves) };
+
+    /// One call more takes nothing back.
+    ghost grows: { (made : Self) (moves : List Move) (move : Move) (view : View) →
+        IsPrefixOf (seen_of view (due made moves)) (seen_of view (due made (moves ++ move ∷ []))) };
+
+    /// Where a state has ended no call changes what is due.
+    ghost over: { (made state : Self) (moves : List Move) (given : List GivenCommand) → Self.stands made state moves given → Self.ended state ≡ true →
+        (more : List Move) (view : View) → seen_of view (due made (moves ++ more)) ≡ seen_of view (due made moves) };
+}

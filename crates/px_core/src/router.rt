@@ -1,0 +1,237 @@
+//! Many conversations, each handed its own events.
+//!
+//! A router stands for a trace (`RouterStands`): each live conversation stands for the calls of its number in the trace
+//! and gave what the trace has of it; of one that has ended the trace has all that will ever be due; and the trace is
+//! served. Each call holds for every trace that the router stands for, so it needs no word of the network.
+//!
+//! Steps are given to the caller once the whole call has succeeded. A router in which memory ran out answers so for ever.
+ghost use Rattle.std.specs.Prelude.{◌≡◌, Some, None, IsErr, true, false, [], List, IfOk, OnOk, OnErr};
+ghost use Rattle.slab.specs.Slab.{get as held_under};
+ghost use Rattle.px_event.specs.Layer.{IsSound};
+ghost use Rattle.px_event.specs.declared.event.Event.TheVariants.{Begun as HasBegun};
+ghost use Rattle.px_core.specs.Due.{Due};
+ghost use Rattle.px_core.specs.Held.{IsHeardNews, IsSettled};
+ghost use Rattle.px_core.specs.Router.{found, is_known, kept_in, place_of, OwesNothing, TableStands, RouterStands, IsRouted, IsAtKey, HearsAt, Hands, Admits, Routes, BeginsNone};
+ghost use Rattle.px_core.specs.declared.table.Place.TheVariants.{Live as IsLiveUnder};
+
+use crate::held::{Call, Held};
+use crate::news::{News, news_of};
+use crate::table::{Place, Table};
+use crate::{Answerer, Owes};
+use px_event::{Event, Heard, Step};
+use px_outside::Files;
+use px_text::NoMemory;
+use std::alloc::Global;
+
+/// Conversations by number, and who answers their hooks.
+#[derive(Drop)]
+pub struct Router<C, A> {
+    alloc: Global,
+    answerer: A,
+    table: Table<C>,
+    spent: bool,
+}
+
+impl<C: Owes, A: Answerer> Router<C, A> {
+    /// No conversation was admitted. It stands for the empty trace.
+    pub fn new(alloc: Global, answerer: A) -> Router<C, A>
+        ensures stands { (due : Due) → OwesNothing due → RouterStands C.stands C.awaited C.number C.due A.answers due result [] }
+        ensures sound { IsRouted C.stands C.awaited C.number C.due A.answers result }
+    {
+        Router {
+            alloc,
+            answerer,
+            table: Table::new(alloc),
+            spent: false,
+        }
+    }
+
+    /// Whether a conversation of this number was admitted.
+    pub fn knows(&self, conv: u32) -> bool
+        ensures { result ≡ is_known self.now conv }
+    {
+        self.table.place(conv).is_some()
+    }
+
+    /// How many bytes the conversation keeps; 0 where it is unknown or has ended.
+    pub fn kept(&self, conv: u32) -> usize
+        ensures { result ≡ kept_in C.kept (found self.now.table conv) }
+    {
+        match self.table.place(conv) {
+            Some(Place::Live(key)) => match self.table.live.get(key) {
+                Some(held) => held.conversation.kept(),
+                None => 0,
+            },
+            Some(Place::Ended) | None => 0,
+        }
+    }
+
+    /// Admits a conversation under its number, hands it `Begun` at this moment in microseconds since 1970, and works it
+    /// off. After `NoMemory` the router answers so for ever, and no step was added.
+    pub fn admit<F: Files>(
+        &mut self,
+        moment: u64,
+        conv: u32,
+        conversation: C,
+        files: &mut F,
+        out: &mut Vec<Step>,
+    ) -> Result<(), NoMemory>
+        requires sound { IsRouted C.stands C.awaited C.number C.due A.answers self.old }
+        requires unknown { is_known self.old conv ≡ false }
+        requires number { C.number conversation ≡ conv }
+        requires stands { C.stands conversation conversation [] [] }
+        requires free { C.awaited conversation ≡ None }
+        ensures admits { OnOk result (Admits C.stands C.awaited C.number C.due A.answers conv moment conversation self.old.table self.new.table out.old.items out.new.items) }
+        ensures spent { self.old.spent ≡ true → IsErr result }
+        ensures err { OnErr result ((self.new.spent ≡ true) × (out.new.items ≡ out.old.items)) }
+        ensures ok { OnOk result (self.new.spent ≡ false) }
+    {
+        if self.spent {
+            return Err(NoMemory);
+        }
+        self.spent = true;
+        let mut steps = Vec::new(self.alloc);
+        let call = Call {
+            alloc: self.alloc,
+            conv,
+            moment,
+        };
+        self.begin(call, conversation, files, &mut steps)?;
+        out.append(&mut steps)?;
+        self.spent = false;
+        Ok(())
+    }
+
+    /// Takes something heard at this moment in microseconds since 1970, and works its conversation off. News of no
+    /// conversation, of one that is unknown or has ended, of a side that is not connected or of a dial that is not awaited
+    /// are ignored. After `NoMemory` the router answers so for ever, and no step was added.
+    pub fn take<F: Files>(
+        &mut self,
+        moment: u64,
+        heard: Heard,
+        files: &mut F,
+        out: &mut Vec<Step>,
+    ) -> Result<(), NoMemory>
+        requires sound { IsRouted C.stands C.awaited C.number C.due A.answers self.old }
+        requires begins { BeginsNone self.old heard }
+        ensures routes { OnOk result (Routes C.stands C.awaited C.number C.due A.answers moment heard self.old.table self.new.table out.old.items out.new.items) }
+        ensures spent { self.old.spent ≡ true → IsErr result }
+        ensures err { OnErr result ((self.new.spent ≡ true) × (out.new.items ≡ out.old.items)) }
+        ensures ok { OnOk result (self.new.spent ≡ false) }
+    {
+        if self.spent {
+            return Err(NoMemory);
+        }
+        self.spent = true;
+        let mut steps = Vec::new(self.alloc);
+        self.hear(moment, heard, files, &mut steps)?;
+        out.append(&mut steps)?;
+        self.spent = false;
+        Ok(())
+    }
+
+    /// Hands what was heard to its conversation.
+    fn hear<F: Files>(
+        &mut self,
+        moment: u64,
+        heard: Heard,
+        files: &mut F,
+        steps: &mut Vec<Step>,
+    ) -> Result<(), NoMemory>
+        requires sound { (due : Due) × (trace : _) × TableStands C.stands C.awaited C.number C.due A.answers due self.old.table trace }
+        requires begins { BeginsNone self.old heard }
+        ensures routes { OnOk result (Routes C.stands C.awaited C.number C.due A.answers moment heard self.old.table self.new.table steps.old.items steps.new.items) }
+        ensures spent { self.new.spent ≡ self.old.spent }
+    {
+        match news_of(heard) {
+            Some((conv, news)) => {
+                let call = Call {
+                    alloc: self.alloc,
+                    conv,
+                    moment,
+                };
+                self.hand(call, news, files, steps)
+            }
+            None => Ok(()),
+        }
+    }
+
+    /// Hands news to the conversation, if it is live.
+    fn hand<F: Files>(
+        &mut self,
+        call: Call,
+        news: News,
+        files: &mut F,
+        steps: &mut Vec<Step>,
+    ) -> Result<(), NoMemory>
+        requires sound { (due : Due) × (trace : _) × TableStands C.stands C.awaited C.number C.due A.answers due self.old.table trace }
+        requires begins { news ≡ News.Begun → is_known self.old call.conv ≡ true }
+        requires news { IsHeardNews news }
+        ensures hands { OnOk result (Hands C.stands C.awaited C.number C.due A.answers call.conv call.moment news self.old.table self.new.table steps.old.items steps.new.items) }
+        ensures spent { self.new.spent ≡ self.old.spent }
+    {
+        match self.table.place(call.conv) {
+            Some(Place::Live(key)) => {
+                let over = self.hear_at(call, key, news, files, steps)?;
+                if over {
+                    self.table.end(call.conv, key)
+                } else {
+                    Ok(())
+                }
+            }
+            Some(Place::Ended) => Ok(()),
+            None => Ok(()),
+        }
+    }
+
+    /// Hands news to the conversation under this key, and tells whether it has ended.
+    fn hear_at<F: Files>(
+        &mut self,
+        call: Call,
+        key: usize,
+        news: News,
+        files: &mut F,
+        steps: &mut Vec<Step>,
+    ) -> Result<bool, NoMemory>
+        requires held { IsAtKey C.stands C.awaited C.number C.due call.conv key self.old.table }
+        requires news { IsHeardNews news }
+        ensures hears { IfOk result (λ over. HearsAt C.stands C.awaited C.number C.due A.answers C.ended call.conv call.moment news key self.old.table self.new.table over steps.old.items steps.new.items) }
+        ensures spent { self.new.spent ≡ self.old.spent }
+    {
+        let Some(held) = self.table.live.get_mut(key) else {
+            unreachable!()
+        };
+        held.hear(call, news, &mut self.answerer, files, steps)?;
+        Ok(held.conversation.ended())
+    }
+
+    /// Begins a conversation, and holds it unless it has ended.
+    fn begin<F: Files>(
+        &mut self,
+        call: Call,
+        conversation: C,
+        files: &mut F,
+        steps: &mut Vec<Step>,
+    ) -> Result<(), NoMemory>
+        requires sound { (due : Due) × (trace : _) × TableStands C.stands C.awaited C.number C.due A.answers due self.old.table trace }
+        requires unknown { is_known self.old call.conv ≡ false }
+        requires number { C.number conversation ≡ call.conv }
+        requires stands { C.stands conversation conversation [] [] }
+        requires free { C.awaited conversation ≡ None }
+        ensures admits { OnOk result (Admits C.stands C.awaited C.number C.due A.answers call.conv call.moment conversation self.old.table self.new.table steps.old.items steps.new.items) }
+        ensures spent { self.new.spent ≡ self.old.spent }
+    {
+        let mut held = Held {
+            conversation,
+            connected: Vec::new(call.alloc),
+            draft: None,
+        };
+        held.hand(call, Event::Begun, &mut self.answerer, files, steps)?;
+        if held.conversation.ended() {
+            self.table.note_end(call.conv)
+        } else {
+            self.table.add(call.conv, held)?;
+            Ok(())
+        }
+    }
+}

@@ -1,0 +1,163 @@
+//! One thing heard, worked off.
+//!
+//! The steps of a call are said and noted one by one, so the network may fail within them. Each front of them is served,
+//! since an answer stands before what it causes; so the promise holds in every exit.
+ghost use Rattle.std.specs.Prelude.{◌≡◌, ◌++◌, ◌∷◌, ◌⊎◌, ℕ, Some, None, false, [], List, IfOk, IfSome, OnOk, OnErr};
+ghost use Rattle.std.specs.List.{flat_map};
+ghost use Rattle.px_text.specs.Prefix.{IsPrefixOf};
+ghost use Rattle.px_event.specs.Layer.{Move};
+ghost use Rattle.px_event.specs.Trace.{Trace};
+ghost use Rattle.px_event.specs.declared.step.Step.{Step as TracedStep};
+ghost use Rattle.px_event.specs.declared.step.Step.TheVariants.{Heard as WasHeard};
+ghost use Rattle.px_core.specs.Due.{Due, IsServed};
+ghost use Rattle.px_core.specs.Router.{RouterStands, IsRouted, BeginsNone, is_known};
+ghost use Rattle.px_core.specs.Calls.{addressed};
+ghost use Rattle.px_core.specs.Held.{AllOf};
+ghost use Rattle.px_core.specs.declared.news.News.TheVariants.{Begun as HasBegun};
+ghost use Rattle.px_event.specs.declared.heard.Heard.{Heard as WhatIsHeard};
+ghost use Rattle.px_core.specs.Run.{IsDueOf, begun_by, done_of, Tells, IsTellable, AllTellable};
+
+use crate::news::NUMBER_END;
+use crate::{Answerer, Maker, Owes, Router, Taker};
+use px_event::{Door, Heard, Step};
+use px_outside::{Files, Net};
+use px_text::NoMemory;
+use std::alloc::Global;
+
+/// Works off one thing that the network has just told: makes and admits the conversation that it begins, or hands it to
+/// its own; then says and notes each step in its order, and hands on each finished flow. `NoMemory` where memory ran out;
+/// the trace is served all the same, and the router answers so for ever if it was the one.
+pub fn work_off<C: Owes, A: Answerer, M: Maker<C>, F: Files, N: Net, T: Taker>(
+    alloc: Global,
+    router: &mut Router<C, A>,
+    maker: &mut M,
+    files: &mut F,
+    net: &mut N,
+    taker: &mut T,
+    moment: u64,
+    heard: Heard,
+) -> Result<(), NoMemory>
+    requires sound { IsRouted C.stands C.awaited C.number C.due A.answers router.old }
+    ensures ok { (due : Due) (trace : Trace) → IsDueOf (M.due maker.old) due → RouterStands C.stands C.awaited C.number C.due A.answers due router.old trace →
+        N.trace net.old ≡ Some (trace ++ WasHeard moment heard ∷ []) →
+        OnOk result (Tells (RouterStands C.stands C.awaited C.number C.due A.answers due router.new) (trace ++ WasHeard moment heard ∷ []) (N.trace net.new)) }
+    ensures stands { (due : Due) (trace : Trace) → IsDueOf (M.due maker.old) due → RouterStands C.stands C.awaited C.number C.due A.answers due router.old trace →
+        OnOk result ((more : Trace) × RouterStands C.stands C.awaited C.number C.due A.answers due router.new ((trace ++ WasHeard moment heard ∷ []) ++ more)) }
+    ensures taken { (trace : Trace) → N.trace net.old ≡ Some (trace ++ WasHeard moment heard ∷ []) → T.taken taker.old ≡ flat_map done_of trace →
+        OnOk result (Tells (λ told. T.taken taker.new ≡ flat_map done_of told) (trace ++ WasHeard moment heard ∷ []) (N.trace net.new)) }
+    ensures due { (number : ℕ) (moves : List Move) → M.due maker.new number moves ≡ M.due maker.old number moves }
+    ensures listening { N.listening net.new ≡ N.listening net.old }
+    ensures faults { N.faults net.new ≡ N.faults net.old }
+    ensures err { (due : Due) (trace : Trace) → IsDueOf (M.due maker.old) due → RouterStands C.stands C.awaited C.number C.due A.answers due router.old trace →
+        N.trace net.old ≡ Some (trace ++ WasHeard moment heard ∷ []) →
+        OnErr result (Tells (IsServed A.answers due) (trace ++ WasHeard moment heard ∷ []) (N.trace net.new)) }
+{
+    let steps = route(alloc, router, maker, files, moment, heard)?;
+    tell_all(net, taker, &steps)
+}
+
+/// The steps that follow from something heard.
+fn route<C: Owes, A: Answerer, M: Maker<C>, F: Files>(
+    alloc: Global,
+    router: &mut Router<C, A>,
+    maker: &mut M,
+    files: &mut F,
+    moment: u64,
+    heard: Heard,
+) -> Result<Vec<Step>, NoMemory>
+    requires sound { IsRouted C.stands C.awaited C.number C.due A.answers router.old }
+    ensures stands { IfOk result (λ steps. (due : Due) (trace : Trace) → IsDueOf (M.due maker.old) due → RouterStands C.stands C.awaited C.number C.due A.answers due router.old trace →
+        RouterStands C.stands C.awaited C.number C.due A.answers due router.new ((trace ++ WasHeard moment heard ∷ []) ++ steps.items)) }
+    ensures tellable { IfOk result (λ steps. AllTellable steps.items) }
+    ensures due { (number : ℕ) (moves : List Move) → M.due maker.new number moves ≡ M.due maker.old number moves }
+{
+    if let Some(conv) = fresh(router, &heard) {
+        return begin(alloc, router, maker, files, moment, conv);
+    }
+    let mut steps = Vec::new(alloc);
+    router.take(moment, heard, files, &mut steps)?;
+    Ok(steps)
+}
+
+/// Makes and admits the conversation of this number, and gives the steps that follow.
+fn begin<C: Owes, A: Answerer, M: Maker<C>, F: Files>(
+    alloc: Global,
+    router: &mut Router<C, A>,
+    maker: &mut M,
+    files: &mut F,
+    moment: u64,
+    conv: u32,
+) -> Result<Vec<Step>, NoMemory>
+    requires sound { IsRouted C.stands C.awaited C.number C.due A.answers router.old }
+    requires unknown { is_known router.old conv ≡ false }
+    ensures stands { IfOk result (λ steps. (due : Due) (trace : Trace) (heard : WhatIsHeard) → addressed heard ≡ Some (conv, HasBegun) → IsDueOf (M.due maker.old) due → RouterStands C.stands C.awaited C.number C.due A.answers due router.old trace →
+        RouterStands C.stands C.awaited C.number C.due A.answers due router.new ((trace ++ WasHeard moment heard ∷ []) ++ steps.items)) }
+    ensures own { IfOk result (λ steps. AllOf conv steps.items) }
+    ensures due { (number : ℕ) (moves : List Move) → M.due maker.new number moves ≡ M.due maker.old number moves }
+{
+    let conversation = maker.make(conv)?;
+    let mut steps = Vec::new(alloc);
+    router.admit(moment, conv, conversation, files, &mut steps)?;
+    Ok(steps)
+}
+
+/// The number of a conversation that begins with it and was not admitted.
+fn fresh<C: Owes, A: Answerer>(router: &Router<C, A>, heard: &Heard) -> Option<u32>
+    ensures fresh { IfSome result (λ conv. (addressed heard.now ≡ Some (conv, HasBegun)) × (is_known router.now conv ≡ false)) }
+    ensures none { result ≡ None → BeginsNone router.now heard.now }
+{
+    match begins(heard) {
+        Some(conv) => { if router.knows(conv) { None } else { Some(conv) } }
+        None => None,
+    }
+}
+
+/// The number of the conversation that begins with it.
+fn begins(heard: &Heard) -> Option<u32>
+    ensures { result ≡ begun_by heard.now }
+{
+    match heard {
+        Heard::Accepted {
+            conv,
+            door: Door::Proxy,
+            ..
+        } if *conv < NUMBER_END => Some(*conv),
+        _ => None,
+    }
+}
+
+/// Says or notes each step in its order, and hands on each finished flow.
+fn tell_all<N: Net, T: Taker>(net: &mut N, taker: &mut T, steps: &[Step]) -> Result<(), NoMemory>
+    requires tellable { AllTellable steps.now }
+    ensures told { (trace : Trace) → N.trace net.old ≡ Some trace → OnOk result (N.trace net.new ≡ Some (trace ++ steps.now)) }
+    ensures part { (trace : Trace) → N.trace net.old ≡ Some trace → OnErr result ((given : List TracedStep) × IsPrefixOf given steps.now × (N.trace net.new ≡ Some (trace ++ given))) }
+    ensures taken { OnOk result (T.taken taker.new ≡ T.taken taker.old ++ flat_map done_of steps.now) }
+    ensures listening { N.listening net.new ≡ N.listening net.old }
+    ensures faults { N.faults net.new ≡ N.faults net.old }
+{
+    for step in steps {
+        tell(net, taker, step)?;
+    }
+    Ok(())
+}
+
+/// Says or notes a step, and hands on a finished flow.
+fn tell<N: Net, T: Taker>(net: &mut N, taker: &mut T, step: &Step) -> Result<(), NoMemory>
+    requires tellable { IsTellable step.now }
+    ensures told { (trace : Trace) → N.trace net.old ≡ Some trace → OnOk result (N.trace net.new ≡ Some (trace ++ step.now ∷ [])) }
+    ensures part { (trace : Trace) → N.trace net.old ≡ Some trace → OnErr result ((N.trace net.new ≡ Some trace) ⊎ (N.trace net.new ≡ Some (trace ++ step.now ∷ []))) }
+    ensures taken { OnOk result (T.taken taker.new ≡ T.taken taker.old ++ done_of step.now) }
+    ensures taken_not { OnErr result (T.taken taker.new ≡ T.taken taker.old) }
+    ensures listening { N.listening net.new ≡ N.listening net.old }
+    ensures faults { N.faults net.new ≡ N.faults net.old }
+{
+    match step {
+        Step::Said { conv, said } => net.say(*conv, said),
+        Step::Asked { .. } | Step::Answered { .. } => net.note(step),
+        Step::Done { flow } => {
+            net.note(step)?;
+            taker.done(flow)
+        }
+        Step::Heard { .. } => unreachable!(),
+    }
+}
