@@ -1,0 +1,124 @@
+//! Printed lines.
+ghost use Rattle.std.specs.Prelude.{◌≡◌, IfOk};
+
+use crate::flow_line;
+use px_message::{
+    Body, Fields, Flow, FlowError, FlowId, Host, Name, Path, Replayed, Request, Response, Status,
+    Times, Value, Version,
+};
+use px_text::Bytes;
+use std::alloc::Global;
+use std::rt::HostRuntime;
+use std::test::Fail;
+
+fn name(alloc: Global, text: &[u8]) -> Result<Name, Fail>
+    ensures { IfOk result (λ name. name ≡ text.now) }
+{
+    let bytes = text.to_vec(alloc)?;
+    Ok(Name::try_new(bytes)?)
+}
+
+fn host(alloc: Global, text: &[u8]) -> Result<Host, Fail> {
+    let bytes = text.to_vec(alloc)?;
+    Ok(Host::try_new(alloc, bytes)?)
+}
+
+fn path(alloc: Global, text: &[u8]) -> Result<Path, Fail> {
+    let bytes = text.to_vec(alloc)?;
+    Ok(Path::try_new(bytes)?)
+}
+
+fn value(alloc: Global, text: &[u8]) -> Result<Value, Fail> {
+    let bytes = text.to_vec(alloc)?;
+    Ok(Value::try_new(bytes)?)
+}
+
+// A GET of that path at port 81 of `h`.
+fn request(alloc: Global, text: &[u8]) -> Result<Request, Fail> {
+    let method = name(alloc, b"GET")?;
+    let host = host(alloc, b"h")?;
+    let path = path(alloc, text)?;
+    Ok(Request {
+        method,
+        host,
+        port: 81,
+        path,
+        version: Version::Http11,
+        fields: Fields::new(alloc),
+        body: Body::new(Vec::new(alloc)),
+        trailers: Fields::new(alloc),
+        streamed: false,
+    })
+}
+
+fn response(alloc: Global, text: &[u8], streamed: bool) -> Result<Response, Fail> {
+    let status = Status::try_new(200).ok_or("status")?;
+    let reason = value(alloc, b"OK")?;
+    let body = Body::new(text.to_vec(alloc)?);
+    Ok(Response {
+        version: Version::Http11,
+        status,
+        reason,
+        fields: Fields::new(alloc),
+        body,
+        trailers: Fields::new(alloc),
+        streamed,
+    })
+}
+
+fn flow(request: Request, response: Option<Response>, error: Option<FlowError>) -> Flow {
+    Flow {
+        id: FlowId { conv: 7, index: 12 },
+        client: None,
+        server: None,
+        request,
+        response,
+        error,
+        times: Times {
+            request_start: 0,
+            request_end: None,
+            response_start: None,
+            response_end: None,
+        },
+        replayed: Replayed::No,
+        marked: false,
+        websocket: false,
+        message: None,
+    }
+}
+
+fn is_line(alloc: Global, flow: &Flow, line: &[u8]) -> Result<bool, Fail> {
+    let mut out = Vec::new(alloc);
+    flow_line(alloc, flow, &mut out)?;
+    Ok(out.as_slice() == line)
+}
+
+#[test]
+fn a_whole_flow(rt: HostRuntime) -> Result<(), Fail> {
+    let alloc = rt.alloc();
+    let response = response(alloc, b"hello", false)?;
+    let flow = flow(request(alloc, b"/a?b")?, Some(response), None);
+    assert!(rt; is_line(alloc, &flow, b"7.12 GET http://h:81/a?b 200 5\n")?);
+    Ok(())
+}
+
+#[test]
+fn a_body_that_passed_by(rt: HostRuntime) -> Result<(), Fail> {
+    let alloc = rt.alloc();
+    let response = response(alloc, b"", true)?;
+    let flow = flow(request(alloc, b"/")?, Some(response), None);
+    assert!(rt; is_line(alloc, &flow, b"7.12 GET http://h:81/ 200 streamed\n")?);
+    Ok(())
+}
+
+#[test]
+fn a_flow_that_ended_early(rt: HostRuntime) -> Result<(), Fail> {
+    let alloc = rt.alloc();
+    let error = FlowError {
+        msg: Bytes::new(b"killed".as_slice().to_vec(alloc)?),
+        moment: 1,
+    };
+    let flow = flow(request(alloc, b"*")?, None, Some(error));
+    assert!(rt; is_line(alloc, &flow, b"7.12 GET http://h:81 - - error: killed\n")?);
+    Ok(())
+}
