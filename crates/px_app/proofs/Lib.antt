@@ -1,7 +1,6 @@
 pub mod Growth
 pub mod PartLemmas
 pub mod ItemLemmas
-pub mod TraceLemmas
 pub mod SaidLemmas
 pub mod SeenLemmas
 pub mod CountLemmas

@@ -1,19 +1,19 @@
 -- The parts of a head as the types of messages: none is refused.
-use Rattle.std.proofs.Common.{ℕ, ◌≡◌, ◌==◌, Bool, true, false, cond, List, [], ◌∷◌, ◌||◌, map, filter, Option, Some, None, MatchOption, Ok, Err, refl, sym, ap, ◌∙◌, inl, inr}
-use Rattle.std.specs.Prelude.{is_some, bytes_eq, codes, if◌then◌else◌, slice_index}
-use Rattle.std.specs.List.{flat_map, list_any}
+use Rattle.std.proofs.Common.{ℕ, ◌≡◌, ◌==◌, Bool, true, false, List, Option, Some, None, Ok, Err, refl, inl, inr}
+use Rattle.std.specs.Prelude.{bytes_eq, codes, if◌then◌else◌, slice_index}
 use Rattle.std.specs.Option.{option_map}
 use Rattle.std.proofs.lemmas.Bool.Decides.{eqb_tells}
 use Rattle.std.proofs.lemmas.List.Elements.{All-weaker}
 use Rattle.std.proofs.lemmas.List.Sums.{list_all-from_AllPass}
 use Rattle.px_head.specs.Laws.{IsPlainByte, IsValueText}
-use Rattle.px_message.specs.Fields.{elements, has_element, is_named, values_of}
-use Rattle.px_message.specs.Length.{by_stated, content_length, ends_chunked, has_no_body, is_framed_in_chunks, response_length, stands, stated_length, transfer_encoding}
+use Rattle.px_message.specs.Fields.{has_element}
+use Rattle.px_message.specs.Length.{by_stated, content_length, has_no_body, is_framed_in_chunks, response_length, stands, stated_length, transfer_encoding}
 use Rattle.px_message.specs.declared.length.Length.TheVariants as lengths
 use Rattle.px_message.specs.declared.fault.Fault.TheVariants.{BothLengths, BadCoding}
 use Rattle.px_message.specs.Path.{is_path}
 use Rattle.px_message.specs.Target.{origin, absolute, authority, asterisk, target_form, path_form, authority_form, absolute_form}
 use Rattle.px_message.specs.Value.{is_value, is_value_byte}
+use Rattle.px_message.proofs.SettleLemmas.{unframed}
 
 -- ---- values
 
@@ -31,30 +31,6 @@ value_byte b plain = elim (eqb_tells b 0) [
 
 pub value_passes : (text : List ℕ) → IsValueText text → is_value text ≡ true
 value_passes text v = list_all-from_AllPass is_value_byte text (All-weaker IsPlainByte (λ b. is_value_byte b ≡ true) value_byte text v.plain)
-
--- ---- fields
-
-abbrev pub has_items : {A : Type 0} → List A → Bool
-has_items [] = false
-has_items (x ∷ xs) = true
-
--- a name stands where it has values
-pub has_items-values_of : (name : List ℕ) (fields : List (List ℕ × List ℕ))
-    → has_items (values_of name fields) ≡ list_any (is_named name) fields
-has_items-values_of name [] = refl
-has_items-values_of name (field ∷ fields) = by_test (is_named name field) (has_items-values_of name fields)
-  where
-    by_test : (b : Bool) → has_items (values_of name fields) ≡ list_any (is_named name) fields
-        → has_items (map (λ f. f.1) (cond b (field ∷ filter (is_named name) fields) (filter (is_named name) fields)))
-        ≡ (b || list_any (is_named name) fields)
-    by_test true rest = refl
-    by_test false rest = rest
-
--- a first item is there where there are items
-pub is_some-first : {A X : Type 0} (view : X → A) (items rest : List A) (first : Option X)
-    → MatchOption first ((items ≡ []) × (rest ≡ [])) (λ x. items ≡ view x ∷ rest) → is_some first ≡ has_items items
-is_some-first view items rest None h = ap has_items (sym h.0)
-is_some-first view items rest (Some x) h = ap has_items (sym h)
 
 -- ---- targets
 
@@ -85,16 +61,6 @@ target_form-origin method target path found =
     (authority_form target) (path_form target) (absolute_form target) path found)
 
 -- ---- lengths
-
-no_items : {A : Type 0} (items : List A) → has_items items ≡ false → items ≡ []
-no_items [] none = refl
-no_items (x ∷ xs) none = absurd (let e = none in cc)
-
--- without codings nothing is framed in chunks
-pub unframed : (fields : List (List ℕ × List ℕ)) → stands transfer_encoding fields ≡ false → is_framed_in_chunks fields ≡ false
-unframed fields none =
-    ap (λ (values : List (List ℕ)). ends_chunked (flat_map elements values))
-    (no_items (values_of transfer_encoding fields) (has_items-values_of transfer_encoding fields ∙ none))
 
 bytes_by : (bodiless coded measured chunked framed : Bool) (stated : Option ℕ) (n : ℕ)
     → (if bodiless then Ok lengths.None else (if coded then (if measured then Err BothLengths

@@ -12,7 +12,7 @@ use Rattle.px_app.specs.Seen.{conversation, seen}
 use Rattle.px_app.specs.Due.{owed, due_to, due_in}
 use Rattle.px_app.specs.Faithful.{IsWithinDue, IsAllSent, IsAllSaid, IsFaithful, IsWhole}
 use Rattle.px_app.specs.Serving.{number_after}
-use Rattle.px_app.proofs.TraceLemmas.{always_empty, always_more, before_empty, before_heard, before_said}
+use Rattle.px_event.proofs.TraceLemmas.{always_empty, always_more, before_empty, before_heard, before_said}
 use Rattle.px_app.proofs.SaidLemmas.{bytes_front, said_more, said_heard}
 use Rattle.px_app.proofs.SeenLemmas.{conversation_said, number_heard, due_heard, due_said}
 

@@ -3,7 +3,7 @@ use Rattle.px_message.specs.declared.request.Request.{Request}
 use Rattle.px_message.specs.Length.{is_framed_in_chunks}
 use Rattle.px_app.specs.Items.{is_unbuilt_request}
 use Rattle.px_app.specs.Parts.{IsRequestOf}
-use Rattle.px_app.proofs.PartLemmas.{unframed}
+use Rattle.px_message.proofs.SettleLemmas.{unframed}
 use Rattle.px_app.proofs.asked.judge.Goals as goal
 
 pub onward-requires-clause-unframed : goal.onward-requires-clause-unframed

@@ -1,5 +1,5 @@
 use Rattle.std.proofs.Common.{◌∙◌, ap}
-use Rattle.px_app.proofs.PartLemmas.{has_items, has_items-values_of, is_some-first}
+use Rattle.px_message.proofs.FoldLemmas.{has_items, has_items-values_of, is_some-first}
 use Rattle.px_app.proofs.parts.has_field.Goals as goal
 
 pub returns : goal.returns
