@@ -16,3 +16,4 @@ pub mod StepLemmas
 pub mod TrailerLemmas
 pub mod TrailerTurnLemmas
 pub mod TurnLemmas
+pub mod RequestListLemmas

@@ -14,6 +14,7 @@ pub mod Marks
 pub mod Reader
 pub mod ReaderLaws
 pub mod Readings
+pub mod Requests
 pub mod Stages
 pub mod TellLine
 pub mod Waits

@@ -3,6 +3,7 @@
 //! What is told stays told, whatever bytes follow and whether the server closes behind them. So a reader may forget what
 //! it gave, and who looks again over more bytes finds the same.
 ghost use Rattle.px_read.specs.Laws as law;
+ghost use Rattle.px_read.specs.Requests as requests;
 ghost use Rattle.px_read.specs.ReaderLaws as reader;
 
 /// No bytes are no request.
@@ -108,4 +109,19 @@ pub fn bad_is_refused()
 /// `More` is given exactly where nothing is told and the message goes on, `End` where it is whole, `Bad` where it is refused.
 pub fn next_is_exact()
     ensures { reader.NextIsExact }
+{}
+
+/// Each number of requests that is no less than that of the bytes is as good.
+pub fn most_requests_are_enough()
+    ensures { requests.MostRequestsAreEnough }
+{}
+
+/// The whole requests of a stream, one behind the other, are only added to.
+pub fn whole_requests_grow()
+    ensures { requests.WholeRequestsGrow }
+{}
+
+/// The whole requests of a stream use no byte that is not there.
+pub fn whole_requests_are_within()
+    ensures { requests.WholeRequestsAreWithin }
 {}

@@ -5,3 +5,4 @@ pub mod TargetLemmas
 pub mod ChunkTextLemmas
 pub mod PrefixLemmas
 mod FramingLemmas
+mod PartTextLemmas

@@ -18,6 +18,7 @@ mod form;
 pub mod framing;
 mod line;
 mod message;
+pub mod part_text;
 pub mod read_back;
 mod short;
 #[cfg(test)]
