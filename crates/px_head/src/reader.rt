@@ -90,6 +90,13 @@ impl HeadReader {
         self.take(Kind::Trailers)
     }
 
+    /// How many bytes were fed and not used.
+    pub fn unused(&self) -> usize
+        ensures { result ≡ length self.now.rest }
+    {
+        self.buffer.len() - self.used
+    }
+
     /// The bytes that were fed and not used, without taking memory.
     pub fn into_rest(self) -> Vec<u8>
         ensures { result.items ≡ self.rest }

@@ -1,6 +1,6 @@
 -- A reader of a chunked body as its callers see it.
-use Rattle.std.specs.Prelude.{ℕ, List}
-use Rattle.px_read.specs.Chunks.{Place}
+use Rattle.std.specs.Prelude.{ℕ, List, length}
+use Rattle.px_read.specs.Chunks.{Place, in_line, in_content, at_cr, at_lf, in_trailers, broken}
 
 pub data Chunking : Type 0 where
   -- the body goes on from this place
@@ -9,3 +9,17 @@ pub data Chunking : Type 0 where
   ended : (trailers : List (List ℕ × List ℕ)) → Chunking
   -- it was refused
   refused : Chunking
+
+-- how many bytes are kept at a place: those of a chunk line or of trailers that have begun
+abbrev pub place_keeps : Place → ℕ
+place_keeps (in_line line) = length line
+place_keeps (in_content left) = 0
+place_keeps at_cr = 0
+place_keeps at_lf = 0
+place_keeps (in_trailers block) = length block
+place_keeps broken = 0
+
+abbrev pub chunking_keeps : Chunking → ℕ
+chunking_keeps (reads place) = place_keeps place
+chunking_keeps (ended trailers) = 0
+chunking_keeps refused = 0

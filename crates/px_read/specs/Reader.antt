@@ -1,10 +1,11 @@
 -- A reader of one message as its callers see it: where in the message the next byte stands, the bytes that were fed and not
 -- used, and whether the sender has closed. What it gave and what it has to come are together what the bytes tell, however
 -- they were cut.
-use Rattle.std.specs.Prelude.{◌≡◌, ℕ, ◌<◌, Bool, true, false, List, [], ◌++◌, length, ⊤}
+use Rattle.std.specs.Prelude.{◌≡◌, ℕ, ◌+◌, ◌<◌, Bool, true, false, List, [], ◌++◌, length, ⊤}
 use Rattle.px_text.specs.Prefix.{IsPrefixOf}
 use Rattle.px_message.specs.declared.fault.Fault.{Fault}
 use Rattle.px_read.specs.Marks.{Mark, marks_of}
+use Rattle.px_read.specs.Chunking.{place_keeps}
 use Rattle.px_read.specs.Chunks.{Place, goes_on, whole, fails, Reading, chunks_from}
 use Rattle.px_read.specs.Readings.{only, behind_bytes, counted_reading, closing_reading, as_response, request_reading, response_reading}
 use Rattle.px_read.specs.declared.message_reader.stage.Sender.{Sender}
@@ -126,3 +127,13 @@ pub record IsTurn (old : State) (given : Part) (new : State) : Type 0 where
   pub next : IsNext given (to_come old)
   pub stopped : HasStopped given new
   pub again : has_stopped old.place ≡ true → new ≡ old
+
+-- ---- what is kept
+
+abbrev pub place_of_message_keeps : MessagePlace → ℕ
+place_of_message_keeps (in_chunks side place) = place_keeps place
+place_of_message_keeps place = 0
+
+-- how many bytes a reader keeps: those that were fed and not used, and those of a chunk line or of trailers that have begun
+abbrev pub keeps : State → ℕ
+keeps state = place_of_message_keeps state.place + length state.rest

@@ -91,7 +91,7 @@ impl ChunkReader {
     ghost use Rattle.std.specs.Prelude.{IfOk};
     ghost use Rattle.px_text.specs.Prefix.{IsPrefixOf};
     ghost use Rattle.px_read.specs.Chunks.{in_line};
-    ghost use Rattle.px_read.specs.Chunking.{reads};
+    ghost use Rattle.px_read.specs.Chunking.{chunking_keeps, reads};
     ghost use Rattle.px_read.specs.ChunkSteps.{Added, IsOpen, Steps, UnlessNoMemory, after_feed, feed_answer};
     ghost use Rattle.px_read.specs.ChunkTurns.{IsGoing, Moves};
 
@@ -102,6 +102,20 @@ impl ChunkReader {
         ChunkReader {
             line: Vec::new(alloc),
             stage: Stage::Line,
+        }
+    }
+
+    /// How many bytes it keeps: those of a chunk line or of trailers that have begun.
+    pub fn kept(&self) -> usize
+        ensures { result ≡ chunking_keeps self.now }
+    {
+        match &self.stage {
+            Stage::Line => self.line.len(),
+            Stage::Content(_) => 0,
+            Stage::LineFeed => 0,
+            Stage::Trailers(reader) => reader.unused(),
+            Stage::Ended(_) => 0,
+            Stage::Refused => 0,
         }
     }
 

@@ -3,9 +3,9 @@
 //! It keeps what was fed and not used, and where in the message these bytes begin; of what it gave it keeps nothing. So its
 //! state says what is to come of it, and the parts that it gave are the first of what the bytes tell
 //! (`specs/Reader.antt`, `Reads`): each call keeps this, so it holds for every cut.
-ghost use Rattle.std.specs.Prelude.{◌≡◌, ℕ, ◌++◌, Bool, true, false, List, [], IfOk, OnOk};
+ghost use Rattle.std.specs.Prelude.{◌≡◌, ℕ, ◌-◌, ◌^◌, ◌++◌, min, Bool, true, false, List, [], IfOk, OnOk};
 ghost use Rattle.px_read.specs.Marks.{Mark, marks_of};
-ghost use Rattle.px_read.specs.Reader.{Message, request, response, Reads, IsNext, HasStopped, has_stopped, to_come, before_all};
+ghost use Rattle.px_read.specs.Reader.{Message, request, response, Reads, IsNext, HasStopped, has_stopped, keeps, to_come, before_all};
 
 mod body;
 mod head;
@@ -118,6 +118,22 @@ impl MessageReader {
         self.stage = turn.stage;
         self.rest = turn.rest;
         Ok(turn.part)
+    }
+
+    /// How many bytes it keeps, or 2^64 - 1 where that is more: those that were fed and not used, and those of a chunk line or of
+    /// trailers that have begun.
+    pub fn kept(&self) -> usize
+        ensures { result ≡ min (keeps self.now) (2 ^ 64 - 1) }
+    {
+        match &self.stage {
+            Stage::Request(reader) => reader.unused(),
+            Stage::Response { reader, .. } => reader.unused(),
+            Stage::Counted { .. } => self.rest.len(),
+            Stage::Chunked { reader, .. } => reader.kept().saturating_add(self.rest.len()),
+            Stage::ToClose { .. } => self.rest.len(),
+            Stage::Ended(_) => self.rest.len(),
+            Stage::Refused(_) => self.rest.len(),
+        }
     }
 
     /// The bytes that were fed and not used, without taking memory. After `End` they are those behind the message.

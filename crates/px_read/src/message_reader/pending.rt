@@ -51,6 +51,13 @@ impl Pending {
         &self.buffer[self.used..]
     }
 
+    /// How many bytes there are.
+    pub fn len(&self) -> usize
+        ensures { result ≡ length self.now }
+    {
+        self.buffer.len() - self.used
+    }
+
     /// Uses so many bytes.
     pub fn skip(&mut self, count: usize)
         requires { count ≤ length self.old }
