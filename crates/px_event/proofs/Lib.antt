@@ -1,8 +1,10 @@
 pub mod Growth
+pub mod Likeness
 pub mod Moves
 pub mod Only
 pub mod Reach
 pub mod Seen
+pub mod StampLemmas
 pub mod Steps
 pub mod Stops
 pub mod TraceLemmas

@@ -5,7 +5,7 @@ use Rattle.px_event.specs.Laws.{IsSettled, Settles, IsFound, with_events, with_r
 use Rattle.px_event.proofs.Reach.{reach_more, reach_again, reach_found, reach_settled, reach_all, reach_values}
 
 -- the walk from where the first search stopped
-abbrev walk_on : {S E R A : Type 0} → Chain S E R A → List (Stamped R) → Stamp → Reached S E A → Stop S E R A
+abbrev pub walk_on : {S E R A : Type 0} → Chain S E R A → List (Stamped R) → Stamp → Reached S E A → Stop S E R A
 walk_on chain [] last here = stop_at last here []
 walk_on chain (r ∷ rs) last here =
     let on = chain.turn here.stage here.front (at_its_step r) in
@@ -13,7 +13,7 @@ walk_on chain (r ∷ rs) last here =
     (λ ask. walk chain rs r.stamp (here.before ++ (chain.so_far here.stage here.front ++ ask ∷ on.owed)) on.stage here.front here.rest)
     (stop_at last here (r ∷ rs))
 
-walk_is : {S E R A : Type 0} (chain : Chain S E R A) (rs : List (Stamped R)) (last : Stamp) (before : List A) (s : S) (f : List (Timed E)) (es : List (Stamped E)) →
+pub walk_is : {S E R A : Type 0} (chain : Chain S E R A) (rs : List (Stamped R)) (last : Stamp) (before : List A) (s : S) (f : List (Timed E)) (es : List (Stamped E)) →
     walk chain rs last before s f es ≡ walk_on chain rs last (reach chain last before s f es)
 walk_is chain [] last before s f es = refl
 walk_is chain (r ∷ rs) last before s f es = refl

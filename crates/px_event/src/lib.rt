@@ -7,9 +7,11 @@
 //! side of a conversation, at every moment, at each step's end. They speak of no particular layer.
 #![tactic(auto)]
 
+mod alike;
 mod ask;
 mod chained;
 mod command;
+mod compared;
 mod event;
 mod heard;
 mod laws;
@@ -19,9 +21,14 @@ mod said;
 mod side;
 mod step;
 
+pub use alike::{
+    alike_behind_any_events, alike_places_owe_alike, early_events_owe_alike,
+    only_the_order_of_steps_counts, swapped_events_owe_alike, two_events_for_one_owe_alike,
+};
 pub use ask::{Ask, Hook};
 pub use chained::Chained;
 pub use command::Command;
+pub use compared::Compared;
 pub use event::{Event, Rests};
 pub use heard::Heard;
 pub use laws::{
