@@ -3,6 +3,7 @@ pub mod CallLemmas
 pub mod EchoRunLemmas
 pub mod HearLemmas
 pub mod NamedLemmas
+pub mod OrderedLemmas
 pub mod ResultLemmas
 pub mod RouteLemmas
 pub mod RunLemmas

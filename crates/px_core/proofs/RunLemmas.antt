@@ -1,10 +1,11 @@
 -- One thing heard, worked off: the steps that follow, and those that were told.
-use Rattle.std.proofs.Common.{◌≡◌, ℕ, zero, suc, Bool, true, false, List, [], ◌∷◌, ◌++◌, Option, Some, None, refl, ap, sym, ◌∙◌, subst, append_assoc, ◌+◌, ◌<◌, ◌⊎◌, inl, inr, length, take, drop, get_or, arith, OnErr, Result, Ok, Err}
+use Rattle.std.proofs.Common.{◌≡◌, ◌≢◌, ℕ, zero, suc, Bool, true, false, List, [], ◌∷◌, ◌++◌, Option, Some, None, refl, ap, sym, ◌∙◌, subst, append_assoc, ◌+◌, ◌<◌, ◌⊎◌, inl, inr, length, take, drop, get_or, arith, OnOk, OnErr, Result, Ok, Err}
 use Rattle.std.proofs.lemmas.List.{append-nil, take-append-drop}
 use Rattle.std.specs.List.{flat_map}
 use Rattle.std.proofs.lemmas.Grind.{flat_map-append}
 use Rattle.px_text.specs.Prefix.{IsPrefixOf}
 use Rattle.std.specs.Prelude.{if◌then◌else◌, nat_lt}
+use Rattle.px_message.specs.declared.flow.Flow.{Flow}
 use Rattle.px_event.specs.declared.ask.Ask.{Ask}
 use Rattle.px_event.specs.declared.command.Command.{Command}
 use Rattle.px_event.specs.declared.heard.Heard.{Heard}
@@ -21,8 +22,9 @@ use Rattle.px_core.specs.Answers.{Answering}
 use Rattle.px_core.specs.Calls.{addressed, number_end}
 use Rattle.px_core.specs.Due.{Due, IsServed}
 use Rattle.px_core.specs.Held.{IsOf, AllOf}
-use Rattle.px_core.specs.Router.{TableStands, Admits, Routes}
-use Rattle.px_core.specs.Run.{begun_by, done_of, Tells, IsTellable, AllTellable}
+use Rattle.px_core.specs.declared.router.Router.{Router}
+use Rattle.px_core.specs.Router.{found, TableStands, Admits, Routes}
+use Rattle.px_core.specs.Run.{begun_by, done_of, Tells, IsTellable, AllTellable, ToldPart, IsOfHeard, TellsOfHeard, KeepsOthers}
 
 -- steps of a conversation are said or noted
 tellable_one : (conv : ℕ) (step : Step) → IsOf conv step → IsTellable step
@@ -89,13 +91,26 @@ front_one [] i x less is = absurd (omega arith)
 front_one (y ∷ list) zero x less is = (list, ap (λ z. z ∷ list) (sym is))
 front_one (y ∷ list) (suc i) x less is = let r = front_one list i x (omega arith) is in (r.0, ap (λ l. y ∷ l) r.1)
 
--- some of the steps were told
-pub told_part : (now : Option Trace) (list : List Step) (i : ℕ) (x : Step) (trace : Trace) → i < length list → x ≡ get_or list i x →
-    (now ≡ Some (trace ++ take i list)) ⊎ (now ≡ Some ((trace ++ take i list) ++ x ∷ [])) →
-    (given : List Step) × IsPrefixOf given list × (now ≡ Some (trace ++ given))
-told_part now list i x trace less is (inl told) = (take i list, (drop i list, sym (take-append-drop i list)), told)
-told_part now list i x trace less is (inr told) =
-    (take i list ++ x ∷ [], front_one list i x less is, told ∙ ap Some (append_assoc trace (take i list) (x ∷ [])))
+-- some of the steps were told, and the flows that those before finish were handed on
+pub told_taken : (now : Option Trace) (list : List Step) (i : ℕ) (x : Step) (trace : Trace) (before after : List Flow) → i < length list → x ≡ get_or list i x →
+    (now ≡ Some (trace ++ take i list)) ⊎ (now ≡ Some ((trace ++ take i list) ++ x ∷ [])) → after ≡ before ++ flat_map done_of (take i list) →
+    ToldPart list trace now before after
+told_taken now list i x trace before after less is (inl told) taken = record {
+  given = take i list;
+  front = (drop i list, sym (take-append-drop i list));
+  is = told;
+  taken = flat_map done_of (take i list);
+  handed = ([], sym (append-nil (flat_map done_of (take i list))));
+  grown = taken;
+}
+told_taken now list i x trace before after less is (inr told) taken = record {
+  given = take i list ++ x ∷ [];
+  front = front_one list i x less is;
+  is = told ∙ ap Some (append_assoc trace (take i list) (x ∷ []));
+  taken = flat_map done_of (take i list);
+  handed = (flat_map done_of (x ∷ []), flat_map-append done_of (take i list) (x ∷ []));
+  grown = taken;
+}
 
 pub on_err : {T E P : Type 0} (result : Result T E) → P → OnErr result P
 on_err (Ok t) p = tt
@@ -106,14 +121,14 @@ at_err (Ok t) all p = tt
 at_err (Err e) all p = all p
 
 -- a front of the steps was told
-pub served_part : {S : Type 0} (answers : Answering S) (due : Due) (trace list : Trace) (now : Option Trace) → IsServed answers due (trace ++ list) →
-    (given : List Step) × IsPrefixOf given list × (now ≡ Some (trace ++ given)) → Tells (IsServed answers due) trace now
-served_part answers due trace list now served (given, (rest, whole), is) = record {
-  more = given;
-  is = is;
+pub served_part : {S : Type 0} (answers : Answering S) (due : Due) (trace list : Trace) (now : Option Trace) (before after : List Flow) → IsServed answers due (trace ++ list) →
+    ToldPart list trace now before after → Tells (IsServed answers due) trace now
+served_part answers due trace list now before after served t = record {
+  more = t.given;
+  is = t.is;
   holds =
       let P : Trace → Type 0 = IsServed answers due in
-      served_front answers due (trace ++ given) rest (subst P (ap (λ l. trace ++ l) whole ∙ sym (append_assoc trace given rest)) served);
+      served_front answers due (trace ++ t.given) t.front.0 (subst P (ap (λ l. trace ++ l) t.front.1 ∙ sym (append_assoc trace t.given t.front.0)) served);
 }
 
 pub served_none : {S : Type 0} (answers : Answering S) (due : Due) (trace : Trace) (now : Option Trace) → IsServed answers due trace → now ≡ Some trace → Tells (IsServed answers due) trace now
@@ -138,3 +153,95 @@ pub done_behind : (trace list : Trace) (moment : ℕ) (what : Heard) → flat_ma
 done_behind trace list moment what =
     flat_map-append done_of (trace ++ steps.Heard moment what ∷ []) list
     ∙ ap (λ l. l ++ flat_map done_of list) (flat_map-append done_of trace (steps.Heard moment what ∷ []) ∙ append-nil (flat_map done_of trace))
+
+-- of the flows that were finished before, and of those that these steps finish, a front was handed on
+pub handed_part : (trace list : Trace) (moment : ℕ) (what : Heard) (now : Option Trace) (before after : List Flow) → before ≡ flat_map done_of trace →
+    ToldPart list (trace ++ steps.Heard moment what ∷ []) now before after →
+    Tells (λ told. IsPrefixOf after (flat_map done_of told)) (trace ++ steps.Heard moment what ∷ []) now
+handed_part trace list moment what now before after same t = record {
+  more = t.given;
+  is = t.is;
+  holds = (t.handed.0,
+      done_behind trace t.given moment what
+      ∙ (ap (λ l. flat_map done_of trace ++ l) t.handed.1
+      ∙ (sym (append_assoc (flat_map done_of trace) t.taken t.handed.0)
+      ∙ ap (λ l. l ++ t.handed.0) (ap (λ l. l ++ t.taken) (sym same) ∙ sym t.grown))));
+}
+
+-- where no step was told, nothing was handed on
+pub handed_none : (trace : Trace) (moment : ℕ) (what : Heard) (now : Option Trace) (taken : List Flow) → taken ≡ flat_map done_of trace →
+    now ≡ Some (trace ++ steps.Heard moment what ∷ []) → Tells (λ told. IsPrefixOf taken (flat_map done_of told)) (trace ++ steps.Heard moment what ∷ []) now
+handed_none trace moment what now taken same is = record {
+  more = [];
+  is = is ∙ ap Some (sym (append-nil (trace ++ steps.Heard moment what ∷ [])));
+  holds = ([],
+      done_behind trace [] moment what ∙ ap (λ l. l ++ []) (sym same));
+}
+
+own_front : (conv : ℕ) (front rest : List Step) → AllOf conv (front ++ rest) → AllOf conv front
+own_front conv [] rest all = tt
+own_front conv (x ∷ front) rest (here, all) = (here, own_front conv front rest all)
+
+none_front : (front rest : List Step) → front ++ rest ≡ [] → front ≡ []
+none_front [] rest e = refl
+none_front (x ∷ front) rest e = absurd (cc)
+
+-- a front of steps of the conversation that was heard
+pub front_of_heard : (what : Heard) (front list : List Step) → IsPrefixOf front list → IsOfHeard what list → IsOfHeard what front
+front_of_heard what front list (rest, whole) of = record {
+  own = λ conv news is. let P : List Step → Type 0 = AllOf conv in own_front conv front rest (subst P whole (of.own conv news is));
+  none = λ no. none_front front rest (sym whole ∙ of.none no);
+}
+
+same_conv : (p q : ℕ × News) → Some p ≡ Some q → p.0 ≡ q.0
+same_conv p q e = let s : p ≡ q = cc in ap (λ (r : ℕ × News). r.0) s
+
+-- steps of the conversation that began
+pub begun_of_heard : (what : Heard) (conv : ℕ) (list : List Step) → addressed what ≡ Some (conv, news.Begun) → AllOf conv list → IsOfHeard what list
+begun_of_heard what conv list is own = record {
+  own = λ other news' some. let P : ℕ → Type 0 = λ k. AllOf k list in subst P (same_conv (conv, news.Begun) (other, news') (sym is ∙ some)) own;
+  none = λ no. absurd (let wrong : Some (conv, news.Begun) ≡ None = sym is ∙ no in cc);
+}
+
+pub begun_keeps : {C A : Type 0} (what : Heard) (conv : ℕ) (before after : Router C A) → addressed what ≡ Some (conv, news.Begun) →
+    ((other : ℕ) → conv ≢ other → found after.table other ≡ found before.table other) → KeepsOthers what before after
+begun_keeps what conv before after is kept = record {
+  others = λ first other news' some apart. kept other (λ same. apart (sym (same_conv (conv, news.Begun) (first, news') (sym is ∙ some)) ∙ same));
+  none = λ no. absurd (let wrong : Some (conv, news.Begun) ≡ None = sym is ∙ no in cc);
+}
+
+pub begun_keeps_by : {C A T E : Type 0} (result : Result T E) (what : Heard) (conv : ℕ) (before after : Router C A) → addressed what ≡ Some (conv, news.Begun) →
+    ((other : ℕ) → conv ≢ other → OnOk result (found after.table other ≡ found before.table other)) → OnOk result (KeepsOthers what before after)
+begun_keeps_by (Ok t) what conv before after is kept = begun_keeps what conv before after is kept
+begun_keeps_by (Err e) what conv before after is kept = tt
+
+module _ {C : Type 0} (standing : Standing C) (awaited : C → Option Ask) (number : C → ℕ) (made_due : C → List Move → List Command) {S : Type 0} (answers : Answering S) where
+  pub routed_of_heard : (moment : ℕ) (what : Heard) (before after : Table C) (empty given : List Step) → empty ≡ [] →
+      Routes standing awaited number made_due answers moment what before after empty given → IsOfHeard what given
+  routed_of_heard moment what before after empty given none r =
+      let same : r.more ≡ given = sym (r.grown ∙ ap (λ l. l ++ r.more) none) in
+      record {
+        own = λ conv news is. let P : List Step → Type 0 = AllOf conv in subst P same (r.own conv news is);
+        none = λ no. sym same ∙ (r.none no).0;
+      }
+
+  pub routed_keeps : {A : Type 0} (moment : ℕ) (what : Heard) (before after : Router C A) (out new_out : List Step) →
+      Routes standing awaited number made_due answers moment what before.table after.table out new_out → KeepsOthers what before after
+  routed_keeps moment what before after out new_out r = record {
+    others = r.others;
+    none = λ no. (r.none no).1;
+  }
+
+-- no step was told
+pub tells_none : (what : Heard) (trace : Trace) (now : Option Trace) → now ≡ Some trace → TellsOfHeard what trace now
+tells_none what trace now is = record {
+  more = [];
+  is = is ∙ ap Some (sym (append-nil trace));
+  own = record { own = λ conv news some. tt; none = λ no. refl };
+}
+
+-- all were told, or a front of them
+pub tells_by : {T E : Type 0} (result : Result T E) (what : Heard) (trace list : Trace) (now : Option Trace) (before after : List Flow) → IsOfHeard what list →
+    OnOk result (now ≡ Some (trace ++ list)) → OnErr result (ToldPart list trace now before after) → TellsOfHeard what trace now
+tells_by (Ok t) what trace list now before after of all part = record { more = list; is = all; own = of }
+tells_by (Err e) what trace list now before after of all part = record { more = part.given; is = part.is; own = front_of_heard what part.given list part.front of }

@@ -7,6 +7,7 @@ pub mod EchoRuns
 pub mod GateLaws
 pub mod Held
 pub mod Named
+pub mod Ordered
 pub mod Router
 pub mod Run
 pub mod Turns

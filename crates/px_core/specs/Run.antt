@@ -1,5 +1,7 @@
 -- What a call that works off one thing heard tells.
-use Rattle.std.specs.Prelude.{◌≡◌, ℕ, nat_lt, if◌then◌else◌, List, [], ◌∷◌, ◌++◌, Option, Some, None}
+use Rattle.std.specs.Prelude.{◌≡◌, ◌≢◌, ℕ, nat_lt, if◌then◌else◌, List, [], ◌∷◌, ◌++◌, Option, Some, None}
+use Rattle.std.specs.List.{flat_map}
+use Rattle.px_text.specs.Prefix.{IsPrefixOf}
 use Rattle.px_message.specs.declared.flow.Flow.{Flow}
 use Rattle.px_event.specs.declared.command.Command.{Command}
 use Rattle.px_event.specs.declared.heard.Heard.{Heard}
@@ -9,8 +11,12 @@ use Rattle.px_event.specs.declared.step.Step.{Step}
 use Rattle.px_event.specs.declared.step.Step.TheVariants as steps
 use Rattle.px_event.specs.Layer.{Move}
 use Rattle.px_event.specs.Trace.{Trace}
-use Rattle.px_core.specs.Calls.{number_end}
+use Rattle.px_core.specs.declared.news.News.{News}
+use Rattle.px_core.specs.declared.router.Router.{Router}
+use Rattle.px_core.specs.Calls.{number_end, addressed}
 use Rattle.px_core.specs.Due.{Due}
+use Rattle.px_core.specs.Held.{AllOf}
+use Rattle.px_core.specs.Router.{found}
 
 -- the maker means this due
 abbrev pub IsDueOf : (ℕ → List Move → List Command) → Due → Type 0
@@ -40,3 +46,28 @@ begun_by _ = None
 abbrev pub done_of : Step → List Flow
 done_of (steps.Done flow) = flow ∷ []
 done_of _ = []
+
+-- some of these steps were told, as far as memory sufficed, and of the flows that those finish some were handed on
+pub record ToldPart (list : List Step) (trace : Trace) (told : Option Trace) (before after : List Flow) : Type 0 where
+  pub given : List Step
+  pub front : IsPrefixOf given list
+  pub is : told ≡ Some (trace ++ given)
+  pub taken : List Flow
+  pub handed : IsPrefixOf taken (flat_map done_of given)
+  pub grown : after ≡ before ++ taken
+
+-- These steps are of the conversation that was heard alone; where what was heard is no conversation's, there are none.
+pub record IsOfHeard (what : Heard) (list : List Step) : Type 0 where
+  pub own : (conv : ℕ) (news : News) → addressed what ≡ Some (conv, news) → AllOf conv list
+  pub none : addressed what ≡ None → list ≡ []
+
+-- the trace is told with more steps, each of the conversation that was heard
+pub record TellsOfHeard (what : Heard) (trace : Trace) (told : Option Trace) : Type 0 where
+  pub more : List Step
+  pub is : told ≡ Some (trace ++ more)
+  pub own : IsOfHeard what more
+
+-- what a router has of the conversations that were not heard is what it had
+pub record KeepsOthers {C A : Type 0} (what : Heard) (before after : Router C A) : Type 0 where
+  pub others : (conv other : ℕ) (news : News) → addressed what ≡ Some (conv, news) → conv ≢ other → found after.table other ≡ found before.table other
+  pub none : addressed what ≡ None → after.table ≡ before.table

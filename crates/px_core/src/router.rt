@@ -130,6 +130,14 @@ impl<C: Owes, A: Answerer> Router<C, A> {
         Ok(())
     }
 
+    /// Memory ran out where the router could not see it: it answers so for ever.
+    pub(crate) fn spend(&mut self)
+        ensures spent { self.new.spent ≡ true }
+        ensures table { self.new.table ≡ self.old.table }
+    {
+        self.spent = true;
+    }
+
     /// Hands what was heard to its conversation.
     fn hear<F: Files>(
         &mut self,

@@ -2,20 +2,19 @@
 //!
 //! The steps of a call are said and noted one by one, so the network may fail within them. Each front of them is served,
 //! since an answer stands before what it causes; so the promise holds in every exit.
-ghost use Rattle.std.specs.Prelude.{◌≡◌, ◌++◌, ◌∷◌, ◌⊎◌, ℕ, Some, None, false, [], List, IfOk, IfSome, OnOk, OnErr};
+ghost use Rattle.std.specs.Prelude.{◌≡◌, ◌≢◌, ◌++◌, ◌∷◌, ◌⊎◌, ℕ, Some, None, true, false, [], List, IfOk, IfSome, IsErr, OnOk, OnErr};
 ghost use Rattle.std.specs.List.{flat_map};
 ghost use Rattle.px_text.specs.Prefix.{IsPrefixOf};
 ghost use Rattle.px_event.specs.Layer.{Move};
 ghost use Rattle.px_event.specs.Trace.{Trace};
-ghost use Rattle.px_event.specs.declared.step.Step.{Step as TracedStep};
 ghost use Rattle.px_event.specs.declared.step.Step.TheVariants.{Heard as WasHeard};
 ghost use Rattle.px_core.specs.Due.{Due, IsServed};
-ghost use Rattle.px_core.specs.Router.{RouterStands, IsRouted, BeginsNone, is_known};
+ghost use Rattle.px_core.specs.Router.{RouterStands, IsRouted, BeginsNone, is_known, found};
 ghost use Rattle.px_core.specs.Calls.{addressed};
 ghost use Rattle.px_core.specs.Held.{AllOf};
 ghost use Rattle.px_core.specs.declared.news.News.TheVariants.{Begun as HasBegun};
 ghost use Rattle.px_event.specs.declared.heard.Heard.{Heard as WhatIsHeard};
-ghost use Rattle.px_core.specs.Run.{IsDueOf, begun_by, done_of, Tells, IsTellable, AllTellable};
+ghost use Rattle.px_core.specs.Run.{IsDueOf, begun_by, done_of, Tells, IsTellable, AllTellable, ToldPart, IsOfHeard, TellsOfHeard, KeepsOthers};
 
 use crate::news::NUMBER_END;
 use crate::{Answerer, Maker, Owes, Router, Taker};
@@ -25,8 +24,12 @@ use px_text::NoMemory;
 use std::alloc::Global;
 
 /// Works off one thing that the network has just told: makes and admits the conversation that it begins, or hands it to
-/// its own; then says and notes each step in its order, and hands on each finished flow. `NoMemory` where memory ran out;
-/// the trace is served all the same, and the router answers so for ever if it was the one.
+/// its own; then says and notes each step in its order, and hands on each finished flow. Each step is of the conversation
+/// that was heard alone, and nothing changes of another.
+///
+/// `NoMemory` where memory ran out: in the router, the maker, the network or the taker. The trace is served all the same,
+/// the flows that were handed on are a front of those that it finishes, and the router is spent: it answers want of memory
+/// for ever, and no step is said or noted and no flow handed on from then on.
 pub fn work_off<C: Owes, A: Answerer, M: Maker<C>, F: Files, N: Net, T: Taker>(
     alloc: Global,
     router: &mut Router<C, A>,
@@ -48,9 +51,55 @@ pub fn work_off<C: Owes, A: Answerer, M: Maker<C>, F: Files, N: Net, T: Taker>(
     ensures due { (number : ℕ) (moves : List Move) → M.due maker.new number moves ≡ M.due maker.old number moves }
     ensures listening { N.listening net.new ≡ N.listening net.old }
     ensures faults { N.faults net.new ≡ N.faults net.old }
+    ensures own { (trace : Trace) → N.trace net.old ≡ Some trace → TellsOfHeard heard trace (N.trace net.new) }
+    ensures others { OnOk result (KeepsOthers heard router.old router.new) }
     ensures err { (due : Due) (trace : Trace) → IsDueOf (M.due maker.old) due → RouterStands C.stands C.awaited C.number C.due A.answers due router.old trace →
         N.trace net.old ≡ Some (trace ++ WasHeard moment heard ∷ []) →
         OnErr result (Tells (IsServed A.answers due) (trace ++ WasHeard moment heard ∷ []) (N.trace net.new)) }
+    ensures taken_part { (trace : Trace) → N.trace net.old ≡ Some (trace ++ WasHeard moment heard ∷ []) → T.taken taker.old ≡ flat_map done_of trace →
+        OnErr result (Tells (λ told. IsPrefixOf (T.taken taker.new) (flat_map done_of told)) (trace ++ WasHeard moment heard ∷ []) (N.trace net.new)) }
+    ensures spent { OnErr result (router.new.spent ≡ true) }
+    ensures again { router.old.spent ≡ true → IsErr result × (N.trace net.new ≡ N.trace net.old) × (T.taken taker.new ≡ T.taken taker.old) }
+{
+    match follow(alloc, router, maker, files, net, taker, moment, heard) {
+        Ok(()) => Ok(()),
+        Err(NoMemory) => {
+            router.spend();
+            Err(NoMemory)
+        }
+    }
+}
+
+/// Routes what was heard, and tells the steps that follow.
+fn follow<C: Owes, A: Answerer, M: Maker<C>, F: Files, N: Net, T: Taker>(
+    alloc: Global,
+    router: &mut Router<C, A>,
+    maker: &mut M,
+    files: &mut F,
+    net: &mut N,
+    taker: &mut T,
+    moment: u64,
+    heard: Heard,
+) -> Result<(), NoMemory>
+    requires sound { IsRouted C.stands C.awaited C.number C.due A.answers router.old }
+    ensures ok { (due : Due) (trace : Trace) → IsDueOf (M.due maker.old) due → RouterStands C.stands C.awaited C.number C.due A.answers due router.old trace →
+        N.trace net.old ≡ Some (trace ++ WasHeard moment heard ∷ []) →
+        OnOk result (Tells (RouterStands C.stands C.awaited C.number C.due A.answers due router.new) (trace ++ WasHeard moment heard ∷ []) (N.trace net.new)) }
+    ensures stands { (due : Due) (trace : Trace) → IsDueOf (M.due maker.old) due → RouterStands C.stands C.awaited C.number C.due A.answers due router.old trace →
+        OnOk result ((more : Trace) × RouterStands C.stands C.awaited C.number C.due A.answers due router.new ((trace ++ WasHeard moment heard ∷ []) ++ more)) }
+    ensures taken { (trace : Trace) → N.trace net.old ≡ Some (trace ++ WasHeard moment heard ∷ []) → T.taken taker.old ≡ flat_map done_of trace →
+        OnOk result (Tells (λ told. T.taken taker.new ≡ flat_map done_of told) (trace ++ WasHeard moment heard ∷ []) (N.trace net.new)) }
+    ensures due { (number : ℕ) (moves : List Move) → M.due maker.new number moves ≡ M.due maker.old number moves }
+    ensures listening { N.listening net.new ≡ N.listening net.old }
+    ensures faults { N.faults net.new ≡ N.faults net.old }
+    ensures own { (trace : Trace) → N.trace net.old ≡ Some trace → TellsOfHeard heard trace (N.trace net.new) }
+    ensures others { OnOk result (KeepsOthers heard router.old router.new) }
+    ensures err { (due : Due) (trace : Trace) → IsDueOf (M.due maker.old) due → RouterStands C.stands C.awaited C.number C.due A.answers due router.old trace →
+        N.trace net.old ≡ Some (trace ++ WasHeard moment heard ∷ []) →
+        OnErr result (Tells (IsServed A.answers due) (trace ++ WasHeard moment heard ∷ []) (N.trace net.new)) }
+    ensures taken_part { (trace : Trace) → N.trace net.old ≡ Some (trace ++ WasHeard moment heard ∷ []) → T.taken taker.old ≡ flat_map done_of trace →
+        OnErr result (Tells (λ told. IsPrefixOf (T.taken taker.new) (flat_map done_of told)) (trace ++ WasHeard moment heard ∷ []) (N.trace net.new)) }
+    ensures again { router.old.spent ≡ true → IsErr result × (N.trace net.new ≡ N.trace net.old) × (T.taken taker.new ≡ T.taken taker.old) }
 {
     let steps = route(alloc, router, maker, files, moment, heard)?;
     tell_all(net, taker, &steps)
@@ -69,6 +118,9 @@ fn route<C: Owes, A: Answerer, M: Maker<C>, F: Files>(
     ensures stands { IfOk result (λ steps. (due : Due) (trace : Trace) → IsDueOf (M.due maker.old) due → RouterStands C.stands C.awaited C.number C.due A.answers due router.old trace →
         RouterStands C.stands C.awaited C.number C.due A.answers due router.new ((trace ++ WasHeard moment heard ∷ []) ++ steps.items)) }
     ensures tellable { IfOk result (λ steps. AllTellable steps.items) }
+    ensures own { IfOk result (λ steps. IsOfHeard heard steps.items) }
+    ensures others { OnOk result (KeepsOthers heard router.old router.new) }
+    ensures spent { router.old.spent ≡ true → IsErr result }
     ensures due { (number : ℕ) (moves : List Move) → M.due maker.new number moves ≡ M.due maker.old number moves }
 {
     if let Some(conv) = fresh(router, &heard) {
@@ -93,6 +145,8 @@ fn begin<C: Owes, A: Answerer, M: Maker<C>, F: Files>(
     ensures stands { IfOk result (λ steps. (due : Due) (trace : Trace) (heard : WhatIsHeard) → addressed heard ≡ Some (conv, HasBegun) → IsDueOf (M.due maker.old) due → RouterStands C.stands C.awaited C.number C.due A.answers due router.old trace →
         RouterStands C.stands C.awaited C.number C.due A.answers due router.new ((trace ++ WasHeard moment heard ∷ []) ++ steps.items)) }
     ensures own { IfOk result (λ steps. AllOf conv steps.items) }
+    ensures others { (other : ℕ) → conv ≢ other → OnOk result (found router.new.table other ≡ found router.old.table other) }
+    ensures spent { router.old.spent ≡ true → IsErr result }
     ensures due { (number : ℕ) (moves : List Move) → M.due maker.new number moves ≡ M.due maker.old number moves }
 {
     let conversation = maker.make(conv)?;
@@ -130,7 +184,7 @@ fn begins(heard: &Heard) -> Option<u32>
 fn tell_all<N: Net, T: Taker>(net: &mut N, taker: &mut T, steps: &[Step]) -> Result<(), NoMemory>
     requires tellable { AllTellable steps.now }
     ensures told { (trace : Trace) → N.trace net.old ≡ Some trace → OnOk result (N.trace net.new ≡ Some (trace ++ steps.now)) }
-    ensures part { (trace : Trace) → N.trace net.old ≡ Some trace → OnErr result ((given : List TracedStep) × IsPrefixOf given steps.now × (N.trace net.new ≡ Some (trace ++ given))) }
+    ensures part { (trace : Trace) → N.trace net.old ≡ Some trace → OnErr result (ToldPart steps.now trace (N.trace net.new) (T.taken taker.old) (T.taken taker.new)) }
     ensures taken { OnOk result (T.taken taker.new ≡ T.taken taker.old ++ flat_map done_of steps.now) }
     ensures listening { N.listening net.new ≡ N.listening net.old }
     ensures faults { N.faults net.new ≡ N.faults net.old }

@@ -1,7 +1,7 @@
 use Rattle.std.proofs.Common.{arith, ◌<◌, length, ◌∙◌, ap, sym, Some, ◌++◌, ◌∷◌, [], take, append_assoc}
 use Rattle.std.specs.List.{flat_map}
 use Rattle.px_core.specs.Run.{done_of}
-use Rattle.px_core.proofs.RunLemmas.{take_next, done_next, item_tellable, told_part, on_err, at_err}
+use Rattle.px_core.proofs.RunLemmas.{take_next, done_next, item_tellable, told_taken, on_err}
 use Rattle.px_core.proofs.work.tell_all.Goals as goal
 
 pub tell-requires : goal.tell-requires
@@ -12,7 +12,8 @@ tell-requires g c =
 pub returns-in_err-tell-clause-part : goal.returns-in_err-tell-clause-part
 returns-in_err-tell-clause-part g c = λ trace told.
     let within : c.loop-step.step-index < length c.args.steps.now = omega arith in
-    on_err c.from_residual.result (told_part _ c.args.steps.now c.loop-step.step-index c.step-item.result trace within c.step-item.is (c.in_err-tell.ensures.part _ (c.loop-step.invariant.told trace told)))
+    on_err c.from_residual.result (told_taken _ c.args.steps.now c.loop-step.step-index c.step-item.result trace (g.T.Taker.taken c.args.taker.now) _ within c.step-item.is
+    (c.in_err-tell.ensures.part _ (c.loop-step.invariant.told trace told)) (c.in_err-tell.ensures.taken_not ∙ c.loop-step.invariant.taken))
 
 pub loop-step-preserved : goal.loop-step-preserved
 loop-step-preserved g c =

@@ -1,0 +1,43 @@
+-- No hook of a flow is asked behind the flow's end.
+use Rattle.std.specs.Prelude.{◌≡◌, ◌≢◌, ◌⊎◌, ℕ, Bool, true, List, [], ◌∷◌, ◌++◌}
+use Rattle.px_event.specs.declared.command.Command.{Command}
+use Rattle.px_event.specs.declared.command.Command.TheVariants as commands
+use Rattle.px_event.specs.Chain.{Timed, Chain, Look, Asks, Ends, found}
+
+-- none of these asks about the flow of this index
+abbrev pub AsksNoneOf : ℕ → List Command → Type 0
+AsksNoneOf index [] = Unit {0}
+AsksNoneOf index (commands.Ask ask flow ∷ rest) = (flow.id.index ≢ index) × AsksNoneOf index rest
+AsksNoneOf index (_ ∷ rest) = AsksNoneOf index rest
+
+-- one of these ends the flow of this index
+abbrev pub EndsOneOf : ℕ → List Command → Type 0
+EndsOneOf index [] = ⊥
+EndsOneOf index (commands.Done flow ∷ rest) = (flow.id.index ≡ index) ⊎ EndsOneOf index rest
+EndsOneOf index (_ ∷ rest) = EndsOneOf index rest
+
+-- behind the end of each flow none asks about it
+abbrev pub AsksBeforeEnds : List Command → Type 0
+AsksBeforeEnds [] = Unit {0}
+AsksBeforeEnds (commands.Done flow ∷ rest) = AsksNoneOf flow.id.index rest × AsksBeforeEnds rest
+AsksBeforeEnds (_ ∷ rest) = AsksBeforeEnds rest
+
+-- What is owed at one place and behind it: in order, about no flow that this stage is past, and the next is past each flow
+-- that it ends.
+pub record LeavesBehind {S : Type 0} (past : S → ℕ → Bool) (here : S) (owed : List Command) (next : S) : Type 0 where
+  pub ordered : AsksBeforeEnds owed
+  pub asks_none : (index : ℕ) → past here index ≡ true → AsksNoneOf index owed
+  pub ends : (index : ℕ) → EndsOneOf index owed → past next index ≡ true
+  pub keeps : (index : ℕ) → past here index ≡ true → past next index ≡ true
+
+-- what is owed where a walk stops
+pub record LeavesNone {S : Type 0} (past : S → ℕ → Bool) (here : S) (owed : List Command) : Type 0 where
+  pub ordered : AsksBeforeEnds owed
+  pub asks_none : (index : ℕ) → past here index ≡ true → AsksNoneOf index owed
+
+-- A chain that leaves its flows behind, by a test which flows a stage is past.
+pub record LeavesFlows {S E R : Type 0} (chain : Chain S E R Command) (past : S → ℕ → Bool) : Type 0 where
+  pub passes : (s : S) (front : List (Timed E)) → LeavesBehind past s (chain.pass s front).owed (chain.pass s front).stage
+  pub turns : (s : S) (front : List (Timed E)) (ask : Command) → chain.look s front ≡ Asks ask → (reply : Timed R) →
+      LeavesBehind past s (chain.so_far s front ++ ask ∷ (chain.turn s front reply).owed) (chain.turn s front reply).stage
+  pub stops : (s : S) (front : List (Timed E)) → LeavesNone past s (chain.so_far s front ++ found (chain.look s front))
