@@ -1,30 +1,27 @@
 -- One thing heard, worked off: the steps that follow, and those that were told.
-use Rattle.std.proofs.Common.{◌≡◌, ◌≢◌, ℕ, zero, suc, Bool, true, false, List, [], ◌∷◌, ◌++◌, Option, Some, None, refl, ap, sym, ◌∙◌, subst, append_assoc, ◌+◌, ◌<◌, ◌⊎◌, inl, inr, length, take, drop, get_or, arith, OnOk, OnErr, Result, Ok, Err}
+use Rattle.std.proofs.Common.{◌≡◌, ◌≢◌, ℕ, zero, suc, List, [], ◌∷◌, ◌++◌, Option, Some, None, refl, ap, sym, ◌∙◌, subst, append_assoc, ◌+◌, ◌<◌, ◌⊎◌, inl, inr, length, take, drop, get_or, arith, OnOk, OnErr, Result, Ok, Err}
 use Rattle.std.proofs.lemmas.List.{append-nil, take-append-drop}
 use Rattle.std.specs.List.{flat_map}
 use Rattle.std.proofs.lemmas.Grind.{flat_map-append}
 use Rattle.px_text.specs.Prefix.{IsPrefixOf}
-use Rattle.std.specs.Prelude.{if◌then◌else◌, nat_lt}
 use Rattle.px_message.specs.declared.flow.Flow.{Flow}
 use Rattle.px_event.specs.declared.ask.Ask.{Ask}
 use Rattle.px_event.specs.declared.command.Command.{Command}
 use Rattle.px_event.specs.declared.heard.Heard.{Heard}
-use Rattle.px_event.specs.declared.heard.Heard.TheVariants as heard
-use Rattle.px_event.specs.declared.side.Door.TheVariants.{Proxy, Control}
 use Rattle.px_event.specs.declared.step.Step.{Step}
 use Rattle.px_event.specs.declared.step.Step.TheVariants as steps
 use Rattle.px_event.specs.Layer.{Move, Standing}
-use Rattle.px_event.specs.Trace.{Trace, Always, BeforeEachHeard}
+use Rattle.px_event.specs.Trace.{Trace}
 use Rattle.px_core.specs.declared.news.News.{News}
 use Rattle.px_core.specs.declared.news.News.TheVariants as news
 use Rattle.px_core.specs.declared.table.Table.{Table}
 use Rattle.px_core.specs.Answers.{Answering}
-use Rattle.px_core.specs.Calls.{addressed, number_end}
+use Rattle.px_core.specs.Calls.{addressed}
 use Rattle.px_core.specs.Due.{Due, IsServed}
 use Rattle.px_core.specs.Held.{IsOf, AllOf}
 use Rattle.px_core.specs.declared.router.Router.{Router}
 use Rattle.px_core.specs.Router.{found, TableStands, Admits, Routes}
-use Rattle.px_core.specs.Run.{begun_by, done_of, Tells, IsTellable, AllTellable, ToldPart, IsOfHeard, TellsOfHeard, KeepsOthers}
+use Rattle.px_core.specs.Run.{done_of, Tells, IsTellable, AllTellable, ToldPart, IsOfHeard, TellsOfHeard, KeepsOthers}
 
 -- steps of a conversation are said or noted
 tellable_one : (conv : ℕ) (step : Step) → IsOf conv step → IsTellable step
@@ -161,11 +158,13 @@ pub handed_part : (trace list : Trace) (moment : ℕ) (what : Heard) (now : Opti
 handed_part trace list moment what now before after same t = record {
   more = t.given;
   is = t.is;
-  holds = (t.handed.0,
-      done_behind trace t.given moment what
-      ∙ (ap (λ l. flat_map done_of trace ++ l) t.handed.1
-      ∙ (sym (append_assoc (flat_map done_of trace) t.taken t.handed.0)
-      ∙ ap (λ l. l ++ t.handed.0) (ap (λ l. l ++ t.taken) (sym same) ∙ sym t.grown))));
+  holds = (
+    t.handed.0,
+    done_behind trace t.given moment what
+        ∙ (ap (λ l. flat_map done_of trace ++ l) t.handed.1
+        ∙ (sym (append_assoc (flat_map done_of trace) t.taken t.handed.0)
+        ∙ ap (λ l. l ++ t.handed.0) (ap (λ l. l ++ t.taken) (sym same) ∙ sym t.grown))),
+  );
 }
 
 -- where no step was told, nothing was handed on
@@ -174,8 +173,10 @@ pub handed_none : (trace : Trace) (moment : ℕ) (what : Heard) (now : Option Tr
 handed_none trace moment what now taken same is = record {
   more = [];
   is = is ∙ ap Some (sym (append-nil (trace ++ steps.Heard moment what ∷ [])));
-  holds = ([],
-      done_behind trace [] moment what ∙ ap (λ l. l ++ []) (sym same));
+  holds = (
+    [],
+    done_behind trace [] moment what ∙ ap (λ l. l ++ []) (sym same),
+  );
 }
 
 own_front : (conv : ℕ) (front rest : List Step) → AllOf conv (front ++ rest) → AllOf conv front

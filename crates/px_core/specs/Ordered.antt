@@ -2,7 +2,7 @@
 use Rattle.std.specs.Prelude.{◌≡◌, ◌≢◌, ◌⊎◌, ℕ, Bool, true, List, [], ◌∷◌, ◌++◌}
 use Rattle.px_event.specs.declared.command.Command.{Command}
 use Rattle.px_event.specs.declared.command.Command.TheVariants as commands
-use Rattle.px_event.specs.Chain.{Timed, Chain, Look, Asks, Ends, found}
+use Rattle.px_event.specs.Chain.{Timed, Chain, Asks, found}
 
 -- none of these asks about the flow of this index
 abbrev pub AsksNoneOf : ℕ → List Command → Type 0

@@ -1,4 +1,4 @@
-use Rattle.std.proofs.Common.{◌∙◌, ap, ◌++◌, ◌∷◌, [], subst, sym}
+use Rattle.std.proofs.Common.{◌∙◌}
 use Rattle.px_core.proofs.RunLemmas.{admitted, admitted_own}
 use Rattle.px_core.proofs.work.begin.Goals as goal
 

@@ -1,4 +1,3 @@
-use Rattle.std.proofs.Common.{◌∙◌}
 use Rattle.std.proofs.lemmas.Result.{IfOk-weaker}
 use Rattle.px_core.proofs.RunLemmas.{routed, routed_tellable, all_tellable, routed_of_heard, routed_keeps, begun_of_heard, begun_keeps_by}
 use Rattle.px_core.proofs.work.route.Goals as goal
