@@ -35,16 +35,18 @@ ordered_append (commands.Close side ∷ xs) ys a b none = ordered_append xs ys a
 ordered_append (commands.Dial server address inside ∷ xs) ys a b none = ordered_append xs ys a b none
 ordered_append (commands.Ask ask flow ∷ xs) ys a b none = ordered_append xs ys a b none
 
-module _ {S E R : Type 0} (chain : Chain S E R Command) (past : S → ℕ → Bool) (leaves : LeavesFlows chain past) where
+module _ {S E R : Type 0} (chain : Chain S E R Command) (is_stage : S → Bool) (past : S → ℕ → Bool) (leaves : LeavesFlows chain is_stage past) where
   -- so far all is in order, and the stage is past each flow that was ended
   record IsPast (before : List Command) (s : S) : Type 0 where
     ordered : AsksBeforeEnds before
     ends : (index : ℕ) → EndsOneOf index before → past s index ≡ true
+    leads : is_stage s ≡ true
 
-  on : (before owed : List Command) (s next : S) → IsPast before s → LeavesBehind past s owed next → IsPast (before ++ owed) next
+  on : (before owed : List Command) (s next : S) → IsPast before s → LeavesBehind is_stage past s owed next → IsPast (before ++ owed) next
   on before owed s next at l = record {
     ordered = ordered_append before owed at.ordered l.ordered (λ index e. l.asks_none index (at.ends index e));
     ends = λ index e. by index (ends_append index before owed e);
+    leads = l.leads;
   }
     where
       by : (index : ℕ) → EndsOneOf index before ⊎ EndsOneOf index owed → past next index ≡ true
@@ -59,15 +61,15 @@ module _ {S E R : Type 0} (chain : Chain S E R Command) (past : S → ℕ → Bo
 
   reach_past : (last : Stamp) (before : List Command) (s : S) (f : List (Timed E)) (es : List (Stamped E)) → IsPast before s →
       IsPast (reach chain last before s f es).before (reach chain last before s f es).stage
-  reach_past last before s f [] at = on before (chain.pass s f).owed s (chain.pass s f).stage at (leaves.passes s f)
+  reach_past last before s f [] at = on before (chain.pass s f).owed s (chain.pass s f).stage at (leaves.passes s f at.leads)
   reach_past last before s f (e ∷ es) at =
-      let here = on before (chain.pass s f).owed s (chain.pass s f).stage at (leaves.passes s f) in
+      let here = on before (chain.pass s f).owed s (chain.pass s f).stage at (leaves.passes s f at.leads) in
       reach_by_past (chain.look (chain.pass s f).stage f) _ _
       (reach_past last (before ++ (chain.pass s f).owed) (chain.pass s f).stage (f ++ worked_off last e ∷ []) es here) here
 
   stop_past : (before : List Command) (s : S) (f : List (Timed E)) → IsPast before s → AsksBeforeEnds (before ++ (chain.so_far s f ++ found (chain.look s f)))
   stop_past before s f at =
-      let l = leaves.stops s f in ordered_append before _ at.ordered l.ordered (λ index e. l.asks_none index (at.ends index e))
+      let l = leaves.stops s f at.leads in ordered_append before _ at.ordered l.ordered (λ index e. l.asks_none index (at.ends index e))
 
   walk_by_past : (l : Look Command) (onward : Command → Stop S E R Command) (stop : Stop S E R Command) →
       ((ask : Command) → l ≡ Asks ask → AsksBeforeEnds (owed_at chain (onward ask))) → AsksBeforeEnds (owed_at chain stop) →
@@ -86,9 +88,9 @@ module _ {S E R : Type 0} (chain : Chain S E R Command) (past : S → ℕ → Bo
       let turn = chain.turn here.stage here.front (at_its_step r) in
       walk_by_past (chain.look here.stage here.front) _ _
       (λ ask is. walk_past rs r.stamp (here.before ++ (chain.so_far here.stage here.front ++ ask ∷ turn.owed)) turn.stage here.front here.rest
-      (on here.before (chain.so_far here.stage here.front ++ ask ∷ turn.owed) here.stage turn.stage there (leaves.turns here.stage here.front ask is (at_its_step r))))
+      (on here.before (chain.so_far here.stage here.front ++ ask ∷ turn.owed) here.stage turn.stage there (leaves.turns here.stage here.front ask there.leads is (at_its_step r))))
       (stop_past here.before here.stage here.front there)
 
   -- What is due has no ask of a flow behind its end.
-  pub due_ordered : (start : S) (events : List (Stamped E)) (replies : List (Stamped R)) → AsksBeforeEnds (due chain start events replies)
-  due_ordered start events replies = walk_past replies never [] start [] events (record { ordered = tt; ends = λ index e. absurd e })
+  pub due_ordered : (start : S) → is_stage start ≡ true → (events : List (Stamped E)) (replies : List (Stamped R)) → AsksBeforeEnds (due chain start events replies)
+  due_ordered start first events replies = walk_past replies never [] start [] events (record { ordered = tt; ends = λ index e. absurd e; leads = first })

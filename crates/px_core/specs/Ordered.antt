@@ -22,22 +22,25 @@ AsksBeforeEnds [] = Unit {0}
 AsksBeforeEnds (commands.Done flow ∷ rest) = AsksNoneOf flow.id.index rest × AsksBeforeEnds rest
 AsksBeforeEnds (_ ∷ rest) = AsksBeforeEnds rest
 
--- What is owed at one place and behind it: in order, about no flow that this stage is past, and the next is past each flow
--- that it ends.
-pub record LeavesBehind {S : Type 0} (past : S → ℕ → Bool) (here : S) (owed : List Command) (next : S) : Type 0 where
+-- What is owed at one place and behind it: in order, about no flow that this stage is past; the next is past each flow that
+-- it ends, and is such a stage too.
+pub record LeavesBehind {S : Type 0} (is_stage : S → Bool) (past : S → ℕ → Bool) (here : S) (owed : List Command) (next : S) : Type 0 where
   pub ordered : AsksBeforeEnds owed
   pub asks_none : (index : ℕ) → past here index ≡ true → AsksNoneOf index owed
   pub ends : (index : ℕ) → EndsOneOf index owed → past next index ≡ true
   pub keeps : (index : ℕ) → past here index ≡ true → past next index ≡ true
+  pub leads : is_stage next ≡ true
 
 -- what is owed where a walk stops
 pub record LeavesNone {S : Type 0} (past : S → ℕ → Bool) (here : S) (owed : List Command) : Type 0 where
   pub ordered : AsksBeforeEnds owed
   pub asks_none : (index : ℕ) → past here index ≡ true → AsksNoneOf index owed
 
--- A chain that leaves its flows behind, by a test which flows a stage is past.
-pub record LeavesFlows {S E R : Type 0} (chain : Chain S E R Command) (past : S → ℕ → Bool) : Type 0 where
-  pub passes : (s : S) (front : List (Timed E)) → LeavesBehind past s (chain.pass s front).owed (chain.pass s front).stage
-  pub turns : (s : S) (front : List (Timed E)) (ask : Command) → chain.look s front ≡ Asks ask → (reply : Timed R) →
-      LeavesBehind past s (chain.so_far s front ++ ask ∷ (chain.turn s front reply).owed) (chain.turn s front reply).stage
-  pub stops : (s : S) (front : List (Timed E)) → LeavesNone past s (chain.so_far s front ++ found (chain.look s front))
+-- A chain that leaves its flows behind: `is_stage` is the test which stages a walk can come to, as those whose flow has the
+-- number that they count, and `past` the test which flows such a stage is past.
+pub record LeavesFlows {S E R : Type 0} (chain : Chain S E R Command) (is_stage : S → Bool) (past : S → ℕ → Bool) : Type 0 where
+  pub passes : (s : S) (front : List (Timed E)) → is_stage s ≡ true →
+      LeavesBehind is_stage past s (chain.pass s front).owed (chain.pass s front).stage
+  pub turns : (s : S) (front : List (Timed E)) (ask : Command) → is_stage s ≡ true → chain.look s front ≡ Asks ask → (reply : Timed R) →
+      LeavesBehind is_stage past s (chain.so_far s front ++ ask ∷ (chain.turn s front reply).owed) (chain.turn s front reply).stage
+  pub stops : (s : S) (front : List (Timed E)) → is_stage s ≡ true → LeavesNone past s (chain.so_far s front ++ found (chain.look s front))

@@ -3,7 +3,7 @@ use Rattle.px_core.proofs.OrderedLemmas.{due_ordered}
 use Rattle.px_core.proofs.laws.no_hook_is_asked_behind_its_end.Goals as goal
 
 pub returns-clause-due : goal.returns-clause-due
-returns-clause-due g c = λ chain past leaves start events replies. due_ordered chain past leaves start events replies
+returns-clause-due g c = λ chain is_stage past leaves start first events replies. due_ordered chain is_stage past leaves start first events replies
 
 pub returns-clause-calls : goal.returns-clause-calls
-returns-clause-calls g c = λ chain past leaves start moves. due_ordered chain past leaves start (events_in 1 moves) (replies_in 1 moves)
+returns-clause-calls g c = λ chain is_stage past leaves start first moves. due_ordered chain is_stage past leaves start first (events_in 1 moves) (replies_in 1 moves)
