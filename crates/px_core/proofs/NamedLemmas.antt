@@ -6,34 +6,13 @@ use Rattle.px_event.specs.declared.event.Event.{Event}
 use Rattle.px_event.specs.declared.reply.Reply.{Reply}
 use Rattle.px_event.specs.declared.command.Command.{Command}
 use Rattle.px_event.specs.declared.command.Command.TheVariants as commands
-use Rattle.px_event.specs.Chain.{Timed, Chain, found}
+use Rattle.px_event.specs.Chain.{Chain}
 use Rattle.px_event.specs.Layer.{Move, Standing, IsSound, Goes, AsksOnly}
-use Rattle.px_event.specs.Stands.{events_in, replies_in, due_by}
+use Rattle.px_event.specs.Stands.{due_by}
 use Rattle.px_event.specs.View.{View, Atom, about, done, byte, close, asked, dialled, flows, finished, seen_of}
-use Rattle.px_event.proofs.Only.{AllHave, OwesOnly, due_only}
 use Rattle.px_gate.specs.declared.gate.Gate.{Gate}
 use Rattle.px_gate.specs.Gate.{GateStands, TakeAsksWhere}
 use Rattle.px_core.specs.Conversation.{AsksWhile, IsHookOf, IsNamed, AllNamed, NamesOnly}
-use Rattle.px_core.specs.Named.{OwesNamed}
-
-to_have : (conv : ℕ) (l : List Command) → AllNamed conv l → AllHave (IsNamed conv) l
-to_have conv [] all = tt
-to_have conv (command ∷ rest) (here, all) = (here, to_have conv rest all)
-
-from_have : (conv : ℕ) (l : List Command) → AllHave (IsNamed conv) l → AllNamed conv l
-from_have conv [] all = tt
-from_have conv (command ∷ rest) (here, all) = (here, from_have conv rest all)
-
--- what is due names the conversation
-due_named : {S : Type 0} (conv : ℕ) (chain : Chain S Event Reply Command) (start : S) → OwesNamed conv chain → (moves : List Move) → AllNamed conv (due_by chain start moves)
-due_named conv chain start named moves =
-    let only : OwesOnly (IsNamed conv) chain = record {
-      pass = λ stage front. to_have conv (chain.pass stage front).owed (named.pass stage front);
-      look = λ stage front. to_have conv (found (chain.look stage front)) (named.look stage front);
-      so_far = λ stage front. to_have conv (chain.so_far stage front) (named.so_far stage front);
-      turn = λ stage front reply. to_have conv (chain.turn stage front reply).owed (named.turn stage front reply);
-    } in
-    from_have conv (due_by chain start moves) (due_only (IsNamed conv) chain only start (events_in 1 moves) (replies_in 1 moves))
 
 -- the flow of what a view has is the conversation's
 abbrev IsNamedAtom : ℕ → Atom → Type 0
@@ -81,8 +60,8 @@ same_views conv given due same named =
 
 -- what a gate gave names the conversation
 gate_named : {S : Type 0} (conv : ℕ) (chain : Chain S Event Reply Command) (start : S) (calls : List Move) (given : List Command) →
-    OwesNamed conv chain → ((view : View) → seen_of view given ≡ seen_of view (due_by chain start calls)) → AllNamed conv given
-gate_named conv chain start calls given named gave = same_views conv given (due_by chain start calls) gave (due_named conv chain start named calls)
+    AllNamed conv (due_by chain start calls) → ((view : View) → seen_of view given ≡ seen_of view (due_by chain start calls)) → AllNamed conv given
+gate_named conv chain start calls given named gave = same_views conv given (due_by chain start calls) gave named
 
 module _ {M : Type 0} (standing : Standing M) (awaited : M → Option Ask) (number : M → ℕ)
     (keeps : (made state : M) (moves : List Move) (given : List Command) → standing made state moves given → number state ≡ number made) where
@@ -96,14 +75,14 @@ module _ {M : Type 0} (standing : Standing M) (awaited : M → Option Ask) (numb
       same_number made after (past ++ move ∷ []) (given ++ goes.more) (goes.stands made past given stands) ∙ sym (same_number made before past given stands)
 
   -- a call gives only what names the conversation
-  pub names_after : {S : Type 0} (chain : M → Chain S Event Reply Command) (start : M → S) → ((made : M) → OwesNamed (number made) (chain made)) →
+  pub names_after : {S : Type 0} (chain : M → Chain S Event Reply Command) (start : M → S) → ((made : M) (moves : List Move) → AllNamed (number made) (due_by (chain made) (start made) moves)) →
       (gave : (made gate : Gate M) (calls : List Move) (given : List Command) → GateStands standing awaited made gate calls given →
       (view : View) → seen_of view given ≡ seen_of view (due_by (chain made.layer) (start made.layer) calls)) →
       (before after : Gate M) (move : Move) (out new_out : List Command) → IsSound (GateStands standing awaited) before →
       Goes (GateStands standing awaited) before after move out new_out → NamesOnly (number before.layer) out new_out
   names_after chain start names gave before after move out new_out (made, past, given, stands) goes =
       let calls = past ++ move ∷ [] in
-      let all = gate_named (number made.layer) (chain made.layer) (start made.layer) calls (given ++ goes.more) (names made.layer)
+      let all = gate_named (number made.layer) (chain made.layer) (start made.layer) calls (given ++ goes.more) (names made.layer calls)
       (gave made after calls (given ++ goes.more) (goes.stands made past given stands)) in
       let P : ℕ → Type 0 = λ n. AllNamed n goes.more in
       record { more = goes.more; grown = goes.grown; named = subst P (sym (same_number made before past given stands)) (behind_named (number made.layer) given goes.more all) }

@@ -13,7 +13,7 @@ use Rattle.px_toy.specs.declared.echo.LineEcho.{LineEcho}
 use Rattle.px_toy.specs.Echo.{Stage, Reading, Over, unread, first_line, is_closed, pass, pass_by, look, look_by, turn, turn_by, turn_line, is_kill, echoed, echo_chain}
 use Rattle.px_toy.specs.Stands.{IsAt, EchoStands}
 use Rattle.px_core.specs.Conversation.{AllNamed}
-use Rattle.px_core.specs.Named.{OwesNamed}
+use Rattle.px_core.specs.Named.{all_named}
 
 -- the flow with this number
 abbrev pub numbered : Flow → ℕ → Flow
@@ -63,8 +63,8 @@ turns : (conv : ℕ) (stage : Stage) (front : List (Timed Event)) (reply : Timed
 turns conv (Reading used) front reply = turn_line_named conv (first_line (unread used front)) reply.value (unread used front) used
 turns conv Over front reply = tt
 
-pub echo_names : (made : LineEcho) → OwesNamed made.flow.id.conv (echo_chain made.flow)
-echo_names made = record { pass = passes made.flow.id.conv; look = looks made.flow; so_far = λ stage front. tt; turn = turns made.flow.id.conv }
+pub echo_names : (made : LineEcho) (moves : List Move) → AllNamed made.flow.id.conv (due_by (echo_chain made.flow) (Reading 0) moves)
+echo_names made = all_named made.flow.id.conv (echo_chain made.flow) (Reading 0) (record { pass = passes made.flow.id.conv; look = looks made.flow; so_far = λ stage front. tt; turn = turns made.flow.id.conv })
 
 -- nothing is due before the first call
 pub echo_begins : (flow : Flow) (view : View) → seen_of view (due_by (echo_chain flow) (Reading 0) []) ≡ []

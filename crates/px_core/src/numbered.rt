@@ -1,8 +1,9 @@
 //! Layers that tell the number of their conversation.
 ghost use Rattle.std.specs.Prelude.{◌≡◌, ℕ, List};
 ghost use Rattle.px_event.specs.Layer.{Move};
+ghost use Rattle.px_event.specs.Stands.{due_by};
 ghost use Rattle.px_event.specs.declared.command.Command.{Command as GivenCommand};
-ghost use Rattle.px_core.specs.Named.{OwesNamed};
+ghost use Rattle.px_core.specs.Conversation.{AllNamed};
 
 use px_event::Chained;
 
@@ -14,6 +15,6 @@ pub trait Numbered: Chained {
     /// No move changes it.
     ghost keeps_number: { (made state : Self) (moves : List Move) (given : List GivenCommand) → Self.stands made state moves given → number state ≡ number made };
 
-    /// Its chain names flows of that conversation alone.
-    ghost names: { (made : Self) → OwesNamed (number made) (Self.chain made) };
+    /// What is due names flows of that conversation alone.
+    ghost names: { (made : Self) (moves : List Move) → AllNamed (number made) (due_by (Self.chain made) (Self.start made) moves) };
 }
