@@ -1,0 +1,83 @@
+-- What one look gives, from what each of its ways gives.
+use Rattle.std.proofs.Common.{◌≡◌, ℕ, Bool, false, List, [], ◌++◌, Option, Result, Ok, Err, refl, sym, subst}
+use Rattle.std.specs.Prelude.{OnOk, IfOk}
+use Rattle.std.proofs.lemmas.List.{append-nil}
+use Rattle.px_message.specs.declared.flow.Flow.{Flow}
+use Rattle.px_message.specs.declared.response.Response.{Response}
+use Rattle.px_event.specs.declared.command.Command.{Command}
+use Rattle.px_event.specs.Chain.{found}
+use Rattle.px_read.specs.Items.{request_item}
+use Rattle.px_read.specs.Laws.{head_in}
+use Rattle.px_read.specs.Reader.{request, State, Reads}
+use Rattle.px_stream.specs.declared.link.Link.{Link as KeptLink}
+use Rattle.px_stream.specs.declared.phase.Phase.{Phase}
+use Rattle.px_stream.specs.declared.phase.Ready.{Ready}
+use Rattle.px_stream.specs.declared.reading.Answer.{Answer}
+use Rattle.px_stream.specs.declared.reading.Progress.{Progress}
+use Rattle.px_stream.specs.declared.terms.Numbers.{Numbers}
+use Rattle.px_stream.specs.declared.terms.Terms.{Terms}
+use Rattle.px_stream.specs.Bodies.{HasRead, BodyFound, ReturnFound}
+use Rattle.px_stream.specs.Chain.{look_head, or_leaves}
+use Rattle.px_stream.specs.Looking.{HeadFound, FoundAtOnce, LookFound, MayLook}
+use Rattle.px_stream.specs.Looks.{answer_gives, answer_phase, body_gives, body_phase, returned_gives, returned_phase}
+use Rattle.px_stream.specs.Phases.{head_phase, marks_at}
+use Rattle.px_stream.specs.Requests.{is_http11}
+use Rattle.px_stream.specs.Responses.{AnswerFound, ReadsAnswer}
+
+-- the head of a request
+pub head_looked : {E : Type 0} (result : Result Phase E) (terms : Terms) (index : ℕ) (old new : State) (moment : ℕ) (closed : Bool) (out longer : List Command) →
+    ((fed : List ℕ) → Reads request [] fed false old → OnOk result (longer ≡ out ++ found (or_leaves closed [] (look_head terms index (request_item fed) moment closed)))) →
+    ((fed : List ℕ) → Reads request [] fed false old → IfOk result (λ next. next ≡ head_phase terms index (request_item fed) moment closed)) →
+    ((fed : List ℕ) → Reads request [] fed false old → OnOk result (Reads request (marks_at (head_in (request_item fed))) fed false new)) →
+    IfOk result (λ next. HeadFound terms index old new moment closed out longer next)
+head_looked (Ok next) terms index old new moment closed out longer gives phase reads = record { gives = gives; phase = phase; reads = reads }
+head_looked (Err e) terms index old new moment closed out longer gives phase reads = tt
+
+-- what is given at once
+pub at_once : {E : Type 0} (result : Result Phase E) (state : State) (given : List Command) (out longer : List Command) (there : Phase) →
+    OnOk result (longer ≡ out ++ given) → IfOk result (λ next. next ≡ there) → IfOk result (λ next. FoundAtOnce state state given out longer there next)
+at_once (Ok next) state given out longer there gives phase = record { same = refl; gives = gives; phase = phase }
+at_once (Err e) state given out longer there gives phase = tt
+
+-- where the client's reader is not looked at
+pub besides : {E : Type 0} (result : Result Phase E) (state : State) (P : Phase → Type 0) → IfOk result P → IfOk result (λ next. (state ≡ state) × P next)
+besides (Ok next) state P is = (refl, is)
+besides (Err e) state P is = tt
+
+-- by what is looked for
+pub looked_as : {E : Type 0} (result : Result Phase E) (terms : Terms) (numbers : Numbers) (looks known : Ready) (old new : State) (moment : ℕ) (closed : Bool) (out longer : List Command) →
+    looks ≡ known → IfOk result (λ next. LookFound terms numbers known old new moment closed out longer next) → IfOk result (λ next. LookFound terms numbers looks old new moment closed out longer next)
+looked_as result terms numbers looks known old new moment closed out longer is looked =
+    let P : Ready → Type 0 = λ ready. IfOk result (λ next. LookFound terms numbers ready old new moment closed out longer next) in
+    subst P (sym is) looked
+
+-- nothing is given
+pub nothing_given : (state : State) (out : List Command) (there : Phase) → FoundAtOnce state state [] out out there there
+nothing_given state out there = record { same = refl; gives = sym (append-nil out); phase = refl }
+
+pub may_as : (looks known : Ready) (requests : State) → looks ≡ known → MayLook looks requests → MayLook known requests
+may_as looks known requests is may =
+    let P : Ready → Type 0 = λ ready. MayLook ready requests in
+    subst P is may
+
+-- ---- by what the readers have come to
+
+pub body_found : {E : Type 0} (result : Result Phase E) (flow : Flow) (given : Option Response) (content body : List ℕ) (old new : State) (moment : ℕ) (closed : Bool) (out longer : List Command) (got : Progress) →
+    HasRead got old content new body → OnOk result (longer ≡ out ++ body_gives flow given got body moment closed) → IfOk result (λ next. next ≡ body_phase flow given got body moment closed) →
+    IfOk result (λ next. BodyFound flow given content old new moment closed out longer next)
+body_found (Ok next) flow given content body old new moment closed out longer got read gives phase = record { got = got; body = body; read = read; gives = gives; phase = phase }
+body_found (Err e) flow given content body old new moment closed out longer got read gives phase = tt
+
+pub return_found : {E : Type 0} (result : Result Phase E) (flow : Flow) (content body : List ℕ) (old : KeptLink) (responses : State) (moment : ℕ) (closed : Bool) (out longer : List Command) (got : Progress) →
+    HasRead got old.responses content responses body → OnOk result (longer ≡ out ++ returned_gives flow (record old { responses = responses }) got body moment closed) →
+    IfOk result (λ next. next ≡ returned_phase flow (record old { responses = responses }) got body moment closed) →
+    IfOk result (λ next. (new : KeptLink) × ReturnFound flow content old new moment closed out longer next)
+return_found (Ok next) flow content body old responses moment closed out longer got read gives phase =
+    (record old { responses = responses }, record { got = got; body = body; responses = responses; same = refl; read = read; gives = gives; phase = phase })
+return_found (Err e) flow content body old responses moment closed out longer got read gives phase = tt
+
+pub answer_found : {E : Type 0} (result : Result Phase E) (flow : Flow) (old new : KeptLink) (moment : ℕ) (closed : Bool) (out between longer : List Command) (got : Answer) →
+    ReadsAnswer got (is_http11 flow.request.version) old out new between → OnOk result (longer ≡ between ++ answer_gives flow new got moment closed) →
+    IfOk result (λ next. next ≡ answer_phase flow new got moment closed) → IfOk result (λ next. AnswerFound flow old moment closed out longer next)
+answer_found (Ok next) flow old new moment closed out between longer got read gives phase = record { got = got; new = new; between = between; read = read; gives = gives; phase = phase }
+answer_found (Err e) flow old new moment closed out between longer got read gives phase = tt

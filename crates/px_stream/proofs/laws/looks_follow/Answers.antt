@@ -1,0 +1,5 @@
+use Rattle.px_stream.proofs.AdvanceLemmas.{advanced}
+use Rattle.px_stream.proofs.laws.looks_follow.Goals as goal
+
+pub returns : goal.returns
+returns c = advanced

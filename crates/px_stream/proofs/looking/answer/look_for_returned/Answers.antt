@@ -1,0 +1,9 @@
+use Rattle.px_stream.proofs.LookingLemmas.{return_found}
+use Rattle.px_stream.proofs.looking.answer.look_for_returned.Goals as goal
+
+pub returns : goal.returns
+returns c =
+    record {
+      looks = return_found c.look_at_returned.result c.args.flow c.args.body c.read_body.new.body c.args.link c.read_body.new.reader c.args.now.moment c.args.now.client_closed
+          c.args.out.now.items c.look_at_returned.new.out.items _ c.in_ok-progress.ensures c.look_at_returned.ensures.gives c.look_at_returned.ensures.phase;
+    }

@@ -1,0 +1,55 @@
+-- What one look gives, by what is looked for.
+use Rattle.std.specs.Prelude.{◌≡◌, ℕ, Bool, false, List, [], ◌∷◌, ◌++◌, None, ⊤}
+use Rattle.px_event.specs.declared.ask.Hook.TheVariants.{ResponseHead, ResponseBody}
+use Rattle.px_event.specs.declared.command.Command.{Command}
+use Rattle.px_event.specs.declared.command.Command.TheVariants as commands
+use Rattle.px_event.specs.Chain.{found}
+use Rattle.px_read.specs.Items.{request_item}
+use Rattle.px_read.specs.Laws.{head_in}
+use Rattle.px_read.specs.Reader.{request, State, Reads}
+use Rattle.px_stream.specs.declared.link.Link.{Link as KeptLink}
+use Rattle.px_stream.specs.declared.phase.Asked.TheVariants as asked
+use Rattle.px_stream.specs.declared.phase.Phase.{Phase}
+use Rattle.px_stream.specs.declared.phase.Phase.TheVariants as phase
+use Rattle.px_stream.specs.declared.phase.Ready.{Ready}
+use Rattle.px_stream.specs.declared.phase.Ready.TheVariants as ready
+use Rattle.px_stream.specs.declared.terms.Numbers.{Numbers}
+use Rattle.px_stream.specs.declared.terms.Terms.{Terms}
+use Rattle.px_stream.specs.Bodies.{BodyFound, IsReading, ReturnFound}
+use Rattle.px_stream.specs.Chain.{address_of, ask_of, look_head, or_leaves, with_end, with_start}
+use Rattle.px_stream.specs.Phases.{head_phase, marks_at}
+use Rattle.px_stream.specs.Responses.{AnswerFound, IsKept}
+
+-- a head of a request
+pub record HeadFound (terms : Terms) (index : ℕ) (old new : State) (moment : ℕ) (closed : Bool) (out longer : List Command) (next : Phase) : Type 0 where
+  pub gives : (fed : List ℕ) → Reads request [] fed false old → longer ≡ out ++ found (or_leaves closed [] (look_head terms index (request_item fed) moment closed))
+  pub phase : (fed : List ℕ) → Reads request [] fed false old → next ≡ head_phase terms index (request_item fed) moment closed
+  pub reads : (fed : List ℕ) → Reads request [] fed false old → Reads request (marks_at (head_in (request_item fed))) fed false new
+
+-- something that is given at once
+pub record FoundAtOnce (old new : State) (given : List Command) (out longer : List Command) (there next : Phase) : Type 0 where
+  pub same : new ≡ old
+  pub gives : longer ≡ out ++ given
+  pub phase : next ≡ there
+
+abbrev pub LookFound : Terms → Numbers → Ready → State → State → ℕ → Bool → List Command → List Command → Phase → Type 0
+LookFound terms numbers ready.Idle old new moment closed out longer next = HeadFound terms numbers.flow old new moment closed out longer next
+LookFound terms numbers (ready.Receiving flow given body) old new moment closed out longer next = BodyFound flow given body old new moment closed out longer next
+LookFound terms numbers (ready.Dialling flow) old new moment closed out longer next =
+    FoundAtOnce old new (commands.Dial numbers.server (address_of flow.request) None ∷ []) out longer (phase.Asked (asked.Dial flow numbers.server)) next
+LookFound terms numbers (ready.Answering flow link) old new moment closed out longer next = (new ≡ old) × AnswerFound flow link moment closed out longer next
+LookFound terms numbers (ready.Returning flow link body) old new moment closed out longer next =
+    (new ≡ old) × ((now : KeptLink) × ReturnFound flow body link now moment closed out longer next)
+LookFound terms numbers (ready.GivenHead flow) old new moment closed out longer next =
+    FoundAtOnce old new (ask_of (with_start flow moment) ResponseHead ∷ []) out longer (phase.Asked (asked.GivenHead (with_start flow moment))) next
+LookFound terms numbers (ready.GivenBody flow) old new moment closed out longer next =
+    FoundAtOnce old new (ask_of (with_end flow moment) ResponseBody ∷ []) out longer (phase.Asked (asked.GivenBody (with_end flow moment))) next
+LookFound terms numbers ready.Finished old new moment closed out longer next = FoundAtOnce old new [] out longer (phase.Ready ready.Finished) next
+LookFound terms numbers ready.Over old new moment closed out longer next = FoundAtOnce old new [] out longer (phase.Ready ready.Over) next
+
+-- what its readers have to be at
+abbrev pub MayLook : Ready → State → Type 0
+MayLook (ready.Receiving flow given body) requests = IsReading requests
+MayLook (ready.Answering flow link) requests = IsKept link
+MayLook (ready.Returning flow link body) requests = IsReading link.responses
+MayLook _ requests = ⊤

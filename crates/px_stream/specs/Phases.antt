@@ -1,0 +1,107 @@
+-- What is looked for, or asked, behind what was found and behind an answer.
+use Rattle.std.specs.Prelude.{ℕ, Bool, true, false, List, [], ◌∷◌, Option, Some, None}
+use Rattle.px_message.specs.declared.flow.Flow.{Flow}
+use Rattle.px_message.specs.declared.request.Request.{Request}
+use Rattle.px_message.specs.declared.response.Response.{Response}
+use Rattle.px_event.specs.declared.reply.Reply.{Reply}
+use Rattle.px_event.specs.declared.reply.Reply.TheVariants as reply
+use Rattle.px_read.specs.Items.{Item, missing, part, complete, bad_head, bad_body}
+use Rattle.px_read.specs.Marks.{Mark, asks}
+use Rattle.px_read.specs.Reader.{before_all, response}
+use Rattle.px_read.specs.declared.head.RequestHead.{RequestHead as ReadRequest}
+use Rattle.px_stream.specs.declared.asked.Judged.{Judged}
+use Rattle.px_stream.specs.declared.asked.Judged.TheVariants.{Refused, Accepted}
+use Rattle.px_stream.specs.declared.link.Link.{Link as KeptLink}
+use Rattle.px_stream.specs.declared.phase.Asked.TheVariants as asked
+use Rattle.px_stream.specs.declared.phase.Phase.{Phase}
+use Rattle.px_stream.specs.declared.phase.Phase.TheVariants as phase
+use Rattle.px_stream.specs.declared.phase.Ready.{Ready}
+use Rattle.px_stream.specs.declared.phase.Ready.TheVariants as ready
+use Rattle.px_stream.specs.declared.taken.Taken.{Taken}
+use Rattle.px_stream.specs.declared.taken.Taken.TheVariants.{GoesOn, Responds, Kills}
+use Rattle.px_stream.specs.declared.terms.Terms.{Terms}
+use Rattle.px_stream.specs.Chain.{address_of}
+use Rattle.px_stream.specs.Endings.{connection_goes_on}
+use Rattle.px_stream.specs.Requests.{expects, flow_of, is_head, judged}
+use Rattle.px_stream.specs.Stages.{At, Link}
+
+-- a flow of this number; nothing else of where it stands is looked at
+abbrev pub numbered : ℕ → At
+numbered index = record { flow = index; dials = 0; used = 0; since = record { events = 0; moment = 0 } }
+
+-- a link; what a reply to the hook of a response's head owes does not look at it
+abbrev pub no_link : Link
+no_link = record { server = 0; opened = 0 }
+
+-- nothing more comes
+abbrev pub is_over : Phase
+is_over = phase.Ready ready.Over
+
+-- it waits, unless the client has closed
+abbrev pub unless_left : Bool → Ready → Phase
+unless_left true looks = is_over
+unless_left false looks = phase.Ready looks
+
+-- ---- behind what was found
+
+abbrev pub judged_phase : Terms → ℕ → ReadRequest → Judged → ℕ → Phase
+judged_phase terms index head (Refused fault) moment = is_over
+judged_phase terms index head (Accepted message) moment = phase.Asked (asked.Head (flow_of terms index message moment) (expects head))
+
+abbrev pub head_phase : Terms → ℕ → Item ReadRequest → ℕ → Bool → Phase
+head_phase terms index missing moment closed = unless_left closed ready.Idle
+head_phase terms index (part head body) moment closed = judged_phase terms index head (judged terms.address head) moment
+head_phase terms index (complete head body trailers used) moment closed = judged_phase terms index head (judged terms.address head) moment
+head_phase terms index (bad_head fault) moment closed = is_over
+head_phase terms index (bad_body fault head body) moment closed = judged_phase terms index head (judged terms.address head) moment
+
+-- the marks that were given of a head
+abbrev pub marks_at : Option ReadRequest → List Mark
+marks_at None = []
+marks_at (Some head) = asks head ∷ []
+
+-- ---- behind an answer
+
+abbrev pub behind_request_head : Flow → Taken Request → Ready
+behind_request_head flow (GoesOn message) = ready.Receiving (record flow { request = message }) None []
+behind_request_head flow (Responds given) = ready.Receiving flow (Some given) []
+behind_request_head flow Kills = ready.Over
+
+abbrev pub behind_request : Flow → Taken Request → Ready
+behind_request flow (GoesOn message) = ready.Dialling (record flow { request = message })
+behind_request flow (Responds given) = ready.GivenHead (record flow { response = Some given })
+behind_request flow Kills = ready.Over
+
+-- the side of a server that has sent nothing yet
+abbrev pub new_link : ℕ → Bool → KeptLink
+new_link server asked_head =
+    record { server = server; asked_head = asked_head; responses = before_all (response asked_head) [] false; closed = false }
+
+abbrev pub connected : Flow → ℕ → Ready
+connected flow server =
+    ready.Answering (record flow { server = Some (address_of flow.request) }) (new_link server (is_head flow.request.method))
+
+abbrev pub behind_dial : Flow → ℕ → Reply → Ready
+behind_dial flow server reply.Dialled = connected flow server
+behind_dial flow server _ = ready.Over
+
+abbrev pub behind_response_head : Flow → KeptLink → Taken Response → Ready
+behind_response_head flow link (GoesOn message) = ready.Returning (record flow { response = Some message }) link []
+behind_response_head flow link _ = ready.Over
+
+abbrev pub behind_given_head : Flow → Taken Response → Ready
+behind_given_head flow (GoesOn message) = ready.GivenBody (record flow { response = Some message })
+behind_given_head flow _ = ready.Over
+
+abbrev pub behind_flow : Bool → Ready
+behind_flow true = ready.Finished
+behind_flow false = ready.Over
+
+abbrev pub behind_response : ℕ → Flow → Taken Response → Ready
+behind_response index flow (GoesOn message) = behind_flow (connection_goes_on index flow.request message)
+behind_response index flow _ = ready.Over
+
+-- a flow whose response is there
+abbrev pub where_response : Option Response → (Response → Taken Response) → (Taken Response → Ready) → Ready
+where_response None takes leads = ready.Over
+where_response (Some message) takes leads = leads (takes message)

@@ -1,0 +1,117 @@
+//! What a flow finds where no answer is awaited: it asks, it ends, or it waits.
+ghost use Rattle.std.specs.Prelude.{◌≡◌, ◌++◌, ◌∷◌, [], None, IfOk, OnOk};
+ghost use Rattle.px_event.specs.declared.ask.Hook.TheVariants.{ResponseHead as AtHead, ResponseBody as AtBody};
+ghost use Rattle.px_event.specs.declared.command.Command.TheVariants as commands;
+ghost use Rattle.px_stream.specs.Chain.{address_of, ask_of, with_end, with_start};
+ghost use Rattle.px_stream.specs.Endings.{closed_message, ends_by_fault, ends_early};
+ghost use Rattle.px_stream.specs.Looking.{LookFound, MayLook};
+ghost use Rattle.px_stream.specs.Phases.{is_over};
+
+use crate::ending::{Used, end_by_fault, end_early};
+use crate::flows;
+use crate::looking::answer::{look_for_answer, look_for_returned};
+use crate::looking::request::{look_for_body, look_for_head};
+use crate::phase::{Asked, Phase, Ready};
+use crate::said::ask;
+use crate::terms::{Now, Numbers, Terms};
+use px_event::{Command, Hook};
+use px_message::{Address, Fault, Flow};
+use px_read::MessageReader;
+use px_text::NoMemory;
+
+mod answer;
+mod request;
+
+/// Looks once.
+pub fn look(
+    terms: &Terms,
+    now: Now,
+    numbers: Numbers,
+    requests: &mut MessageReader,
+    ready: Ready,
+    out: &mut Vec<Command>,
+) -> Result<Phase, NoMemory>
+    requires may_look { MayLook ready requests.old }
+    ensures looks { IfOk result (λ next. LookFound terms.now numbers ready requests.old requests.new now.moment now.client_closed out.old.items out.new.items next) }
+{
+    match ready {
+        Ready::Idle => look_for_head(terms, now, numbers.flow, requests, out),
+        Ready::Receiving { flow, given, body } => {
+            look_for_body(now, requests, flow, given, body, out)
+        }
+        Ready::Dialling { flow } => dial(numbers.server, flow, out),
+        Ready::Answering { flow, link } => look_for_answer(now, flow, link, out),
+        Ready::Returning { flow, link, body } => look_for_returned(now, flow, link, body, out),
+        Ready::GivenHead { flow } => ask_given_head(now, flow, out),
+        Ready::GivenBody { flow } => ask_given_body(now, flow, out),
+        Ready::Finished => Ok(Phase::Ready(Ready::Finished)),
+        Ready::Over => Ok(Phase::Ready(Ready::Over)),
+    }
+}
+
+// Dials the server of the request, as its hooks left it.
+fn dial(server: u32, flow: Flow, out: &mut Vec<Command>) -> Result<Phase, NoMemory>
+    ensures gives { OnOk result (out.new.items ≡ out.old.items ++ commands.Dial server (address_of flow.request) None ∷ []) }
+    ensures phase { IfOk result (λ next. next ≡ Phase.Asked (Asked.Dial flow server)) }
+{
+    out.push(Command::Dial {
+        server,
+        address: address_of(&flow)?,
+        inside: None,
+    })?;
+    Ok(Phase::Asked(Asked::Dial { flow, server }))
+}
+
+/// Where the request of a flow goes, as its hooks left it.
+pub fn address_of(flow: &Flow) -> Result<Address, NoMemory>
+    ensures { IfOk result (λ address. address ≡ address_of flow.now.request) }
+{
+    Ok(Address {
+        host: flow.request.host.try_clone()?,
+        port: flow.request.port,
+    })
+}
+
+// Asks the hook of the head of a response that was given in place of the server's.
+fn ask_given_head(now: Now, flow: Flow, out: &mut Vec<Command>) -> Result<Phase, NoMemory>
+    ensures gives { OnOk result (out.new.items ≡ out.old.items ++ ask_of (with_start flow now.moment) AtHead ∷ []) }
+    ensures phase { IfOk result (λ next. next ≡ Phase.Asked (Asked.GivenHead (with_start flow now.moment))) }
+{
+    let flow = flows::with_start(flow, now.moment);
+    ask(&flow, Hook::ResponseHead, out)?;
+    Ok(Phase::Asked(Asked::GivenHead { flow }))
+}
+
+// And that of the whole of it.
+fn ask_given_body(now: Now, flow: Flow, out: &mut Vec<Command>) -> Result<Phase, NoMemory>
+    ensures gives { OnOk result (out.new.items ≡ out.old.items ++ ask_of (with_end flow now.moment) AtBody ∷ []) }
+    ensures phase { IfOk result (λ next. next ≡ Phase.Asked (Asked.GivenBody (with_end flow now.moment))) }
+{
+    let flow = flows::with_end(flow, now.moment);
+    ask(&flow, Hook::ResponseBody, out)?;
+    Ok(Phase::Asked(Asked::GivenBody { flow }))
+}
+
+// Ends the flow by a fault.
+fn fail(
+    now: Now,
+    flow: Flow,
+    fault: Fault,
+    used: Used,
+    out: &mut Vec<Command>,
+) -> Result<Phase, NoMemory>
+    ensures gives { OnOk result (out.new.items ≡ out.old.items ++ ends_by_fault flow fault now.moment used now.client_closed) }
+    ensures phase { IfOk result (λ next. next ≡ is_over) }
+{
+    end_by_fault(now, flow, fault, used, out)?;
+    Ok(Phase::Ready(Ready::Over))
+}
+
+// Ends the flow by the client's close.
+fn leave(now: Now, flow: Flow, used: Used, out: &mut Vec<Command>) -> Result<Phase, NoMemory>
+    ensures gives { OnOk result (out.new.items ≡ out.old.items ++ ends_early flow closed_message now.moment used now.client_closed) }
+    ensures phase { IfOk result (λ next. next ≡ is_over) }
+{
+    end_early(now, flow, b"client closed", used, out)?;
+    Ok(Phase::Ready(Ready::Over))
+}

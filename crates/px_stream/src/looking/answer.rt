@@ -1,0 +1,165 @@
+//! Looks for the final response: its head, and then its body.
+ghost use Rattle.std.specs.Prelude.{◌≡◌, ◌++◌, true, false, IfOk, OnOk, MatchOption};
+ghost use Rattle.px_stream.specs.Bodies.{IsReading, ReturnFound};
+ghost use Rattle.px_stream.specs.Chain.{is_relayed, response_of};
+ghost use Rattle.px_stream.specs.Responses.{AnswerFound, IsKept};
+ghost use Rattle.px_stream.specs.Looks.{answer_gives, answer_phase, relayed_phase, relays, returned_gives, returned_phase};
+ghost use Rattle.px_stream.specs.declared.link.Link.{Link as KeptLink};
+
+use super::{fail, leave};
+use crate::asked::is_http11;
+use crate::content::Content;
+use crate::flows;
+use crate::link::Link;
+use crate::phase::{Asked, Phase, Ready};
+use crate::reading::{Answer, Progress, read_answer, read_body};
+use crate::said::ask;
+use crate::terms::Now;
+use px_event::{Command, Hook};
+use px_message::{Body, Fault, Fields, Flow, Response, Status};
+use px_read::ResponseHead;
+use px_text::NoMemory;
+use std::alloc::Global;
+
+/// Looks for the head of the final response.
+pub fn look_for_answer(
+    now: Now,
+    flow: Flow,
+    link: Link,
+    out: &mut Vec<Command>,
+) -> Result<Phase, NoMemory>
+    requires kept { IsKept link }
+    ensures looks { IfOk result (λ next. AnswerFound flow link now.moment now.client_closed out.old.items out.new.items next) }
+{
+    let mut link = link;
+    let sends = is_http11(flow.request.version);
+    let answer = read_answer(now.alloc, &mut link, sends, out)?;
+    look_at_answer(now, flow, link, answer, out)
+}
+
+// What is made of the final response's head, if it has come.
+fn look_at_answer(
+    now: Now,
+    flow: Flow,
+    link: Link,
+    answer: Answer,
+    out: &mut Vec<Command>,
+) -> Result<Phase, NoMemory>
+    ensures gives { OnOk result (out.new.items ≡ out.old.items ++ answer_gives flow link answer now.moment now.client_closed) }
+    ensures phase { IfOk result (λ next. next ≡ answer_phase flow link answer now.moment now.client_closed) }
+{
+    match answer {
+        Answer::Head(head) => relay_head(now, flow, link, head, out),
+        Answer::Bad(fault) => {
+            let used = link.into_used();
+            fail(now, flow, fault, used, out)
+        }
+        Answer::Missing => {
+            if now.client_closed {
+                let used = link.into_used();
+                return leave(now, flow, used, out);
+            }
+            Ok(Phase::Ready(Ready::Answering { flow, link }))
+        }
+    }
+}
+
+// Asks the hook of the response's head. A code that switches protocols is not built.
+fn relay_head(
+    now: Now,
+    flow: Flow,
+    link: Link,
+    head: ResponseHead,
+    out: &mut Vec<Command>,
+) -> Result<Phase, NoMemory>
+    ensures gives { OnOk result (out.new.items ≡ out.old.items ++ relays (is_relayed head.code) flow link head now.moment now.client_closed) }
+    ensures phase { IfOk result (λ next. next ≡ relayed_phase (is_relayed head.code) flow link head now.moment) }
+{
+    match status_of(head.code) {
+        None => {
+            let used = link.into_used();
+            fail(now, flow, Fault::BadResponse, used, out)
+        }
+        Some(status) => {
+            let response = response_of(now.alloc, head, status);
+            let flow = flows::with_answer(flow, response, now.moment);
+            ask(&flow, Hook::ResponseHead, out)?;
+            Ok(Phase::Asked(Asked::Answer { flow, link }))
+        }
+    }
+}
+
+// The status of a final response that this proxy relays.
+fn status_of(code: u16) -> Option<Status>
+    ensures { MatchOption result (is_relayed code ≡ false) (λ status. (status ≡ code) × (is_relayed code ≡ true)) }
+{
+    if code == 101 {
+        return None;
+    }
+    Status::try_new(code)
+}
+
+// The response of a head, without its body.
+fn response_of(alloc: Global, head: ResponseHead, status: Status) -> Response
+    requires { status ≡ head.code }
+    ensures { result ≡ response_of head }
+{
+    Response {
+        version: head.version,
+        status,
+        reason: head.reason,
+        fields: head.fields,
+        body: Body::new(Vec::new(alloc)),
+        trailers: Fields::new(alloc),
+        streamed: false,
+    }
+}
+
+/// Looks for the rest of the response's body.
+pub fn look_for_returned(
+    now: Now,
+    flow: Flow,
+    link: Link,
+    body: Content,
+    out: &mut Vec<Command>,
+) -> Result<Phase, NoMemory>
+    requires reads { IsReading link.responses }
+    ensures looks { IfOk result (λ next. (new : KeptLink) × ReturnFound flow body link new now.moment now.client_closed out.old.items out.new.items next) }
+{
+    let mut link = link;
+    let mut body = body;
+    let progress = read_body(&mut link.responses, &mut body)?;
+    look_at_returned(now, flow, link, progress, body, out)
+}
+
+// What is made of the body, as far as it has come.
+fn look_at_returned(
+    now: Now,
+    flow: Flow,
+    link: Link,
+    progress: Progress,
+    body: Content,
+    out: &mut Vec<Command>,
+) -> Result<Phase, NoMemory>
+    ensures gives { OnOk result (out.new.items ≡ out.old.items ++ returned_gives flow link progress body now.moment now.client_closed) }
+    ensures phase { IfOk result (λ next. next ≡ returned_phase flow link progress body now.moment now.client_closed) }
+{
+    match progress {
+        Progress::Whole(trailers) => {
+            let flow = flows::with_returned(flow, body, trailers, now.moment);
+            ask(&flow, Hook::ResponseBody, out)?;
+            Ok(Phase::Asked(Asked::Returned { flow, link }))
+        }
+        Progress::Bad(fault) => {
+            let used = link.into_used();
+            fail(now, flow, fault, used, out)
+        }
+        Progress::Missing => {
+            if now.client_closed {
+                let used = link.into_used();
+                return leave(now, flows::without_response(flow), used, out);
+            }
+            Ok(Phase::Ready(Ready::Returning { flow, link, body }))
+        }
+    }
+}

@@ -1,0 +1,192 @@
+//! Looks for a request: its head, and then its body.
+ghost use Rattle.std.specs.Prelude.{◌≡◌, ◌++◌, ◌∷◌, ℕ, List, [], false, Some, None, IfOk, OnOk};
+ghost use Rattle.px_event.specs.Chain.{found};
+ghost use Rattle.px_event.specs.declared.ask.Hook.TheVariants.{RequestHead as AtHead, RequestBody as AtBody};
+ghost use Rattle.px_read.specs.Items.{request_item};
+ghost use Rattle.px_read.specs.Laws.{head_in};
+ghost use Rattle.px_read.specs.Marks.{Mark};
+ghost use Rattle.px_read.specs.declared.head.RequestHead.{RequestHead as ReadHead};
+ghost use Rattle.px_read.specs.Reader.{Reads, request as OfRequest};
+ghost use Rattle.px_stream.specs.Bodies.{BodyFound, IsReading};
+ghost use Rattle.px_stream.specs.Looks.{body_gives, body_phase, whole_gives, whole_phase};
+ghost use Rattle.px_stream.specs.Chain.{ask_of, look_head, look_judged, or_leaves};
+ghost use Rattle.px_stream.specs.Endings.{refuses};
+ghost use Rattle.px_stream.specs.Phases.{head_phase, is_over, judged_phase, marks_at, unless_left};
+ghost use Rattle.px_stream.specs.Requests.{expects as expecting, flow_of, judged, is_head as asks_head};
+
+use super::{ask_given_head, fail, leave};
+use crate::asked::{Judged, expects, is_head, judge};
+use crate::content::Content;
+use crate::ending::{Used, refuse};
+use crate::flows;
+use crate::phase::{Asked, Phase, Ready};
+use crate::reading::{Progress, read_body};
+use crate::said::ask;
+use crate::terms::{Now, Terms};
+use px_event::{Command, Hook};
+use px_message::{Fault, Flow, Request, Response};
+use px_read::{MessageReader, Part, RequestHead};
+use px_text::NoMemory;
+
+/// Looks for the head of a request.
+pub fn look_for_head(
+    terms: &Terms,
+    now: Now,
+    index: u32,
+    requests: &mut MessageReader,
+    out: &mut Vec<Command>,
+) -> Result<Phase, NoMemory>
+    ensures gives { (fed : List ℕ) → Reads OfRequest [] fed false requests.old → OnOk result (out.new.items ≡ out.old.items ++ found (or_leaves now.client_closed [] (look_head terms.now index (request_item fed) now.moment now.client_closed))) }
+    ensures phase { (fed : List ℕ) → Reads OfRequest [] fed false requests.old → IfOk result (λ next. next ≡ head_phase terms.now index (request_item fed) now.moment now.client_closed) }
+    ensures reads { (fed : List ℕ) → Reads OfRequest [] fed false requests.old → OnOk result (Reads OfRequest (marks_at (head_in (request_item fed))) fed false requests.new) }
+{
+    match requests.next()? {
+        Part::Request(head) => look_at_head(terms, now, index, head, out),
+        Part::Bad(fault) => refuse_head(now, fault, false, out),
+        _ => Ok(wait_for_head(now)),
+    }
+}
+
+// No head is there.
+fn wait_for_head(now: Now) -> Phase
+    ensures { result ≡ unless_left now.client_closed Ready.Idle }
+{
+    if now.client_closed {
+        Phase::Ready(Ready::Over)
+    } else {
+        Phase::Ready(Ready::Idle)
+    }
+}
+
+// Ends the conversation by a head that makes no flow.
+fn refuse_head(
+    now: Now,
+    fault: Fault,
+    asked_head: bool,
+    out: &mut Vec<Command>,
+) -> Result<Phase, NoMemory>
+    ensures gives { OnOk result (out.new.items ≡ out.old.items ++ refuses fault asked_head now.client_closed) }
+    ensures phase { IfOk result (λ next. next ≡ is_over) }
+{
+    refuse(now, fault, asked_head, out)?;
+    Ok(Phase::Ready(Ready::Over))
+}
+
+// Judges the head, and asks its hook.
+fn look_at_head(
+    terms: &Terms,
+    now: Now,
+    index: u32,
+    head: RequestHead,
+    out: &mut Vec<Command>,
+) -> Result<Phase, NoMemory>
+    ensures gives { OnOk result (out.new.items ≡ out.old.items ++ found (look_judged terms.now index head (judged terms.now.address head) now.moment now.client_closed)) }
+    ensures phase { IfOk result (λ next. next ≡ judged_phase terms.now index head (judged terms.now.address head) now.moment) }
+{
+    let asked_head = is_head(head.method.bytes());
+    let expected = expects(&head);
+    let judged = judge(now.alloc, &terms.address, head)?;
+    begin_flow(terms, now, index, judged, asked_head, expected, out)
+}
+
+// Asks the hook of the request's head, unless the head makes no flow.
+fn begin_flow(
+    terms: &Terms,
+    now: Now,
+    index: u32,
+    made: Judged,
+    asked_head: bool,
+    expected: bool,
+    out: &mut Vec<Command>,
+) -> Result<Phase, NoMemory>
+    ensures gives { (head : ReadHead) → asked_head ≡ asks_head head.method → OnOk result (out.new.items ≡ out.old.items ++ found (look_judged terms.now index head made now.moment now.client_closed)) }
+    ensures phase { (head : ReadHead) → expected ≡ expecting head → IfOk result (λ next. next ≡ judged_phase terms.now index head made now.moment) }
+{
+    match made {
+        Judged::Refused(fault) => refuse_head(now, fault, asked_head, out),
+        Judged::Accepted(request) => ask_head(terms, now, index, request, expected, out),
+    }
+}
+
+// Asks the hook of the request's head.
+fn ask_head(
+    terms: &Terms,
+    now: Now,
+    index: u32,
+    request: Request,
+    expected: bool,
+    out: &mut Vec<Command>,
+) -> Result<Phase, NoMemory>
+    ensures gives { OnOk result (out.new.items ≡ out.old.items ++ ask_of (flow_of terms.now index request now.moment) AtHead ∷ []) }
+    ensures phase { IfOk result (λ next. next ≡ Phase.Asked (Asked.Head (flow_of terms.now index request now.moment) expected)) }
+{
+    let flow = flows::begin(terms, index, request, now.moment)?;
+    ask(&flow, Hook::RequestHead, out)?;
+    Ok(Phase::Asked(Asked::Head {
+        flow,
+        expects: expected,
+    }))
+}
+
+/// Looks for the rest of the request's body.
+pub fn look_for_body(
+    now: Now,
+    requests: &mut MessageReader,
+    flow: Flow,
+    given: Option<Response>,
+    body: Content,
+    out: &mut Vec<Command>,
+) -> Result<Phase, NoMemory>
+    requires reads { IsReading requests.old }
+    ensures looks { IfOk result (λ next. BodyFound flow given body requests.old requests.new now.moment now.client_closed out.old.items out.new.items next) }
+{
+    let mut body = body;
+    let progress = read_body(requests, &mut body)?;
+    look_at_body(now, flow, given, progress, body, out)
+}
+
+// What is made of the body, as far as it has come.
+fn look_at_body(
+    now: Now,
+    flow: Flow,
+    given: Option<Response>,
+    progress: Progress,
+    body: Content,
+    out: &mut Vec<Command>,
+) -> Result<Phase, NoMemory>
+    ensures gives { OnOk result (out.new.items ≡ out.old.items ++ body_gives flow given progress body now.moment now.client_closed) }
+    ensures phase { IfOk result (λ next. next ≡ body_phase flow given progress body now.moment now.client_closed) }
+{
+    match progress {
+        Progress::Whole(trailers) => {
+            let flow = flows::with_body(flow, body, trailers, now.moment);
+            ask_whole(now, flow, given, out)
+        }
+        Progress::Bad(fault) => fail(now, flow, fault, Used::NoServer, out),
+        Progress::Missing => {
+            if now.client_closed {
+                return leave(now, flow, Used::NoServer, out);
+            }
+            Ok(Phase::Ready(Ready::Receiving { flow, given, body }))
+        }
+    }
+}
+
+// The request is whole: its hook is asked, unless a response is given already.
+fn ask_whole(
+    now: Now,
+    flow: Flow,
+    given: Option<Response>,
+    out: &mut Vec<Command>,
+) -> Result<Phase, NoMemory>
+    ensures gives { OnOk result (out.new.items ≡ out.old.items ++ whole_gives flow given now.moment) }
+    ensures phase { IfOk result (λ next. next ≡ whole_phase flow given now.moment) }
+{
+    match given {
+        Some(response) => ask_given_head(now, flows::with_response(flow, response), out),
+        None => {
+            ask(&flow, Hook::RequestBody, out)?;
+            Ok(Phase::Asked(Asked::Body { flow }))
+        }
+    }
+}

@@ -1,0 +1,575 @@
+//! One flow: the readers of both sides, and where the flow stands.
+//!
+//! Each event goes to the reader of its side, and then the flow looks once: where it finds an ask it waits, and where it
+//! finds the end it says what is owed there. A reply leads to what is looked for next.
+ghost use Rattle.std.specs.Prelude.{◌≡◌, ◌≤◌, ◌<◌, ◌+◌, ◌-◌, ◌^◌, ◌++◌, List, [], false, None, IfOk, OnOk, min};
+ghost use Rattle.px_event.specs.Layer.{Move, Took, Replied, IsSound, Goes, AsksOnly, MayAnswer};
+ghost use Rattle.px_event.specs.declared.command.Command.{Command as GivenCommand};
+ghost use Rattle.px_read.specs.Reader.{before_all, request};
+ghost use Rattle.px_stream.specs.Calls.{Answers, Hears, IsSome, LooksOnce, MayHear, TakesEvent, TurnsTo};
+ghost use Rattle.px_stream.specs.Chain.{alone, look as look_at};
+ghost use Rattle.px_stream.specs.Heard.{LinkAgrees, closes_client, ready_closes, ready_hears, ready_takes, requests_take};
+ghost use Rattle.px_stream.specs.Kept.{asked_keeps, phase_keeps, ready_keeps, stream_keeps};
+ghost use Rattle.px_stream.specs.Left.{flow_left, sequence_left};
+ghost use Rattle.px_stream.specs.Looking.{MayLook};
+ghost use Rattle.px_stream.specs.Places.{IsDialled, terms_of};
+ghost use Rattle.px_stream.specs.Sequence.{Stands, StandsInSequence, is_end, outcome_at, outcome_in, ready_onward, requests_onward, stop_at};
+ghost use Rattle.px_stream.specs.Stages.{At, Stage, next};
+ghost use Rattle.px_stream.specs.Stands.{awaited_in, awaits, is_last};
+ghost use Rattle.px_stream.specs.Streams.{client_bytes};
+ghost use Rattle.px_stream.specs.Turns.{asked_leads, behind_asked, behind_ready};
+ghost use Rattle.px_stream.specs.declared.phase.Ready.{Ready as Looked};
+
+use crate::looking::look;
+use crate::phase::{Asked, Phase, Ready};
+use crate::terms::{Now, Numbers, Terms};
+use crate::turning::turn;
+use crate::{Outcome, Place};
+use px_event::{Ask, Command, Event, Reply, Rests, Side};
+use px_message::{Address, Flow, FlowId};
+use px_read::MessageReader;
+use px_text::{Bytes, NoMemory};
+use std::alloc::Global;
+use std::mem;
+
+/// One flow of a conversation.
+#[derive(Drop)]
+pub struct Stream {
+    alloc: Global,
+    terms: Terms,
+    numbers: Numbers,
+    requests: MessageReader,
+    client_closed: bool,
+    phase: Phase,
+}
+
+impl Stream {
+    /// A flow of this number, of a client there, whose requests go to this place. Its server is dialled as the one of
+    /// number `next_server`.
+    ///
+    /// It stands for itself by no moves and has given nothing, alone and as the first of flows in sequence.
+    pub fn new(
+        alloc: Global,
+        id: FlowId,
+        client: Option<Address>,
+        place: Place,
+        next_server: u32,
+    ) -> Stream
+        requires few { id.index < 1000000 }
+        requires regular { IsDialled place }
+        ensures stands { (onward : Stage → Stage) → Stands onward result result [] [] }
+        ensures in_sequence { next_server ≤ id.index + 1 → StandsInSequence result result [] [] }
+        ensures terms { result.terms ≡ terms_of id.conv client place }
+        ensures numbers { result.numbers ≡ record { flow = id.index; server = next_server } }
+        ensures free { awaits result ≡ None }
+    {
+        let Place::Fixed { address, .. } = place;
+        Stream {
+            alloc,
+            terms: Terms {
+                conv: id.conv,
+                client,
+                address,
+            },
+            numbers: Numbers {
+                flow: id.index,
+                server: next_server,
+            },
+            requests: MessageReader::request(alloc),
+            client_closed: false,
+            phase: Phase::Ready(Ready::Idle),
+        }
+    }
+
+    /// What became of the flow: it is finished and the client's connection goes on, the conversation has ended, or it
+    /// goes on.
+    pub fn outcome(&self) -> Outcome
+        ensures phase { result ≡ outcome_in self.now.phase }
+        ensures ended { is_last self.now.phase ≡ is_end result }
+        ensures of_walk { (onward : Stage → Stage) (made : Stream) (moves : List Move) (given : List GivenCommand) → Stands onward made self.now moves given →
+            result ≡ outcome_at (look_at made.terms (stop_at onward made moves).stage (stop_at onward made moves).front) (stop_at onward made moves).stage }
+    {
+        match &self.phase {
+            Phase::Ready(Ready::Finished) => Outcome::Next,
+            Phase::Ready(Ready::Over) => Outcome::Over,
+            Phase::Ready(_) => Outcome::Going,
+            Phase::Asked(_) => Outcome::Going,
+        }
+    }
+
+    // Takes an event, where the flow is alone.
+    pub(crate) fn take_alone(
+        &mut self,
+        moment: u64,
+        event: &Event,
+        out: &mut Vec<Command>,
+    ) -> Result<(), NoMemory>
+        requires sound { IsSound (Stands alone) self.old }
+        requires free { awaits self.old ≡ None }
+        ensures goes { OnOk result (Goes (Stands alone) self.old self.new (Took moment event.now) out.old.items out.new.items) }
+        ensures sound { OnOk result (IsSound (Stands alone) self.new) }
+        ensures asks { OnOk result (AsksOnly (awaits self.new) out.old.items out.new.items) }
+        ensures left { OnOk result (flow_left self.new ≤ flow_left self.old) }
+    {
+        self.take_event(moment, event, out)
+    }
+
+    /// Takes an event, as `take`, where flows follow one another.
+    pub fn take_in_sequence(
+        &mut self,
+        moment: u64,
+        event: Event,
+        out: &mut Vec<Command>,
+    ) -> Result<(), NoMemory>
+        requires sound { IsSound StandsInSequence self.old }
+        requires free { awaits self.old ≡ None }
+        ensures goes { OnOk result (Goes StandsInSequence self.old self.new (Took moment event) out.old.items out.new.items) }
+        ensures sound { OnOk result (IsSound StandsInSequence self.new) }
+        ensures asks { OnOk result (AsksOnly (awaits self.new) out.old.items out.new.items) }
+        ensures left { OnOk result (sequence_left self.new ≤ sequence_left self.old) }
+    {
+        self.take_event(moment, &event, out)
+    }
+
+    /// What is awaited.
+    pub(crate) fn awaited(&self) -> Option<Ask>
+        ensures { result ≡ awaits self.now }
+    {
+        self.phase.waiting()
+    }
+
+    /// How many bytes it keeps, or 2^64 - 1 where that is more: those that its readers did not use, and the content that
+    /// has come of the body that it reads.
+    pub(crate) fn size(&self) -> usize
+        ensures { result ≡ min (stream_keeps self.now) (2 ^ 64 - 1) }
+    {
+        self.requests
+            .kept()
+            .saturating_add(size_of_phase(&self.phase))
+    }
+
+    // Takes an event, where no answer is awaited.
+    fn take_event(
+        &mut self,
+        moment: u64,
+        event: &Event,
+        out: &mut Vec<Command>,
+    ) -> Result<(), NoMemory>
+        requires free { awaits self.old ≡ None }
+        requires may_hear { (looked : Looked) → self.old.phase ≡ Phase.Ready looked → is_last (Phase.Ready looked) ≡ false → MayHear event.now self.old.requests looked }
+        ensures { OnOk result (TakesEvent self.old self.new moment event.now out.old.items out.new.items) }
+    {
+        if self.has_ended() {
+            return Ok(());
+        }
+        let ready = take_looked(&mut self.phase);
+        self.take_ready(moment, ready, event, out)
+    }
+
+    /// Whether nothing more will come of it: exactly where its outcome is not `Going`.
+    pub(crate) fn has_ended(&self) -> bool
+        ensures { result ≡ is_last self.now.phase }
+    {
+        match &self.phase {
+            Phase::Ready(Ready::Finished) => true,
+            Phase::Ready(Ready::Over) => true,
+            Phase::Ready(_) => false,
+            Phase::Asked(_) => false,
+        }
+    }
+
+    // Its readers hear the event, and it looks.
+    fn take_ready(
+        &mut self,
+        moment: u64,
+        ready: Ready,
+        event: &Event,
+        out: &mut Vec<Command>,
+    ) -> Result<(), NoMemory>
+        requires { MayHear event.now self.old.requests ready }
+        ensures { OnOk result (Hears self.old self.new moment event.now ready out.old.items out.new.items) }
+    {
+        let mut ready = ready;
+        match hear(
+            &mut self.requests,
+            &mut self.client_closed,
+            &mut ready,
+            event,
+        ) {
+            Ok(()) => self.advance(moment, ready, out),
+            Err(NoMemory) => {
+                leave_ready(ready);
+                Err(NoMemory)
+            }
+        }
+    }
+
+    // Looks, where no answer is awaited.
+    fn advance(&mut self, moment: u64, ready: Ready, out: &mut Vec<Command>) -> Result<(), NoMemory>
+        requires { MayLook ready self.old.requests }
+        ensures { OnOk result (LooksOnce self.old self.new moment ready out.old.items out.new.items) }
+    {
+        let now = self.now(moment);
+        let phase = look(
+            &self.terms,
+            now,
+            self.numbers,
+            &mut self.requests,
+            ready,
+            out,
+        )?;
+        enter(&mut self.phase, phase);
+        Ok(())
+    }
+
+    fn now(&self, moment: u64) -> Now
+        ensures moment { result.moment ≡ moment }
+        ensures client { result.client_closed ≡ self.now.client_closed }
+    {
+        Now {
+            alloc: self.alloc,
+            moment,
+            client_closed: self.client_closed,
+        }
+    }
+
+    // Takes the reply to what is awaited, where the flow is alone.
+    pub(crate) fn resume_alone(
+        &mut self,
+        moment: u64,
+        reply: Reply,
+        out: &mut Vec<Command>,
+    ) -> Result<(), NoMemory>
+        requires sound { IsSound (Stands alone) self.old }
+        requires answers { MayAnswer (awaits self.old) reply }
+        ensures goes { OnOk result (Goes (Stands alone) self.old self.new (Replied moment reply) out.old.items out.new.items) }
+        ensures sound { OnOk result (IsSound (Stands alone) self.new) }
+        ensures asks { OnOk result (AsksOnly (awaits self.new) out.old.items out.new.items) }
+        ensures left { OnOk result (flow_left self.new < flow_left self.old) }
+    {
+        let asked = take_asked(&mut self.phase);
+        self.answer(moment, asked, reply, out)
+    }
+
+    /// Takes the reply to what is awaited, as `resume`; where the flow is finished, the next one begins with what the
+    /// client sent behind it.
+    pub fn resume_in_sequence(
+        &mut self,
+        moment: u64,
+        reply: Reply,
+        out: &mut Vec<Command>,
+    ) -> Result<(), NoMemory>
+        requires sound { IsSound StandsInSequence self.old }
+        requires answers { MayAnswer (awaits self.old) reply }
+        ensures goes { OnOk result (Goes StandsInSequence self.old self.new (Replied moment reply) out.old.items out.new.items) }
+        ensures sound { OnOk result (IsSound StandsInSequence self.new) }
+        ensures asks { OnOk result (AsksOnly (awaits self.new) out.old.items out.new.items) }
+        ensures left { OnOk result (sequence_left self.new < sequence_left self.old) }
+    {
+        let asked = take_asked(&mut self.phase);
+        self.answer_in_sequence(moment, asked, reply, out)
+    }
+
+    fn answer_in_sequence(
+        &mut self,
+        moment: u64,
+        asked: Asked,
+        reply: Reply,
+        out: &mut Vec<Command>,
+    ) -> Result<(), NoMemory>
+        requires { MayLook (asked_leads self.old.numbers.flow asked reply) self.old.requests }
+        ensures { OnOk result (Answers self.old self.new moment reply asked (ready_onward (asked_leads self.old.numbers.flow asked reply))
+            (requests_onward (asked_leads self.old.numbers.flow asked reply) self.old.requests) out.old.items out.new.items) }
+    {
+        let turned = self.turn(moment, asked, reply, out)?;
+        let ready = self.go_onward(turned)?;
+        self.advance(moment, ready, out)
+    }
+
+    fn answer(
+        &mut self,
+        moment: u64,
+        asked: Asked,
+        reply: Reply,
+        out: &mut Vec<Command>,
+    ) -> Result<(), NoMemory>
+        requires { MayLook (asked_leads self.old.numbers.flow asked reply) self.old.requests }
+        ensures { OnOk result (Answers self.old self.new moment reply asked (asked_leads self.old.numbers.flow asked reply) self.old.requests out.old.items out.new.items) }
+    {
+        let turned = self.turn(moment, asked, reply, out)?;
+        self.advance(moment, turned, out)
+    }
+
+    // Takes the answer to what was asked, and counts.
+    fn turn(
+        &mut self,
+        moment: u64,
+        asked: Asked,
+        reply: Reply,
+        out: &mut Vec<Command>,
+    ) -> Result<Ready, NoMemory>
+        ensures { IfOk result (λ next. TurnsTo self.old self.new moment reply asked next out.old.items out.new.items) }
+    {
+        let now = self.now(moment);
+        let index = self.numbers.flow;
+        self.numbers = count_server(self.numbers, &asked);
+        let ready = turn(now, index, asked, reply, out)?;
+        self.numbers = count_flow(self.numbers, &ready);
+        Ok(ready)
+    }
+
+    // Where a flow is finished the next one begins: the client's bytes behind it are read as its request.
+    fn go_onward(&mut self, ready: Ready) -> Result<Ready, NoMemory>
+        ensures terms { OnOk result (self.new.terms ≡ self.old.terms) }
+        ensures numbers { OnOk result (self.new.numbers ≡ self.old.numbers) }
+        ensures client { OnOk result (self.new.client_closed ≡ self.old.client_closed) }
+        ensures requests { OnOk result (self.new.requests ≡ requests_onward ready self.old.requests) }
+        ensures ready { IfOk result (λ next. next ≡ ready_onward ready) }
+    {
+        match ready {
+            Ready::Finished => {
+                begin_again(self.alloc, &mut self.requests)?;
+                Ok(Ready::Idle)
+            }
+            Ready::Idle => Ok(Ready::Idle),
+            Ready::Receiving { flow, given, body } => Ok(Ready::Receiving { flow, given, body }),
+            Ready::Dialling { flow } => Ok(Ready::Dialling { flow }),
+            Ready::Answering { flow, link } => Ok(Ready::Answering { flow, link }),
+            Ready::Returning { flow, link, body } => Ok(Ready::Returning { flow, link, body }),
+            Ready::GivenHead { flow } => Ok(Ready::GivenHead { flow }),
+            Ready::GivenBody { flow } => Ok(Ready::GivenBody { flow }),
+            Ready::Over => Ok(Ready::Over),
+        }
+    }
+
+    /// The bytes that the flow did not use, and the flow, where it is not finished. Behind a finished flow they are the
+    /// client's bytes behind it, for whoever goes on; its server's side is closed.
+    pub fn into_rests(self) -> (Rests, Option<Flow>)
+        ensures client { result.0.client ≡ self.requests.rest }
+        ensures server { result.0.server ≡ [] }
+        ensures flow { result.1 ≡ None }
+        ensures behind { (onward : Stage → Stage) (made : Stream) (moves : List Move) (given : List GivenCommand) → Stands onward made self moves given →
+            (at : At) → (stop_at onward made moves).stage ≡ next at → result.0.client ≡ client_bytes at.used (stop_at onward made moves).front }
+    {
+        let Stream {
+            alloc,
+            requests,
+            phase,
+            ..
+        } = self;
+        leave(phase);
+        let rests = Rests {
+            client: Bytes::new(requests.into_rest()),
+            server: Bytes::new(Vec::new(alloc)),
+        };
+        (rests, None)
+    }
+}
+
+// How much a phase keeps.
+fn size_of_phase(phase: &Phase) -> usize
+    ensures { result ≡ min (phase_keeps phase.now) (2 ^ 64 - 1) }
+{
+    match phase {
+        Phase::Ready(ready) => size_of_ready(ready),
+        Phase::Asked(asked) => size_of_asked(asked),
+    }
+}
+
+fn size_of_ready(ready: &Ready) -> usize
+    ensures { result ≡ min (ready_keeps ready.now) (2 ^ 64 - 1) }
+{
+    match ready {
+        Ready::Receiving { body, .. } => body.len(),
+        Ready::Answering { link, .. } => link.responses.kept(),
+        Ready::Returning { link, body, .. } => body.len().saturating_add(link.responses.kept()),
+        Ready::Idle => 0,
+        Ready::Dialling { .. } => 0,
+        Ready::GivenHead { .. } => 0,
+        Ready::GivenBody { .. } => 0,
+        Ready::Finished => 0,
+        Ready::Over => 0,
+    }
+}
+
+fn size_of_asked(asked: &Asked) -> usize
+    ensures { result ≡ min (asked_keeps asked.now) (2 ^ 64 - 1) }
+{
+    match asked {
+        Asked::Answer { link, .. } => link.responses.kept(),
+        Asked::Returned { link, .. } => link.responses.kept(),
+        Asked::Head { .. } => 0,
+        Asked::Body { .. } => 0,
+        Asked::Dial { .. } => 0,
+        Asked::GivenHead { .. } => 0,
+        Asked::GivenBody { .. } => 0,
+    }
+}
+
+// What is looked for, where no answer is awaited.
+fn take_looked(phase: &mut Phase) -> Ready
+    requires { awaited_in phase.old ≡ None }
+    ensures { phase.old ≡ Phase.Ready result }
+{
+    match mem::replace(phase, Phase::Ready(Ready::Over)) {
+        Phase::Ready(ready) => ready,
+        Phase::Asked(_) => unreachable!(),
+    }
+}
+
+// What was asked, where an answer is awaited.
+fn take_asked(phase: &mut Phase) -> Asked
+    requires { IsSome (awaited_in phase.old) }
+    ensures { phase.old ≡ Phase.Asked result }
+{
+    match mem::replace(phase, Phase::Ready(Ready::Over)) {
+        Phase::Asked(asked) => asked,
+        Phase::Ready(_) => unreachable!(),
+    }
+}
+
+// The phase that a flow enters.
+fn enter(phase: &mut Phase, next: Phase)
+    ensures { phase.new ≡ next }
+{
+    leave(mem::replace(phase, next));
+}
+
+fn leave(phase: Phase) {
+    match phase {
+        Phase::Ready(ready) => leave_ready(ready),
+        Phase::Asked(asked) => leave_asked(asked),
+    }
+}
+
+fn leave_ready(ready: Ready) {
+    match ready {
+        Ready::Receiving { flow, .. } => leave_flow(flow),
+        Ready::Dialling { flow } => leave_flow(flow),
+        Ready::Answering { flow, .. } => leave_flow(flow),
+        Ready::Returning { flow, .. } => leave_flow(flow),
+        Ready::GivenHead { flow } => leave_flow(flow),
+        Ready::GivenBody { flow } => leave_flow(flow),
+        Ready::Idle => {}
+        Ready::Finished => {}
+        Ready::Over => {}
+    }
+}
+
+fn leave_asked(asked: Asked) {
+    match asked {
+        Asked::Head { flow, .. } => leave_flow(flow),
+        Asked::Body { flow } => leave_flow(flow),
+        Asked::Dial { flow, .. } => leave_flow(flow),
+        Asked::Answer { flow, .. } => leave_flow(flow),
+        Asked::Returned { flow, .. } => leave_flow(flow),
+        Asked::GivenHead { flow } => leave_flow(flow),
+        Asked::GivenBody { flow } => leave_flow(flow),
+    }
+}
+
+fn leave_flow(_flow: Flow) {}
+
+// A server's number is used by its dial.
+fn count_server(numbers: Numbers, asked: &Asked) -> Numbers
+    ensures { result ≡ behind_asked numbers asked.now }
+{
+    match asked {
+        Asked::Dial { .. } => Numbers {
+            flow: numbers.flow,
+            server: numbers.server.saturating_add(1),
+        },
+        Asked::Head { .. } => numbers,
+        Asked::Body { .. } => numbers,
+        Asked::Answer { .. } => numbers,
+        Asked::Returned { .. } => numbers,
+        Asked::GivenHead { .. } => numbers,
+        Asked::GivenBody { .. } => numbers,
+    }
+}
+
+// And a flow's by its end.
+fn count_flow(numbers: Numbers, ready: &Ready) -> Numbers
+    ensures { result ≡ behind_ready numbers ready.now }
+{
+    match ready {
+        Ready::Finished => Numbers {
+            flow: numbers.flow.saturating_add(1),
+            server: numbers.server,
+        },
+        Ready::Idle => numbers,
+        Ready::Receiving { .. } => numbers,
+        Ready::Dialling { .. } => numbers,
+        Ready::Answering { .. } => numbers,
+        Ready::Returning { .. } => numbers,
+        Ready::GivenHead { .. } => numbers,
+        Ready::GivenBody { .. } => numbers,
+        Ready::Over => numbers,
+    }
+}
+
+// The next request is read, of what was kept behind the one before.
+fn begin_again(alloc: Global, requests: &mut MessageReader) -> Result<(), NoMemory>
+    ensures { OnOk result (requests.new ≡ before_all request requests.old.rest false) }
+{
+    let next = MessageReader::request(alloc);
+    let rest = mem::replace(requests, next).into_rest();
+    requests.feed(&rest)
+}
+
+// The event goes to the reader of its side.
+fn hear(
+    requests: &mut MessageReader,
+    client_closed: &mut bool,
+    ready: &mut Ready,
+    event: &Event,
+) -> Result<(), NoMemory>
+    requires open_still { requests.old.closed ≡ false }
+    requires agrees { LinkAgrees ready.old }
+    ensures requests { OnOk result (requests.new ≡ requests_take event.now requests.old) }
+    ensures client { OnOk result (client_closed.new ≡ closes_client event.now client_closed.old) }
+    ensures ready { OnOk result (ready.new ≡ ready_takes event.now ready.old) }
+{
+    match event {
+        Event::Piece {
+            side: Side::Client,
+            bytes,
+        } => requests.feed(bytes.as_slice()),
+        Event::Piece {
+            side: Side::Server(server),
+            bytes,
+        } => hear_server(ready, *server, bytes.as_slice()),
+        Event::Closed { side: Side::Client } => {
+            *client_closed = true;
+            Ok(())
+        }
+        Event::Closed {
+            side: Side::Server(server),
+        } => {
+            close_server(ready, *server);
+            Ok(())
+        }
+        _ => Ok(()),
+    }
+}
+
+fn hear_server(ready: &mut Ready, server: u32, bytes: &[u8]) -> Result<(), NoMemory>
+    requires { LinkAgrees ready.old }
+    ensures { OnOk result (ready.new ≡ ready_hears server bytes.now ready.old) }
+{
+    match ready {
+        Ready::Answering { link, .. } => link.hear(server, bytes),
+        Ready::Returning { link, .. } => link.hear(server, bytes),
+        _ => Ok(()),
+    }
+}
+
+fn close_server(ready: &mut Ready, server: u32)
+    ensures { ready.new ≡ ready_closes server ready.old }
+{
+    match ready {
+        Ready::Answering { link, .. } => link.close(server),
+        Ready::Returning { link, .. } => link.close(server),
+        _ => {}
+    }
+}

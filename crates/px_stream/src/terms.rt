@@ -1,0 +1,26 @@
+//! How the flows of a conversation are made.
+use px_message::Address;
+use std::alloc::Global;
+
+/// How the flows of a conversation are made: its number, where its client is, and where its requests go.
+#[derive(Debug, Drop)]
+pub struct Terms {
+    pub conv: u32,
+    pub client: Option<Address>,
+    pub address: Address,
+}
+
+/// The numbers of a conversation's next flow and of its next server.
+#[derive(Clone, Copy, Debug, PartialEq, Eq)]
+pub struct Numbers {
+    pub flow: u32,
+    pub server: u32,
+}
+
+/// When a call is made, and whether the client has closed by then.
+#[derive(Clone, Copy, Debug)]
+pub struct Now {
+    pub alloc: Global,
+    pub moment: u64,
+    pub client_closed: bool,
+}
