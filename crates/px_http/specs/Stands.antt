@@ -1,0 +1,79 @@
+-- What a conversation of flows in sequence stands for: what its flow's machine does, on the chain whose finished flows lead to
+-- the next.
+use Rattle.std.proofs.Common.{◌≡◌, ℕ, Bool, List, Option}
+use Rattle.px_event.specs.declared.ask.Ask.{Ask}
+use Rattle.px_event.specs.declared.command.Command.{Command}
+use Rattle.px_event.specs.declared.event.Event.{Event}
+use Rattle.px_event.specs.declared.reply.Reply.{Reply}
+use Rattle.px_event.specs.Chain.{Chain, Stop, Timed}
+use Rattle.px_event.specs.Laws.{Settles, SoFarGrows}
+use Rattle.px_event.specs.Layer.{Move, IsSound, Goes}
+use Rattle.px_event.specs.Stands.{StandsAt, AwaitsWhatItAsks, EndsWhereItEnds, stop_of}
+use Rattle.px_event.specs.View.{View, seen_of}
+use Rattle.px_stream.specs.Chain.{http_chain, sequence}
+use Rattle.px_stream.specs.Law.{grows_onward}
+use Rattle.px_stream.specs.Laws.{settles}
+use Rattle.px_stream.specs.Sequence.{IsInSequence, Stands, StandsInSequence}
+use Rattle.px_stream.specs.Stages.{Stage, idle}
+use Rattle.px_stream.specs.Stands.{is_last, start_of}
+use Rattle.px_stream.specs.Stands as flows
+use Rattle.px_stream.specs.StateLaws.{awaits_what_it_asks, ends_where_it_ends}
+use Rattle.px_http.specs.declared.conversation.HttpConv.{HttpConv}
+
+-- what a state stands for
+abbrev pub HttpStands : HttpConv → HttpConv → List Move → List Command → Type 0
+HttpStands made state moves given = StandsInSequence made.stream state.stream moves given
+
+abbrev pub awaits : HttpConv → Option Ask
+awaits state = flows.awaits state.stream
+
+-- the chain of a conversation that was made so, and where its walk over some moves stops
+abbrev pub chain_of : HttpConv → Chain Stage Event Reply Command
+chain_of made = http_chain sequence made.stream.terms
+
+abbrev pub start_at : HttpConv → Stage
+start_at made = idle (start_of made.stream.numbers)
+
+abbrev pub stop_at : HttpConv → List Move → Stop Stage Event Reply Command
+stop_at made moves = stop_of (chain_of made) (start_at made) moves
+
+-- what the fields are, where the walk stopped
+abbrev pub is_there : HttpConv → HttpConv → Stage → List (Timed Event) → Type 0
+is_there made state stage front = IsInSequence made.stream.terms state.stream stage front
+
+pub stands_there : (made state : HttpConv) (moves : List Move) (given : List Command) → HttpStands made state moves given → StandsAt (chain_of made) (start_at made) (is_there made) state moves given
+stands_there made state moves given stands = record { place = stands.place; used = stands.used; seen = stands.seen; gave = stands.gave }
+
+pub settles_there : (made : HttpConv) → Settles (chain_of made)
+settles_there made = settles sequence made.stream.terms
+
+pub grows_there : (made : HttpConv) (view : View) → SoFarGrows (chain_of made) (seen_of view)
+grows_there made view = grows_onward sequence made.stream.terms view
+
+pub asks_there : (made : HttpConv) → AwaitsWhatItAsks (chain_of made) (is_there made) awaits
+asks_there made =
+    let law = awaits_what_it_asks sequence made.stream.terms in
+    record {
+      free = λ state stage front ask at is asks. law.free state.stream stage front ask at.is_at is asks;
+      asks = λ state stage front ask at is. law.asks state.stream stage front ask at.is_at is;
+    }
+
+pub ends_there : (made : HttpConv) → EndsWhereItEnds (chain_of made) (is_there made) (λ state. is_last state.stream.phase)
+ends_there made =
+    let law = ends_where_it_ends sequence made.stream.terms in
+    record { ends = λ state stage front at last. law.ends state.stream stage front at.is_at last }
+
+-- ---- from the flow's machine to the conversation
+
+-- it stands as a flow does, whose end leads to the next
+pub flow_stands : (made state : HttpConv) (moves : List Move) (given : List Command) → HttpStands made state moves given → Stands sequence made.stream state.stream moves given
+flow_stands made state moves given stands = record { place = stands.place.is_at; used = stands.used; seen = stands.seen; gave = stands.gave }
+
+-- what it stands for, its flow's machine does
+pub sound_within : (state : HttpConv) → IsSound HttpStands state → IsSound StandsInSequence state.stream
+sound_within state (made, past, given, stands) = (made.stream, past, given, stands)
+
+-- and what the machine's call does, the conversation's does
+pub goes_as : (before after : HttpConv) (move : Move) (out longer : List Command) → Goes StandsInSequence before.stream after.stream move out longer → Goes HttpStands before after move out longer
+goes_as before after move out longer goes =
+    record { more = goes.more; grown = goes.grown; stands = λ made past given stands. goes.stands made.stream past given stands }

@@ -1,0 +1,13 @@
+//! Flows in sequence on one client's connection.
+//!
+//! It is the chain of one flow with another last step: where a flow is finished and the connection goes on, the next one
+//! begins, and its request is what the client sent behind the former. What is due names this conversation alone, so a
+//! gate before it is a conversation of a router.
+#![tactic(auto)]
+
+mod chained;
+mod conversation;
+mod fixed;
+
+pub use conversation::HttpConv;
+pub use fixed::Fixed;
