@@ -24,8 +24,6 @@ pub enum Fault {
     ServerClosed,
     /// The server's response is malformed.
     BadResponse,
-    /// A form that is not built yet.
-    NotBuilt,
     /// The upstream proxy refused the tunnel.
     UpstreamRefused,
 }

@@ -1,7 +1,7 @@
 -- The texts with which the proxy answers a fault.
 use Rattle.std.specs.Prelude.{ℕ, ◌+◌, Bool, if◌then◌else◌, List, [], ◌∷◌, ◌++◌, length, codes, decimal}
 use Rattle.px_message.specs.declared.fault.Fault.{Fault}
-use Rattle.px_message.specs.declared.fault.Fault.TheVariants.{BadHead, TooLong, BadTarget, BothLengths, BadLength, BadCoding, BadChunk, NoConnection, ServerClosed, BadResponse, NotBuilt, UpstreamRefused}
+use Rattle.px_message.specs.declared.fault.Fault.TheVariants.{BadHead, TooLong, BadTarget, BothLengths, BadLength, BadCoding, BadChunk, NoConnection, ServerClosed, BadResponse, UpstreamRefused}
 use Rattle.px_write.specs.Text.{crlf}
 
 -- code and reason of the answer to a fault (RFC 9110 section 15, RFC 6585 section 5)
@@ -16,7 +16,6 @@ fault_status BadChunk = codes "400 Bad Request"
 fault_status NoConnection = codes "502 Bad Gateway"
 fault_status ServerClosed = codes "502 Bad Gateway"
 fault_status BadResponse = codes "502 Bad Gateway"
-fault_status NotBuilt = codes "501 Not Implemented"
 fault_status UpstreamRefused = codes "502 Bad Gateway"
 
 -- what is said of it, to the client and in the flow
@@ -31,7 +30,6 @@ fault_message BadChunk = codes "bad chunk"
 fault_message NoConnection = codes "cannot connect"
 fault_message ServerClosed = codes "server closed early"
 fault_message BadResponse = codes "bad response"
-fault_message NotBuilt = codes "not built"
 fault_message UpstreamRefused = codes "upstream refused"
 
 -- the head of an answer of this status, with so many bytes behind it

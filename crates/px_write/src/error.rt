@@ -74,7 +74,6 @@ fn fault_status(fault: Fault) -> &'static [u8]
         | Fault::BadLength
         | Fault::BadCoding
         | Fault::BadChunk => b"400 Bad Request",
-        Fault::NotBuilt => b"501 Not Implemented",
         Fault::NoConnection | Fault::ServerClosed | Fault::BadResponse | Fault::UpstreamRefused =>
             b"502 Bad Gateway",
     }
@@ -96,7 +95,6 @@ pub fn fault_message(fault: Fault) -> &'static [u8]
         Fault::NoConnection => b"cannot connect",
         Fault::ServerClosed => b"server closed early",
         Fault::BadResponse => b"bad response",
-        Fault::NotBuilt => b"not built",
         Fault::UpstreamRefused => b"upstream refused",
     }
 }

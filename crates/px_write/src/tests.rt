@@ -236,7 +236,6 @@ fn answers_to_faults(rt: HostRuntime) -> Result<(), Fail> {
         (Fault::BadLength, bad_request, 11, "bad length"),
         (Fault::BadCoding, bad_request, 20, "bad transfer coding"),
         (Fault::BadChunk, bad_request, 10, "bad chunk"),
-        (Fault::NotBuilt, "501 Not Implemented", 10, "not built"),
         (Fault::NoConnection, bad_gateway, 15, "cannot connect"),
         (Fault::ServerClosed, bad_gateway, 20, "server closed early"),
         (Fault::BadResponse, bad_gateway, 13, "bad response"),
