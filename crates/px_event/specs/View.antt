@@ -23,6 +23,8 @@ pub data View : Type 0 where
   questions : View
   -- the flows that are finished
   finished : View
+  -- the hooks asked and the flows that are finished, in one order
+  course : View
   -- the hooks asked, each with its flow
   flows : View
 
@@ -49,6 +51,8 @@ command_atoms (closes side) (command.Close other) = if is_same_side other side t
 command_atoms questions (command.Dial server address inside) = dialled server address ∷ []
 command_atoms questions (command.Ask ask flow) = asked ask ∷ []
 command_atoms finished (command.Done flow) = done flow ∷ []
+command_atoms course (command.Ask ask flow) = asked ask ∷ []
+command_atoms course (command.Done flow) = done flow ∷ []
 command_atoms flows (command.Ask ask flow) = about ask flow ∷ []
 command_atoms _ _ = []
 
@@ -66,6 +70,8 @@ abbrev pub step_atoms : View → ℕ → Step → List Atom
 step_atoms view conv (steps.Said other said) = if other == conv then said_atoms view said else []
 step_atoms questions conv (steps.Asked other ask) = if other == conv then asked ask ∷ [] else []
 step_atoms finished conv (steps.Done flow) = if flow.id.conv == conv then done flow ∷ [] else []
+step_atoms course conv (steps.Asked other ask) = if other == conv then asked ask ∷ [] else []
+step_atoms course conv (steps.Done flow) = if flow.id.conv == conv then done flow ∷ [] else []
 step_atoms _ _ _ = []
 
 -- what a view of the conversation has of a trace
