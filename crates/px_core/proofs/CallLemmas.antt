@@ -1,6 +1,5 @@
 -- The calls of a conversation, and what a view has of it, one step further.
-use Rattle.std.proofs.Common.{◌≡◌, ◌≢◌, ℕ, Bool, true, false, ◌==◌, List, [], ◌∷◌, ◌++◌, Option, Some, None, refl, ap, sym, ◌∙◌, append_assoc}
-use Rattle.std.specs.Prelude.{if◌then◌else◌}
+use Rattle.std.proofs.Common.{◌≡◌, ◌≢◌, ℕ, true, false, ◌==◌, List, [], ◌∷◌, ◌++◌, refl, ap, sym, ◌∙◌, append_assoc}
 use Rattle.std.proofs.lemmas.Bool.{eq-eqb, ne_eqb}
 use Rattle.std.proofs.lemmas.Grind.{flat_map-append}
 use Rattle.std.proofs.lemmas.List.{append-nil}
@@ -8,14 +7,13 @@ use Rattle.px_message.specs.declared.flow.Flow.{Flow}
 use Rattle.px_event.specs.declared.ask.Ask.{Ask}
 use Rattle.px_event.specs.declared.command.Command.{Command}
 use Rattle.px_event.specs.declared.command.Command.TheVariants as commands
-use Rattle.px_event.specs.declared.heard.Heard.{Heard}
 use Rattle.px_event.specs.declared.said.Said.{Said}
 use Rattle.px_event.specs.declared.said.Said.TheVariants as said
 use Rattle.px_event.specs.declared.step.Step.{Step}
 use Rattle.px_event.specs.declared.step.Step.TheVariants as steps
 use Rattle.px_event.specs.Trace.{Trace}
-use Rattle.px_event.specs.View.{View, bytes, closes, questions, finished, flows, Atom, done, IsTold, said_atoms, command_atoms, step_atoms, seen_in}
-use Rattle.px_core.specs.Calls.{Calls, dials, calls_on, calls_from, calls, no_calls}
+use Rattle.px_event.specs.View.{View, bytes, closes, questions, finished, course, flows, IsTold, said_atoms, command_atoms, step_atoms, seen_in}
+use Rattle.px_core.specs.Calls.{Calls, calls_on, calls_from, calls, no_calls}
 use Rattle.px_core.specs.Conversation.{IsNamed}
 use Rattle.px_core.specs.Held.{step_of, IsOf, AllOf, dial_by}
 
@@ -55,6 +53,7 @@ other_seen view conv other (steps.Asked number ask) is apart = by view
     by (bytes side) = refl
     by (closes side) = refl
     by finished = refl
+    by course = rw no refl
     by flows = refl
 other_seen view conv other (steps.Answered number ask reply) is apart = by view
   where
@@ -63,6 +62,7 @@ other_seen view conv other (steps.Answered number ask reply) is apart = by view
     by (bytes side) = refl
     by (closes side) = refl
     by finished = refl
+    by course = refl
     by flows = refl
 other_seen view conv other (steps.Said number what) is apart =
     let no : (number == other) ≡ false = ne_eqb number other (λ same. apart (sym is ∙ same)) in rw no refl
@@ -76,6 +76,7 @@ other_seen view conv other (steps.Done flow) is apart = by view
     by (bytes side) = refl
     by (closes side) = refl
     by finished = rw no refl
+    by course = rw no refl
     by flows = refl
 
 -- steps of another conversation
@@ -109,6 +110,7 @@ send_seen (bytes to) side text = refl
 send_seen (closes to) side text = refl
 send_seen questions side text = refl
 send_seen finished side text = refl
+send_seen course side text = refl
 send_seen flows side text = refl
 
 close_seen : (view : View) (side : _) → said_atoms view (said.Close side) ≡ command_atoms view (commands.Close side)
@@ -116,6 +118,7 @@ close_seen (bytes to) side = refl
 close_seen (closes to) side = refl
 close_seen questions side = refl
 close_seen finished side = refl
+close_seen course side = refl
 close_seen flows side = refl
 
 dial_seen : (view : View) (server : ℕ) (address : _) (inside : _) → said_atoms view (said.Dial server address) ≡ command_atoms view (commands.Dial server address inside)
@@ -123,6 +126,7 @@ dial_seen (bytes to) server address inside = refl
 dial_seen (closes to) server address inside = refl
 dial_seen questions server address inside = refl
 dial_seen finished server address inside = refl
+dial_seen course server address inside = refl
 dial_seen flows server address inside = refl
 
 ask_seen : (view : View) (conv : ℕ) (ask : Ask) (flow : Flow) → IsTold view → step_atoms view conv (steps.Asked conv ask) ≡ command_atoms view (commands.Ask ask flow)
@@ -130,6 +134,7 @@ ask_seen (bytes to) conv ask flow told = refl
 ask_seen (closes to) conv ask flow told = refl
 ask_seen questions conv ask flow told = rw (same_number conv) refl
 ask_seen finished conv ask flow told = refl
+ask_seen course conv ask flow told = rw (same_number conv) refl
 ask_seen flows conv ask flow told = absurd told
 
 done_seen : (view : View) (conv : ℕ) (flow : Flow) → (flow.id.conv == conv) ≡ true → step_atoms view conv (steps.Done flow) ≡ command_atoms view (commands.Done flow)
@@ -137,6 +142,7 @@ done_seen (bytes to) conv flow is = refl
 done_seen (closes to) conv flow is = refl
 done_seen questions conv flow is = refl
 done_seen finished conv flow is = rw is refl
+done_seen course conv flow is = rw is refl
 done_seen flows conv flow is = refl
 
 pub told_seen : (view : View) (conv : ℕ) (command : Command) → IsTold view → IsNamed conv command → step_atoms view conv (step_of conv command) ≡ command_atoms view command

@@ -1,28 +1,27 @@
 -- What is heard of a conversation: its calls one step further, and what a call that is worked off makes of it.
-use Rattle.std.proofs.Common.{◌≡◌, ◌≢◌, ◌⊎◌, inl, inr, ℕ, Bool, true, false, ◌==◌, List, [], ◌∷◌, ◌++◌, Option, Some, None, refl, ap, sym, ◌∙◌, subst, append_assoc, option_to_list, cond}
+use Rattle.std.proofs.Common.{◌≡◌, ◌≢◌, inl, inr, ℕ, Bool, true, false, ◌==◌, List, [], ◌∷◌, ◌++◌, Option, Some, None, refl, ap, sym, ◌∙◌, subst, option_to_list}
 use Rattle.std.specs.List.{flat_map}
 use Rattle.std.proofs.lemmas.List.{append-nil}
 use Rattle.std.proofs.lemmas.Bool.{ne_eqb}
+use Rattle.px_message.specs.declared.address.Address.{Address}
 use Rattle.px_event.specs.declared.ask.Ask.{Ask}
-use Rattle.px_event.specs.declared.ask.Ask.TheVariants as asks
-use Rattle.px_event.specs.declared.ask.Hook.{Hook}
 use Rattle.px_event.specs.declared.command.Command.{Command}
 use Rattle.px_event.specs.declared.event.Event.{Event}
 use Rattle.px_event.specs.declared.heard.Heard.{Heard}
 use Rattle.px_event.specs.declared.side.Side.{Side}
 use Rattle.px_event.specs.declared.step.Step.{Step}
 use Rattle.px_event.specs.declared.step.Step.TheVariants as steps
-use Rattle.px_event.specs.Layer.{Move, Took, Replied, Standing, Goes, AsksOnly, asks_in}
+use Rattle.px_event.specs.Layer.{Move, Took, Replied, Standing, Goes, asks_in}
 use Rattle.px_event.specs.Trace.{Trace}
-use Rattle.px_event.specs.View.{View, bytes, closes, questions, finished, flows, IsTold, seen_of, seen_in, step_atoms}
+use Rattle.px_event.specs.View.{View, bytes, closes, questions, finished, course, flows, seen_in, step_atoms}
 use Rattle.px_core.specs.declared.held.Held.{Held}
 use Rattle.px_core.specs.declared.news.News.{News}
 use Rattle.px_core.specs.declared.news.News.TheVariants as news
 use Rattle.px_core.specs.Answers.{Answering}
-use Rattle.px_core.specs.Calls.{Calls, calls, calls_of, calls_on, hears_by, takes, addressed, is_connected, is_dialling, dial_ends, dial_reply, connected_by, moved}
+use Rattle.px_core.specs.Calls.{Calls, calls, calls_of, hears_by, takes, addressed, is_connected, is_dialling, dial_ends, dial_reply, connected_by, moved}
 use Rattle.px_core.specs.Conversation.{AllNamed, AsksWhile}
 use Rattle.px_core.specs.Due.{Due, IsServed}
-use Rattle.px_core.specs.Held.{AllOf, dial_from, dial_of, IsSettled, IsReady, IsOneOn, Gives, Within, Stood, WorkedTo, Works, Takes, Hears}
+use Rattle.px_core.specs.Held.{dial_from, dial_of, IsSettled, IsReady, IsOneOn, Gives, Within, Stood, Works, Takes, Hears}
 use Rattle.px_core.proofs.AskLemmas.{asks_one, dial_now, quiet}
 use Rattle.px_core.proofs.CallLemmas.{calls_more, seen_more, same_number}
 
@@ -31,6 +30,7 @@ heard_seen (bytes side) conv moment heard = refl
 heard_seen (closes side) conv moment heard = refl
 heard_seen questions conv moment heard = refl
 heard_seen finished conv moment heard = refl
+heard_seen course conv moment heard = refl
 heard_seen flows conv moment heard = refl
 
 pub seen_heard : (view : View) (conv : ℕ) (trace : Trace) (moment : ℕ) (heard : Heard) → seen_in view conv (trace ++ steps.Heard moment heard ∷ []) ≡ seen_in view conv trace
@@ -99,17 +99,18 @@ gives_end standing awaited conv move before after given named goes one = record 
 
 module _ {C : Type 0} (standing : Standing C) (awaited : C → Option Ask) (number : C → ℕ) (made_due : C → List Move → List Command) where
   -- a call was taken, and its commands are still to be told
-  taken_within : (due : Due) (conv moment : ℕ) (move : Move) (dial : Option ℕ) (sides : List ℕ) (before after : Held C) (trace next : Trace) (given : List Command) →
-      Stood standing awaited number made_due due conv before.conversation trace → IsOneOn conv moment move dial sides trace next → number after.conversation ≡ conv →
+  taken_within : (due : Due) (conv : ℕ) (peer : Address) (moment : ℕ) (move : Move) (dial : Option ℕ) (sides : List ℕ) (before after : Held C) (trace next : Trace) (given : List Command) →
+      Stood standing awaited number made_due due conv peer before.conversation trace → IsOneOn conv peer moment move dial sides trace next → number after.conversation ≡ conv →
       Gives standing awaited move dial before.conversation after.conversation given → sides ≡ after.connected.items →
       Within standing awaited number made_due due conv after next given
-  taken_within due conv moment move dial sides before after trace next given w on named gives same =
+  taken_within due conv peer moment move dial sides before after trace next given w on named gives same =
       let P : List Move → Type 0 = λ l. standing w.made after.conversation l (w.earlier ++ given) in
       let Q : List Command → Type 0 = λ l. standing w.made after.conversation (calls_of conv trace ++ move ∷ []) l in
       let all : (w.earlier ++ []) ++ gives.goes.more ≡ w.earlier ++ given =
       ap (λ l. l ++ gives.goes.more) (append-nil w.earlier) ∙ ap (λ l. w.earlier ++ l) (sym gives.goes.grown) in
       record {
         made = w.made;
+        peer = peer;
         earlier = w.earlier;
         stands = subst P (sym on.moves) (subst Q all (gives.goes.stands w.made (calls_of conv trace) (w.earlier ++ []) w.stands));
         owes = w.owes;
@@ -129,8 +130,8 @@ module _ {C : Type 0} (standing : Standing C) (awaited : C → Option Ask) (numb
       more = works.more;
       grown = works.grown;
       own = works.own;
-      takes = λ due trace next w on served.
-          let to = works.works due next (taken_within due conv moment move dial sides before between trace next given w on named gives same) on.now served in
+      takes = λ due peer trace next w on served.
+          let to = works.works due next (taken_within due conv peer moment move dial sides before between trace next given w on named gives same) on.now served in
           (to.within, to.served);
       settled = works.next;
     }
@@ -146,7 +147,7 @@ module _ {C : Type 0} (standing : Standing C) (awaited : C → Option Ask) (numb
 
     -- news that are no call
     pub ignored : (conv moment : ℕ) (what : News) (held : Held C) (out : List Step) →
-        ((c : Calls) → c.begun ≡ true → c.connected ≡ held.connected.items → c.dial ≡ dial_of (awaited held.conversation) → takes moment c what ≡ c) → IsSettled awaited held →
+        ((c : Calls) (peer : Address) → c.peer ≡ Some peer → c.connected ≡ held.connected.items → c.dial ≡ dial_of (awaited held.conversation) → takes moment c what ≡ c) → IsSettled awaited held →
         Hears standing awaited number made_due answers conv moment what held held out out
     ignored conv moment what held out nothing settled = record {
       more = [];
@@ -154,18 +155,19 @@ module _ {C : Type 0} (standing : Standing C) (awaited : C → Option Ask) (numb
       own = tt;
       hears = λ due trace heard is w served.
           let on : calls conv (trace ++ steps.Heard moment heard ∷ []) ≡ record (calls conv trace) { moment = moment } =
-          calls_heard conv trace moment heard what is ∙ ap (λ (c : Calls). record c { moment = moment }) (nothing (calls conv trace) w.begun w.sides w.dial) in
+          calls_heard conv trace moment heard what is ∙ ap (λ (c : Calls). record c { moment = moment }) (nothing (calls conv trace) w.peer w.begun w.sides w.dial) in
           let P : List Move → Type 0 = λ l. standing w.made held.conversation l (w.earlier ++ []) in
           let Q : Trace → Type 0 = λ t. Within standing awaited number made_due due conv held t [] × IsServed answers due t in
           subst Q (sym (append-nil (trace ++ steps.Heard moment heard ∷ []))) (
             record {
               made = w.made;
+              peer = w.peer;
               earlier = w.earlier;
               stands = subst P (sym (ap (λ (c : Calls). c.moves) on)) w.stands;
               owes = w.owes;
               tells = λ view told. w.tells view told ∙ sym (seen_heard view conv trace moment heard);
               named = w.named;
-              begun = ap (λ (c : Calls). c.begun) on ∙ w.begun;
+              begun = ap (λ (c : Calls). c.peer) on ∙ w.begun;
               sides = ap (λ (c : Calls). c.connected) on ∙ w.sides;
               dial = ap (λ (c : Calls). c.dial) on ∙ w.dial;
             },
@@ -176,8 +178,8 @@ module _ {C : Type 0} (standing : Standing C) (awaited : C → Option Ask) (numb
 
     -- news that are a call
     pub taken : (conv moment : ℕ) (what : News) (move : Move) (dial : Option ℕ) (sides : List ℕ) (before after : Held C) (out new_out : List Step) →
-        ((c : Calls) → c.begun ≡ true → c.connected ≡ before.connected.items → c.dial ≡ dial_of (awaited before.conversation) →
-        (takes moment c what).moves ≡ c.moves ++ move ∷ [] × ((takes moment c what).begun ≡ true) × ((takes moment c what).dial ≡ dial) × ((takes moment c what).connected ≡ sides)) →
+        ((c : Calls) (peer : Address) → c.peer ≡ Some peer → c.connected ≡ before.connected.items → c.dial ≡ dial_of (awaited before.conversation) →
+        (takes moment c what).moves ≡ c.moves ++ move ∷ [] × ((takes moment c what).peer ≡ Some peer) × ((takes moment c what).dial ≡ dial) × ((takes moment c what).connected ≡ sides)) →
         Takes standing awaited number made_due answers conv moment move dial sides before after out new_out →
         Hears standing awaited number made_due answers conv moment what before after out new_out
     taken conv moment what move dial sides before after out new_out one t = record {
@@ -186,10 +188,10 @@ module _ {C : Type 0} (standing : Standing C) (awaited : C → Option Ask) (numb
       own = t.own;
       hears = λ due trace heard is w served.
           let on = calls_heard conv trace moment heard what is in
-          let facts = one (calls conv trace) w.begun w.sides w.dial in
-          t.takes due trace (trace ++ steps.Heard moment heard ∷ []) (record { made = w.made; earlier = w.earlier; stands = w.stands; owes = w.owes; tells = w.tells }) (record {
+          let facts = one (calls conv trace) w.peer w.begun w.sides w.dial in
+          t.takes due w.peer trace (trace ++ steps.Heard moment heard ∷ []) (record { made = w.made; earlier = w.earlier; stands = w.stands; owes = w.owes; tells = w.tells }) (record {
             moves = ap (λ (c : Calls). c.moves) on ∙ facts.0;
-            begun = ap (λ (c : Calls). c.begun) on ∙ facts.1;
+            begun = ap (λ (c : Calls). c.peer) on ∙ facts.1;
             dials = ap (λ (c : Calls). c.dial) on ∙ facts.2;
             connected = ap (λ (c : Calls). c.connected) on ∙ facts.3;
             now = ap (λ (c : Calls). c.moment) on;
@@ -199,17 +201,17 @@ module _ {C : Type 0} (standing : Standing C) (awaited : C → Option Ask) (numb
     }
 
 -- what each news takes
-pub takes_begun : (moment : ℕ) (c : Calls) → c.begun ≡ true → takes moment c news.Begun ≡ c
-takes_begun moment c is = rw is refl
+pub takes_begun : (moment : ℕ) (c : Calls) (peer at : Address) → c.peer ≡ Some peer → takes moment c (news.Begun at) ≡ c
+takes_begun moment c peer at is = rw is refl
 
-pub takes_not_connected : (moment : ℕ) (c : Calls) (side : Side) (event : Event) (sides : List ℕ) → c.begun ≡ true → c.connected ≡ sides → is_connected side sides ≡ false →
+pub takes_not_connected : (moment : ℕ) (c : Calls) (peer : Address) (side : Side) (event : Event) (sides : List ℕ) → c.peer ≡ Some peer → c.connected ≡ sides → is_connected side sides ≡ false →
     takes moment c (news.Event side event) ≡ c
-takes_not_connected moment c side event sides begun same not =
+takes_not_connected moment c peer side event sides begun same not =
     let no : is_connected side c.connected ≡ false = ap (is_connected side) same ∙ not in rw (begun, no) refl
 
-pub takes_connected : (moment : ℕ) (c : Calls) (side : Side) (event : Event) (sides : List ℕ) → c.begun ≡ true → c.connected ≡ sides → is_connected side sides ≡ true →
+pub takes_connected : (moment : ℕ) (c : Calls) (peer : Address) (side : Side) (event : Event) (sides : List ℕ) → c.peer ≡ Some peer → c.connected ≡ sides → is_connected side sides ≡ true →
     takes moment c (news.Event side event) ≡ moved (Took moment event) c
-takes_connected moment c side event sides begun same is =
+takes_connected moment c peer side event sides begun same is =
     let yes : is_connected side c.connected ≡ true = ap (is_connected side) same ∙ is in rw (begun, yes) refl
 
 pub takes_no_end : (moment : ℕ) (c : Calls) (server : ℕ) (ok : Bool) (dial : Option ℕ) → c.dial ≡ dial → is_dialling server dial ≡ false →
@@ -229,9 +231,9 @@ module _ {C : Type 0} (standing : Standing C) (awaited : C → Option Ask) (numb
       Hears standing awaited number made_due answers conv moment what before after out new_out
   heard_event conv moment what side event before after out new_out is connected t =
       taken standing awaited number made_due answers conv moment what (Took moment event) (dial_of (awaited before.conversation)) before.connected.items before after out new_out
-      (λ c begun sides dial.
-      let on : takes moment c what ≡ moved (Took moment event) c = ap (takes moment c) is ∙ takes_connected moment c side event before.connected.items begun sides connected in
-      (ap (λ (c : Calls). c.moves) on, ap (λ (c : Calls). c.begun) on ∙ begun, ap (λ (c : Calls). c.dial) on ∙ dial, ap (λ (c : Calls). c.connected) on ∙ sides)) t
+      (λ c peer begun sides dial.
+      let on : takes moment c what ≡ moved (Took moment event) c = ap (takes moment c) is ∙ takes_connected moment c peer side event before.connected.items begun sides connected in
+      (ap (λ (c : Calls). c.moves) on, ap (λ (c : Calls). c.peer) on ∙ begun, ap (λ (c : Calls). c.dial) on ∙ dial, ap (λ (c : Calls). c.connected) on ∙ sides)) t
 
   pub heard_end : (conv moment : ℕ) (what : News) (server : ℕ) (ok : Bool) (before after : Held C) (out new_out : List Step) → what ≡ news.Dialled server ok →
       is_dialling server (dial_of (awaited before.conversation)) ≡ true →
@@ -239,6 +241,6 @@ module _ {C : Type 0} (standing : Standing C) (awaited : C → Option Ask) (numb
       Hears standing awaited number made_due answers conv moment what before after out new_out
   heard_end conv moment what server ok before after out new_out is dialling t =
       taken standing awaited number made_due answers conv moment what (Replied moment (dial_reply ok)) None (connected_by server ok before.connected.items) before after out new_out
-      (λ c begun sides dial.
+      (λ c peer begun sides dial.
       let on : takes moment c what ≡ dial_ends moment server ok c = ap (takes moment c) is ∙ takes_end moment c server ok (dial_of (awaited before.conversation)) dial dialling in
-      (ap (λ (c : Calls). c.moves) on, ap (λ (c : Calls). c.begun) on ∙ begun, ap (λ (c : Calls). c.dial) on, ap (λ (c : Calls). c.connected) on ∙ ap (connected_by server ok) sides)) t
+      (ap (λ (c : Calls). c.moves) on, ap (λ (c : Calls). c.peer) on ∙ begun, ap (λ (c : Calls). c.dial) on, ap (λ (c : Calls). c.connected) on ∙ ap (connected_by server ok) sides)) t

@@ -1,3 +1,4 @@
+pub mod AnswerLemmas
 pub mod AskLemmas
 pub mod CallLemmas
 pub mod EchoRunLemmas

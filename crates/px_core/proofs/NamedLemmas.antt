@@ -7,12 +7,12 @@ use Rattle.px_event.specs.declared.reply.Reply.{Reply}
 use Rattle.px_event.specs.declared.command.Command.{Command}
 use Rattle.px_event.specs.declared.command.Command.TheVariants as commands
 use Rattle.px_event.specs.Chain.{Chain}
-use Rattle.px_event.specs.Layer.{Move, Standing, IsSound, Goes, AsksOnly}
+use Rattle.px_event.specs.Layer.{Move, Standing, IsSound, Goes}
 use Rattle.px_event.specs.Stands.{due_by}
-use Rattle.px_event.specs.View.{View, Atom, about, done, byte, close, asked, dialled, flows, finished, seen_of}
+use Rattle.px_event.specs.View.{View, Atom, about, done, flows, finished, seen_of}
 use Rattle.px_gate.specs.declared.gate.Gate.{Gate}
 use Rattle.px_gate.specs.Gate.{GateStands, TakeAsksWhere}
-use Rattle.px_core.specs.Conversation.{AsksWhile, IsHookOf, IsNamed, AllNamed, NamesOnly}
+use Rattle.px_core.specs.Conversation.{AsksWhile, IsHookOf, AllNamed, NamesOnly}
 
 -- the flow of what a view has is the conversation's
 abbrev IsNamedAtom : ℕ → Atom → Type 0

@@ -9,6 +9,7 @@ use Rattle.std.specs.BTreeMap.{is_at}
 use Rattle.std.specs.Ordering.{nat_cmp}
 use Rattle.px_text.specs.Prefix.{IsPrefixOf}
 use Rattle.px_event.proofs.Growth.{prefix_self}
+use Rattle.px_message.specs.declared.address.Address.{Address}
 use Rattle.px_event.specs.declared.ask.Ask.{Ask}
 use Rattle.px_event.specs.declared.reply.Reply.{Reply}
 use Rattle.px_event.specs.declared.command.Command.{Command}
@@ -28,17 +29,17 @@ use Rattle.px_core.specs.declared.table.Place.TheVariants as place
 use Rattle.px_core.specs.declared.table.Table.{Table}
 use Rattle.px_core.specs.Answers.{Answering}
 use Rattle.px_core.specs.Calls.{Calls, calls, calls_of, takes, moved, addressed, is_connected, is_dialling, dial_ends}
-use Rattle.px_core.specs.Due.{Due, due_in, IsWithinDue, IsAllTold, EndsMet, IsServed}
-use Rattle.px_core.specs.Held.{AllOf, dial_of, IsSettled, Within, Hears, Takes}
-use Rattle.px_core.specs.Router.{Found, unknown, over, lost, live, found_at, found_by, place_of, found, IsUnknown, IsOver, IsLive, StandsIn, TableStands, HearsAt, Hands, Admits, Routes, IsAtKey, OwesNothing}
+use Rattle.px_core.specs.Due.{Due, due_at, due_by, due_in, IsWithinDue, IsAllTold, EndsMet, IsServed}
+use Rattle.px_core.specs.Held.{AllOf, dial_of, Hears, Takes}
+use Rattle.px_core.specs.Router.{Found, unknown, over, lost, live, found_at, found_by, place_of, found, IsUnknown, IsOver, IsLive, StandsIn, TableStands, HearsAt, Hands, Admits, Routes, IsAtKey}
 use Rattle.px_core.proofs.CallLemmas.{others_calls, others_seen}
 use Rattle.px_core.proofs.HearLemmas.{seen_heard, calls_heard, calls_heard_other, calls_heard_none}
-use Rattle.px_core.proofs.ServedLemmas.{due_is, last_step}
+use Rattle.px_core.proofs.ServedLemmas.{due_is, due_same, due_there, last_step}
 
 -- nothing of the conversation is new
 record Same (conv : ℕ) (trace next : Trace) : Type 0 where
   moves : calls_of conv next ≡ calls_of conv trace
-  begun : (calls conv next).begun ≡ (calls conv trace).begun
+  peer : (calls conv next).peer ≡ (calls conv trace).peer
   dial : (calls conv next).dial ≡ (calls conv trace).dial
   connected : (calls conv next).connected ≡ (calls conv trace).connected
   sees : (view : View) → IsTold view → seen_in view conv next ≡ seen_in view conv trace
@@ -47,7 +48,7 @@ same_by : (conv moment : ℕ) (trace next : Trace) → calls conv next ≡ recor
     ((view : View) → IsTold view → seen_in view conv next ≡ seen_in view conv trace) → Same conv trace next
 same_by conv moment trace next on sees = record {
   moves = ap (λ (c : Calls). c.moves) on;
-  begun = ap (λ (c : Calls). c.begun) on;
+  peer = ap (λ (c : Calls). c.peer) on;
   dial = ap (λ (c : Calls). c.dial) on;
   connected = ap (λ (c : Calls). c.connected) on;
   sees = sees;
@@ -64,63 +65,69 @@ none_same : (conv moment : ℕ) (trace : Trace) (heard : Heard) → addressed he
 none_same conv moment trace heard is =
     same_by conv moment trace (trace ++ steps.Heard moment heard ∷ []) (calls_heard_none conv trace moment heard is) (λ view told. seen_heard view conv trace moment heard)
 
--- at most one call is new
-abbrev IsGrown : List Move → List Move → Type 0
-IsGrown before after = (after ≡ before) ⊎ ((move : Move) × (after ≡ before ++ move ∷ []))
+-- at most one call is new, and its client stays where it is
+abbrev IsGrown : Calls → Calls → Type 0
+IsGrown before after =
+    ((after.moves ≡ before.moves) ⊎ ((move : Move) × (after.moves ≡ before.moves ++ move ∷ []))) × ((peer : Address) → before.peer ≡ Some peer → after.peer ≡ Some peer)
 
-takes_moves : (moment : ℕ) (c : Calls) (what : News) → IsGrown c.moves (takes moment c what).moves
-takes_moves moment c news.Begun = by c.begun
+takes_grown : (moment : ℕ) (c : Calls) (what : News) → IsGrown c (takes moment c what)
+takes_grown moment c (news.Begun at) = by (is_some c.peer) refl
   where
-    by : (b : Bool) → IsGrown c.moves (if b then c else record c { begun = true; moves = c.moves ++ Took moment events.Begun ∷ [] }).moves
-    by true = inl refl
-    by false = inr (_, refl)
-takes_moves moment c (news.Event side event) = by c.begun (is_connected side c.connected)
+    by : (b : Bool) → is_some c.peer ≡ b → IsGrown c (if b then c else record c { peer = Some at; moves = c.moves ++ Took moment events.Begun ∷ [] })
+    by true some = (inl refl, λ peer is. is)
+    by false none = (inr (_, refl), λ peer is. absurd (let no : true ≡ false = sym (ap is_some is) ∙ none in cc))
+takes_grown moment c (news.Event side event) = by (is_some c.peer) (is_connected side c.connected)
   where
-    by : (b d : Bool) → IsGrown c.moves (if b then (if d then moved (Took moment event) c else c) else c).moves
-    by true true = inr (_, refl)
-    by true false = inl refl
-    by false true = inl refl
-    by false false = inl refl
-takes_moves moment c (news.Dialled server ok) = by (is_dialling server c.dial)
+    by : (b d : Bool) → IsGrown c (if b then (if d then moved (Took moment event) c else c) else c)
+    by true true = (inr (_, refl), λ peer is. is)
+    by true false = (inl refl, λ peer is. is)
+    by false true = (inl refl, λ peer is. is)
+    by false false = (inl refl, λ peer is. is)
+takes_grown moment c (news.Dialled server ok) = by (is_dialling server c.dial)
   where
-    by : (b : Bool) → IsGrown c.moves (if b then dial_ends moment server ok c else c).moves
-    by true = inr (_, refl)
-    by false = inl refl
+    by : (b : Bool) → IsGrown c (if b then dial_ends moment server ok c else c)
+    by true = (inr (_, refl), λ peer is. is)
+    by false = (inl refl, λ peer is. is)
 
-heard_moves : (conv : ℕ) (trace : Trace) (moment : ℕ) (heard : Heard) → IsGrown (calls_of conv trace) (calls_of conv (trace ++ steps.Heard moment heard ∷ []))
-heard_moves conv trace moment heard = by (addressed heard) refl
+heard_grown : (conv : ℕ) (trace : Trace) (moment : ℕ) (heard : Heard) → IsGrown (calls conv trace) (calls conv (trace ++ steps.Heard moment heard ∷ []))
+heard_grown conv trace moment heard = by (addressed heard) refl
   where
-    here : (what : News) → addressed heard ≡ Some (conv, what) → IsGrown (calls_of conv trace) (calls_of conv (trace ++ steps.Heard moment heard ∷ []))
-    here what is = let P : List Move → Type 0 = IsGrown (calls_of conv trace) in
-        subst P (sym (ap (λ (c : Calls). c.moves) (calls_heard conv trace moment heard what is))) (takes_moves moment (calls conv trace) what)
+    P : Calls → Type 0
+    P = IsGrown (calls conv trace)
+
+    here : (what : News) → addressed heard ≡ Some (conv, what) → IsGrown (calls conv trace) (calls conv (trace ++ steps.Heard moment heard ∷ []))
+    here what is = subst P (sym (calls_heard conv trace moment heard what is)) (takes_grown moment (calls conv trace) what)
 
     of : (number : ℕ) (what : News) → addressed heard ≡ Some (number, what) → ((number == conv) ≡ true) × (number ≡ conv) ⊎ ((number == conv) ≡ false) × (number ≢ conv) →
-        IsGrown (calls_of conv trace) (calls_of conv (trace ++ steps.Heard moment heard ∷ []))
+        IsGrown (calls conv trace) (calls conv (trace ++ steps.Heard moment heard ∷ []))
     of number what is (inl same) = here what (is ∙ ap (λ n. Some (n, what)) same.1)
-    of number what is (inr apart) = inl (ap (λ (c : Calls). c.moves) (calls_heard_other conv number trace moment heard what is apart.1))
+    of number what is (inr apart) = subst P (sym (calls_heard_other conv number trace moment heard what is apart.1)) (inl refl, λ peer is. is)
 
-    by : (a : Option (ℕ × News)) → addressed heard ≡ a → IsGrown (calls_of conv trace) (calls_of conv (trace ++ steps.Heard moment heard ∷ []))
-    by None is = inl (ap (λ (c : Calls). c.moves) (calls_heard_none conv trace moment heard is))
+    by : (a : Option (ℕ × News)) → addressed heard ≡ a → IsGrown (calls conv trace) (calls conv (trace ++ steps.Heard moment heard ∷ []))
+    by None is = subst P (sym (calls_heard_none conv trace moment heard is)) (inl refl, λ peer is. is)
     by (Some (number, what)) is = of number what is (eqb_tells number conv)
 
 no_answer_heard : (moment conv : ℕ) (heard : Heard) (ask : Ask) (reply : Reply) → steps.Answered conv ask reply ≡ steps.Heard moment heard → ⊥
 no_answer_heard moment conv heard ask reply e = cc
 
 -- where nothing of an ended conversation changes what is due
-over_grown : (due : Due) (conv : ℕ) (trace next : Trace) → IsOver due conv trace → IsGrown (calls_of conv trace) (calls_of conv next) → (view : View) →
+over_grown : (due : Due) (conv : ℕ) (trace next : Trace) → IsOver due conv trace → IsGrown (calls conv trace) (calls conv next) → (view : View) →
     due_in due view conv next ≡ due_in due view conv trace
-over_grown due conv trace next w (inl same) view = ap (λ l. seen_of view (due conv l)) same
-over_grown due conv trace next w (inr (move, is)) view = ap (λ l. seen_of view (due conv l)) is ∙ w.stays view (move ∷ [])
+over_grown due conv trace next w (inl same, stays) view = ap (seen_of view) (due_same due conv (calls conv next) (calls conv trace) (stays w.peer w.begun ∙ sym w.begun) same)
+over_grown due conv trace next w (inr (move, is), stays) view =
+    due_there due conv next w.peer (stays w.peer w.begun) view ∙ (ap (λ l. seen_of view (due conv w.peer l)) is ∙ w.stays view (move ∷ []))
 
-over_stays : (due : Due) (conv : ℕ) (trace next : Trace) → IsOver due conv trace → IsGrown (calls_of conv trace) (calls_of conv next) → (view : View) (more : List Move) →
-    seen_of view (due conv (calls_of conv next ++ more)) ≡ due_in due view conv trace
-over_stays due conv trace next w (inl same) view more = ap (λ l. seen_of view (due conv (l ++ more))) same ∙ w.stays view more
-over_stays due conv trace next w (inr (move, is)) view more =
-    ap (λ l. seen_of view (due conv (l ++ more))) is ∙ (ap (λ l. seen_of view (due conv l)) (append_assoc (calls_of conv trace) (move ∷ []) more) ∙ w.stays view (move ∷ more))
+over_stays : (due : Due) (conv : ℕ) (trace next : Trace) (w : IsOver due conv trace) → IsGrown (calls conv trace) (calls conv next) → (view : View) (more : List Move) →
+    seen_of view (due conv w.peer (calls_of conv next ++ more)) ≡ due_in due view conv trace
+over_stays due conv trace next w (inl same, stays) view more = ap (λ l. seen_of view (due conv w.peer (l ++ more))) same ∙ w.stays view more
+over_stays due conv trace next w (inr (move, is), stays) view more =
+    ap (λ l. seen_of view (due conv w.peer (l ++ more))) is ∙ (ap (λ l. seen_of view (due conv w.peer l)) (append_assoc (calls_of conv trace) (move ∷ []) more) ∙ w.stays view (move ∷ more))
 
-pub over_next : (due : Due) (conv : ℕ) (trace next : Trace) → IsOver due conv trace → IsGrown (calls_of conv trace) (calls_of conv next) →
+pub over_next : (due : Due) (conv : ℕ) (trace next : Trace) → IsOver due conv trace → IsGrown (calls conv trace) (calls conv next) →
     ((view : View) → IsTold view → seen_in view conv next ≡ seen_in view conv trace) → IsOver due conv next
 over_next due conv trace next w grown sees = record {
+  peer = w.peer;
+  begun = grown.1 w.peer w.begun;
   told = λ view told. sees view told ∙ (w.told view told ∙ sym (over_grown due conv trace next w grown view));
   stays = λ view more. over_stays due conv trace next w grown view more ∙ sym (over_grown due conv trace next w grown view);
 }
@@ -144,14 +151,13 @@ module _ {C : Type 0} (standing : Standing C) (awaited : C → Option Ask) (numb
   stands_same : (due : Due) (conv : ℕ) (trace next : Trace) → Same conv trace next → (x : Found (Held C)) → StandsIn standing awaited number made_due due conv trace x →
       StandsIn standing awaited number made_due due conv next x
   stands_same due conv trace next s unknown w = record {
-    begun = s.begun ∙ w.begun;
+    begun = s.peer ∙ w.begun;
     dial = s.dial ∙ w.dial;
     connected = s.connected ∙ w.connected;
     moves = s.moves ∙ w.moves;
     sees = λ view told. s.sees view told ∙ w.sees view told;
-    owes = w.owes;
   }
-  stands_same due conv trace next s over w = over_next due conv trace next w (inl s.moves) s.sees
+  stands_same due conv trace next s over w = over_next due conv trace next w (inl s.moves, λ peer is. s.peer ∙ is) s.sees
   stands_same due conv trace next s lost w = w
   stands_same due conv trace next s (live held) w =
       let v = w.within in
@@ -159,12 +165,13 @@ module _ {C : Type 0} (standing : Standing C) (awaited : C → Option Ask) (numb
       record {
         within = record {
           made = v.made;
+          peer = v.peer;
           earlier = v.earlier;
           stands = subst P (sym s.moves) v.stands;
           owes = v.owes;
           tells = λ view told. v.tells view told ∙ sym (s.sees view told);
           named = v.named;
-          begun = s.begun ∙ v.begun;
+          begun = s.peer ∙ v.begun;
           sides = s.connected ∙ v.sides;
           dial = s.dial ∙ v.dial;
         };
@@ -172,12 +179,12 @@ module _ {C : Type 0} (standing : Standing C) (awaited : C → Option Ask) (numb
       }
 
   -- a table in which nothing was admitted
-  pub new_stands : {S : Type 0} (answers : Answering S) (due : Due) → OwesNothing due → (table : Table C) → ((conv : ℕ) → place_of table conv ≡ None) →
+  pub new_stands : {S : Type 0} (answers : Answering S) (due : Due) (table : Table C) → ((conv : ℕ) → place_of table conv ≡ None) →
       TableStands standing awaited number made_due answers due table []
-  new_stands answers due owes table empty = record {
+  new_stands answers due table empty = record {
     at = λ conv.
         let P : Found (Held C) → Type 0 = StandsIn standing awaited number made_due due conv [] in
-        let u : IsUnknown due conv [] = record { begun = refl; dial = refl; connected = refl; moves = refl; sees = λ view told. refl; owes = owes conv } in
+        let u : IsUnknown conv [] = record { begun = refl; dial = refl; connected = refl; moves = refl; sees = λ view told. refl } in
         subst P (sym (ap (found_by table.live) (empty conv))) u;
     served = record {
       within = always_empty (IsWithinDue due) (λ conv view told. (due_in due view conv [], refl));
@@ -196,7 +203,7 @@ module _ {C : Type 0} (standing : Standing C) (awaited : C → Option Ask) (numb
       {S : Type 0} (answers : Answering S) where
     told_in : (due : Due) (conv : ℕ) (trace : Trace) (x : Found (Held C)) → StandsIn standing awaited number made_due due conv trace x → (view : View) → IsTold view →
         seen_in view conv trace ≡ due_in due view conv trace
-    told_in due conv trace unknown w view told = w.sees view told ∙ sym (ap (λ l. seen_of view (due conv l)) w.moves ∙ w.owes view)
+    told_in due conv trace unknown w view told = w.sees view told ∙ sym (ap (λ at. seen_of view (due_at due conv at (calls_of conv trace))) w.begun)
     told_in due conv trace over w view told = w.told view told
     told_in due conv trace lost w view told = absurd w
     told_in due conv trace (live held) w view told =
@@ -205,39 +212,49 @@ module _ {C : Type 0} (standing : Standing C) (awaited : C → Option Ask) (numb
     pub all_told : (due : Due) (table : Table C) (trace : Trace) → TableStands standing awaited number made_due answers due table trace → IsAllTold due trace
     all_told due table trace stands conv view told = told_in due conv trace (found table conv) (stands.at conv) view told
 
-    grown_within : (due : Due) (conv : ℕ) (trace next : Trace) (move : Move) (x : Found (Held C)) → StandsIn standing awaited number made_due due conv trace x →
-        calls_of conv next ≡ calls_of conv trace ++ move ∷ [] → (view : View) → IsTold view → IsPrefixOf (seen_in view conv trace) (due_in due view conv next)
-    grown_within due conv trace next move unknown w is view told =
-        let P : List Atom → Type 0 = λ l. IsPrefixOf l (due_in due view conv next) in subst P (sym (w.sees view told)) (due_in due view conv next, refl)
-    grown_within due conv trace next move over w is view told =
-        let P : List Atom → Type 0 = λ l. IsPrefixOf (seen_in view conv trace) l in
-        subst P (w.told view told ∙ sym (over_grown due conv trace next w (inr (move, is)) view)) (prefix_self (seen_in view conv trace))
-    grown_within due conv trace next move lost w is view told = absurd w
-    grown_within due conv trace next move (live held) w is view told =
+    -- what is due to one that is live by one call more
+    live_within : (due : Due) (conv : ℕ) (trace next : Trace) (move : Move) (held : Held C) (w : IsLive standing awaited number made_due due conv held trace) →
+        calls_of conv next ≡ calls_of conv trace ++ move ∷ [] → (calls conv next).peer ≡ Some w.within.peer → (view : View) → IsTold view →
+        IsPrefixOf (seen_in view conv trace) (due_in due view conv next)
+    live_within due conv trace next move held w is there view told =
         let v = w.within in
         let P : List Atom → Type 0 = λ l. IsPrefixOf l (seen_of view (made_due v.made (calls_of conv trace ++ move ∷ []))) in
         let Q : List Atom → Type 0 = λ l. IsPrefixOf (seen_in view conv trace) l in
         let before : seen_of view (made_due v.made (calls_of conv trace)) ≡ seen_in view conv trace =
-        ap (seen_of view) (v.owes (calls_of conv trace)) ∙ sym (told_in due conv trace (live held) w view told) in
+        ap (seen_of view) (v.owes (calls_of conv trace)) ∙ (sym (due_there due conv trace v.peer v.begun view) ∙ sym (told_in due conv trace (live held) w view told)) in
         let after : seen_of view (made_due v.made (calls_of conv trace ++ move ∷ [])) ≡ due_in due view conv next =
-        ap (seen_of view) (v.owes (calls_of conv trace ++ move ∷ [])) ∙ ap (λ l. seen_of view (due conv l)) (sym is) in
+        ap (seen_of view) (v.owes (calls_of conv trace ++ move ∷ [])) ∙ (ap (λ l. seen_of view (due conv v.peer l)) (sym is) ∙ sym (due_there due conv next v.peer there view)) in
         subst Q after (subst P before (grows v.made (calls_of conv trace) move view))
 
-    next_within : (due : Due) (conv : ℕ) (trace next : Trace) (x : Found (Held C)) → StandsIn standing awaited number made_due due conv trace x →
-        IsGrown (calls_of conv trace) (calls_of conv next) → (view : View) → IsTold view → seen_in view conv next ≡ seen_in view conv trace →
+    live_next : (due : Due) (conv : ℕ) (trace next : Trace) (held : Held C) → IsLive standing awaited number made_due due conv held trace →
+        IsGrown (calls conv trace) (calls conv next) → (view : View) → IsTold view → seen_in view conv next ≡ seen_in view conv trace →
         IsPrefixOf (seen_in view conv next) (due_in due view conv next)
-    next_within due conv trace next x w (inl same) view told sees =
+    live_next due conv trace next held w (inl same, stays) view told sees =
         let P : List Atom → Type 0 = λ l. IsPrefixOf (seen_in view conv next) l in
-        subst P (sees ∙ (told_in due conv trace x w view told ∙ ap (λ l. seen_of view (due conv l)) (sym same))) (prefix_self (seen_in view conv next))
-    next_within due conv trace next x w (inr (move, is)) view told sees =
-        let P : List Atom → Type 0 = λ l. IsPrefixOf l (due_in due view conv next) in subst P (sym sees) (grown_within due conv trace next move x w is view told)
+        let here : due_by due conv (calls conv trace) ≡ due_by due conv (calls conv next) =
+        due_same due conv (calls conv trace) (calls conv next) (w.within.begun ∙ sym (stays w.within.peer w.within.begun)) (sym same) in
+        subst P (sees ∙ (told_in due conv trace (live held) w view told ∙ ap (seen_of view) here)) (prefix_self (seen_in view conv next))
+    live_next due conv trace next held w (inr (move, is), stays) view told sees =
+        let P : List Atom → Type 0 = λ l. IsPrefixOf l (due_in due view conv next) in
+        subst P (sym sees) (live_within due conv trace next move held w is (stays w.within.peer w.within.begun) view told)
+
+    next_within : (due : Due) (conv : ℕ) (trace next : Trace) (x : Found (Held C)) → StandsIn standing awaited number made_due due conv trace x →
+        IsGrown (calls conv trace) (calls conv next) → (view : View) → IsTold view → seen_in view conv next ≡ seen_in view conv trace →
+        IsPrefixOf (seen_in view conv next) (due_in due view conv next)
+    next_within due conv trace next unknown w grown view told sees =
+        let P : List Atom → Type 0 = λ l. IsPrefixOf l (due_in due view conv next) in subst P (sym (sees ∙ w.sees view told)) (due_in due view conv next, refl)
+    next_within due conv trace next over w grown view told sees =
+        let P : List Atom → Type 0 = λ l. IsPrefixOf (seen_in view conv next) l in
+        subst P (sees ∙ (w.told view told ∙ sym (over_grown due conv trace next w grown view))) (prefix_self (seen_in view conv next))
+    next_within due conv trace next lost w grown view told sees = absurd w
+    next_within due conv trace next (live held) w grown view told sees = live_next due conv trace next held w grown view told sees
 
     -- what was heard takes nothing back
     pub heard_served : (due : Due) (table : Table C) (trace : Trace) (moment : ℕ) (heard : Heard) → TableStands standing awaited number made_due answers due table trace →
         IsServed answers due (trace ++ steps.Heard moment heard ∷ [])
     heard_served due table trace moment heard stands = record {
       within = always_more (IsWithinDue due) trace (steps.Heard moment heard) stands.served.within
-          (λ conv view told. next_within due conv trace (trace ++ steps.Heard moment heard ∷ []) (found table conv) (stands.at conv) (heard_moves conv trace moment heard) view told (seen_heard view conv trace moment heard));
+          (λ conv view told. next_within due conv trace (trace ++ steps.Heard moment heard ∷ []) (found table conv) (stands.at conv) (heard_grown conv trace moment heard) view told (seen_heard view conv trace moment heard));
       told = before_heard (IsAllTold due) trace moment heard stands.served.told (all_told due table trace stands);
       met = always_more (EndsMet answers due) trace (steps.Heard moment heard) stands.served.met
           (λ front conv ask reply e. absurd (no_answer_heard moment conv heard ask reply (last_step trace front (steps.Heard moment heard) (steps.Answered conv ask reply) e).1));
@@ -270,11 +287,13 @@ module _ {C : Type 0} (standing : Standing C) (awaited : C → Option Ask) (numb
       -- a conversation that has ended
       over_of : (due : Due) (conv : ℕ) (held : Held C) (trace : Trace) → IsLive standing awaited number made_due due conv held trace → ended held.conversation ≡ true → IsOver due conv trace
       over_of due conv held trace w is = record {
+        peer = w.within.peer;
+        begun = w.within.begun;
         told = told_in due conv trace (live held) w;
         stays = λ view more.
             ap (seen_of view) (sym (w.within.owes (calls_of conv trace ++ more)))
             ∙ (ends w.within.made held.conversation (calls_of conv trace) (w.within.earlier ++ []) w.within.stands is more view
-            ∙ ap (seen_of view) (w.within.owes (calls_of conv trace)));
+            ∙ (ap (seen_of view) (w.within.owes (calls_of conv trace)) ∙ sym (due_there due conv trace w.within.peer w.within.begun view)));
       }
 
       -- what became of the conversation is held, or it has ended
@@ -315,25 +334,25 @@ module _ {C : Type 0} (standing : Standing C) (awaited : C → Option Ask) (numb
         grown = t.grown;
         own = t.own;
         others = others;
-        stands = λ due trace heard is owes stands.
+        stands = λ due trace heard peer is owes stands.
             let P : Found (Held C) → Type 0 = StandsIn standing awaited number made_due due conv trace in
-            let w : IsUnknown due conv trace = subst P was (stands.at conv) in
-            let on = calls_heard conv trace moment heard news.Begun is in
-            let took : takes moment (calls conv trace) news.Begun ≡ record (calls conv trace) { begun = true; moves = calls_of conv trace ++ Took moment events.Begun ∷ [] } = rw w.begun refl in
+            let w : IsUnknown conv trace = subst P was (stands.at conv) in
+            let on = calls_heard conv trace moment heard (news.Begun peer) is in
+            let took : takes moment (calls conv trace) (news.Begun peer) ≡ record (calls conv trace) { peer = Some peer; moves = calls_of conv trace ++ Took moment events.Begun ∷ [] } = rw w.begun refl in
             let Q : C → Type 0 = λ s. standing conversation s (calls_of conv trace) [] in
             let R : List Move → Type 0 = λ l. standing conversation conversation l [] in
-            let next = t.takes due trace (trace ++ steps.Heard moment heard ∷ [])
+            let next = t.takes due peer trace (trace ++ steps.Heard moment heard ∷ [])
             (record { made = conversation; earlier = []; stands = subst Q (sym same) (subst R (sym w.moves) fresh); owes = owes; tells = λ view told. sym (w.sees view told) })
             (record {
               moves = ap (λ (c : Calls). c.moves) on ∙ ap (λ (c : Calls). c.moves) took;
-              begun = ap (λ (c : Calls). c.begun) on ∙ ap (λ (c : Calls). c.begun) took;
+              begun = ap (λ (c : Calls). c.peer) on ∙ ap (λ (c : Calls). c.peer) took;
               dials = ap (λ (c : Calls). c.dial) on ∙ (ap (λ (c : Calls). c.dial) took ∙ w.dial);
               connected = ap (λ (c : Calls). c.connected) on ∙ (ap (λ (c : Calls). c.connected) took ∙ w.connected);
               now = ap (λ (c : Calls). c.moment) on;
               sees = λ view told. seen_heard view conv trace moment heard;
             })
             (heard_served due before trace moment heard stands) in
-            next_stands due conv moment news.Begun before after trace t.more heard is t.own others stands
+            next_stands due conv moment (news.Begun peer) before after trace t.more heard is t.own others stands
             (here_stands due conv new_held ((trace ++ steps.Heard moment heard ∷ []) ++ t.more) (found after conv) (record { within = next.0; settled = t.settled }) there) next.1;
       }
 
@@ -359,19 +378,19 @@ module _ {C : Type 0} (standing : Standing C) (awaited : C → Option Ask) (numb
     over_hands conv moment what table out was = ignored_hands conv moment what table out (λ due trace heard is w.
         let P : Found (Held C) → Type 0 = StandsIn standing awaited number made_due due conv trace in
         let Q : Found (Held C) → Type 0 = StandsIn standing awaited number made_due due conv (trace ++ steps.Heard moment heard ∷ []) in
-        subst Q (sym was) (over_next due conv trace (trace ++ steps.Heard moment heard ∷ []) (subst P was w) (heard_moves conv trace moment heard) (λ view told. seen_heard view conv trace moment heard)))
+        subst Q (sym was) (over_next due conv trace (trace ++ steps.Heard moment heard ∷ []) (subst P was w) (heard_grown conv trace moment heard) (λ view told. seen_heard view conv trace moment heard)))
 
-    takes_nothing : (moment : ℕ) (c : Calls) (what : News) → (what ≡ news.Begun → ⊥) → c.begun ≡ false → c.dial ≡ None → takes moment c what ≡ c
-    takes_nothing moment c news.Begun not begun dial = absurd (not refl)
+    takes_nothing : (moment : ℕ) (c : Calls) (what : News) → ((peer : Address) → what ≡ news.Begun peer → ⊥) → c.peer ≡ None → c.dial ≡ None → takes moment c what ≡ c
+    takes_nothing moment c (news.Begun peer) not begun dial = absurd (not peer refl)
     takes_nothing moment c (news.Event side event) not begun dial = rw begun refl
     takes_nothing moment c (news.Dialled server ok) not begun dial = rw dial refl
 
-    pub unknown_hands : (conv moment : ℕ) (what : News) (table : Table C) (out : List Step) → found table conv ≡ unknown → (what ≡ news.Begun → ⊥) →
+    pub unknown_hands : (conv moment : ℕ) (what : News) (table : Table C) (out : List Step) → found table conv ≡ unknown → ((peer : Address) → what ≡ news.Begun peer → ⊥) →
         Hands standing awaited number made_due answers conv moment what table table out out
     unknown_hands conv moment what table out was not = ignored_hands conv moment what table out (λ due trace heard is w.
         let P : Found (Held C) → Type 0 = StandsIn standing awaited number made_due due conv trace in
         let Q : Found (Held C) → Type 0 = StandsIn standing awaited number made_due due conv (trace ++ steps.Heard moment heard ∷ []) in
-        let u : IsUnknown due conv trace = subst P was w in
+        let u : IsUnknown conv trace = subst P was w in
         let same = same_by conv moment trace (trace ++ steps.Heard moment heard ∷ [])
         (calls_heard conv trace moment heard what is ∙ ap (λ (c : Calls). record c { moment = moment }) (takes_nothing moment (calls conv trace) what not u.begun u.dial))
         (λ view told. seen_heard view conv trace moment heard) in

@@ -1,13 +1,18 @@
 -- One thing heard, worked off: the steps that follow, and those that were told.
-use Rattle.std.proofs.Common.{◌≡◌, ◌≢◌, ℕ, zero, suc, List, [], ◌∷◌, ◌++◌, Option, Some, None, refl, ap, sym, ◌∙◌, subst, append_assoc, ◌+◌, ◌<◌, ◌⊎◌, inl, inr, length, take, drop, get_or, arith, OnOk, OnErr, Result, Ok, Err}
+use Rattle.std.proofs.Common.{◌≡◌, ◌≢◌, Bool, true, false, nat_lt, ℕ, zero, suc, List, [], ◌∷◌, ◌++◌, Option, Some, None, refl, ap, sym, ◌∙◌, subst, append_assoc, ◌+◌, ◌<◌, ◌⊎◌, inl, inr, length, take, drop, get_or, arith, OnOk, OnErr, Result, Ok, Err}
 use Rattle.std.proofs.lemmas.List.{append-nil, take-append-drop}
+use Rattle.std.specs.Prelude.{if◌then◌else◌}
 use Rattle.std.specs.List.{flat_map}
 use Rattle.std.proofs.lemmas.Grind.{flat_map-append}
 use Rattle.px_text.specs.Prefix.{IsPrefixOf}
 use Rattle.px_message.specs.declared.flow.Flow.{Flow}
+use Rattle.px_message.specs.declared.address.Address.{Address}
 use Rattle.px_event.specs.declared.ask.Ask.{Ask}
 use Rattle.px_event.specs.declared.command.Command.{Command}
 use Rattle.px_event.specs.declared.heard.Heard.{Heard}
+use Rattle.px_event.specs.declared.heard.Heard.TheVariants as heard
+use Rattle.px_event.specs.declared.side.Door.{Door}
+use Rattle.px_event.specs.declared.side.Door.TheVariants.{Proxy, Control}
 use Rattle.px_event.specs.declared.step.Step.{Step}
 use Rattle.px_event.specs.declared.step.Step.TheVariants as steps
 use Rattle.px_event.specs.Layer.{Move, Standing}
@@ -16,12 +21,12 @@ use Rattle.px_core.specs.declared.news.News.{News}
 use Rattle.px_core.specs.declared.news.News.TheVariants as news
 use Rattle.px_core.specs.declared.table.Table.{Table}
 use Rattle.px_core.specs.Answers.{Answering}
-use Rattle.px_core.specs.Calls.{addressed}
+use Rattle.px_core.specs.Calls.{number_end, addressed}
 use Rattle.px_core.specs.Due.{Due, IsServed}
 use Rattle.px_core.specs.Held.{IsOf, AllOf}
 use Rattle.px_core.specs.declared.router.Router.{Router}
 use Rattle.px_core.specs.Router.{found, TableStands, Admits, Routes}
-use Rattle.px_core.specs.Run.{done_of, Tells, IsTellable, AllTellable, ToldPart, IsOfHeard, TellsOfHeard, KeepsOthers}
+use Rattle.px_core.specs.Run.{begun_by, done_of, Tells, IsTellable, AllTellable, ToldPart, IsOfHeard, TellsOfHeard, KeepsOthers}
 
 -- steps of a conversation are said or noted
 tellable_one : (conv : ℕ) (step : Step) → IsOf conv step → IsTellable step
@@ -46,13 +51,13 @@ served_front answers due trace rest served = record {
 module _ {C : Type 0} (standing : Standing C) (awaited : C → Option Ask) (number : C → ℕ) (made_due : C → List Move → List Command) {S : Type 0} (answers : Answering S) where
   pub admitted : (conv moment : ℕ) (conversation : C) (before after : Table C) (empty given : List Step) → empty ≡ [] →
       Admits standing awaited number made_due answers conv moment conversation before after empty given →
-      (due : Due) (trace : Trace) (what : Heard) → addressed what ≡ Some (conv, news.Begun) → ((moves : List Move) → made_due conversation moves ≡ due conv moves) →
+      (due : Due) (trace : Trace) (what : Heard) (peer : Address) → addressed what ≡ Some (conv, news.Begun peer) → ((moves : List Move) → made_due conversation moves ≡ due conv peer moves) →
       TableStands standing awaited number made_due answers due before trace →
       TableStands standing awaited number made_due answers due after ((trace ++ steps.Heard moment what ∷ []) ++ given)
-  admitted conv moment conversation before after empty given none a due trace what is owes stands =
+  admitted conv moment conversation before after empty given none a due trace what peer is owes stands =
       let same : a.more ≡ given = sym (a.grown ∙ ap (λ l. l ++ a.more) none) in
       let P : Trace → Type 0 = λ l. TableStands standing awaited number made_due answers due after ((trace ++ steps.Heard moment what ∷ []) ++ l) in
-      subst P same (a.stands due trace what is owes stands)
+      subst P same (a.stands due trace what peer is owes stands)
 
   pub admitted_own : (conv moment : ℕ) (conversation : C) (before after : Table C) (empty given : List Step) → empty ≡ [] →
       Admits standing awaited number made_due answers conv moment conversation before after empty given → AllOf conv given
@@ -197,24 +202,53 @@ front_of_heard what front list (rest, whole) of = record {
 same_conv : (p q : ℕ × News) → Some p ≡ Some q → p.0 ≡ q.0
 same_conv p q e = let s : p ≡ q = cc in ap (λ (r : ℕ × News). r.0) s
 
+-- a connection by which a conversation begins: whose it is, and where its client is
+begun_if : (b : Bool) (number : ℕ) (at : Address) (conv : ℕ) → (if b then Some number else None) ≡ Some conv →
+    if◌then◌else◌ {A = Option (ℕ × News)} b (Some (number, news.Begun at)) None ≡ Some (conv, news.Begun at)
+begun_if true number at conv e = let s : number ≡ conv = cc in ap (λ n. Some (n, news.Begun at)) s
+begun_if false number at conv e = absurd (let no : None ≡ Some conv = e in cc)
+
+pub begun_at : (what : Heard) (conv : ℕ) → begun_by what ≡ Some conv → (peer : Address) × (addressed what ≡ Some (conv, news.Begun peer))
+begun_at (heard.Accepted number Proxy at) conv is = (at, begun_if (nat_lt number number_end) number at conv is)
+begun_at (heard.Accepted number Control at) conv is = absurd (let no : None ≡ Some conv = is in cc)
+begun_at (heard.Piece number side bytes) conv is = absurd (let no : None ≡ Some conv = is in cc)
+begun_at (heard.Closed number side) conv is = absurd (let no : None ≡ Some conv = is in cc)
+begun_at (heard.Dialled number server ok) conv is = absurd (let no : None ≡ Some conv = is in cc)
+begun_at heard.End conv is = absurd (let no : None ≡ Some conv = is in cc)
+
+some_pair : (p q : ℕ × News) → Some p ≡ Some q → p ≡ q
+some_pair p q e = cc
+
+same_peer : (a b : Address) → news.Begun a ≡ news.Begun b → a ≡ b
+same_peer a b e = cc
+
+at_if : (b : Bool) (number : ℕ) (at : Address) (conv : ℕ) (peer : Address) → if◌then◌else◌ {A = Option (ℕ × News)} b (Some (number, news.Begun at)) None ≡ Some (conv, news.Begun peer) →
+    peer ≡ at
+at_if true number at conv peer e = same_peer peer at (sym (ap (λ (r : ℕ × News). r.1) (some_pair (number, news.Begun at) (conv, news.Begun peer) e)))
+at_if false number at conv peer e = absurd (let no : None ≡ Some (conv, news.Begun peer) = e in cc)
+
+pub peer_is : (number : ℕ) (door : Door) (at : Address) (conv : ℕ) (peer : Address) → addressed (heard.Accepted number door at) ≡ Some (conv, news.Begun peer) → peer ≡ at
+peer_is number Proxy at conv peer is = at_if (nat_lt number number_end) number at conv peer is
+peer_is number Control at conv peer is = absurd (let no : None ≡ Some (conv, news.Begun peer) = is in cc)
+
 -- steps of the conversation that began
-pub begun_of_heard : (what : Heard) (conv : ℕ) (list : List Step) → addressed what ≡ Some (conv, news.Begun) → AllOf conv list → IsOfHeard what list
-begun_of_heard what conv list is own = record {
-  own = λ other news' some. let P : ℕ → Type 0 = λ k. AllOf k list in subst P (same_conv (conv, news.Begun) (other, news') (sym is ∙ some)) own;
-  none = λ no. absurd (let wrong : Some (conv, news.Begun) ≡ None = sym is ∙ no in cc);
+pub begun_of_heard : (what : Heard) (conv : ℕ) (peer : Address) (list : List Step) → addressed what ≡ Some (conv, news.Begun peer) → AllOf conv list → IsOfHeard what list
+begun_of_heard what conv peer list is own = record {
+  own = λ other news' some. let P : ℕ → Type 0 = λ k. AllOf k list in subst P (same_conv (conv, news.Begun peer) (other, news') (sym is ∙ some)) own;
+  none = λ no. absurd (let wrong : Some (conv, news.Begun peer) ≡ None = sym is ∙ no in cc);
 }
 
-pub begun_keeps : {C A : Type 0} (what : Heard) (conv : ℕ) (before after : Router C A) → addressed what ≡ Some (conv, news.Begun) →
+pub begun_keeps : {C A : Type 0} (what : Heard) (conv : ℕ) (peer : Address) (before after : Router C A) → addressed what ≡ Some (conv, news.Begun peer) →
     ((other : ℕ) → conv ≢ other → found after.table other ≡ found before.table other) → KeepsOthers what before after
-begun_keeps what conv before after is kept = record {
-  others = λ first other news' some apart. kept other (λ same. apart (sym (same_conv (conv, news.Begun) (first, news') (sym is ∙ some)) ∙ same));
-  none = λ no. absurd (let wrong : Some (conv, news.Begun) ≡ None = sym is ∙ no in cc);
+begun_keeps what conv peer before after is kept = record {
+  others = λ first other news' some apart. kept other (λ same. apart (sym (same_conv (conv, news.Begun peer) (first, news') (sym is ∙ some)) ∙ same));
+  none = λ no. absurd (let wrong : Some (conv, news.Begun peer) ≡ None = sym is ∙ no in cc);
 }
 
-pub begun_keeps_by : {C A T E : Type 0} (result : Result T E) (what : Heard) (conv : ℕ) (before after : Router C A) → addressed what ≡ Some (conv, news.Begun) →
+pub begun_keeps_by : {C A T E : Type 0} (result : Result T E) (what : Heard) (conv : ℕ) (peer : Address) (before after : Router C A) → addressed what ≡ Some (conv, news.Begun peer) →
     ((other : ℕ) → conv ≢ other → OnOk result (found after.table other ≡ found before.table other)) → OnOk result (KeepsOthers what before after)
-begun_keeps_by (Ok t) what conv before after is kept = begun_keeps what conv before after is kept
-begun_keeps_by (Err e) what conv before after is kept = tt
+begun_keeps_by (Ok t) what conv peer before after is kept = begun_keeps what conv peer before after is kept
+begun_keeps_by (Err e) what conv peer before after is kept = tt
 
 module _ {C : Type 0} (standing : Standing C) (awaited : C → Option Ask) (number : C → ℕ) (made_due : C → List Move → List Command) {S : Type 0} (answers : Answering S) where
   pub routed_of_heard : (moment : ℕ) (what : Heard) (before after : Table C) (empty given : List Step) → empty ≡ [] →

@@ -1,8 +1,9 @@
 -- What a trace promises, one step of a conversation further.
-use Rattle.std.proofs.Common.{◌≡◌, ◌≢◌, ◌⊎◌, inl, inr, ℕ, Bool, true, false, ◌==◌, List, [], ◌∷◌, ◌++◌, map, Option, Some, None, refl, ap, sym, ◌∙◌, subst, append_assoc}
+use Rattle.std.proofs.Common.{◌≡◌, ◌≢◌, ◌⊎◌, inl, inr, ℕ, true, false, ◌==◌, List, [], ◌∷◌, ◌++◌, map, Option, Some, ap, sym, ◌∙◌, subst, append_assoc}
 use Rattle.std.proofs.lemmas.List.{append-nil}
 use Rattle.std.proofs.lemmas.Bool.Decides.{eqb_tells}
 use Rattle.px_text.specs.Prefix.{IsPrefixOf}
+use Rattle.px_message.specs.declared.address.Address.{Address}
 use Rattle.px_event.specs.declared.ask.Ask.{Ask}
 use Rattle.px_event.specs.declared.reply.Reply.{Reply}
 use Rattle.px_event.specs.declared.command.Command.{Command}
@@ -11,15 +12,15 @@ use Rattle.px_event.specs.declared.heard.Heard.{Heard}
 use Rattle.px_event.specs.declared.step.Step.{Step}
 use Rattle.px_event.specs.declared.step.Step.TheVariants as steps
 use Rattle.px_event.specs.Layer.{Move, Standing}
-use Rattle.px_event.specs.Trace.{Trace, Always, BeforeEachHeard}
+use Rattle.px_event.specs.Trace.{Trace, Always}
 use Rattle.px_event.specs.View.{View, Atom, IsTold, seen_of, seen_in, command_atoms, step_atoms}
 use Rattle.px_event.proofs.Seen.{seen_append}
 use Rattle.px_event.proofs.TraceLemmas.{front_of_more, IsFrontOfMore, always_more, before_other}
 use Rattle.px_core.specs.declared.held.Held.{Held}
 use Rattle.px_core.specs.Answers.{Answering}
-use Rattle.px_core.specs.Calls.{Calls, calls, calls_of, calls_on}
+use Rattle.px_core.specs.Calls.{Calls, calls, calls_of}
 use Rattle.px_core.specs.Conversation.{IsNamed, AllNamed}
-use Rattle.px_core.specs.Due.{Due, due_in, IsWithinDue, IsAllTold, IsMet, EndsMet, IsServed}
+use Rattle.px_core.specs.Due.{Due, due_at, due_by, due_in, IsWithinDue, IsAllTold, IsMet, EndsMet, IsServed}
 use Rattle.px_core.specs.Held.{step_of, IsOf, AllOf, dial_by, dial_from, Within}
 use Rattle.px_core.proofs.CallLemmas.{calls_more, seen_more, others_calls, others_seen, told_calls, told_seen, told_own}
 
@@ -49,6 +50,15 @@ no_answer conv number ask reply (commands.Done flow) e = cc
 no_heard : (conv : ℕ) (step : Step) → IsOf conv step → (moment : ℕ) (heard : Heard) → step ≡ steps.Heard moment heard → ⊥
 no_heard conv step of moment heard is = let P : Step → Type 0 = IsOf conv in let no : ⊥ = subst P is of in no
 
+-- what is due where its client is there
+pub due_there : (due : Due) (conv : ℕ) (trace : Trace) (peer : Address) → (calls conv trace).peer ≡ Some peer → (view : View) →
+    due_in due view conv trace ≡ seen_of view (due conv peer (calls_of conv trace))
+due_there due conv trace peer is view = ap (λ at. seen_of view (due_at due conv at (calls_of conv trace))) is
+
+-- what is due where the same is known
+pub due_same : (due : Due) (conv : ℕ) (a b : Calls) → a.peer ≡ b.peer → a.moves ≡ b.moves → due_by due conv a ≡ due_by due conv b
+due_same due conv a b peer moves = ap (λ at. due_at due conv at a.moves) peer ∙ ap (due_at due conv b.peer) moves
+
 module _ {S : Type 0} (answers : Answering S) (due : Due) where
   -- the others stay within what is due to them
   pub step_within : (conv : ℕ) (trace : Trace) (step : Step) → IsOf conv step → IsWithinDue due trace →
@@ -63,7 +73,7 @@ module _ {S : Type 0} (answers : Answering S) (due : Due) where
           let seen = others_seen view conv other trace (step ∷ []) (of, tt) apart.1 in
           let made = others_calls conv other trace (step ∷ []) (of, tt) apart.1 in
           let P : List Atom → Type 0 = λ l. IsPrefixOf l (due_in due view other (trace ++ step ∷ [])) in
-          let Q : Calls → Type 0 = λ c. IsPrefixOf (seen_in view other trace) (seen_of view (due other c.moves)) in
+          let Q : Calls → Type 0 = λ c. IsPrefixOf (seen_in view other trace) (seen_of view (due_by due other c)) in
           subst P (sym seen) (subst Q (sym made) (before other view told))
 
   now_of : (P : Trace → Type 0) (trace : Trace) → Always P trace → P trace
@@ -104,8 +114,9 @@ module _ {S : Type 0} (answers : Answering S) (due : Due) where
     pub due_is : (conv : ℕ) (held : Held C) (trace : Trace) (rest : List Command) (w : Within standing awaited number made_due due conv held trace rest) (view : View) →
         due_in due view conv trace ≡ seen_of view w.earlier ++ seen_of view rest
     due_is conv held trace rest w view =
-        ap (seen_of view) (sym (w.owes (calls_of conv trace)))
-        ∙ (sym (gave w.made held.conversation (calls_of conv trace) (w.earlier ++ rest) w.stands view) ∙ seen_append view w.earlier rest)
+        due_there due conv trace w.peer w.begun view
+        ∙ (ap (seen_of view) (sym (w.owes (calls_of conv trace)))
+        ∙ (sym (gave w.made held.conversation (calls_of conv trace) (w.earlier ++ rest) w.stands view) ∙ seen_append view w.earlier rest))
 
     pub within_due : (conv : ℕ) (held : Held C) (trace : Trace) (rest : List Command) → Within standing awaited number made_due due conv held trace rest →
         (view : View) → IsTold view → IsPrefixOf (seen_in view conv trace) (due_in due view conv trace)
@@ -123,6 +134,7 @@ module _ {S : Type 0} (answers : Answering S) (due : Due) where
         let Q : List Command → Type 0 = λ l. standing w.made held.conversation (calls_of conv trace) l in
         record {
           made = w.made;
+          peer = w.peer;
           earlier = w.earlier ++ command ∷ [];
           stands = subst P (sym (ap (λ (c : Calls). c.moves) on)) (subst Q (sym (append_assoc w.earlier (command ∷ []) rest)) w.stands);
           owes = w.owes;
@@ -131,7 +143,7 @@ module _ {S : Type 0} (answers : Answering S) (due : Due) where
               ∙ (ap (λ l. seen_of view w.earlier ++ l) (append-nil (command_atoms view command) ∙ sym (told_seen view conv command told named))
               ∙ (ap (λ l. l ++ step_atoms view conv (step_of conv command)) (w.tells view told) ∙ sym (seen_more view conv trace (step_of conv command))));
           named = w.named;
-          begun = ap (λ (c : Calls). c.begun) on ∙ w.begun;
+          begun = ap (λ (c : Calls). c.peer) on ∙ w.begun;
           sides = ap (λ (c : Calls). c.connected) on ∙ w.sides;
           dial = ap (λ (c : Calls). dial_from c.dial rest) on ∙ w.dial;
         }

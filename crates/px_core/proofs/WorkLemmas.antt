@@ -1,5 +1,5 @@
 -- Working off a conversation: telling its commands, answering its hook, letting it wait, and one after the other.
-use Rattle.std.proofs.Common.{◌≡◌, ◌⊎◌, inl, inr, ℕ, ◌+◌, ◌<◌, arith, List, [], ◌∷◌, ◌++◌, map, Option, Some, None, refl, ap, sym, ◌∙◌, subst, append_assoc, option_to_list}
+use Rattle.std.proofs.Common.{◌≡◌, inl, inr, ℕ, ◌+◌, ◌<◌, arith, List, [], ◌∷◌, ◌++◌, map, Option, Some, None, refl, ap, sym, ◌∙◌, subst, append_assoc, option_to_list}
 use Rattle.std.specs.List.{flat_map}
 use Rattle.std.proofs.lemmas.List.{append-nil}
 use Rattle.px_event.specs.declared.ask.Ask.{Ask}
@@ -11,7 +11,7 @@ use Rattle.px_event.specs.declared.step.Step.{Step}
 use Rattle.px_event.specs.declared.step.Step.TheVariants as steps
 use Rattle.px_event.specs.Layer.{Move, Replied, Standing, Goes, asks_in}
 use Rattle.px_event.specs.Trace.{Trace}
-use Rattle.px_event.specs.View.{View, bytes, closes, questions, finished, flows, Atom, about, IsTold, seen_of, seen_in, step_atoms}
+use Rattle.px_event.specs.View.{View, bytes, closes, questions, finished, course, flows, about, seen_of, seen_in, step_atoms}
 use Rattle.px_core.specs.declared.answerer.Answer.{Answer}
 use Rattle.px_core.specs.declared.answerer.Answer.TheVariants as answer
 use Rattle.px_core.specs.declared.held.Held.{Held}
@@ -19,11 +19,11 @@ use Rattle.px_core.specs.declared.held.Question.{Question}
 use Rattle.px_core.specs.Answers.{Answering, FilesMeaning}
 use Rattle.px_core.specs.Calls.{Calls, calls, calls_of, calls_on, moved}
 use Rattle.px_core.specs.Conversation.{AllNamed}
-use Rattle.px_core.specs.Due.{Due, due_in, IsMet, IsServed}
+use Rattle.px_core.specs.Due.{Due, due_by, IsMet}
 use Rattle.px_core.specs.Held.{step_of, AllOf, asked_from, dial_from, dial_of, IsSettled, IsNext, IsReady, IsAbout, Replies, Within, WorkedTo, Asks, Works, turns_left}
-use Rattle.px_core.proofs.AskLemmas.{AsksOne, asks_one, dial_now, dial_after, quiet, IsTheQuestion}
+use Rattle.px_core.proofs.AskLemmas.{asks_one, dial_now, quiet, IsTheQuestion}
 use Rattle.px_core.proofs.CallLemmas.{calls_more, seen_more, same_number, told_calls}
-use Rattle.px_core.proofs.ServedLemmas.{due_is, within_due, Told, told_all, served_step, ends_met, all_own}
+use Rattle.px_core.proofs.ServedLemmas.{due_is, within_due, told_all, served_step, ends_met, all_own}
 
 own_append : (conv : ℕ) (xs ys : List Step) → AllOf conv xs → AllOf conv ys → AllOf conv (xs ++ ys)
 own_append conv [] ys a b = b
@@ -34,6 +34,7 @@ answered_seen (bytes side) conv other ask reply = refl
 answered_seen (closes side) conv other ask reply = refl
 answered_seen questions conv other ask reply = refl
 answered_seen finished conv other ask reply = refl
+answered_seen course conv other ask reply = refl
 answered_seen flows conv other ask reply = refl
 
 answered_calls : (conv : ℕ) (c : Calls) (ask : Ask) (reply : Reply) → calls_on conv c (steps.Answered conv ask reply) ≡ moved (Replied c.moment reply) c
@@ -45,24 +46,25 @@ module _ {C : Type 0} (standing : Standing C) (awaited : C → Option Ask) (numb
     {S : Type 0} (answers : Answering S) where
   -- the flow of the last hook among the commands that were told
   about_last : (due : Due) (conv : ℕ) (held : Held C) (trace after : Trace) (given : List Command) (awaits : Option Ask) (question : Option Question) →
-      Within standing awaited number made_due due conv held trace given → calls_of conv after ≡ calls_of conv trace →
+      Within standing awaited number made_due due conv held trace given → due_by due conv (calls conv after) ≡ due_by due conv (calls conv trace) →
       ((q : Question) → question ≡ Some q → IsTheQuestion awaits given q) → IsAbout due conv after question
   about_last due conv held trace after given awaits None w same is = tt
   about_last due conv held trace after given awaits (Some q) w same is =
       let t = is q refl in (
         seen_of flows w.earlier ++ t.earlier,
-        ap (λ l. seen_of flows (due conv l)) same
+        ap (seen_of flows) same
             ∙ (due_is answers due standing awaited number made_due gave conv held trace given w flows
             ∙ (ap (λ l. seen_of flows w.earlier ++ l) t.last ∙ sym (append_assoc (seen_of flows w.earlier) t.earlier (about q.ask q.flow ∷ [])))),
       )
 
-  -- telling changes no call
-  same_calls : (conv : ℕ) (given : List Command) (trace : Trace) → calls_of conv (trace ++ map (step_of conv) given) ≡ calls_of conv trace
-  same_calls conv [] trace = ap (calls_of conv) (append-nil trace)
-  same_calls conv (command ∷ given) trace =
-      ap (calls_of conv) (sym (append_assoc trace (step_of conv command ∷ []) (map (step_of conv) given)))
-      ∙ (same_calls conv given (trace ++ step_of conv command ∷ [])
-      ∙ ap (λ (c : Calls). c.moves) (calls_more conv trace (step_of conv command) ∙ told_calls conv (calls conv trace) command))
+  -- telling changes nothing of what is due
+  same_due : (due : Due) (conv : ℕ) (given : List Command) (trace : Trace) →
+      due_by due conv (calls conv (trace ++ map (step_of conv) given)) ≡ due_by due conv (calls conv trace)
+  same_due due conv [] trace = ap (λ t. due_by due conv (calls conv t)) (append-nil trace)
+  same_due due conv (command ∷ given) trace =
+      ap (λ t. due_by due conv (calls conv t)) (sym (append_assoc trace (step_of conv command ∷ []) (map (step_of conv) given)))
+      ∙ (same_due due conv given (trace ++ step_of conv command ∷ [])
+      ∙ ap (due_by due conv) (calls_more conv trace (step_of conv command) ∙ told_calls conv (calls conv trace) command))
 
   next_of : (conv : ℕ) (held : Held C) (given : List Command) (question : Option Question) → AllNamed conv given → question ≡ asked_from None given →
       IsReady awaited held given → IsNext awaited held question × ((q : Question) → question ≡ Some q → IsTheQuestion (awaited held.conversation) given q)
@@ -93,7 +95,7 @@ module _ {C : Type 0} (standing : Standing C) (awaited : C → Option Ask) (numb
               within = told.within;
               now = told.now;
               served = told.served;
-              last = about_last due conv held trace (trace ++ map (step_of conv) given) given (awaited held.conversation) question w (same_calls conv given trace) next.1;
+              last = about_last due conv held trace (trace ++ map (step_of conv) given) given (awaited held.conversation) question w (same_due due conv given trace) next.1;
             };
         next = next.0;
       }
@@ -113,6 +115,7 @@ module _ {C : Type 0} (standing : Standing C) (awaited : C → Option Ask) (numb
         subst P (sym (append-nil trace)) (record {
           within = record {
             made = w.made;
+            peer = w.peer;
             earlier = w.earlier;
             stands = subst Q (sym same) w.stands;
             owes = w.owes;
@@ -147,13 +150,14 @@ module _ {C : Type 0} (standing : Standing C) (awaited : C → Option Ask) (numb
       let was : (calls conv trace).dial ≡ None = w.dial ∙ no_dial in
       record {
         made = w.made;
+        peer = w.peer;
         earlier = w.earlier;
         stands = subst P moves (subst Q all (goes.stands w.made (calls_of conv trace) (w.earlier ++ []) w.stands));
         owes = w.owes;
         tells = λ view told. w.tells view told
             ∙ sym (seen_more view conv trace (steps.Answered conv ask reply) ∙ (ap (λ l. seen_in view conv trace ++ l) (answered_seen view conv conv ask reply) ∙ append-nil (seen_in view conv trace)));
         named = named_after;
-        begun = ap (λ (c : Calls). c.begun) on ∙ w.begun;
+        begun = ap (λ (c : Calls). c.peer) on ∙ w.begun;
         sides = ap (λ (c : Calls). c.connected) on ∙ (w.sides ∙ ap (λ s. s.items) (sym sides));
         dial = ap (λ (c : Calls). dial_from c.dial given) on
             ∙ (ap (λ d. dial_from d given) was ∙ ((asks_one conv (awaited after.conversation) None given named one).dials ∙ dial_now (awaited after.conversation)));
@@ -202,7 +206,7 @@ module _ {C : Type 0} (standing : Standing C) (awaited : C → Option Ask) (numb
               now = told.now;
               served = told.served;
               last = about_last due conv after (trace ++ answered ∷ []) ((trace ++ answered ∷ []) ++ map (step_of conv) r.given) r.given (awaited after.conversation) open_now w
-                  (same_calls conv r.given (trace ++ answered ∷ [])) next.1;
+                  (same_due due conv r.given (trace ++ answered ∷ [])) next.1;
             });
         next = next.0;
       }

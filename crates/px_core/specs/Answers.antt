@@ -1,17 +1,10 @@
 -- What an answerer's answer may be.
-use Rattle.std.specs.Prelude.{◌≡◌, ℕ, List, [], ◌∷◌, ◌++◌, Option}
+use Rattle.std.specs.Prelude.{ℕ, List, Option}
 use Rattle.px_message.specs.declared.flow.Flow.{Flow}
-use Rattle.px_event.specs.declared.ask.Ask.{Ask}
-use Rattle.px_event.specs.declared.ask.Ask.TheVariants as asks
 use Rattle.px_event.specs.declared.ask.Hook.{Hook}
-use Rattle.px_event.specs.declared.reply.Reply.{Reply}
-use Rattle.px_event.specs.declared.step.Step.TheVariants as steps
-use Rattle.px_event.specs.Trace.{Trace}
-use Rattle.px_event.specs.View.{Atom, about, flows, seen_of}
 use Rattle.px_outside.specs.Files.{Contents}
 use Rattle.px_outside.specs.declared.files.FileCall.{FileCall}
 use Rattle.px_core.specs.declared.answerer.Answer.{Answer}
-use Rattle.px_core.specs.declared.answerer.Answer.TheVariants as answer
 
 -- all that files mean
 pub record FilesMeaning : Type 0 where
@@ -24,3 +17,21 @@ pub record FilesMeaning : Type 0 where
 -- The answers to a hook about a flow, by the answerer's state and the files before and after.
 abbrev pub Answering : Type 0 → Type 1
 Answering S = Hook → Flow → S → FilesMeaning → S → FilesMeaning → Answer → Type 0
+
+-- What an answer that ran out of memory does to files: these before, and these after.
+abbrev pub Failing : Type 1
+Failing = FilesMeaning → FilesMeaning → Type 0
+
+-- Files that answers alone changed, one behind the other, each given or failed.
+pub data ByAnswers {S : Type 0} (answers : Answering S) (fails : Failing) : FilesMeaning → FilesMeaning → Type 0 where
+  by_none : (files : FilesMeaning) → ByAnswers answers fails files files
+  by_answer : (first old : FilesMeaning) (hook : Hook) (flow : Flow) (state new_state : S) (new : FilesMeaning) (answer : Answer) →
+      ByAnswers answers fails first old → answers hook flow state old new_state new answer → ByAnswers answers fails first new
+  by_failure : (first old new : FilesMeaning) → ByAnswers answers fails first old → fails old new → ByAnswers answers fails first new
+
+-- so are these files, by what they mean
+abbrev pub ChangedByAnswers : {F S : Type 0} → Answering S → Failing → (F → Option Contents) → (F → Option (List FileCall)) → (F → ℕ) → (F → ℕ) → (F → ℕ) → F → F → Type 0
+ChangedByAnswers answers fails contents calls misses faults losses old new =
+    ByAnswers answers fails
+    (record { contents = contents old; calls = calls old; misses = misses old; faults = faults old; losses = losses old })
+    (record { contents = contents new; calls = calls new; misses = misses new; faults = faults new; losses = losses new })

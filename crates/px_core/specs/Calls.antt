@@ -1,7 +1,8 @@
 -- The calls of a conversation, as a trace has them: the events it was handed and the replies it was given, each at its
 -- moment. So what is due in a conversation is a function of the trace.
-use Rattle.std.specs.Prelude.{ℕ, ◌^◌, Bool, true, false, ◌==◌, nat_lt, if◌then◌else◌, List, [], ◌∷◌, ◌++◌, Option, Some, None}
+use Rattle.std.specs.Prelude.{ℕ, ◌^◌, Bool, true, false, ◌==◌, nat_lt, if◌then◌else◌, is_some, List, [], ◌∷◌, ◌++◌, Option, Some, None}
 use Rattle.std.specs.List.{list_any}
+use Rattle.px_message.specs.declared.address.Address.{Address}
 use Rattle.px_message.specs.declared.fault.Fault.TheVariants.{NoConnection}
 use Rattle.px_event.specs.declared.side.Side.{Side}
 use Rattle.px_event.specs.declared.side.Side.TheVariants.{Client, Server}
@@ -22,8 +23,8 @@ use Rattle.px_core.specs.declared.news.News.TheVariants as news
 
 -- what is known of a conversation from the steps so far
 pub record Calls : Type 0 where
-  -- it has begun
-  pub begun : Bool
+  -- where its client is, once it has begun
+  pub peer : Option Address
   -- the moment of what was heard last, of any conversation; 0 before
   pub moment : ℕ
   -- the server of the dial that was said and is not answered
@@ -34,7 +35,7 @@ pub record Calls : Type 0 where
 
 -- before the first step
 abbrev pub no_calls : Calls
-no_calls = record { begun = false; moment = 0; dial = None; connected = []; moves = [] }
+no_calls = record { peer = None; moment = 0; dial = None; connected = []; moves = [] }
 
 -- numbers from here on are none of accepted connections
 abbrev pub number_end : ℕ
@@ -43,7 +44,7 @@ number_end = 2 ^ 31
 -- Whose number something heard has, and what it is to that conversation: a connection accepted at the door for clients
 -- begins it, bytes and closes are events of a side, and a dial ends. The rest is no conversation's.
 abbrev pub addressed : Heard → Option (ℕ × News)
-addressed (heard.Accepted conv Proxy peer) = if nat_lt conv number_end then Some (conv, news.Begun) else None
+addressed (heard.Accepted conv Proxy peer) = if nat_lt conv number_end then Some (conv, news.Begun peer) else None
 addressed (heard.Accepted conv door peer) = None
 addressed (heard.Piece conv side bytes) = Some (conv, news.Event side (events.Piece side bytes))
 addressed (heard.Closed conv side) = Some (conv, news.Event side (events.Closed side))
@@ -82,8 +83,8 @@ dial_ends moment server ok c =
 -- What the conversation takes of the news, at a moment. It begins once. An event of a side counts where it has begun and
 -- the side is the client or is connected. The end of a dial counts where that dial was said and not answered.
 abbrev pub takes : ℕ → Calls → News → Calls
-takes moment c news.Begun = if c.begun then c else record c { begun = true; moves = c.moves ++ Took moment events.Begun ∷ [] }
-takes moment c (news.Event side event) = if c.begun then (if is_connected side c.connected then moved (Took moment event) c else c) else c
+takes moment c (news.Begun peer) = if is_some c.peer then c else record c { peer = Some peer; moves = c.moves ++ Took moment events.Begun ∷ [] }
+takes moment c (news.Event side event) = if is_some c.peer then (if is_connected side c.connected then moved (Took moment event) c else c) else c
 takes moment c (news.Dialled server ok) = if is_dialling server c.dial then dial_ends moment server ok c else c
 
 -- what the conversation of this number takes of something heard

@@ -1,28 +1,37 @@
 -- The promise on a trace of many conversations, for any due.
-use Rattle.std.specs.Prelude.{◌≡◌, ℕ, List, [], ◌∷◌, ◌++◌}
+use Rattle.std.specs.Prelude.{◌≡◌, ℕ, List, [], ◌∷◌, ◌++◌, Option, Some, None}
 use Rattle.px_text.specs.Prefix.{IsPrefixOf}
+use Rattle.px_message.specs.declared.address.Address.{Address}
 use Rattle.px_message.specs.declared.flow.Flow.{Flow}
 use Rattle.px_event.specs.declared.ask.Ask.{Ask}
 use Rattle.px_event.specs.declared.ask.Ask.TheVariants as asks
 use Rattle.px_event.specs.declared.ask.Hook.{Hook}
 use Rattle.px_event.specs.declared.reply.Reply.{Reply}
 use Rattle.px_event.specs.declared.command.Command.{Command}
-use Rattle.px_event.specs.declared.step.Step.{Step}
 use Rattle.px_event.specs.declared.step.Step.TheVariants as steps
 use Rattle.px_event.specs.Layer.{Move}
 use Rattle.px_event.specs.Trace.{Trace, Always, BeforeEachHeard}
 use Rattle.px_event.specs.View.{View, Atom, about, flows, IsTold, seen_of, seen_in}
 use Rattle.px_core.specs.declared.answerer.Answer.TheVariants as answer
 use Rattle.px_core.specs.Answers.{Answering, FilesMeaning}
-use Rattle.px_core.specs.Calls.{calls_of}
+use Rattle.px_core.specs.Calls.{Calls, calls}
 
--- what is due in the conversation of each number, by its calls
+-- what is due in the conversation of each number, by where its client is and by its calls
 abbrev pub Due : Type 0
-Due = ℕ → List Move → List Command
+Due = ℕ → Address → List Move → List Command
+
+-- in a conversation whose client is there; nothing is due in one that has not begun
+abbrev pub due_at : Due → ℕ → Option Address → List Move → List Command
+due_at due conv None moves = []
+due_at due conv (Some peer) moves = due conv peer moves
+
+-- in a conversation of which this is known
+abbrev pub due_by : Due → ℕ → Calls → List Command
+due_by due conv c = due_at due conv c.peer c.moves
 
 -- what a view has of what is due in a conversation of a trace
 abbrev pub due_in : Due → View → ℕ → Trace → List Atom
-due_in due view conv trace = seen_of view (due conv (calls_of conv trace))
+due_in due view conv trace = seen_of view (due_by due conv (calls conv trace))
 
 -- in each conversation and each view, what the trace has begins what is due
 abbrev pub IsWithinDue : Due → Trace → Type 0

@@ -1,8 +1,6 @@
 -- For the tests: a run of servers that echo lines, with answers that follow a list.
-use Rattle.std.specs.Prelude.{◌≡◌, ℕ, List, Option}
+use Rattle.std.specs.Prelude.{◌≡◌, List, Option}
 use Rattle.px_message.specs.declared.flow.Flow.{Flow}
-use Rattle.px_event.specs.declared.command.Command.{Command}
-use Rattle.px_event.specs.Layer.{Move}
 use Rattle.px_event.specs.Stands.{due_by}
 use Rattle.px_event.specs.Trace.{Trace}
 use Rattle.px_gate.specs.declared.gate.Gate.{Gate}
@@ -14,14 +12,14 @@ use Rattle.px_core.specs.declared.answerer.Verdict.{Verdict}
 use Rattle.px_core.specs.declared.router.Router.{Router}
 use Rattle.px_core.specs.Answers.{Answering}
 use Rattle.px_core.specs.Due.{Due}
-use Rattle.px_core.specs.EchoNamed.{numbered}
+use Rattle.px_core.specs.EchoNamed.{flow_of}
 use Rattle.px_core.specs.Router.{RouterStands}
 use Rattle.px_core.specs.Run.{IsDueOf}
 use Rattle.px_core.specs.Turns.{IsByTurn}
 
 -- what is due in the conversation of each number, where the maker has this flow
-abbrev pub echo_due : Flow → ℕ → List Move → List Command
-echo_due flow conv moves = due_by (echo_chain (numbered flow conv)) (Reading 0) moves
+abbrev pub echo_due : Flow → Due
+echo_due flow conv peer moves = due_by (echo_chain (flow_of flow conv peer)) (Reading 0) moves
 
 -- the answers, by the turns that are left
 abbrev pub by_turns : Answering (List (Option Verdict))

@@ -1,13 +1,13 @@
 -- What a gate before a layer whose due is a chain owes: it is a function of the gate's calls that only grows, and ends
 -- where the layer ends.
-use Rattle.std.proofs.Common.{◌≡◌, ℕ, ◌+◌, Bool, true, List, [], ◌∷◌, ◌++◌, length, Option, refl, ap, sym, ◌∙◌, subst}
+use Rattle.std.proofs.Common.{◌≡◌, ◌+◌, Bool, true, List, [], ◌∷◌, ◌++◌, length, Option, ap, sym, ◌∙◌, subst}
 use Rattle.std.proofs.lemmas.List.{append-nil}
 use Rattle.px_text.specs.Prefix.{IsPrefixOf}
 use Rattle.px_event.specs.declared.ask.Ask.{Ask}
 use Rattle.px_event.specs.declared.event.Event.{Event}
 use Rattle.px_event.specs.declared.reply.Reply.{Reply}
 use Rattle.px_event.specs.declared.command.Command.{Command}
-use Rattle.px_event.specs.Chain.{Stamped, Timed, never, Chain, Look, Ends, due}
+use Rattle.px_event.specs.Chain.{Stamped, Timed, never, Chain, Ends, due}
 use Rattle.px_event.specs.Laws.{Settles, SoFarGrows}
 use Rattle.px_event.specs.Layer.{Move, Took, Replied, Standing}
 use Rattle.px_event.specs.Stands.{events_in, replies_in, stop_of, due_by, StandsAt, AwaitsWhatItAsks, EndsWhereItEnds}

@@ -1,6 +1,7 @@
 -- What a held conversation is in a trace, within a step and at its end.
-use Rattle.std.specs.Prelude.{◌≡◌, ℕ, ◌+◌, Bool, true, List, [], ◌∷◌, ◌++◌, map, Option, Some, None, IsSome, option_to_list, ◌⊎◌}
+use Rattle.std.specs.Prelude.{◌≡◌, ℕ, ◌+◌, List, [], ◌∷◌, ◌++◌, map, Option, Some, None, IsSome, option_to_list, ◌⊎◌}
 use Rattle.std.specs.List.{flat_map}
+use Rattle.px_message.specs.declared.address.Address.{Address}
 use Rattle.px_message.specs.declared.flow.Flow.{Flow}
 use Rattle.px_event.specs.declared.ask.Ask.{Ask}
 use Rattle.px_event.specs.declared.ask.Ask.TheVariants as asks
@@ -12,7 +13,7 @@ use Rattle.px_event.specs.declared.said.Said.TheVariants as said
 use Rattle.px_event.specs.declared.step.Step.{Step}
 use Rattle.px_event.specs.declared.step.Step.TheVariants as steps
 use Rattle.px_event.specs.declared.heard.Heard.{Heard}
-use Rattle.px_event.specs.Layer.{Move, Took, Replied, Standing, Goes, IsNews, asks_in}
+use Rattle.px_event.specs.Layer.{Move, Replied, Standing, Goes, IsNews, asks_in}
 use Rattle.px_event.specs.Trace.{Trace}
 use Rattle.px_event.specs.View.{View, Atom, about, flows, IsTold, seen_of, seen_in}
 use Rattle.px_core.specs.declared.held.Held.{Held}
@@ -120,11 +121,11 @@ pub record Gives {C : Type 0} (standing : Standing C) (awaited : C → Option As
   pub goes : Goes standing before after move [] given
   pub dials : dial_from dial given ≡ dial_of (awaited after)
 
--- The trace goes on by one call of the conversation, at this moment; then this dial awaits its end, and these sides are
--- connected. No view has more of it.
-pub record IsOneOn (conv moment : ℕ) (move : Move) (dial : Option ℕ) (sides : List ℕ) (trace next : Trace) : Type 0 where
+-- The trace goes on by one call of the conversation, whose client is there, at this moment; then this dial awaits its end,
+-- and these sides are connected. No view has more of it.
+pub record IsOneOn (conv : ℕ) (peer : Address) (moment : ℕ) (move : Move) (dial : Option ℕ) (sides : List ℕ) (trace next : Trace) : Type 0 where
   pub moves : calls_of conv next ≡ calls_of conv trace ++ move ∷ []
-  pub begun : (calls conv next).begun ≡ true
+  pub begun : (calls conv next).peer ≡ Some peer
   pub dials : (calls conv next).dial ≡ dial
   pub connected : (calls conv next).connected ≡ sides
   pub now : (calls conv next).moment ≡ moment
@@ -140,21 +141,22 @@ module _ {C : Type 0} (standing : Standing C) (awaited : C → Option Ask) (numb
   -- are still to be told.
   pub record Within (due : Due) (conv : ℕ) (held : Held C) (trace : Trace) (rest : List Command) : Type 0 where
     pub made : C
+    pub peer : Address
     pub earlier : List Command
     pub stands : standing made held.conversation (calls_of conv trace) (earlier ++ rest)
-    pub owes : (moves : List Move) → made_due made moves ≡ due conv moves
+    pub owes : (moves : List Move) → made_due made moves ≡ due conv peer moves
     pub tells : (view : View) → IsTold view → seen_of view earlier ≡ seen_in view conv trace
     pub named : number held.conversation ≡ conv
-    pub begun : (calls conv trace).begun ≡ true
+    pub begun : (calls conv trace).peer ≡ Some peer
     pub sides : (calls conv trace).connected ≡ held.connected.items
     pub dial : dial_from (calls conv trace).dial rest ≡ dial_of (awaited held.conversation)
 
-  -- The conversation stands for its calls in the trace, and gave what the trace has of it.
-  pub record Stood (due : Due) (conv : ℕ) (state : C) (trace : Trace) : Type 0 where
+  -- The conversation, whose client is there, stands for its calls in the trace, and gave what the trace has of it.
+  pub record Stood (due : Due) (conv : ℕ) (peer : Address) (state : C) (trace : Trace) : Type 0 where
     pub made : C
     pub earlier : List Command
     pub stands : standing made state (calls_of conv trace) (earlier ++ [])
-    pub owes : (moves : List Move) → made_due made moves ≡ due conv moves
+    pub owes : (moves : List Move) → made_due made moves ≡ due conv peer moves
     pub tells : (view : View) → IsTold view → seen_of view earlier ≡ seen_in view conv trace
 
   module _ {S : Type 0} (answers : Answering S) where
@@ -189,7 +191,7 @@ module _ {C : Type 0} (standing : Standing C) (awaited : C → Option Ask) (numb
       pub more : List Step
       pub grown : new_out ≡ out ++ more
       pub own : AllOf conv more
-      pub takes : (due : Due) (trace next : Trace) → Stood due conv before.conversation trace → IsOneOn conv moment move dial sides trace next → IsServed answers due next →
+      pub takes : (due : Due) (peer : Address) (trace next : Trace) → Stood due conv peer before.conversation trace → IsOneOn conv peer moment move dial sides trace next → IsServed answers due next →
           Within due conv after (next ++ more) [] × IsServed answers due (next ++ more)
       pub settled : IsSettled awaited after
 

@@ -6,6 +6,7 @@ pub mod EchoNamed
 pub mod EchoRuns
 pub mod GateLaws
 pub mod Held
+pub mod Leaving
 pub mod Named
 pub mod Ordered
 pub mod Router

@@ -3,14 +3,13 @@ use Rattle.std.specs.Prelude.{◌≡◌, ◌≢◌, ℕ, ◌^◌, ◌-◌, Bool,
 use Rattle.std.specs.Ordering.{nat_cmp}
 use Rattle.std.specs.BTreeMap as tree
 use Rattle.slab.specs.Slab as slab
+use Rattle.px_message.specs.declared.address.Address.{Address}
 use Rattle.px_event.specs.declared.ask.Ask.{Ask}
 use Rattle.px_event.specs.declared.command.Command.{Command}
-use Rattle.px_event.specs.declared.event.Event.{Event}
-use Rattle.px_event.specs.declared.event.Event.TheVariants as events
 use Rattle.px_event.specs.declared.heard.Heard.{Heard}
 use Rattle.px_event.specs.declared.step.Step.{Step}
 use Rattle.px_event.specs.declared.step.Step.TheVariants as steps
-use Rattle.px_event.specs.Layer.{Move, Standing, IsSound, IsNews}
+use Rattle.px_event.specs.Layer.{Move, Standing, IsSound}
 use Rattle.px_event.specs.Trace.{Trace}
 use Rattle.px_event.specs.View.{View, IsTold, seen_of, seen_in}
 use Rattle.px_core.specs.declared.held.Held.{Held}
@@ -57,23 +56,20 @@ abbrev pub kept_in : {C : Type 0} → (C → ℕ) → Found (Held C) → ℕ
 kept_in kept (live held) = min (kept held.conversation) (2 ^ 64 - 1)
 kept_in kept _ = 0
 
--- nothing is due before the first call
-abbrev pub OwesNothing : Due → Type 0
-OwesNothing due = (conv : ℕ) (view : View) → seen_of view (due conv []) ≡ []
-
 -- nothing of this number was admitted
-pub record IsUnknown (due : Due) (conv : ℕ) (trace : Trace) : Type 0 where
-  pub begun : (calls conv trace).begun ≡ false
+pub record IsUnknown (conv : ℕ) (trace : Trace) : Type 0 where
+  pub begun : (calls conv trace).peer ≡ None
   pub dial : (calls conv trace).dial ≡ None
   pub connected : (calls conv trace).connected ≡ []
   pub moves : calls_of conv trace ≡ []
   pub sees : (view : View) → IsTold view → seen_in view conv trace ≡ []
-  pub owes : (view : View) → seen_of view (due conv []) ≡ []
 
 -- It has ended: the trace has what is due, and no call changes that.
 pub record IsOver (due : Due) (conv : ℕ) (trace : Trace) : Type 0 where
+  pub peer : Address
+  pub begun : (calls conv trace).peer ≡ Some peer
   pub told : (view : View) → IsTold view → seen_in view conv trace ≡ due_in due view conv trace
-  pub stays : (view : View) (more : List Move) → seen_of view (due conv (calls_of conv trace ++ more)) ≡ due_in due view conv trace
+  pub stays : (view : View) (more : List Move) → seen_of view (due conv peer (calls_of conv trace ++ more)) ≡ due_in due view conv trace
 
 module _ {C : Type 0} (standing : Standing C) (awaited : C → Option Ask) (number : C → ℕ) (made_due : C → List Move → List Command) where
   -- It is live: it stands for its calls, gave what the trace has, and a hook that it awaits waits with its draft.
@@ -83,7 +79,7 @@ module _ {C : Type 0} (standing : Standing C) (awaited : C → Option Ask) (numb
 
   -- what is under a number stands for the trace
   abbrev pub StandsIn : Due → ℕ → Trace → Found (Held C) → Type 0
-  StandsIn due conv trace unknown = IsUnknown due conv trace
+  StandsIn due conv trace unknown = IsUnknown conv trace
   StandsIn due conv trace over = IsOver due conv trace
   StandsIn due conv trace lost = ⊥
   StandsIn due conv trace (live held) = IsLive due conv held trace
@@ -130,14 +126,15 @@ module _ {C : Type 0} (standing : Standing C) (awaited : C → Option Ask) (numb
       pub stands : (due : Due) (trace : Trace) (heard : Heard) → addressed heard ≡ Some (conv, what) → TableStands due before trace →
           TableStands due after ((trace ++ steps.Heard moment heard ∷ []) ++ more)
 
-    -- So are those of a conversation that was admitted, where what is due of it is what is due under its number.
+    -- So are those of a conversation that was admitted, where what is due of it is what is due under its number where its client
+    -- is.
     pub record Admits (conv moment : ℕ) (conversation : C) (before after : Table C) (out new_out : List Step) : Type 0 where
       pub more : List Step
       pub grown : new_out ≡ out ++ more
       pub own : AllOf conv more
       pub others : (other : ℕ) → conv ≢ other → found after other ≡ found before other
-      pub stands : (due : Due) (trace : Trace) (heard : Heard) → addressed heard ≡ Some (conv, news.Begun) →
-          ((moves : List Move) → made_due conversation moves ≡ due conv moves) → TableStands due before trace →
+      pub stands : (due : Due) (trace : Trace) (heard : Heard) (peer : Address) → addressed heard ≡ Some (conv, news.Begun peer) →
+          ((moves : List Move) → made_due conversation moves ≡ due conv peer moves) → TableStands due before trace →
           TableStands due after ((trace ++ steps.Heard moment heard ∷ []) ++ more)
 
     -- Something heard that a router took: it adds steps of that conversation alone, and changes nothing of another; whatever
@@ -152,4 +149,4 @@ module _ {C : Type 0} (standing : Standing C) (awaited : C → Option Ask) (numb
 
 -- Nothing is heard by which a conversation begins, but one that was admitted.
 abbrev pub BeginsNone : {C A : Type 0} → Router C A → Heard → Type 0
-BeginsNone router heard = (conv : ℕ) → addressed heard ≡ Some (conv, news.Begun) → is_known router conv ≡ true
+BeginsNone router heard = (conv : ℕ) (peer : Address) → addressed heard ≡ Some (conv, news.Begun peer) → is_known router conv ≡ true

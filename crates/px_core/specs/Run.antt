@@ -2,8 +2,8 @@
 use Rattle.std.specs.Prelude.{◌≡◌, ◌≢◌, ℕ, nat_lt, if◌then◌else◌, List, [], ◌∷◌, ◌++◌, Option, Some, None}
 use Rattle.std.specs.List.{flat_map}
 use Rattle.px_text.specs.Prefix.{IsPrefixOf}
+use Rattle.px_message.specs.declared.address.Address.{Address}
 use Rattle.px_message.specs.declared.flow.Flow.{Flow}
-use Rattle.px_event.specs.declared.command.Command.{Command}
 use Rattle.px_event.specs.declared.heard.Heard.{Heard}
 use Rattle.px_event.specs.declared.heard.Heard.TheVariants as heard
 use Rattle.px_event.specs.declared.side.Door.TheVariants.{Proxy}
@@ -19,8 +19,8 @@ use Rattle.px_core.specs.Held.{AllOf}
 use Rattle.px_core.specs.Router.{found}
 
 -- the maker means this due
-abbrev pub IsDueOf : (ℕ → List Move → List Command) → Due → Type 0
-IsDueOf made due = (conv : ℕ) (moves : List Move) → made conv moves ≡ due conv moves
+abbrev pub IsDueOf : Due → Due → Type 0
+IsDueOf made due = (conv : ℕ) (peer : Address) (moves : List Move) → made conv peer moves ≡ due conv peer moves
 
 -- the trace is told with more steps, and the fact holds of it
 pub record Tells (P : Trace → Type 0) (trace : Trace) (told : Option Trace) : Type 0 where

@@ -1,6 +1,6 @@
 //! Who answers hooks.
-ghost use Rattle.std.specs.Prelude.{◌≡◌, IfOk};
-ghost use Rattle.px_core.specs.Answers.{Answering};
+ghost use Rattle.std.specs.Prelude.{◌≡◌, IfOk, OnErr};
+ghost use Rattle.px_core.specs.Answers.{Answering, Failing};
 
 use px_event::{Hook, Reply};
 use px_message::{Flow, Response};
@@ -50,6 +50,9 @@ pub trait Answerer {
     /// Which answers it gives: a hook, its flow, the state and the files before and after, and the answer.
     ghost answers: { Answering State };
 
+    /// What an answer that ran out of memory does to files.
+    ghost fails: { Failing };
+
     /// Answers a hook about this flow, or lets it wait. After `NoMemory` the answerer may only be dropped.
     fn answer<F: Files>(
         &mut self,
@@ -60,5 +63,8 @@ pub trait Answerer {
         ensures answers { IfOk result (λ answer. answers hook flow.now
             (state self.old) (record { contents = F.contents files.old; calls = F.calls files.old; misses = F.misses files.old; faults = F.faults files.old; losses = F.losses files.old })
             (state self.new) (record { contents = F.contents files.new; calls = F.calls files.new; misses = F.misses files.new; faults = F.faults files.new; losses = F.losses files.new })
-            answer) };
+            answer) }
+        ensures fails { OnErr result (fails
+            (record { contents = F.contents files.old; calls = F.calls files.old; misses = F.misses files.old; faults = F.faults files.old; losses = F.losses files.old })
+            (record { contents = F.contents files.new; calls = F.calls files.new; misses = F.misses files.new; faults = F.faults files.new; losses = F.losses files.new })) };
 }

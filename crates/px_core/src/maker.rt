@@ -1,29 +1,30 @@
 //! Where conversations come from, and where finished flows go.
 ghost use Rattle.std.specs.Prelude.{◌≡◌, ℕ, List, [], ◌∷◌, ◌++◌, None, IfOk, OnOk, OnErr};
+ghost use Rattle.px_message.specs.declared.address.Address.{Address as PeerAddress};
 ghost use Rattle.px_event.specs.Layer.{Move};
-ghost use Rattle.px_event.specs.View.{View, seen_of};
-ghost use Rattle.px_event.specs.declared.command.Command.{Command as GivenCommand};
 ghost use Rattle.px_message.specs.declared.flow.Flow.{Flow as FinishedFlow};
+ghost use Rattle.px_core.specs.Due.{Due};
+ghost use Rattle.px_core.specs.Ordered.{AsksBeforeEnds};
 
 use crate::Owes;
-use px_message::Flow;
+use px_message::{Address, Flow};
 use px_text::NoMemory;
 
 /// Makes the conversations of accepted connections.
 pub trait Maker<C: Owes> {
-    /// What is due in the conversation of this number by these calls. No call changes it.
-    ghost due: { Self → ℕ → List Move → List GivenCommand };
+    /// What is due in the conversation of this number, by where its client is and by its calls. No call changes it.
+    ghost due: { Self → Due };
 
-    /// A conversation of this number, that was not called, gave nothing and awaits nothing.
-    fn make(&mut self, conv: u32) -> Result<C, NoMemory>
+    /// A conversation of this number, whose client is there, that was not called, gave nothing and awaits nothing.
+    fn make(&mut self, conv: u32, peer: &Address) -> Result<C, NoMemory>
         ensures number { IfOk result (λ made. C.number made ≡ conv) }
         ensures stands { IfOk result (λ made. C.stands made made [] []) }
         ensures free { IfOk result (λ made. C.awaited made ≡ None) }
-        ensures due { IfOk result (λ made. (moves : List Move) → C.due made moves ≡ due self.old conv moves) }
-        ensures same { (number : ℕ) (moves : List Move) → due self.new number moves ≡ due self.old number moves };
+        ensures due { IfOk result (λ made. (moves : List Move) → C.due made moves ≡ due self.old conv peer.now moves) }
+        ensures same { (number : ℕ) (at : PeerAddress) (moves : List Move) → due self.new number at moves ≡ due self.old number at moves };
 
-    /// Nothing is due before the first call.
-    ghost begins: { (maker : Self) (conv : ℕ) (view : View) → seen_of view (due maker conv []) ≡ [] };
+    /// What is due asks no hook of a flow behind the flow's end.
+    ghost ordered: { (maker : Self) (conv : ℕ) (at : PeerAddress) (moves : List Move) → AsksBeforeEnds (due maker conv at moves) };
 }
 
 /// Takes finished flows.

@@ -3,6 +3,7 @@ ghost use Rattle.std.specs.Prelude.{◌≡◌};
 ghost use Rattle.px_core.specs.Calls.{addressed};
 
 use px_event::{Door, Event, Heard, Side};
+use px_message::Address;
 
 /// Numbers from here on are none of accepted connections.
 pub(crate) const NUMBER_END: u32 = 0x8000_0000;
@@ -10,8 +11,8 @@ pub(crate) const NUMBER_END: u32 = 0x8000_0000;
 /// News of a conversation.
 #[derive(Debug, Drop)]
 pub enum News {
-    /// It begins.
-    Begun,
+    /// It begins; its client is there.
+    Begun { peer: Address },
     /// This event of a side.
     Event { side: Side, event: Event },
     /// The dial of this server ended: it is connected, or it is not.
@@ -26,10 +27,10 @@ pub(crate) fn news_of(heard: Heard) -> Option<(u32, News)>
         Heard::Accepted {
             conv,
             door: Door::Proxy,
-            ..
+            peer,
         } => {
             if conv < NUMBER_END {
-                Some((conv, News::Begun))
+                Some((conv, News::Begun { peer }))
             } else {
                 None
             }

@@ -7,11 +7,13 @@
 //! Steps are given to the caller once the whole call has succeeded. A router in which memory ran out answers so for ever.
 ghost use Rattle.std.specs.Prelude.{◌≡◌, Some, None, IsErr, true, false, [], List, IfOk, OnOk, OnErr};
 ghost use Rattle.slab.specs.Slab.{get as held_under};
+ghost use Rattle.px_message.specs.declared.address.Address.{Address as PeerAddress};
 ghost use Rattle.px_event.specs.Layer.{IsSound};
 ghost use Rattle.px_event.specs.declared.event.Event.TheVariants.{Begun as HasBegun};
+ghost use Rattle.px_core.specs.Answers.{ChangedByAnswers};
 ghost use Rattle.px_core.specs.Due.{Due};
 ghost use Rattle.px_core.specs.Held.{IsHeardNews, IsSettled};
-ghost use Rattle.px_core.specs.Router.{found, is_known, kept_in, place_of, OwesNothing, TableStands, RouterStands, IsRouted, IsAtKey, HearsAt, Hands, Admits, Routes, BeginsNone};
+ghost use Rattle.px_core.specs.Router.{found, is_known, kept_in, place_of, TableStands, RouterStands, IsRouted, IsAtKey, HearsAt, Hands, Admits, Routes, BeginsNone};
 ghost use Rattle.px_core.specs.declared.table.Place.TheVariants.{Live as IsLiveUnder};
 
 use crate::held::{Call, Held};
@@ -35,7 +37,7 @@ pub struct Router<C, A> {
 impl<C: Owes, A: Answerer> Router<C, A> {
     /// No conversation was admitted. It stands for the empty trace.
     pub fn new(alloc: Global, answerer: A) -> Router<C, A>
-        ensures stands { (due : Due) → OwesNothing due → RouterStands C.stands C.awaited C.number C.due A.answers due result [] }
+        ensures stands { (due : Due) → RouterStands C.stands C.awaited C.number C.due A.answers due result [] }
         ensures sound { IsRouted C.stands C.awaited C.number C.due A.answers result }
     {
         Router {
@@ -85,6 +87,7 @@ impl<C: Owes, A: Answerer> Router<C, A> {
         ensures spent { self.old.spent ≡ true → IsErr result }
         ensures err { OnErr result ((self.new.spent ≡ true) × (out.new.items ≡ out.old.items)) }
         ensures ok { OnOk result (self.new.spent ≡ false) }
+        ensures files { ChangedByAnswers A.answers A.fails F.contents F.calls F.misses F.faults F.losses files.old files.new }
     {
         if self.spent {
             return Err(NoMemory);
@@ -118,6 +121,7 @@ impl<C: Owes, A: Answerer> Router<C, A> {
         ensures spent { self.old.spent ≡ true → IsErr result }
         ensures err { OnErr result ((self.new.spent ≡ true) × (out.new.items ≡ out.old.items)) }
         ensures ok { OnOk result (self.new.spent ≡ false) }
+        ensures files { ChangedByAnswers A.answers A.fails F.contents F.calls F.misses F.faults F.losses files.old files.new }
     {
         if self.spent {
             return Err(NoMemory);
@@ -150,6 +154,7 @@ impl<C: Owes, A: Answerer> Router<C, A> {
         requires begins { BeginsNone self.old heard }
         ensures routes { OnOk result (Routes C.stands C.awaited C.number C.due A.answers moment heard self.old.table self.new.table steps.old.items steps.new.items) }
         ensures spent { self.new.spent ≡ self.old.spent }
+        ensures files { ChangedByAnswers A.answers A.fails F.contents F.calls F.misses F.faults F.losses files.old files.new }
     {
         match news_of(heard) {
             Some((conv, news)) => {
@@ -173,10 +178,11 @@ impl<C: Owes, A: Answerer> Router<C, A> {
         steps: &mut Vec<Step>,
     ) -> Result<(), NoMemory>
         requires sound { (due : Due) × (trace : _) × TableStands C.stands C.awaited C.number C.due A.answers due self.old.table trace }
-        requires begins { news ≡ News.Begun → is_known self.old call.conv ≡ true }
+        requires begins { (peer : PeerAddress) → news ≡ News.Begun peer → is_known self.old call.conv ≡ true }
         requires news { IsHeardNews news }
         ensures hands { OnOk result (Hands C.stands C.awaited C.number C.due A.answers call.conv call.moment news self.old.table self.new.table steps.old.items steps.new.items) }
         ensures spent { self.new.spent ≡ self.old.spent }
+        ensures files { ChangedByAnswers A.answers A.fails F.contents F.calls F.misses F.faults F.losses files.old files.new }
     {
         match self.table.place(call.conv) {
             Some(Place::Live(key)) => {
@@ -205,6 +211,7 @@ impl<C: Owes, A: Answerer> Router<C, A> {
         requires news { IsHeardNews news }
         ensures hears { IfOk result (λ over. HearsAt C.stands C.awaited C.number C.due A.answers C.ended call.conv call.moment news key self.old.table self.new.table over steps.old.items steps.new.items) }
         ensures spent { self.new.spent ≡ self.old.spent }
+        ensures files { ChangedByAnswers A.answers A.fails F.contents F.calls F.misses F.faults F.losses files.old files.new }
     {
         let Some(held) = self.table.live.get_mut(key) else {
             unreachable!()
@@ -228,6 +235,7 @@ impl<C: Owes, A: Answerer> Router<C, A> {
         requires free { C.awaited conversation ≡ None }
         ensures admits { OnOk result (Admits C.stands C.awaited C.number C.due A.answers call.conv call.moment conversation self.old.table self.new.table steps.old.items steps.new.items) }
         ensures spent { self.new.spent ≡ self.old.spent }
+        ensures files { ChangedByAnswers A.answers A.fails F.contents F.calls F.misses F.faults F.losses files.old files.new }
     {
         let mut held = Held {
             conversation,

@@ -3,6 +3,7 @@ ghost use Rattle.std.specs.Prelude.{IfOk, OnOk};
 ghost use Rattle.px_core.specs.Due.{Due, IsServed};
 ghost use Rattle.px_core.specs.EchoRuns.{echo_due, by_turns, EchoRuns};
 
+mod calls;
 mod echo;
 mod others;
 mod show;

@@ -5,15 +5,17 @@
 ghost use Rattle.std.specs.Prelude.{◌≡◌, ◌≢◌, ◌++◌, ◌∷◌, ◌⊎◌, ℕ, Some, None, true, false, [], List, IfOk, IfSome, IsErr, OnOk, OnErr};
 ghost use Rattle.std.specs.List.{flat_map};
 ghost use Rattle.px_text.specs.Prefix.{IsPrefixOf};
+ghost use Rattle.px_message.specs.declared.address.Address.{Address as PeerAddress};
 ghost use Rattle.px_event.specs.Layer.{Move};
 ghost use Rattle.px_event.specs.Trace.{Trace};
 ghost use Rattle.px_event.specs.declared.step.Step.TheVariants.{Heard as WasHeard};
+ghost use Rattle.px_core.specs.Answers.{ChangedByAnswers};
 ghost use Rattle.px_core.specs.Due.{Due, IsServed};
 ghost use Rattle.px_core.specs.Router.{RouterStands, IsRouted, BeginsNone, is_known, found};
 ghost use Rattle.px_core.specs.Calls.{addressed};
 ghost use Rattle.px_core.specs.Held.{AllOf};
+ghost use Rattle.px_core.specs.Ordered.{IsInOrder};
 ghost use Rattle.px_core.specs.declared.news.News.TheVariants.{Begun as HasBegun};
-ghost use Rattle.px_event.specs.declared.heard.Heard.{Heard as WhatIsHeard};
 ghost use Rattle.px_core.specs.Run.{IsDueOf, begun_by, done_of, Tells, IsTellable, AllTellable, ToldPart, IsOfHeard, TellsOfHeard, KeepsOthers};
 
 use crate::news::NUMBER_END;
@@ -48,7 +50,7 @@ pub fn work_off<C: Owes, A: Answerer, M: Maker<C>, F: Files, N: Net, T: Taker>(
         OnOk result ((more : Trace) × RouterStands C.stands C.awaited C.number C.due A.answers due router.new ((trace ++ WasHeard moment heard ∷ []) ++ more)) }
     ensures taken { (trace : Trace) → N.trace net.old ≡ Some (trace ++ WasHeard moment heard ∷ []) → T.taken taker.old ≡ flat_map done_of trace →
         OnOk result (Tells (λ told. T.taken taker.new ≡ flat_map done_of told) (trace ++ WasHeard moment heard ∷ []) (N.trace net.new)) }
-    ensures due { (number : ℕ) (moves : List Move) → M.due maker.new number moves ≡ M.due maker.old number moves }
+    ensures due { (number : ℕ) (at : PeerAddress) (moves : List Move) → M.due maker.new number at moves ≡ M.due maker.old number at moves }
     ensures listening { N.listening net.new ≡ N.listening net.old }
     ensures faults { N.faults net.new ≡ N.faults net.old }
     ensures own { (trace : Trace) → N.trace net.old ≡ Some trace → TellsOfHeard heard trace (N.trace net.new) }
@@ -58,8 +60,11 @@ pub fn work_off<C: Owes, A: Answerer, M: Maker<C>, F: Files, N: Net, T: Taker>(
         OnErr result (Tells (IsServed A.answers due) (trace ++ WasHeard moment heard ∷ []) (N.trace net.new)) }
     ensures taken_part { (trace : Trace) → N.trace net.old ≡ Some (trace ++ WasHeard moment heard ∷ []) → T.taken taker.old ≡ flat_map done_of trace →
         OnErr result (Tells (λ told. IsPrefixOf (T.taken taker.new) (flat_map done_of told)) (trace ++ WasHeard moment heard ∷ []) (N.trace net.new)) }
+    ensures ordered { (due : Due) (trace : Trace) → IsDueOf (M.due maker.old) due → RouterStands C.stands C.awaited C.number C.due A.answers due router.old trace →
+        N.trace net.old ≡ Some (trace ++ WasHeard moment heard ∷ []) → Tells IsInOrder (trace ++ WasHeard moment heard ∷ []) (N.trace net.new) }
     ensures spent { OnErr result (router.new.spent ≡ true) }
     ensures again { router.old.spent ≡ true → IsErr result × (N.trace net.new ≡ N.trace net.old) × (T.taken taker.new ≡ T.taken taker.old) }
+    ensures files { ChangedByAnswers A.answers A.fails F.contents F.calls F.misses F.faults F.losses files.old files.new }
 {
     match follow(alloc, router, maker, files, net, taker, moment, heard) {
         Ok(()) => Ok(()),
@@ -89,7 +94,7 @@ fn follow<C: Owes, A: Answerer, M: Maker<C>, F: Files, N: Net, T: Taker>(
         OnOk result ((more : Trace) × RouterStands C.stands C.awaited C.number C.due A.answers due router.new ((trace ++ WasHeard moment heard ∷ []) ++ more)) }
     ensures taken { (trace : Trace) → N.trace net.old ≡ Some (trace ++ WasHeard moment heard ∷ []) → T.taken taker.old ≡ flat_map done_of trace →
         OnOk result (Tells (λ told. T.taken taker.new ≡ flat_map done_of told) (trace ++ WasHeard moment heard ∷ []) (N.trace net.new)) }
-    ensures due { (number : ℕ) (moves : List Move) → M.due maker.new number moves ≡ M.due maker.old number moves }
+    ensures due { (number : ℕ) (at : PeerAddress) (moves : List Move) → M.due maker.new number at moves ≡ M.due maker.old number at moves }
     ensures listening { N.listening net.new ≡ N.listening net.old }
     ensures faults { N.faults net.new ≡ N.faults net.old }
     ensures own { (trace : Trace) → N.trace net.old ≡ Some trace → TellsOfHeard heard trace (N.trace net.new) }
@@ -100,6 +105,7 @@ fn follow<C: Owes, A: Answerer, M: Maker<C>, F: Files, N: Net, T: Taker>(
     ensures taken_part { (trace : Trace) → N.trace net.old ≡ Some (trace ++ WasHeard moment heard ∷ []) → T.taken taker.old ≡ flat_map done_of trace →
         OnErr result (Tells (λ told. IsPrefixOf (T.taken taker.new) (flat_map done_of told)) (trace ++ WasHeard moment heard ∷ []) (N.trace net.new)) }
     ensures again { router.old.spent ≡ true → IsErr result × (N.trace net.new ≡ N.trace net.old) × (T.taken taker.new ≡ T.taken taker.old) }
+    ensures files { ChangedByAnswers A.answers A.fails F.contents F.calls F.misses F.faults F.losses files.old files.new }
 {
     let steps = route(alloc, router, maker, files, moment, heard)?;
     tell_all(net, taker, &steps)
@@ -121,17 +127,18 @@ fn route<C: Owes, A: Answerer, M: Maker<C>, F: Files>(
     ensures own { IfOk result (λ steps. IsOfHeard heard steps.items) }
     ensures others { OnOk result (KeepsOthers heard router.old router.new) }
     ensures spent { router.old.spent ≡ true → IsErr result }
-    ensures due { (number : ℕ) (moves : List Move) → M.due maker.new number moves ≡ M.due maker.old number moves }
+    ensures due { (number : ℕ) (at : PeerAddress) (moves : List Move) → M.due maker.new number at moves ≡ M.due maker.old number at moves }
+    ensures files { ChangedByAnswers A.answers A.fails F.contents F.calls F.misses F.faults F.losses files.old files.new }
 {
     if let Some(conv) = fresh(router, &heard) {
-        return begin(alloc, router, maker, files, moment, conv);
+        return begin(alloc, router, maker, files, moment, conv, &heard);
     }
     let mut steps = Vec::new(alloc);
     router.take(moment, heard, files, &mut steps)?;
     Ok(steps)
 }
 
-/// Makes and admits the conversation of this number, and gives the steps that follow.
+/// Makes and admits the conversation of this number, which begins with what was heard, and gives the steps that follow.
 fn begin<C: Owes, A: Answerer, M: Maker<C>, F: Files>(
     alloc: Global,
     router: &mut Router<C, A>,
@@ -139,17 +146,23 @@ fn begin<C: Owes, A: Answerer, M: Maker<C>, F: Files>(
     files: &mut F,
     moment: u64,
     conv: u32,
+    heard: &Heard,
 ) -> Result<Vec<Step>, NoMemory>
     requires sound { IsRouted C.stands C.awaited C.number C.due A.answers router.old }
     requires unknown { is_known router.old conv ≡ false }
-    ensures stands { IfOk result (λ steps. (due : Due) (trace : Trace) (heard : WhatIsHeard) → addressed heard ≡ Some (conv, HasBegun) → IsDueOf (M.due maker.old) due → RouterStands C.stands C.awaited C.number C.due A.answers due router.old trace →
-        RouterStands C.stands C.awaited C.number C.due A.answers due router.new ((trace ++ WasHeard moment heard ∷ []) ++ steps.items)) }
+    requires begins { (peer : PeerAddress) × (addressed heard.now ≡ Some (conv, HasBegun peer)) }
+    ensures stands { IfOk result (λ steps. (due : Due) (trace : Trace) → IsDueOf (M.due maker.old) due → RouterStands C.stands C.awaited C.number C.due A.answers due router.old trace →
+        RouterStands C.stands C.awaited C.number C.due A.answers due router.new ((trace ++ WasHeard moment heard.now ∷ []) ++ steps.items)) }
     ensures own { IfOk result (λ steps. AllOf conv steps.items) }
     ensures others { (other : ℕ) → conv ≢ other → OnOk result (found router.new.table other ≡ found router.old.table other) }
     ensures spent { router.old.spent ≡ true → IsErr result }
-    ensures due { (number : ℕ) (moves : List Move) → M.due maker.new number moves ≡ M.due maker.old number moves }
+    ensures due { (number : ℕ) (at : PeerAddress) (moves : List Move) → M.due maker.new number at moves ≡ M.due maker.old number at moves }
+    ensures files { ChangedByAnswers A.answers A.fails F.contents F.calls F.misses F.faults F.losses files.old files.new }
 {
-    let conversation = maker.make(conv)?;
+    let Heard::Accepted { peer, .. } = heard else {
+        unreachable!()
+    };
+    let conversation = maker.make(conv, peer)?;
     let mut steps = Vec::new(alloc);
     router.admit(moment, conv, conversation, files, &mut steps)?;
     Ok(steps)
@@ -157,7 +170,7 @@ fn begin<C: Owes, A: Answerer, M: Maker<C>, F: Files>(
 
 /// The number of a conversation that begins with it and was not admitted.
 fn fresh<C: Owes, A: Answerer>(router: &Router<C, A>, heard: &Heard) -> Option<u32>
-    ensures fresh { IfSome result (λ conv. (addressed heard.now ≡ Some (conv, HasBegun)) × (is_known router.now conv ≡ false)) }
+    ensures fresh { IfSome result (λ conv. (peer : PeerAddress) × (addressed heard.now ≡ Some (conv, HasBegun peer)) × (is_known router.now conv ≡ false)) }
     ensures none { result ≡ None → BeginsNone router.now heard.now }
 {
     match begins(heard) {

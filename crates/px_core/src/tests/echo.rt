@@ -1,6 +1,6 @@
 //! The small layer as a conversation, and its maker.
 use crate::{LayerMaker, Numbered};
-use px_message::Flow;
+use px_message::{Address, Flow};
 use px_text::NoMemory;
 use px_toy::LineEcho;
 use std::alloc::Global;
@@ -15,7 +15,7 @@ impl Numbered for LineEcho {
     ghost names = { echo_names };
 }
 
-/// Makes servers that echo lines and ask about this flow.
+/// Makes servers that echo lines and ask about this flow, whose client is the peer.
 #[derive(Debug, Drop)]
 pub(crate) struct EchoMaker {
     pub(crate) alloc: Global,
@@ -23,16 +23,17 @@ pub(crate) struct EchoMaker {
 }
 
 impl LayerMaker<LineEcho> for EchoMaker {
-    ghost use Rattle.px_core.specs.EchoNamed.{echo_begins, numbered};
+    ghost use Rattle.px_core.specs.EchoNamed.{echo_ordered, flow_of};
     ghost use Rattle.px_core.specs.EchoRuns.{echo_due};
 
     ghost due = { λ maker. echo_due maker.flow };
 
-    fn make(&mut self, conv: u32) -> Result<LineEcho, NoMemory> {
+    fn make(&mut self, conv: u32, peer: &Address) -> Result<LineEcho, NoMemory> {
         let mut flow = self.flow.try_clone()?;
         flow.id.conv = conv;
+        flow.client = Some(peer.try_clone()?);
         Ok(LineEcho::new(self.alloc, flow))
     }
 
-    ghost begins = { λ maker conv view. echo_begins (numbered maker.flow conv) view };
+    ghost ordered = { λ maker conv at moves. echo_ordered (flow_of maker.flow conv at) moves };
 }

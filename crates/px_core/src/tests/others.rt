@@ -26,6 +26,8 @@ impl Answerer for Turns {
 
     ghost answers = { λ hook flow old old_files new new_files answer. IsByTurn flow old new answer × (new_files ≡ old_files) };
 
+    ghost fails = { λ old new. new ≡ old };
+
     fn answer<F: Files>(
         &mut self,
         _hook: Hook,

@@ -1,5 +1,5 @@
 use Rattle.std.proofs.Common.{refl, sym, ap, subst, ◌∙◌, Err}
-use Rattle.px_event.specs.Layer.{Took, Replied, IsSound}
+use Rattle.px_event.specs.Layer.{Replied, IsSound}
 use Rattle.px_gate.specs.Gate.{GateStands}
 use Rattle.px_gate.specs.declared.gate.Gate.{Gate}
 use Rattle.px_core.specs.GateLaws.{calls_gave}

@@ -1,7 +1,5 @@
-use Rattle.std.proofs.Common.{refl, sym, ap, subst, ◌≡◌, Err}
-use Rattle.px_event.specs.Layer.{Took, Replied, IsSound}
-use Rattle.px_gate.specs.Gate.{GateStands}
-use Rattle.px_gate.specs.declared.gate.Gate.{Gate}
+use Rattle.std.proofs.Common.{refl}
+use Rattle.px_event.specs.Layer.{Took}
 use Rattle.px_core.specs.GateLaws.{calls_gave}
 use Rattle.px_core.proofs.NamedLemmas.{number_after, names_after, while_awaited}
 use Rattle.px_core.proofs.ResultLemmas.{on_ok_map}

@@ -2,6 +2,7 @@ use Rattle.std.proofs.Common.{refl}
 use Rattle.std.proofs.lemmas.Result.{IfOk-weaker}
 use Rattle.px_core.proofs.ResultLemmas.{if_ok_both}
 use Rattle.px_core.proofs.WorkLemmas.{wait_works, reply_works, turns_less}
+use Rattle.px_core.proofs.AnswerLemmas.{by_failed, by_one}
 use Rattle.px_core.proofs.held.Held.ask.Goals as goal
 
 pub returns-in-Wait-clause-asks : goal.returns-in-Wait-clause-asks
@@ -18,3 +19,12 @@ returns-clause-asks g c =
 
 pub returns-clause-left : goal.returns-clause-left
 returns-clause-left g c = IfOk-weaker c.reply.result _ _ (λ now_open less. turns_less _ _ now_open less) c.reply.ensures.left
+
+pub returns-in_err-draft-clause-files : goal.returns-in_err-draft-clause-files
+returns-in_err-draft-clause-files g c = by_failed g.A.Answerer.answers g.A.Answerer.fails _ _ c.in_err-draft.ensures.fails
+
+pub returns-in-Wait-clause-files : goal.returns-in-Wait-clause-files
+returns-in-Wait-clause-files g c = by_one g.A.Answerer.answers g.A.Answerer.fails _ _ _ _ _ _ _ c.in_ok-draft.ensures.answers
+
+pub returns-clause-files : goal.returns-clause-files
+returns-clause-files g c = by_one g.A.Answerer.answers g.A.Answerer.fails _ _ _ _ _ _ _ c.in_ok-draft.ensures.answers

@@ -1,6 +1,7 @@
 use Rattle.std.proofs.Common.{ap, sym, ◌∙◌}
 use Rattle.std.proofs.lemmas.Result.{on_ok_weaker}
 use Rattle.px_core.proofs.HearLemmas.{works_end}
+use Rattle.px_core.specs.Answers.{by_none}
 use Rattle.px_core.proofs.held.Held.end_dial.Goals as goal
 
 pub returns : goal.returns
@@ -10,4 +11,11 @@ returns g c = record {
       c.in_ok-connect.ensures.conversation c.in_ok-commands.ensures.number c.in_ok-commands.ensures.gives
       (sym c.in_ok-connect.ensures.connected ∙ sym (ap (λ s. s.items) c.in_ok-commands.ensures.connected)) works)
       c.work_off.ensures.works;
+  files = c.work_off.ensures.files;
 }
+
+pub returns-in_err-connect-clause-files : goal.returns-in_err-connect-clause-files
+returns-in_err-connect-clause-files g c = by_none _
+
+pub returns-in_err-commands-clause-files : goal.returns-in_err-commands-clause-files
+returns-in_err-commands-clause-files g c = by_none _

@@ -1,6 +1,7 @@
 use Rattle.std.proofs.Common.{ap, sym}
 use Rattle.std.proofs.lemmas.Result.{on_ok_weaker}
 use Rattle.px_core.proofs.HearLemmas.{works_taken}
+use Rattle.px_core.specs.Answers.{by_none}
 use Rattle.px_core.proofs.held.Held.hand.Goals as goal
 
 pub returns : goal.returns
@@ -9,4 +10,8 @@ returns g c = record {
       (λ works. works_taken g.C.Conversation.stands g.C.Conversation.awaited g.C.Conversation.number g.C.Owes.due g.A.Answerer.answers c.args.call.conv c.args.call.moment _ _ _ c.args.self.now _ _ _ _ _
       c.in_ok-commands.ensures.number c.in_ok-commands.ensures.gives (sym (ap (λ s. s.items) c.in_ok-commands.ensures.connected)) works)
       c.work_off.ensures.works;
+  files = c.work_off.ensures.files;
 }
+
+pub returns-in_err-commands-clause-files : goal.returns-in_err-commands-clause-files
+returns-in_err-commands-clause-files g c = by_none _

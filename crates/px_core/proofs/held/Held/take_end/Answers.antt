@@ -1,4 +1,4 @@
-use Rattle.std.proofs.Common.{refl, sym, ◌∙◌, inl, subst}
+use Rattle.std.proofs.Common.{refl, inl}
 use Rattle.px_core.proofs.ResultLemmas.{goes_from_empty, asks_from_empty, named_from_empty, goes_moved}
 use Rattle.px_core.proofs.HearLemmas.{gives_end}
 use Rattle.px_core.proofs.held.Held.take_end.Goals as goal

@@ -1,4 +1,4 @@
-use Rattle.std.proofs.Common.{refl, sym, ◌∙◌}
+use Rattle.std.proofs.Common.{refl}
 use Rattle.px_core.proofs.ResultLemmas.{goes_from_empty, asks_while_from_empty, named_from_empty}
 use Rattle.px_core.proofs.HearLemmas.{gives_event, ready_event}
 use Rattle.px_core.proofs.held.Held.take_event.Goals as goal

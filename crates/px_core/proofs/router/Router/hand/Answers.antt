@@ -1,8 +1,8 @@
-use Rattle.std.proofs.Common.{◌≡◌, Some, sym, ◌∙◌, ap, refl, subst, true, false, is_some}
-use Rattle.std.proofs.lemmas.Result.{on_ok_weaker}
+use Rattle.std.proofs.Common.{◌≡◌, Some, sym, ◌∙◌, ap, true, false, is_some}
 use Rattle.px_core.proofs.ResultLemmas.{on_ok_both}
 use Rattle.px_core.specs.Router.{found_by}
 use Rattle.px_core.proofs.RouteLemmas.{at_key, hands_live, hands_ended, over_hands, unknown_hands}
+use Rattle.px_core.specs.Answers.{by_none}
 use Rattle.px_core.proofs.router.Router.hand.Goals as goal
 
 pub hear_at-requires-clause-held : goal.hear_at-requires-clause-held
@@ -27,4 +27,10 @@ returns-in-Some-Ended-clause-hands g c =
 pub returns-in-None-clause-hands : goal.returns-in-None-clause-hands
 returns-in-None-clause-hands g c =
     unknown_hands g.C.Conversation.stands g.C.Conversation.awaited g.C.Conversation.number g.C.Owes.due g.met.C.Owes.gave g.C.Owes.grows g.A.Answerer.answers c.args.call.conv c.args.call.moment c.args.news c.args.self.now.table _ (ap (found_by c.args.self.now.table.live) (sym c.place.ensures ∙ c.in-None.is))
-    (λ begun. let no : false ≡ true = ap is_some (sym (sym c.place.ensures ∙ c.in-None.is)) ∙ c.requires.begins begun in cc)
+    (λ peer begun. let no : false ≡ true = ap is_some (sym (sym c.place.ensures ∙ c.in-None.is)) ∙ c.requires.begins peer begun in cc)
+
+pub returns-in-Some-Ended-clause-files : goal.returns-in-Some-Ended-clause-files
+returns-in-Some-Ended-clause-files g c = by_none _
+
+pub returns-in-None-clause-files : goal.returns-in-None-clause-files
+returns-in-None-clause-files g c = by_none _
