@@ -1,6 +1,6 @@
 -- One event more, where no answer is awaited: the readers have heard it, and the flow stands where it stood.
 use Rattle.std.proofs.Common.{◌≡◌, ℕ, ◌≤◌, ◌==◌, Bool, true, false, List, [], ◌∷◌, ◌++◌, length, drop, refl, ap, sym, ◌∙◌, subst, arith, append_assoc, length-append}
-use Rattle.std.specs.Prelude.{◌||◌, if◌then◌else◌}
+use Rattle.std.specs.Prelude.{◌+◌, ◌||◌, if◌then◌else◌}
 use Rattle.std.proofs.lemmas.List.{append-nil, drop-append-le}
 use Rattle.px_event.specs.declared.event.Event.{Event}
 use Rattle.px_event.specs.declared.event.Event.TheVariants as events
@@ -27,6 +27,12 @@ use Rattle.px_stream.proofs.ReadLemmas.{fed_on, shut_on}
 module _ (asked_head : Bool) (number : ℕ) (sent : List ResponseHead) (told : List Mark) where
   passes_more : (bytes fed more : List ℕ) → Passes asked_head bytes fed sent → Passes asked_head (bytes ++ more) (fed ++ more) sent
   passes_more bytes fed more is = record {
+    used = is.used;
+    within = let size = length-append bytes more in let some = is.within in omega arith;
+    behind = ap (λ l. l ++ more) is.behind ∙ sym (drop-append-le is.used bytes more is.within);
+    counts = λ closed later.
+        ap (λ l. (answer_list asked_head closed l).used) (append_assoc bytes more later)
+        ∙ (is.counts closed (more ++ later) ∙ ap (λ l. is.used + (answer_list asked_head closed l).used) (sym (append_assoc fed more later)));
     interim = λ closed later.
         ap (λ l. (answer_list asked_head closed l).interim) (append_assoc bytes more later)
         ∙ (is.interim closed (more ++ later) ∙ ap (λ l. sent ++ (answer_list asked_head closed l).interim) (sym (append_assoc fed more later)));

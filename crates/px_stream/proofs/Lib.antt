@@ -18,3 +18,4 @@ pub mod LookingLemmas
 pub mod PieceLemmas
 pub mod CutLemmas
 pub mod MomentLemmas
+pub mod RestLemmas

@@ -1,6 +1,5 @@
 -- Looking once, where no answer is awaited: what is given is what the stage owes, and the flow is where the stage is.
-use Rattle.std.proofs.Common.{◌≡◌, ℕ, ◌+◌, ◌≤◌, Bool, true, false, List, [], ◌∷◌, ◌++◌, length, drop, Option, Some, None, refl, ap, sym, ◌∙◌, subst, arith, length-drop, nat_lt}
-use Rattle.std.proofs.lemmas.Bool.{ltb-true}
+use Rattle.std.proofs.Common.{◌≡◌, ℕ, ◌+◌, ◌≤◌, Bool, true, false, List, [], ◌∷◌, ◌++◌, length, drop, Option, Some, None, refl, ap, sym, ◌∙◌, subst, arith, length-drop}
 use Rattle.std.proofs.lemmas.Grind.{flat_map-append}
 use Rattle.std.proofs.lemmas.List.{drop-drop}
 use Rattle.px_message.specs.declared.fault.Fault.{Fault}
@@ -36,6 +35,7 @@ use Rattle.px_stream.specs.Requests.{expects, flow_of, is_head, judged}
 use Rattle.px_stream.specs.declared.asked.Judged.{Judged}
 use Rattle.px_stream.specs.declared.asked.Judged.TheVariants.{Refused, Accepted}
 use Rattle.px_stream.proofs.HeadLemmas.{gives_at, gives_missing, look_at_head, phase_at}
+use Rattle.px_stream.specs.Laws.{now_here}
 use Rattle.px_stream.specs.Stages.{At, Stage, idle, receiving, dialling, given_head, given_body}
 use Rattle.px_stream.specs.Stands.{content_of, KeepsBehind, IsReceiving, PhaseAt}
 use Rattle.px_stream.specs.Streams.{bytes_of, client_bytes, client_closed, now_over, from_here}
@@ -50,14 +50,6 @@ at_look terms stage front requests is_now before out longer more l is grown owes
     let P : Look Command → Type 0 = λ k. before ++ more ≡ so_far stage front ++ found k in
     let Q : Look Command → Type 0 = λ k. PhaseAt k terms requests is_now stage front in
     record { more = more; grown = grown; owes = subst P (sym is) owes; phase = subst Q (sym is) there }
-
-not_below : (n : ℕ) (b : Bool) → nat_lt n n ≡ b → b ≡ false
-not_below n true is = absurd (let less = ltb-true n n is in omega arith)
-not_below n false is = refl
-
--- the moment of a stage that begins here
-pub now_here : (moment : ℕ) (front : List (Timed Event)) → now_over (from_here moment front) front ≡ moment
-now_here moment front = rw (not_below (length front) (nat_lt (length front) (length front)) refl) refl
 
 -- ---- the stages whose ask is found at once
 

@@ -32,13 +32,13 @@ use Rattle.px_stream.specs.declared.terms.Numbers.{Numbers}
 use Rattle.px_stream.specs.declared.terms.Terms.{Terms}
 use Rattle.px_stream.specs.Chain.{address_of, answers_over, ask_of, look, look_answer, look_answer_head, look_body, look_head, look_judged, look_returned, or_leaves, pass, pass_body, request_over, response_of, sequence, so_far, turn, used_server, with_answer, with_body, with_end, with_returned, with_start, http_chain}
 use Rattle.px_stream.specs.Left.{asked_left, behind_left, flow_left, phase_left, ready_left, sequence_by, sequence_left, stage_left, stages_left}
-use Rattle.px_stream.specs.Quiet.{AllQuiet, LooksQuiet, IsBehind, at_of, conv_of}
+use Rattle.px_stream.specs.Quiet.{AllQuiet, LooksQuiet, IsBehind, any_flow, at_of}
 use Rattle.px_stream.specs.Requests.{flow_of, judged}
 use Rattle.px_stream.specs.Sequence.{IsCounted, IsFew}
 use Rattle.px_stream.specs.Stages.{At, Stage, idle, receiving, dialling, answering, returning, given_head, given_body, next, over}
 use Rattle.px_stream.specs.Stands.{IsAsked, IsReady, HasPlace, PhaseAt, IsAt, asked_of, awaited_in, awaits, last_of}
 use Rattle.px_stream.specs.Streams.{client_closed, now_over}
-use Rattle.px_stream.proofs.QuietLemmas.{IsGoing, finds_own, so_far_quiet, turn_behind, turn_quiet}
+use Rattle.px_stream.proofs.QuietLemmas.{IsGoing, finds_quiet_end, so_far_quiet, turn_behind, turn_quiet}
 use Rattle.px_stream.proofs.TakeLemmas.{pass_owes_nothing}
 
 -- ---- the asks among commands
@@ -58,13 +58,13 @@ asks_seen (commands.Ask ask flow ∷ rest) = ap (λ l. ask ∷ l) (asks_seen res
 asks_seen (commands.Done flow ∷ rest) = asks_seen rest
 
 -- what is quiet asks nothing
-quiet_seen : (conv : ℕ) (l : List Command) → AllQuiet conv l → seen_of questions l ≡ []
-quiet_seen conv [] all = refl
-quiet_seen conv (commands.Send side bytes ∷ rest) (here, all) = quiet_seen conv rest all
-quiet_seen conv (commands.Close side ∷ rest) (here, all) = quiet_seen conv rest all
-quiet_seen conv (commands.Dial server address inside ∷ rest) (here, all) = absurd here
-quiet_seen conv (commands.Ask ask flow ∷ rest) (here, all) = absurd here
-quiet_seen conv (commands.Done flow ∷ rest) (here, all) = quiet_seen conv rest all
+quiet_seen : (l : List Command) → AllQuiet any_flow l → seen_of questions l ≡ []
+quiet_seen [] all = refl
+quiet_seen (commands.Send side bytes ∷ rest) (here, all) = quiet_seen rest all
+quiet_seen (commands.Close side ∷ rest) (here, all) = quiet_seen rest all
+quiet_seen (commands.Dial server address inside ∷ rest) (here, all) = absurd here
+quiet_seen (commands.Ask ask flow ∷ rest) (here, all) = absurd here
+quiet_seen (commands.Done flow ∷ rest) (here, all) = quiet_seen rest all
 
 -- ---- what is asked is what is awaited
 
@@ -124,9 +124,9 @@ asks_by NotYet terms requests is_now stage front is (looked, sent, same, there, 
 asks_by (Asks ask) terms requests is_now stage front is (here, same, there) =
     sym (asks_seen (ask ∷ [])) ∙ (append-nil (asks_in ask) ∙ (asked_here terms requests here front ask stage is there ∙ ap (λ p. option_to_list (awaited_in p)) (sym same)))
 asks_by (Ends owed) terms requests is_now stage front is (same, there) =
-    let P : Look Command → Type 0 = LooksQuiet (conv_of terms stage) in
-    let quiet : AllQuiet (conv_of terms stage) owed = subst P is (finds_own terms stage front) in
-    ap (flat_map ask_atoms) (quiet_seen (conv_of terms stage) owed quiet) ∙ ap (λ p. option_to_list (awaited_in p)) (sym same)
+    let P : Look Command → Type 0 = LooksQuiet any_flow in
+    let quiet : AllQuiet any_flow owed = subst P is (finds_quiet_end terms stage front) in
+    ap (flat_map ask_atoms) (quiet_seen owed quiet) ∙ ap (λ p. option_to_list (awaited_in p)) (sym same)
 
 -- the questions of what is owed over a front are those of what is found there
 owes_questions : (onward_to : Stage → Stage) (terms : Terms) (stage : Stage) (front : List (Timed Event)) →
@@ -135,7 +135,7 @@ owes_questions onward_to terms stage front =
     let there : Stage = (pass stage front).stage in
     ap (λ l. seen_of questions (l ++ (so_far there front ++ found (look terms there front)))) (pass_owes_nothing stage front)
     ∙ (seen_append questions (so_far there front) (found (look terms there front))
-    ∙ ap (λ l. l ++ seen_of questions (found (look terms there front))) (quiet_seen 0 (so_far there front) (so_far_quiet 0 there front)))
+    ∙ ap (λ l. l ++ seen_of questions (found (look terms there front))) (quiet_seen (so_far there front) (so_far_quiet any_flow there front)))
 
 module _ (onward_to : Stage → Stage) (made : Terms) (after : Stream) (moment : ℕ) (more : List Command) where
   -- what is asked behind an event
@@ -145,7 +145,7 @@ module _ (onward_to : Stage → Stage) (made : Terms) (after : Stream) (moment :
       let further : List (Timed Event) = front ++ record { moment = moment; value = event } ∷ [] in
       let there : Stage = (pass stage further).stage in
       asks_seen more
-      ∙ (ap (λ l. flat_map ask_atoms (l ++ seen_of questions more)) (sym (quiet_seen 0 (so_far stage front) (so_far_quiet 0 stage front)))
+      ∙ (ap (λ l. flat_map ask_atoms (l ++ seen_of questions more)) (sym (quiet_seen (so_far stage front) (so_far_quiet any_flow stage front)))
       ∙ (ap (flat_map ask_atoms) (gives questions ∙ owes_questions onward_to made stage further)
       ∙ asks_by (look made there further) made after.requests after.phase there further refl place.phase))
   takes_asks event stage front (past_end owed is place gives) =
@@ -163,7 +163,7 @@ module _ (onward_to : Stage → Stage) (made : Terms) (after : Stream) (moment :
       asks_seen more
       ∙ (ap (flat_map ask_atoms)
       (resumes.gives questions ∙ (seen_append questions owed (owed_over (http_chain onward_to made) further front)
-      ∙ (ap (λ l. l ++ seen_of questions (owed_over (http_chain onward_to made) further front)) (quiet_seen (conv_of made stage) owed (turn_quiet made stage front answer))
+      ∙ (ap (λ l. l ++ seen_of questions (owed_over (http_chain onward_to made) further front)) (quiet_seen owed (turn_quiet made stage front answer))
       ∙ owes_questions onward_to made further front)))
       ∙ asks_by (look made (pass further front).stage front) made after.requests after.phase (pass further front).stage front refl resumes.place.phase)
 

@@ -1,6 +1,6 @@
 -- Reading up to the head of the final response, part by part.
-use Rattle.std.proofs.Common.{◌≡◌, ℕ, ◌+◌, ◌<◌, ◌≤◌, Bool, true, false, List, [], ◌∷◌, ◌++◌, length, drop, Some, Result, refl, ap, sym, ◌∙◌, subst, arith, append_assoc, length-append, length-drop}
-use Rattle.std.proofs.lemmas.List.{append-nil, drop-append-le, map-append}
+use Rattle.std.proofs.Common.{◌≡◌, ℕ, ◌+◌, ◌-◌, ◌<◌, ◌≤◌, Bool, true, false, List, [], ◌∷◌, ◌++◌, length, drop, Some, Result, refl, ap, sym, ◌∙◌, subst, arith, append_assoc, length-append, length-drop}
+use Rattle.std.proofs.lemmas.List.{append-nil, drop-append-le, drop-drop, map-append}
 use Rattle.std.proofs.Math.Seq.{drop-append_seam}
 use Rattle.px_head.specs.Front.{response_front}
 use Rattle.px_head.specs.declared.raw.RawHead.{RawHead}
@@ -192,6 +192,9 @@ behind_by asked_head shut fed head stands between trailers interim reads place =
       cut = sym (drop-append_seam reads.used between.rest) ∙ (ap (λ l. drop (length reads.used) l) (sym reads.bytes) ∙ ap (λ n. drop n fed) count);
     }
 
+sum : (a b c : ℕ) → a + (b + c) ≡ (a + b) + c
+sum a b c = omega arith
+
 -- the interim response is sent on, and the next one begins
 passes_on : (asked_head : Bool) (bytes fed rest : List ℕ) (sent : List ResponseHead) (head : ResponseHead) → is_interim head ≡ true → Behind head fed rest → Passes asked_head bytes fed sent →
     Passes asked_head bytes rest (sent ++ head ∷ [])
@@ -203,7 +206,15 @@ passes_on asked_head bytes fed rest sent head interim behind passes =
     list_behind asked_head closed (fed ++ more) behind.raw behind.used later (ap is_interim behind.same ∙ interim)
     ∙ (ap (λ h. behind_interim h behind.used (answer_list asked_head closed (drop behind.used (fed ++ more)))) behind.same
     ∙ ap (λ l. behind_interim head behind.used (answer_list asked_head closed l)) (drop-append-le behind.used fed more within.1 ∙ ap (λ l. l ++ more) (sym behind.cut))) in
+    let left : length fed ≡ length bytes - passes.used = ap length passes.behind ∙ length-drop passes.used bytes in
+    let some = within.1 in
+    let all = passes.within in
     record {
+      used = passes.used + behind.used;
+      within = omega arith;
+      behind = behind.cut ∙ (ap (drop behind.used) passes.behind ∙ drop-drop behind.used passes.used bytes);
+      counts = λ closed more. passes.counts closed more ∙ (ap (λ (a : Answers). passes.used + a.used) (list closed more)
+          ∙ sum passes.used behind.used (answer_list asked_head closed (rest ++ more)).used);
       interim = λ closed more. passes.interim closed more ∙ (ap (λ (a : Answers). sent ++ a.interim) (list closed more)
           ∙ sym (append_assoc sent (head ∷ []) (answer_list asked_head closed (rest ++ more)).interim));
       final = λ closed more. passes.final closed more ∙ ap (λ (a : Answers). a.final) (list closed more);

@@ -1,7 +1,7 @@
 -- Looking for the response's body: what is given is what the stage owes, and the flow is where the stage is.
-use Rattle.std.proofs.Common.{◌≡◌, ℕ, ◌≤◌, Bool, true, false, List, [], ◌∷◌, ◌++◌, length, refl, ap, sym, ◌∙◌, subst}
+use Rattle.std.proofs.Common.{◌≡◌, ℕ, ◌+◌, ◌≤◌, Bool, true, false, List, [], ◌∷◌, ◌++◌, length, drop, refl, ap, sym, ◌∙◌, subst, arith}
 use Rattle.std.proofs.lemmas.Grind.{flat_map-append}
-use Rattle.std.proofs.lemmas.List.{append-nil}
+use Rattle.std.proofs.lemmas.List.{append-nil, drop-drop}
 use Rattle.px_message.specs.declared.flow.Flow.{Flow}
 use Rattle.px_event.specs.declared.ask.Hook.TheVariants.{ResponseBody}
 use Rattle.px_event.specs.declared.command.Command.{Command}
@@ -47,6 +47,15 @@ pub interim_behind : (asked_head shut : Bool) (bytes fed : List ℕ) (sent : Lis
 interim_behind asked_head shut bytes fed sent passes =
     ap (λ l. (answer_list asked_head shut l).interim) (sym (append-nil bytes)) ∙ (passes.interim shut [] ∙ ap (λ l. sent ++ (answer_list asked_head shut l).interim) (append-nil fed))
 
+used_behind : (asked_head shut : Bool) (bytes fed : List ℕ) (sent : List ReadResponse) (passes : Passes asked_head bytes fed sent) →
+    (answer_list asked_head shut bytes).used ≡ passes.used + (answer_list asked_head shut fed).used
+used_behind asked_head shut bytes fed sent passes =
+    ap (λ l. (answer_list asked_head shut l).used) (sym (append-nil bytes))
+    ∙ (passes.counts shut [] ∙ ap (λ l. passes.used + (answer_list asked_head shut l).used) (append-nil fed))
+
+none_behind : (n m : ℕ) → m ≡ 0 → n + m ≡ n
+none_behind n m is = omega arith
+
 module _ (asked_head : Bool) (number : ℕ) (bytes : List ℕ) (shut : Bool) (sent : List ReadResponse) (head : ReadResponse) (final : is_interim head ≡ false) where
   -- what was read of it, as the item that stands there
   abbrev pub ReturnShown : Progress → KeptLink → State → List ℕ → Type 0
@@ -55,6 +64,7 @@ module _ (asked_head : Bool) (number : ℕ) (bytes : List ℕ) (shut : Bool) (se
       × Keeps asked_head number bytes shut sent (answers head ∷ all) (record kept { responses = new })
   ReturnShown (progress.Whole trailers) kept new longer =
       (body : Body) × (size : ℕ) × ((answer_list asked_head shut bytes).final ≡ complete head body trailers size) × (longer ≡ body.content)
+      × (new.rest ≡ drop ((answer_list asked_head shut bytes).used + size) bytes)
   ReturnShown (progress.Bad fault) kept new longer = (body : Body) × ((answer_list asked_head shut bytes).final ≡ bad_body fault head body)
 
   item_of : (marks : List Mark) (kept : KeptLink) (keeps : Keeps asked_head number bytes shut sent (answers head ∷ marks) kept) (reading : Reading) (more : List Mark) →
@@ -64,6 +74,17 @@ module _ (asked_head : Bool) (number : ℕ) (bytes : List ℕ) (shut : Bool) (se
       let stands : StandsThere head keeps.fed = stands_there asked_head shut keeps.fed head more (ap (λ (r : Reading). r.marks) is ∙ told) in
       final_behind asked_head shut bytes keeps.fed sent keeps.passes
       ∙ (ap (λ (a : Answers). a.final) (final_here asked_head shut keeps.fed head stands final) ∙ ap (λ (r : Reading). response_told r.marks r.finish) is)
+
+  -- what the reader keeps behind a whole response is what stands behind its bytes
+  rest_of : (marks : List Mark) (kept : KeptLink) (keeps : Keeps asked_head number bytes shut sent (answers head ∷ marks) kept) (new : State) (size : ℕ) (more : List Mark) →
+      (response_reading asked_head shut keeps.fed).marks ≡ answers head ∷ more → new.rest ≡ drop size keeps.fed →
+      new.rest ≡ drop ((answer_list asked_head shut bytes).used + size) bytes
+  rest_of marks kept keeps new size more told is =
+      let stands : StandsThere head keeps.fed = stands_there asked_head shut keeps.fed head more told in
+      let none : (answer_list asked_head shut keeps.fed).used ≡ 0 = ap (λ (a : Answers). a.used) (final_here asked_head shut keeps.fed head stands final) in
+      let counts : (answer_list asked_head shut bytes).used ≡ keeps.passes.used =
+      used_behind asked_head shut bytes keeps.fed sent keeps.passes ∙ none_behind keeps.passes.used (answer_list asked_head shut keeps.fed).used none in
+      is ∙ (ap (λ l. drop size l) keeps.passes.behind ∙ (drop-drop size keeps.passes.used bytes ∙ ap (λ n. drop (n + size) bytes) (sym counts)))
 
   pub return_shown : (got : Progress) (marks : List Mark) (kept : KeptLink) (new : State) (content longer : List ℕ) →
       Keeps asked_head number bytes shut sent (answers head ∷ marks) kept → content ≡ content_of marks → HasRead got kept.responses content new longer → ReturnShown got kept new longer
@@ -89,6 +110,7 @@ module _ (asked_head : Bool) (number : ℕ) (bytes : List ℕ) (shut : Bool) (se
         come.0,
         item_of marks kept keeps _ (marks ++ m) refl come.1,
         read.collects.grown ∙ (ap (λ l. l ++ content_of m) is ∙ sym (flat_map-append content_in marks m)),
+        rest_of marks kept keeps new come.0 (marks ++ m) (ap (λ (r : Reading). r.marks) come.1) come.2,
       )
   return_shown (progress.Bad fault) marks kept new content longer keeps is read =
       let m = read.collects.marks in
@@ -128,13 +150,13 @@ module _ (terms : Terms) (at : At) (flow : Flow) (link : Link) (front : List (Ti
       at_look terms (returning at flow link) front requests is_now [] out longer (ends_by_fault flow fault (now_over at.since front) (used_server link front) (client_closed front))
       (Ends (ends_by_fault flow fault (now_over at.since front) (used_server link front) (client_closed front))) (rw is refl)
       (grown ∙ ap (λ u. out ++ ends_by_fault flow fault (now_over at.since front) u (client_closed front)) used) refl (there, tt)
-  by_got (progress.Whole trailers) kept new content opened (body, size, is, same) used server closed grown there =
+  by_got (progress.Whole trailers) kept new content opened (body, size, is, same, rest) used server closed grown there =
       let told : Flow = with_returned flow body.content trailers (now_over at.since front) in
       at_look terms (returning at flow link) front requests is_now [] out longer (ask_of told ResponseBody ∷ []) (Asks (ask_of told ResponseBody)) (rw is refl)
       (grown ∙ ap (λ l. out ++ ask_of (with_returned flow l trailers (now_over at.since front)) ResponseBody ∷ []) same) refl (
         asked.Returned told (record kept { responses = new }),
         there ∙ ap (λ l. phase.Asked (asked.Returned (with_returned flow l trailers (now_over at.since front)) (record kept { responses = new }))) same,
-        record { kept = record kept { responses = new }; head = head; body = body; trailers = trailers; size = size; stands = is; phase = refl; server = server; closed = closed; keeps = keeps_rest },
+        record { kept = record kept { responses = new }; head = head; body = body; trailers = trailers; size = size; stands = is; phase = refl; server = server; closed = closed; rest = rest; keeps = keeps_rest },
       )
 
 pub returning_looked : (terms : Terms) (at : At) (flow : Flow) (link : Link) (front : List (Timed Event)) (requests : State) (sent : List ReadResponse) (old new : KeptLink) (content : List ℕ) (moment : ℕ) (closed : Bool)

@@ -16,7 +16,7 @@ use Rattle.px_event.specs.declared.side.Side.TheVariants.{Client, Server}
 use Rattle.px_event.specs.Chain.{Timed, Turn}
 use Rattle.px_read.specs.Chunks.{Finish, goes_on, whole, fails, Reading}
 use Rattle.px_read.specs.Heads.{is_interim}
-use Rattle.px_read.specs.Items.{Item, missing, part, complete, bad_head, bad_body}
+use Rattle.px_read.specs.Items.{Item, missing, part, complete, bad_head, bad_body, answer_list}
 use Rattle.px_read.specs.Laws.{head_in}
 use Rattle.px_read.specs.Marks.{asks, answers}
 use Rattle.px_read.specs.Readings.{behind_bytes}
@@ -35,6 +35,7 @@ use Rattle.px_stream.specs.declared.terms.Numbers.{Numbers}
 use Rattle.px_stream.specs.declared.terms.Terms.{Terms}
 use Rattle.px_stream.specs.Chain.{turn, turn_head, turn_judged, turn_taken_head, turn_body, turn_taken_body, turn_dial, dial_owes, turn_answer, turn_answer_head, turn_taken_answer, turn_returned, turn_whole_answer, turn_response, turn_taken_returned, turn_taken_given, set_out, request_over, answers_over, response_of, used_server, with_answer, with_body, with_end, with_returned, with_start}
 use Rattle.px_stream.specs.Endings.{behind_flow as flow_leads, connection_goes_on}
+use Rattle.px_stream.specs.Laws.{now_here}
 use Rattle.px_stream.specs.Led.{Turned}
 use Rattle.px_stream.specs.Phases.{behind_dial, behind_given_head, behind_request, behind_request_head, behind_response, behind_response_head, behind_flow, new_link, no_link, numbered, where_response}
 use Rattle.px_stream.specs.Replies.{taken_at_request_body, taken_at_request_head, taken_at_response_body, taken_at_response_head}
@@ -84,14 +85,6 @@ placed_next at front numbers closed place few = record {
   since = place.since;
 }
 
-not_below : (n : ℕ) (b : Bool) → nat_lt n n ≡ b → b ≡ false
-not_below n true is = absurd (let less = ltb-true n n is in omega arith)
-not_below n false is = refl
-
--- the moment of a stage that begins here
-now_here : (moment : ℕ) (front : List (Timed Event)) → now_over (from_here moment front) front ≡ moment
-now_here moment front = rw (not_below (length front) (nat_lt (length front) (length front)) refl) refl
-
 -- ---- a server's side that has sent nothing
 
 drop_all : {A : Type 0} (xs : List A) → drop (length xs) xs ≡ []
@@ -114,13 +107,23 @@ reads_nothing message = record {
   reading = λ more later follows. same_reading (reading_from (before_all message [] false).place later more);
 }
 
+none_before : (n : ℕ) → n ≡ 0 + n
+none_before n = omega arith
+
 new_keeps : (asked_head : Bool) (number : ℕ) → Keeps asked_head number [] false [] [] (new_link number asked_head)
 new_keeps asked_head number = record {
   server = refl;
   is_asked = refl;
   closed = refl;
   fed = [];
-  passes = record { interim = λ closed more. refl; final = λ closed more. refl };
+  passes = record {
+    used = 0;
+    within = omega arith;
+    behind = refl;
+    counts = λ closed more. none_before (answer_list asked_head closed more).used;
+    interim = λ closed more. refl;
+    final = λ closed more. refl;
+  };
   reads = reads_nothing (response asked_head);
 }
 

@@ -1,6 +1,7 @@
 -- The chain of a conversation: its laws, and what one event more does to the words on fronts.
-use Rattle.std.proofs.Common.{◌≡◌, ℕ, Bool, true, false, List, [], ◌∷◌, ◌++◌, drop, Option, Some, None, refl, ap, sym, ◌∙◌, append_assoc}
+use Rattle.std.proofs.Common.{◌≡◌, ℕ, ◌<◌, Bool, true, false, List, [], ◌∷◌, ◌++◌, length, drop, Option, Some, None, refl, ap, sym, ◌∙◌, append_assoc, arith, nat_lt}
 use Rattle.std.specs.Prelude.{zero, suc, ◌||◌, if◌then◌else◌}
+use Rattle.std.proofs.lemmas.Bool.{ltb-true}
 use Rattle.std.proofs.lemmas.Grind.{flat_map-append}
 use Rattle.std.proofs.lemmas.List.{append-nil, map-append}
 use Rattle.px_text.specs.Prefix.{IsPrefixOf}
@@ -25,7 +26,7 @@ use Rattle.px_stream.specs.declared.terms.Terms.{Terms}
 use Rattle.px_stream.specs.Chain.{or_leaves, leaving, find, pass_body, pass, look, so_far, request_over, http_chain}
 use Rattle.px_stream.specs.Requests.{is_head}
 use Rattle.px_stream.specs.Stages.{At, Link, Stage, idle, receiving, dialling, answering, returning, given_head, given_body, next, over}
-use Rattle.px_stream.specs.Streams.{piece_of, closes, bytes_of, is_closed, server_bytes, server_closed, client_closed, now_over}
+use Rattle.px_stream.specs.Streams.{piece_of, closes, bytes_of, is_closed, server_bytes, server_closed, client_closed, now_over, from_here}
 use Rattle.px_stream.specs.Texts.{interim_command, interim_commands}
 
 -- ---- one event more
@@ -133,6 +134,16 @@ drop_more zero front e = behind refl
 drop_more (suc zero) [] e = none refl refl
 drop_more (suc (suc n)) [] e = none refl refl
 drop_more (suc n) (f ∷ front) e = later_by n f front e (drop_more n front e)
+
+-- ---- moments
+
+not_below : (n : ℕ) (b : Bool) → nat_lt n n ≡ b → b ≡ false
+not_below n true is = absurd (let less = ltb-true n n is in omega arith)
+not_below n false is = refl
+
+-- the moment of a stage that begins here
+pub now_here : (moment : ℕ) (front : List (Timed Event)) → now_over (from_here moment front) front ≡ moment
+now_here moment front = rw (not_below (length front) (nat_lt (length front) (length front)) refl) refl
 
 -- ---- growth
 

@@ -17,6 +17,7 @@ pub mod Places
 pub mod Quiet
 pub mod Replies
 pub mod Requests
+pub mod Rests
 pub mod Responses
 pub mod Sequence
 pub mod Shown

@@ -1,7 +1,7 @@
 -- How what a place shows goes on: where the stage passes, where a reply leads it, and with one event more.
 use Rattle.std.proofs.Common.{◌≡◌, ℕ, ◌+◌, ◌<◌, ◌≤◌, Bool, true, false, List, [], ◌∷◌, ◌++◌, length, drop, Option, Some, None, refl, ap, sym, ◌∙◌, subst, arith, nat_lt, lt-ltb, length-append}
 use Rattle.std.specs.Prelude.{◌==◌, ◌||◌, if◌then◌else◌, ⊤}
-use Rattle.std.proofs.lemmas.Bool.{ltb-true, eqb-true}
+use Rattle.std.proofs.lemmas.Bool.{eqb-true}
 use Rattle.std.proofs.lemmas.List.{drop-append-le}
 use Rattle.px_message.specs.declared.flow.Flow.{Flow}
 use Rattle.px_message.specs.declared.request.Request.{Request}
@@ -27,7 +27,7 @@ use Rattle.px_stream.specs.declared.terms.Terms.{Terms}
 use Rattle.px_stream.specs.Chain.{address_of, answers_over, dial_leads, pass, pass_body, request_over, response_of, sequence, set_out, turn, turn_answer, turn_body, turn_given_head, turn_head, turn_judged, turn_response, turn_returned, turn_taken_answer, turn_taken_body, turn_taken_given, turn_taken_head, turn_taken_returned, turn_whole_answer, used_server, with_answer, with_body, with_end, with_returned, with_start}
 use Rattle.px_stream.specs.Cuts.{IsDialled, IsOnward, is_alone, is_sequence, link_of, MayBeHeard, MayStand, OpenedWithin}
 use Rattle.px_stream.specs.Endings.{behind_flow, connection_goes_on}
-use Rattle.px_stream.specs.Laws.{bytes_more, bytes_shut, closed_more, open_behind}
+use Rattle.px_stream.specs.Laws.{bytes_more, bytes_shut, closed_more, now_here, open_behind}
 use Rattle.px_stream.specs.Replies.{taken_at_request_body, taken_at_request_head, taken_at_response_body, taken_at_response_head}
 use Rattle.px_stream.specs.Requests.{expects, flow_of, judged}
 use Rattle.px_stream.specs.Shown.{bare, bare_at, bytes_over, bytes_with, led_to, moment_of, pass_by, pass_in, shown, Shown, shut_over, shut_with, with_event}
@@ -35,14 +35,6 @@ use Rattle.px_stream.specs.Stages.{At, Link, Stage, idle, receiving, dialling, a
 use Rattle.px_stream.specs.Streams.{bytes_of, client_closed, closes, from_here, is_closed, last_moment, now_over, piece_of, Since}
 
 -- ---- moments
-
-not_below : (n : ℕ) (b : Bool) → nat_lt n n ≡ b → b ≡ false
-not_below n true is = absurd (let less = ltb-true n n is in omega arith)
-not_below n false is = refl
-
--- the moment of a stage that begins here
-pub begun_now : (moment : ℕ) (front : List (Timed Event)) → now_over (from_here moment front) front ≡ moment
-begun_now moment front = rw (not_below (length front) (nat_lt (length front) (length front)) refl) refl
 
 last_more : (moment : ℕ) (front : List (Timed Event)) (e : Timed Event) → last_moment moment (front ++ e ∷ []) ≡ e.moment
 last_more moment [] e = refl
@@ -150,7 +142,7 @@ module _ (see : ℕ → ℕ) where
   passed_by at flow (Some response) (part head body) front = refl
   passed_by at flow (Some response) (complete head body trailers used) front =
       let there : Stage = pass_body at flow (Some response) (complete head body trailers used) (now_over at.since front) front in
-      ap (λ n. record (shown see there front) { now = see n }) (begun_now (now_over at.since front) front)
+      ap (λ n. record (shown see there front) { now = see n }) (now_here (now_over at.since front) front)
   passed_by at flow (Some response) (bad_head fault) front = refl
   passed_by at flow (Some response) (bad_body fault head body) front = refl
 
@@ -187,7 +179,7 @@ module _ (see : ℕ → ℕ) where
 
   here : (t : Stage) (moment : ℕ) (front : List (Timed Event)) →
       record (shown see t front) { now = see (now_over (from_here moment front) front) } ≡ record (shown see t front) { now = see moment }
-  here t moment front = ap (λ n. record (shown see t front) { now = see n }) (begun_now moment front)
+  here t moment front = ap (λ n. record (shown see t front) { now = see n }) (now_here moment front)
 
   leads_receiving : (s : Stage) (front : List (Timed Event)) (moment : ℕ) (at : At) (flow : Flow) (given : Option Response) → ((server : ℕ) → IsDialled server s → server < at.dials) →
       Leads s front moment (receiving (set_out at moment front) flow given)
@@ -251,7 +243,7 @@ module _ (see : ℕ → ℕ) where
   dialled_shows front moment at flow other =
       let t : Stage = answering (record at { dials = at.dials + 1; since = from_here moment front }) other (record { server = at.dials; opened = length front }) in
       make_eq (bare see t) _ _ _ _ _ _ _ _ _ _ refl refl (ap (λ l. bytes_of (Server at.dials) l) (drop_all front)) (ap (λ l. is_closed (Server at.dials) l) (drop_all front))
-      (ap see (begun_now moment front))
+      (ap see (now_here moment front))
 
   -- a piece that may be heard already is none of the new server
   new_piece : (side : Side) (bytes : List ℕ) (at : At) (flow : Flow) → MayBeHeard side (dialling at flow) → piece_of (Server at.dials) (events.Piece side bytes) ≡ []

@@ -1,6 +1,7 @@
--- What a conversation owes names it: an ask or an end is of a flow of this conversation, and what a reply brings, or an end,
--- asks nothing.
+-- What a conversation owes at a stage names the stage's flow: an ask or an end is of a flow with its number, of which any test
+-- may be made; and what a reply brings, or an end, asks nothing.
 use Rattle.std.specs.Prelude.{◌≡◌, ◌≤◌, ◌<◌, ◌+◌, ℕ, List, [], ◌∷◌, ⊤}
+use Rattle.px_message.specs.declared.flow.FlowId.{FlowId}
 use Rattle.px_event.specs.declared.ask.Ask.TheVariants as asks
 use Rattle.px_event.specs.declared.command.Command.{Command}
 use Rattle.px_event.specs.declared.command.Command.TheVariants as commands
@@ -9,47 +10,50 @@ use Rattle.px_stream.specs.declared.terms.Terms.{Terms}
 use Rattle.px_stream.specs.Phases.{numbered}
 use Rattle.px_stream.specs.Stages.{At, Stage, idle, receiving, dialling, answering, returning, given_head, given_body, next, over}
 
--- it asks nothing, and a flow that it ends is the conversation's
-abbrev pub IsQuiet : ℕ → Command → Type 0
-IsQuiet conv (commands.Ask ask flow) = ⊥
-IsQuiet conv (commands.Dial server address inside) = ⊥
-IsQuiet conv (commands.Done flow) = flow.id.conv ≡ conv
-IsQuiet conv _ = ⊤
+-- it asks nothing, and a flow that it ends has such a number
+abbrev pub IsQuiet : (FlowId → Type 0) → Command → Type 0
+IsQuiet is (commands.Ask ask flow) = ⊥
+IsQuiet is (commands.Dial server address inside) = ⊥
+IsQuiet is (commands.Done flow) = is flow.id
+IsQuiet is _ = ⊤
 
-abbrev pub AllQuiet : ℕ → List Command → Type 0
-AllQuiet conv [] = ⊤
-AllQuiet conv (command ∷ rest) = IsQuiet conv command × AllQuiet conv rest
+abbrev pub AllQuiet : (FlowId → Type 0) → List Command → Type 0
+AllQuiet is [] = ⊤
+AllQuiet is (command ∷ rest) = IsQuiet is command × AllQuiet is rest
 
--- a dial, or a hook of a flow of the conversation
-abbrev pub IsAskOf : ℕ → Command → Type 0
-IsAskOf conv (commands.Ask (asks.Hook index hook) flow) = (flow.id.conv ≡ conv) × (index ≡ flow.id.index)
-IsAskOf conv (commands.Dial server address inside) = ⊤
-IsAskOf conv _ = ⊥
+-- a dial, or a hook of a flow that has such a number
+abbrev pub IsAskOf : (FlowId → Type 0) → Command → Type 0
+IsAskOf is (commands.Ask (asks.Hook index hook) flow) = is flow.id × (index ≡ flow.id.index)
+IsAskOf is (commands.Dial server address inside) = ⊤
+IsAskOf is _ = ⊥
 
-abbrev pub LooksQuiet : ℕ → Look Command → Type 0
-LooksQuiet conv NotYet = ⊤
-LooksQuiet conv (Asks ask) = IsAskOf conv ask
-LooksQuiet conv (Ends owed) = AllQuiet conv owed
+abbrev pub LooksQuiet : (FlowId → Type 0) → Look Command → Type 0
+LooksQuiet is NotYet = ⊤
+LooksQuiet is (Asks ask) = IsAskOf is ask
+LooksQuiet is (Ends owed) = AllQuiet is owed
 
--- the flow of a stage is the conversation's
-abbrev pub IsOf : Terms → ℕ → Stage → Type 0
-IsOf terms conv (receiving at flow given) = flow.id.conv ≡ conv
-IsOf terms conv (dialling at flow) = flow.id.conv ≡ conv
-IsOf terms conv (answering at flow link) = flow.id.conv ≡ conv
-IsOf terms conv (returning at flow link) = flow.id.conv ≡ conv
-IsOf terms conv (given_head at flow) = flow.id.conv ≡ conv
-IsOf terms conv (given_body at flow) = flow.id.conv ≡ conv
-IsOf terms conv _ = terms.conv ≡ conv
+-- the number of a conversation's flow
+abbrev pub id_in : Terms → ℕ → FlowId
+id_in terms index = record { conv = terms.conv; index = index }
 
--- the number of the conversation of a stage's flow
-abbrev pub conv_of : Terms → Stage → ℕ
-conv_of terms (receiving at flow given) = flow.id.conv
-conv_of terms (dialling at flow) = flow.id.conv
-conv_of terms (answering at flow link) = flow.id.conv
-conv_of terms (returning at flow link) = flow.id.conv
-conv_of terms (given_head at flow) = flow.id.conv
-conv_of terms (given_body at flow) = flow.id.conv
-conv_of terms _ = terms.conv
+-- the flow of a stage has such a number, or the one that begins there has
+abbrev pub IsOf : Terms → (FlowId → Type 0) → Stage → Type 0
+IsOf terms is (idle at) = is (id_in terms at.flow)
+IsOf terms is (receiving at flow given) = is flow.id
+IsOf terms is (dialling at flow) = is flow.id
+IsOf terms is (answering at flow link) = is flow.id
+IsOf terms is (returning at flow link) = is flow.id
+IsOf terms is (given_head at flow) = is flow.id
+IsOf terms is (given_body at flow) = is flow.id
+IsOf terms is (next at) = ⊤
+IsOf terms is over = ⊤
+
+-- any number is such a one, or none is
+abbrev pub any_flow : FlowId → Type 0
+any_flow id = ⊤
+
+abbrev pub no_flow : FlowId → Type 0
+no_flow id = ⊥
 
 -- where a stage's flow is; a conversation that has ended is nowhere
 abbrev pub at_of : Stage → At
@@ -79,8 +83,15 @@ IsBehind flow dials count (given_body at told) = SameFlow flow dials at × (1 < 
 IsBehind flow dials count (next at) = SameFlow (flow + 1) dials at × (flow + 1 < 1000000)
 IsBehind flow dials count over = ⊤
 
+-- no flow ends but where it leads to an end
+abbrev pub EndsNone : Stage → List Command → Type 0
+EndsNone (next at) owed = ⊤
+EndsNone over owed = ⊤
+EndsNone stage owed = AllQuiet no_flow owed
+
 -- What a reply brings: it asks nothing at once, and leads on.
-pub record Leads (terms : Terms) (conv flow dials count : ℕ) (turned : Turn Stage Command) : Type 0 where
-  pub quiet : AllQuiet conv turned.owed
-  pub is_of : IsOf terms conv turned.stage
+pub record Leads (terms : Terms) (is : FlowId → Type 0) (flow dials count : ℕ) (turned : Turn Stage Command) : Type 0 where
+  pub quiet : AllQuiet is turned.owed
+  pub is_of : IsOf terms is turned.stage
+  pub ends_none : EndsNone turned.stage turned.owed
   pub behind : IsBehind flow dials count turned.stage

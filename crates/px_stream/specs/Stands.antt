@@ -1,5 +1,5 @@
 -- Where a flow is: what its fields are at a stage and over a front.
-use Rattle.std.specs.Prelude.{◌≡◌, ◌≤◌, ◌+◌, ◌++◌, ℕ, Bool, true, false, List, [], ◌∷◌, length, Option, Some, None, ⊤}
+use Rattle.std.specs.Prelude.{◌≡◌, ◌≤◌, ◌+◌, ◌++◌, ℕ, Bool, true, false, List, [], ◌∷◌, length, drop, Option, Some, None, ⊤}
 use Rattle.std.specs.List.{flat_map}
 use Rattle.px_message.specs.declared.flow.Flow.{Flow}
 use Rattle.px_message.specs.declared.request.Request.{Request}
@@ -53,8 +53,12 @@ pub record KeepsBehind (used : ℕ) (front : List (Timed Event)) (requests : Sta
 
 -- ---- the server's side
 
--- of a side's bytes the last ones stand behind these interim responses, whatever follows
+-- of a side's bytes the last ones stand behind these interim responses, which used the others, whatever follows
 pub record Passes (asked_head : Bool) (bytes fed : List ℕ) (sent : List ReadResponse) : Type 0 where
+  pub used : ℕ
+  pub within : used ≤ length bytes
+  pub behind : fed ≡ drop used bytes
+  pub counts : (closed : Bool) (more : List ℕ) → (answer_list asked_head closed (bytes ++ more)).used ≡ used + (answer_list asked_head closed (fed ++ more)).used
   pub interim : (closed : Bool) (more : List ℕ) →
       (answer_list asked_head closed (bytes ++ more)).interim ≡ sent ++ (answer_list asked_head closed (fed ++ more)).interim
   pub final : (closed : Bool) (more : List ℕ) → (answer_list asked_head closed (bytes ++ more)).final ≡ (answer_list asked_head closed (fed ++ more)).final
@@ -160,6 +164,7 @@ pub record IsReturnedAsked (at : At) (front : List (Timed Event)) (requests : St
   pub phase : found ≡ asked.Returned (with_returned flow body.content trailers (now_over at.since front)) kept
   pub server : kept.server ≡ link.server
   pub closed : kept.closed ≡ server_closed link.server link.opened front
+  pub rest : kept.responses.rest ≡ drop ((answers_over flow.request link front).used + size) (server_bytes link.server link.opened front)
   pub keeps : KeepsBehind at.used front requests
 
 pub record IsHeldAsked (at : At) (front : List (Timed Event)) (requests : State) (awaits : Asked) (found : Asked) : Type 0 where

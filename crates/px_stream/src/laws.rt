@@ -46,13 +46,13 @@ pub fn waiting_grows()
 {}
 
 /// An answer is awaited exactly where the stage asks, and a state has ended only where the stage ends.
-pub fn states_follow()
+fn states_follow()
     ensures awaits { (onward : Stage → Stage) (made : Made) → AwaitsWhatItAsks (http_chain onward made) (IsAt made) awaits }
     ensures ends { (onward : Stage → Stage) (made : Made) → EndsWhereItEnds (http_chain onward made) (IsAt made) (λ state. is_last state.phase) }
 {}
 
 /// Where nothing is found, a flow stands over one event more where it stood, and its readers have heard the event.
-pub fn readers_follow()
+fn readers_follow()
     ensures ready { (front : List (Timed Heard)) (event : Timed Heard) → client_closed front ≡ false → (stage : Stage) (requests : State) (looked : Looked) (sent : List ResponseHead) (numbers : Counted) (closed : Bool) →
         HasPlace stage front numbers closed → IsReady requests looked stage front sent →
         IsReady (requests_take event.value requests) (ready_takes event.value looked) stage (front ++ event ∷ []) sent }
@@ -61,7 +61,7 @@ pub fn readers_follow()
 {}
 
 /// An answer to what was asked leads where the chain leads, and owes what it owes.
-pub fn answers_lead()
+fn answers_lead()
     ensures { (made : Made) (front : List (Timed Heard)) (requests : State) (numbers : Counted) (closed : Bool) (answer : Timed Answer) (stage : Stage) (asked : Awaited) →
         HasPlace stage front numbers closed → Dials stage → IsAsked made requests asked stage front →
         Turned (turn made stage front answer) front requests (asked_owes numbers.flow asked answer.value answer.moment (client_closed front))
@@ -69,7 +69,7 @@ pub fn answers_lead()
 {}
 
 /// Where the request's body is looked for, what is given is what the stage owes that was passed to, and the flow is there.
-pub fn bodies_follow()
+fn bodies_follow()
     ensures { (made : Made) (at : At) (flow : Told) (given : Option Answered) (front : List (Timed Heard)) (old new : State) (content : List ℕ) (moment : ℕ) (closed : Bool)
         (out longer : List Given) (is_now : Stands) → at.used ≤ length (bytes_of TheClient front) → moment ≡ now_over at.since front → closed ≡ client_closed front →
         IsReceiving at front old flow given (looks.Receiving flow given content) → BodyFound flow given content old new moment closed out longer is_now →
@@ -77,7 +77,7 @@ pub fn bodies_follow()
 {}
 
 /// And where the head of a request is looked for.
-pub fn heads_follow()
+fn heads_follow()
     ensures { (made : Made) (at : At) (front : List (Timed Heard)) (requests : State) (out longer : List Given) (is_now : Stands) (index moment : ℕ) (closed : Bool) →
         index ≡ at.flow → moment ≡ now_over at.since front → closed ≡ client_closed front →
         Reads OfRequest (marks_at (head_in (request_over at front))) (client_bytes at.used front) false requests →
@@ -86,7 +86,7 @@ pub fn heads_follow()
 {}
 
 /// And where the response's body is.
-pub fn returns_follow()
+fn returns_follow()
     ensures { (made : Made) (at : At) (flow : Told) (link : Link) (front : List (Timed Heard)) (requests : State) (sent : List ResponseHead) (old new : Kept) (content : List ℕ) (moment : ℕ) (closed : Bool)
         (out longer : List Given) (is_now : Stands) → moment ≡ now_over at.since front → closed ≡ client_closed front →
         IsReturning at front requests flow link sent (looks.Returning flow old content) → ReturnFound flow content old new moment closed out longer is_now →
@@ -94,7 +94,7 @@ pub fn returns_follow()
 {}
 
 /// And where the head of the final response is.
-pub fn answers_follow()
+fn answers_follow()
     ensures { (made : Made) (at : At) (flow : Told) (link : Link) (front : List (Timed Heard)) (requests : State) (sent : List ResponseHead) (old : Kept) (moment : ℕ) (closed : Bool)
         (out longer : List Given) (is_now : Stands) → moment ≡ now_over at.since front → closed ≡ client_closed front →
         IsAnswering at front requests flow link sent (looks.Answering flow old) → AnswerFound flow old moment closed out longer is_now →
@@ -102,7 +102,7 @@ pub fn answers_follow()
 {}
 
 /// One look, whatever is looked for: what is given is what the stage owes that is passed to, and the flow is there.
-pub fn looks_follow()
+fn looks_follow()
     ensures { (made : Made) (front : List (Timed Heard)) (numbers : Counted) (old new : State) (moment : ℕ) (closed : Bool) (out longer : List Given) (is_now : Stands) (sent : List ResponseHead)
         (stage : Stage) (looked : Looked) → IsReady old looked stage front sent → HasPlace stage front numbers closed → IsNow stage front moment → Dials stage →
         LookFound made numbers looked old new moment closed out longer is_now →

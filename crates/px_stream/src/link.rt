@@ -48,6 +48,14 @@ impl Link {
         }
     }
 
+    /// What was fed and not used of this side.
+    pub fn into_rest(self) -> Vec<u8>
+        ensures { result.items ≡ self.responses.rest }
+    {
+        let Link { responses, .. } = self;
+        responses.into_rest()
+    }
+
     /// Bytes of the server of that number.
     pub fn hear(&mut self, server: u32, bytes: &[u8]) -> Result<(), NoMemory>
         requires same { self.old.responses.closed ≡ self.old.closed }

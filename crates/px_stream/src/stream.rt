@@ -13,13 +13,14 @@ ghost use Rattle.px_stream.specs.Kept.{asked_keeps, phase_keeps, ready_keeps, st
 ghost use Rattle.px_stream.specs.Left.{flow_left, sequence_left};
 ghost use Rattle.px_stream.specs.Looking.{MayLook};
 ghost use Rattle.px_stream.specs.Places.{IsDialled, terms_of};
+ghost use Rattle.px_stream.specs.Rests.{LeavesRests, asked_rest, phase_rest, ready_rest};
 ghost use Rattle.px_stream.specs.Sequence.{Stands, StandsInSequence, is_end, outcome_at, outcome_in, ready_onward, requests_onward, stop_at};
-ghost use Rattle.px_stream.specs.Stages.{At, Stage, next};
+ghost use Rattle.px_stream.specs.Stages.{Stage};
 ghost use Rattle.px_stream.specs.Stands.{awaited_in, awaits, is_last};
-ghost use Rattle.px_stream.specs.Streams.{client_bytes};
 ghost use Rattle.px_stream.specs.Turns.{asked_leads, behind_asked, behind_ready};
 ghost use Rattle.px_stream.specs.declared.phase.Ready.{Ready as Looked};
 
+use crate::link::Link;
 use crate::looking::look;
 use crate::phase::{Asked, Phase, Ready};
 use crate::terms::{Now, Numbers, Terms};
@@ -342,14 +343,18 @@ impl Stream {
         }
     }
 
-    /// The bytes that the flow did not use, and the flow, where it is not finished. Behind a finished flow they are the
-    /// client's bytes behind it, for whoever goes on; its server's side is closed.
+    /// The bytes that the flow did not use, of the client and of its server's side, for whoever goes on; and the flow, where
+    /// a protocol follows it on the same connection, which none does yet.
+    ///
+    /// Behind a whole message they are exactly the side's bytes behind it; while one is read, those from where its reader
+    /// stands. Of the server there are none where the flow has no side of it, or is finished.
     pub fn into_rests(self) -> (Rests, Option<Flow>)
         ensures client { result.0.client ≡ self.requests.rest }
-        ensures server { result.0.server ≡ [] }
+        ensures server { result.0.server ≡ phase_rest self.phase }
         ensures flow { result.1 ≡ None }
         ensures behind { (onward : Stage → Stage) (made : Stream) (moves : List Move) (given : List GivenCommand) → Stands onward made self moves given →
-            (at : At) → (stop_at onward made moves).stage ≡ next at → result.0.client ≡ client_bytes at.used (stop_at onward made moves).front }
+            LeavesRests (look_at made.terms (stop_at onward made moves).stage (stop_at onward made moves).front) (stop_at onward made moves).stage
+            (stop_at onward made moves).front result.0.client result.0.server }
     {
         let Stream {
             alloc,
@@ -357,13 +362,55 @@ impl Stream {
             phase,
             ..
         } = self;
-        leave(phase);
         let rests = Rests {
             client: Bytes::new(requests.into_rest()),
-            server: Bytes::new(Vec::new(alloc)),
+            server: Bytes::new(rest_of_phase(alloc, phase)),
         };
         (rests, None)
     }
+}
+
+// What was not used of the server's side.
+fn rest_of_phase(alloc: Global, phase: Phase) -> Vec<u8>
+    ensures { result.items ≡ phase_rest phase }
+{
+    match phase {
+        Phase::Ready(ready) => rest_of_ready(alloc, ready),
+        Phase::Asked(asked) => rest_of_asked(alloc, asked),
+    }
+}
+
+fn rest_of_ready(alloc: Global, ready: Ready) -> Vec<u8>
+    ensures { result.items ≡ ready_rest ready }
+{
+    match ready {
+        Ready::Answering { flow, link } => rest_of_link(flow, link),
+        Ready::Returning { flow, link, .. } => rest_of_link(flow, link),
+        other => {
+            leave_ready(other);
+            Vec::new(alloc)
+        }
+    }
+}
+
+fn rest_of_asked(alloc: Global, asked: Asked) -> Vec<u8>
+    ensures { result.items ≡ asked_rest asked }
+{
+    match asked {
+        Asked::Answer { flow, link } => rest_of_link(flow, link),
+        Asked::Returned { flow, link } => rest_of_link(flow, link),
+        other => {
+            leave_asked(other);
+            Vec::new(alloc)
+        }
+    }
+}
+
+fn rest_of_link(flow: Flow, link: Link) -> Vec<u8>
+    ensures { result.items ≡ link.responses.rest }
+{
+    leave_flow(flow);
+    link.into_rest()
 }
 
 // How much a phase keeps.
