@@ -1,3 +1,4 @@
 pub mod Fixed
 pub mod Names
+pub mod Ordered
 pub mod Stands

@@ -1,5 +1,6 @@
 -- What is due of a conversation names it alone.
 use Rattle.std.proofs.Common.{◌≡◌, ℕ, List, [], ◌∷◌, refl, ap, sym, subst}
+use Rattle.px_message.specs.declared.flow.FlowId.{FlowId}
 use Rattle.px_event.specs.declared.ask.Ask.{Ask}
 use Rattle.px_event.specs.declared.ask.Ask.TheVariants as asks
 use Rattle.px_event.specs.declared.command.Command.{Command}
@@ -20,8 +21,12 @@ use Rattle.px_stream.proofs.TakeLemmas.{pass_owes_nothing}
 use Rattle.px_http.specs.declared.conversation.HttpConv.{HttpConv}
 use Rattle.px_http.specs.Stands.{HttpStands, chain_of, start_at}
 
+-- the number is of a flow of the conversation
+abbrev OfConversation : ℕ → FlowId → Type 0
+OfConversation conv id = id.conv ≡ conv
+
 -- what asks nothing names the conversation
-quiet_named : (conv : ℕ) (l : List Command) → AllQuiet conv l → AllNamed conv l
+quiet_named : (conv : ℕ) (l : List Command) → AllQuiet (OfConversation conv) l → AllNamed conv l
 quiet_named conv [] all = tt
 quiet_named conv (commands.Send side bytes ∷ rest) (here, all) = (tt, quiet_named conv rest all)
 quiet_named conv (commands.Close side ∷ rest) (here, all) = (tt, quiet_named conv rest all)
@@ -30,7 +35,7 @@ quiet_named conv (commands.Ask ask flow ∷ rest) (here, all) = absurd here
 quiet_named conv (commands.Done flow ∷ rest) (here, all) = (here, quiet_named conv rest all)
 
 -- and so does what is asked
-ask_named : (conv : ℕ) (ask : Command) → IsAskOf conv ask → IsNamed conv ask
+ask_named : (conv : ℕ) (ask : Command) → IsAskOf (OfConversation conv) ask → IsNamed conv ask
 ask_named conv (commands.Send side bytes) is = absurd is
 ask_named conv (commands.Close side) is = absurd is
 ask_named conv (commands.Dial server address inside) is = tt
@@ -38,7 +43,7 @@ ask_named conv (commands.Ask (asks.Hook index hook) flow) is = is
 ask_named conv (commands.Ask (asks.Dial server) flow) is = absurd is
 ask_named conv (commands.Done flow) is = absurd is
 
-look_named : (conv : ℕ) (l : Look Command) → LooksQuiet conv l → AllNamed conv (found l)
+look_named : (conv : ℕ) (l : Look Command) → LooksQuiet (OfConversation conv) l → AllNamed conv (found l)
 look_named conv NotYet is = tt
 look_named conv (Asks ask) is = (ask_named conv ask is, tt)
 look_named conv (Ends owed) is = quiet_named conv owed is
@@ -46,46 +51,50 @@ look_named conv (Ends owed) is = quiet_named conv owed is
 pass_named : (conv : ℕ) (stage : Stage) (front : List (Timed Event)) → AllNamed conv (pass stage front).owed
 pass_named conv stage front = let P : List Command → Type 0 = AllNamed conv in subst P (sym (pass_owes_nothing stage front)) tt
 
--- the next flow is the conversation's too
-onward_of : (terms : Terms) (conv : ℕ) (stage : Stage) → IsOf terms conv stage → IsOf terms conv (sequence stage)
-onward_of terms conv (idle at) is = is
-onward_of terms conv (receiving at flow given) is = is
-onward_of terms conv (dialling at flow) is = is
-onward_of terms conv (answering at flow link) is = is
-onward_of terms conv (returning at flow link) is = is
-onward_of terms conv (given_head at flow) is = is
-onward_of terms conv (given_body at flow) is = is
-onward_of terms conv (next at) is = is
-onward_of terms conv over is = is
+-- the flow of a stage is the conversation's
+abbrev IsOfIts : Terms → Stage → Type 0
+IsOfIts terms stage = IsOf terms (OfConversation terms.conv) stage
+
+-- and so is the next one
+onward_of : (terms : Terms) (stage : Stage) → IsOfIts terms stage → IsOfIts terms (sequence stage)
+onward_of terms (idle at) is = is
+onward_of terms (receiving at flow given) is = is
+onward_of terms (dialling at flow) is = is
+onward_of terms (answering at flow link) is = is
+onward_of terms (returning at flow link) is = is
+onward_of terms (given_head at flow) is = is
+onward_of terms (given_body at flow) is = is
+onward_of terms (next at) is = refl
+onward_of terms over is = is
 
 -- what a reply owes, and where it leads
 abbrev Turned : Terms → Stage → List (Timed Event) → Timed Reply → Type 0
-Turned terms stage front answer = AllQuiet terms.conv (turn terms stage front answer).owed × IsOf terms terms.conv (turn terms stage front answer).stage
+Turned terms stage front answer = AllQuiet (OfConversation terms.conv) (turn terms stage front answer).owed × IsOfIts terms (turn terms stage front answer).stage
 
-turned : (terms : Terms) (stage : Stage) (front : List (Timed Event)) (answer : Timed Reply) → IsOf terms terms.conv stage → Turned terms stage front answer
-turned terms (idle at) front answer is = let led = turn_led terms terms.conv refl (idle at) front answer tt is in (led.quiet, led.is_of)
-turned terms (receiving at flow given) front answer is = let led = turn_led terms terms.conv refl (receiving at flow given) front answer tt is in (led.quiet, led.is_of)
-turned terms (dialling at flow) front answer is = let led = turn_led terms terms.conv refl (dialling at flow) front answer tt is in (led.quiet, led.is_of)
-turned terms (answering at flow link) front answer is = let led = turn_led terms terms.conv refl (answering at flow link) front answer tt is in (led.quiet, led.is_of)
-turned terms (returning at flow link) front answer is = let led = turn_led terms terms.conv refl (returning at flow link) front answer tt is in (led.quiet, led.is_of)
-turned terms (given_head at flow) front answer is = let led = turn_led terms terms.conv refl (given_head at flow) front answer tt is in (led.quiet, led.is_of)
-turned terms (given_body at flow) front answer is = let led = turn_led terms terms.conv refl (given_body at flow) front answer tt is in (led.quiet, led.is_of)
-turned terms (next at) front answer is = (tt, refl)
-turned terms over front answer is = (tt, refl)
+turned : (terms : Terms) (stage : Stage) (front : List (Timed Event)) (answer : Timed Reply) → IsOfIts terms stage → Turned terms stage front answer
+turned terms (idle at) front answer is = let led = turn_led terms (OfConversation terms.conv) (idle at) front answer tt is in (led.quiet, led.is_of)
+turned terms (receiving at flow given) front answer is = let led = turn_led terms (OfConversation terms.conv) (receiving at flow given) front answer tt is in (led.quiet, led.is_of)
+turned terms (dialling at flow) front answer is = let led = turn_led terms (OfConversation terms.conv) (dialling at flow) front answer tt is in (led.quiet, led.is_of)
+turned terms (answering at flow link) front answer is = let led = turn_led terms (OfConversation terms.conv) (answering at flow link) front answer tt is in (led.quiet, led.is_of)
+turned terms (returning at flow link) front answer is = let led = turn_led terms (OfConversation terms.conv) (returning at flow link) front answer tt is in (led.quiet, led.is_of)
+turned terms (given_head at flow) front answer is = let led = turn_led terms (OfConversation terms.conv) (given_head at flow) front answer tt is in (led.quiet, led.is_of)
+turned terms (given_body at flow) front answer is = let led = turn_led terms (OfConversation terms.conv) (given_body at flow) front answer tt is in (led.quiet, led.is_of)
+turned terms (next at) front answer is = (tt, tt)
+turned terms over front answer is = (tt, tt)
 
-stays : (terms : Terms) → StaysNamed terms.conv (http_chain sequence terms) (IsOf terms terms.conv)
+stays : (terms : Terms) → StaysNamed terms.conv (http_chain sequence terms) (IsOfIts terms)
 stays terms = record {
-  pass = λ stage front is. (pass_named terms.conv stage front, pass_of terms terms.conv stage front is);
-  look = λ stage front is. look_named terms.conv (look terms stage front) (looks_quiet terms.conv terms stage front is);
-  so_far = λ stage front is. quiet_named terms.conv (so_far stage front) (so_far_quiet terms.conv stage front);
+  pass = λ stage front is. (pass_named terms.conv stage front, pass_of terms (OfConversation terms.conv) stage front is);
+  look = λ stage front is. look_named terms.conv (look terms stage front) (looks_quiet (OfConversation terms.conv) terms stage front is);
+  so_far = λ stage front is. quiet_named terms.conv (so_far stage front) (so_far_quiet (OfConversation terms.conv) stage front);
   turn = λ stage front answer is.
       let led = turned terms stage front answer is in
-      (quiet_named terms.conv (turn terms stage front answer).owed led.0, onward_of terms terms.conv (turn terms stage front answer).stage led.1);
+      (quiet_named terms.conv (turn terms stage front answer).owed led.0, onward_of terms (turn terms stage front answer).stage led.1);
 }
 
 -- What is due names flows of the conversation alone.
 pub http_names : (made : HttpConv) (moves : List Move) → AllNamed made.stream.terms.conv (due_by (chain_of made) (start_at made) moves)
-http_names made moves = stays_named made.stream.terms.conv (chain_of made) (IsOf made.stream.terms made.stream.terms.conv) (start_at made) (stays made.stream.terms) refl moves
+http_names made moves = stays_named made.stream.terms.conv (chain_of made) (IsOfIts made.stream.terms) (start_at made) (stays made.stream.terms) refl moves
 
 -- no move changes its number
 pub keeps_number : (made state : HttpConv) (moves : List Move) (given : List Command) → HttpStands made state moves given → state.stream.terms.conv ≡ made.stream.terms.conv

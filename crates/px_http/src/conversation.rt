@@ -5,6 +5,7 @@ ghost use Rattle.px_event.specs.declared.command.Command.{Command as GivenComman
 ghost use Rattle.px_http.specs.Stands.{HttpStands, awaits, stop_at};
 ghost use Rattle.px_stream.specs.Chain.{look};
 ghost use Rattle.px_stream.specs.Places.{IsDialled, terms_of};
+ghost use Rattle.px_stream.specs.Rests.{LeavesRests, phase_rest};
 ghost use Rattle.px_stream.specs.Sequence.{is_end, outcome_at, outcome_in};
 ghost use Rattle.px_stream.specs.Stands.{is_last};
 
@@ -61,11 +62,18 @@ impl HttpConv {
         self.stream.outcome()
     }
 
-    /// The bytes that its flows did not use, and the flow, where it is not finished.
+    /// The bytes that its flows did not use, of the client and of the present flow's server side; and the flow, where a
+    /// protocol follows it on the same connection, which none does yet.
+    ///
+    /// Behind a whole message they are exactly the side's bytes behind it; while one is read, those from where its reader
+    /// stands. Of the server there are none where the flow has no side of it.
     pub fn into_rests(self) -> (Rests, Option<Flow>)
         ensures client { result.0.client ≡ self.stream.requests.rest }
-        ensures server { result.0.server ≡ [] }
+        ensures server { result.0.server ≡ phase_rest self.stream.phase }
         ensures flow { result.1 ≡ None }
+        ensures behind { (made : HttpConv) (moves : List Move) (given : List GivenCommand) → HttpStands made self moves given →
+            LeavesRests (look made.stream.terms (stop_at made moves).stage (stop_at made moves).front) (stop_at made moves).stage (stop_at made moves).front
+            result.0.client result.0.server }
     {
         self.stream.into_rests()
     }

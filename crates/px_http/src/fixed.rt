@@ -8,8 +8,8 @@ use px_stream::Place;
 use px_text::NoMemory;
 use std::alloc::Global;
 
-/// Makes conversations whose requests all go to one address, as a reverse proxy has them. Where a client is, they are not
-/// told.
+/// Makes conversations whose requests all go to one address, as a reverse proxy has them. The client of each is at the other
+/// end of its connection.
 #[derive(Debug, Drop)]
 pub struct Fixed {
     alloc: Global,
@@ -26,19 +26,20 @@ impl Fixed {
 }
 
 impl LayerMaker<HttpConv> for Fixed {
-    ghost use Rattle.px_http.specs.Fixed.{fixed_begins, fixed_due};
+    ghost use Rattle.px_http.specs.Fixed.{fixed_due, fixed_ordered};
 
     ghost due = { λ maker. fixed_due maker.address };
 
-    fn make(&mut self, conv: u32) -> Result<HttpConv, NoMemory> {
+    fn make(&mut self, conv: u32, peer: &Address) -> Result<HttpConv, NoMemory> {
         let address = self.address.try_clone()?;
+        let client = Some(peer.try_clone()?);
         let place = Place::Fixed {
             address,
             side: None,
             inside: None,
         };
-        Ok(HttpConv::new(self.alloc, conv, None, place, 0, 0))
+        Ok(HttpConv::new(self.alloc, conv, client, place, 0, 0))
     }
 
-    ghost begins = { λ maker. fixed_begins maker.address };
+    ghost ordered = { λ maker. fixed_ordered maker.address };
 }

@@ -8,6 +8,8 @@
 mod chained;
 mod conversation;
 mod fixed;
+#[cfg(test)]
+mod tests;
 
 pub use conversation::HttpConv;
 pub use fixed::Fixed;

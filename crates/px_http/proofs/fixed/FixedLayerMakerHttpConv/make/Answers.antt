@@ -1,4 +1,4 @@
-use Rattle.std.proofs.Common.{refl, ap, ◌∙◌}
+use Rattle.std.proofs.Common.{ap, ◌∙◌}
 use Rattle.px_event.specs.Stands.{due_by}
 use Rattle.px_message.specs.declared.address.Address.{Address}
 use Rattle.px_stream.specs.declared.terms.Numbers.{Numbers}
@@ -15,5 +15,7 @@ returns-clause-number c = ap (λ (t : Terms). t.conv) c.new.ensures.terms
 pub returns-clause-due : goal.returns-clause-due
 returns-clause-due c = λ moves.
     ap (λ (t : Terms). due_by (http_chain sequence t) (idle (start_of c.new.result.stream.numbers)) moves)
-    (c.new.ensures.terms ∙ ap (λ (a : Address). fixed_terms a c.args.conv) c.in_ok-address.ensures)
-    ∙ ap (λ (n : Numbers). due_by (http_chain sequence (fixed_terms c.args.self.now.address c.args.conv)) (idle (start_of n)) moves) c.new.ensures.numbers
+    (c.new.ensures.terms
+    ∙ (ap (λ (p : Address). fixed_terms c.in_ok-address.address c.args.conv p) c.in_ok-try_clone.ensures
+    ∙ ap (λ (a : Address). fixed_terms a c.args.conv c.args.peer.now) c.in_ok-address.ensures))
+    ∙ ap (λ (n : Numbers). due_by (http_chain sequence (fixed_terms c.args.self.now.address c.args.conv c.args.peer.now)) (idle (start_of n)) moves) c.new.ensures.numbers
