@@ -1,10 +1,7 @@
 -- A network that tells its trace, and where it listens.
-use Rattle.std.proofs.Common.{◌≡◌, ◌<◌, ◌+◌, ℕ, List, [], ◌∷◌, ◌++◌, length, map, get_or, take, Option, Some, None, Result, Ok, Err, OnOk, OnErr, sym, ap, ◌∙◌}
-use Rattle.std.proofs.lemmas.List.{append_assoc, map_more}
+use Rattle.std.proofs.Common.{◌≡◌, ℕ, List, [], ◌∷◌, ◌++◌, Option, Some, None, Result, Ok, Err, OnOk, OnErr, ap, ◌∙◌}
 use Rattle.px_message.specs.declared.address.Address.{Address}
-use Rattle.px_event.specs.declared.said.Said.{Said}
 use Rattle.px_event.specs.declared.step.Step.{Step}
-use Rattle.px_event.specs.declared.step.Step.TheVariants as steps
 use Rattle.px_event.specs.Trace.{Trace}
 use Rattle.px_outside.specs.Net.{Adds, Listening, at}
 use Rattle.px_app.specs.Run.{ListensAt}
@@ -20,15 +17,6 @@ adds_told None new step trace is adds = absurd (cc)
 adds_told (Some told) new step trace is adds =
     let same : told ≡ trace = cc in
     adds ∙ ap (λ (t : Trace). Some (t ++ step ∷ [])) same
-
--- one more of the list is said
-pub says_more : (now next : Option Trace) (number : ℕ) (out : List Said) (i : ℕ) (x : Said) (trace : Trace) → now ≡ Some (trace ++ map (steps.Said number) (take i out)) →
-    Adds now next (steps.Said number x) → i < length out → x ≡ get_or out i x → next ≡ Some (trace ++ map (steps.Said number) (take (i + 1) out))
-says_more now next number out i x trace told adds within item =
-    adds_told now next (steps.Said number x) (trace ++ map (steps.Said number) (take i out)) told adds
-    ∙ ap Some (append_assoc trace (map (steps.Said number) (take i out)) (steps.Said number x ∷ [])
-    ∙ ap (λ (l : Trace). trace ++ l)
-    (ap (λ (y : Said). map (steps.Said number) (take i out) ++ steps.Said number y ∷ []) item ∙ sym (map_more (steps.Said number) out i x within)))
 
 pub on_err : {T E : Type 0} (result : Result T E) (P : Type 0) → P → OnErr result P
 on_err (Ok _) P h = tt

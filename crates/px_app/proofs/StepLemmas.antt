@@ -1,177 +1,153 @@
--- From the end of a step to the end of the next, and to any moment in between.
-use Rattle.std.proofs.Common.{◌≡◌, ℕ, Bool, true, false, List, [], ◌∷◌, ◌++◌, map, Option, Some, None, refl, sym, ap, ◌∙◌, subst}
-use Rattle.std.specs.Prelude.{◌==◌, if◌then◌else◌}
-use Rattle.std.proofs.lemmas.List.{append-nil, append_assoc}
+-- One thing heard by a run of many conversations, by how it ended.
+use Rattle.std.proofs.Common.{◌≡◌, ◌≢◌, ℕ, ◌+◌, ◌<◌, true, false, List, [], ◌∷◌, ◌++◌, Option, Some, refl, sym, ap, ◌∙◌, subst}
+use Rattle.std.proofs.lemmas.List.{append-nil}
 use Rattle.px_text.specs.Prefix.{IsPrefixOf}
+use Rattle.px_event.specs.declared.ask.Ask.{Ask}
+use Rattle.px_event.specs.declared.command.Command.{Command}
 use Rattle.px_event.specs.declared.heard.Heard.{Heard}
-use Rattle.px_event.specs.declared.said.Said.{Said}
+use Rattle.px_event.specs.declared.reply.Reply.{Reply}
 use Rattle.px_event.specs.declared.step.Step.TheVariants as steps
-use Rattle.px_event.specs.Trace.{Trace, said, said_in, bytes_to}
-use Rattle.px_message.specs.declared.address.Address.{Address}
-use Rattle.px_app.specs.Seen.{conversation, seen}
-use Rattle.px_app.specs.Due.{owed, due_to, due_in}
-use Rattle.px_app.specs.Faithful.{IsWithinDue, IsAllSent, IsAllSaid, IsFaithful, IsWhole}
-use Rattle.px_app.specs.Serving.{number_after}
-use Rattle.px_event.proofs.TraceLemmas.{always_empty, always_more, before_empty, before_heard, before_said}
-use Rattle.px_app.proofs.SaidLemmas.{bytes_front, said_more, said_heard}
-use Rattle.px_app.proofs.SeenLemmas.{conversation_said, number_heard, due_heard, due_said}
+use Rattle.px_event.specs.Layer.{Move, Standing}
+use Rattle.px_event.specs.Trace.{Trace}
+use Rattle.px_event.specs.View.{View, seen_of}
+use Rattle.px_outside.specs.declared.net.NetError.{NetError}
+use Rattle.px_core.specs.declared.router.Router.{Router}
+use Rattle.px_core.specs.Answers.{Answering}
+use Rattle.px_core.specs.Due.{Due, due_in, IsServed, IsAllTold, IsWithinDue, EndsMet}
+use Rattle.px_core.specs.Ordered.{IsInOrder}
+use Rattle.px_core.specs.Router.{RouterStands}
+use Rattle.px_core.specs.Run.{IsDueOf, Tells, TellsOfHeard}
+use Rattle.px_event.proofs.TraceLemmas.{always_empty, before_empty}
+use Rattle.px_core.proofs.RouteLemmas.{all_told}
+use Rattle.px_app.specs.declared.status.Status.{Status}
+use Rattle.px_app.specs.declared.status.Status.TheVariants.{Ended, BudgetSpent, NoMemory}
+use Rattle.px_app.specs.Own.{IsOwn}
+use Rattle.px_app.specs.Run.{IsRun, Told, ToldNext}
+use Rattle.px_app.specs.Serving.{Stands, ToldTurn}
+use Rattle.px_app.specs.Statuses.{status_of, is_end, heard_count, ends_heard}
+use Rattle.px_app.proofs.CountLemmas.{next_told}
+use Rattle.px_app.proofs.RunLemmas.{memory_run, ended_run, spent_run, error_run}
 
-module _ (address : Address) where
-  -- texts, dials and closes that were said begin those that are due
-  abbrev pub IsWithinSaid : Trace → Type 0
-  IsWithinSaid trace = (conv : ℕ) → IsPrefixOf (said trace conv) (due_in address trace conv)
+-- no step follows at once
+pub own_empty : IsOwn []
+own_empty = tt
 
-  within_due : (trace : Trace) → IsWithinSaid trace → IsWithinDue address trace
-  within_due trace within conv side = bytes_front side (said trace conv) (due_in address trace conv) (within conv)
+pub ordered_empty : IsInOrder []
+ordered_empty = λ conv. tt
 
-  all_sent : (trace : Trace) → IsAllSaid address trace → IsAllSent address trace
-  all_sent trace all conv side = ap (bytes_to side) (all conv)
+one_trace : (a b : Trace) → Some a ≡ Some b → a ≡ b
+one_trace a b e = cc
 
-  pub empty_all_said : IsAllSaid address []
-  empty_all_said conv = refl
+-- what is told of the trace holds of it
+told_of : (P : Trace → Type 0) (before after : Trace) (told : Option Trace) → told ≡ Some after → Tells P before told → P after
+told_of P before after told is tells = subst P (one_trace (before ++ tells.more) after (sym tells.is ∙ is)) tells.holds
 
-  pub empty_faithful : IsFaithful address []
-  empty_faithful = record {
-    always = always_empty (IsWithinDue address) (within_due [] (λ conv. ([], refl)));
-    sent = before_empty (IsAllSent address);
-    said = before_empty (IsAllSaid address);
+module _ {C S : Type 0} (standing : Standing C) (awaited : C → Option Ask) (number : C → ℕ) (made_due : C → List Move → List Command)
+    (gave : (made state : C) (moves : List Move) (given : List Command) → standing made state moves given → (view : View) → seen_of view given ≡ seen_of view (made_due made moves))
+    (grows : (made : C) (moves : List Move) (move : Move) (view : View) → IsPrefixOf (seen_of view (made_due made moves)) (seen_of view (made_due made (moves ++ move ∷ []))))
+    (answers : Answering S) (due : Due) where
+  all : {A : Type 0} (router : Router C A) (trace : Trace) → RouterStands standing awaited number made_due answers due router trace → IsAllTold due trace
+  all router trace stands = all_told standing awaited number made_due gave grows answers due router.table trace stands
+
+  -- nothing was heard
+  pub tells_error : {A : Type 0} (router : Router C A) (budget : ℕ) (trace : Trace) (error : NetError) (status : Status) (told : Option Trace) →
+      Stands standing awaited number made_due answers due router trace → told ≡ Some trace → heard_count trace < budget → status ≡ status_of error →
+      Told (IsRun answers due budget status) told
+  tells_error router budget trace error status told stands is below same = record {
+    trace = trace;
+    tells = is;
+    holds = let P : Status → Type 0 = λ s. IsRun answers due budget s trace in
+        subst P (sym same) (error_run answers due budget trace stands.stands.served stands.own stands.ordered (all router trace stands.stands) error stands.goes_on below);
   }
 
-  pub whole_at_end : (trace : Trace) → IsFaithful address trace → IsAllSaid address trace → IsWhole address trace
-  whole_at_end trace faithful all = record {
-    sent = record { within = faithful.sent; whole = all_sent trace all };
-    said = record { within = faithful.said; whole = all };
+  -- memory ran out within the step
+  pub tells_memory : {A : Type 0} (router : Router C A) (budget : ℕ) (trace : Trace) (moment : ℕ) (what : Heard) (told : Option Trace) →
+      Stands standing awaited number made_due answers due router trace → Tells (IsServed answers due) (trace ++ steps.Heard moment what ∷ []) told →
+      TellsOfHeard what (trace ++ steps.Heard moment what ∷ []) told → Tells IsInOrder (trace ++ steps.Heard moment what ∷ []) told →
+      Told (IsRun answers due budget NoMemory) told
+  tells_memory router budget trace moment what told stands tells of ordered =
+      let after = (trace ++ steps.Heard moment what ∷ []) ++ tells.more in
+      let next = next_told trace moment what told after tells.is of in
+      record { trace = after; tells = tells.is; holds = memory_run answers due budget after tells.holds (next.own stands.own) (told_of IsInOrder _ after told tells.is ordered) }
+
+  -- the end was heard
+  pub tells_ended : {A : Type 0} (router new : Router C A) (budget : ℕ) (trace : Trace) (moment : ℕ) (what : Heard) (told : Option Trace) →
+      Stands standing awaited number made_due answers due router trace → is_end what ≡ true →
+      Tells (RouterStands standing awaited number made_due answers due new) (trace ++ steps.Heard moment what ∷ []) told →
+      TellsOfHeard what (trace ++ steps.Heard moment what ∷ []) told → Tells IsInOrder (trace ++ steps.Heard moment what ∷ []) told →
+      Told (IsRun answers due budget Ended) told
+  tells_ended router new budget trace moment what told stands last tells of ordered =
+      let after = (trace ++ steps.Heard moment what ∷ []) ++ tells.more in
+      let next = next_told trace moment what told after tells.is of in
+      record {
+        trace = after;
+        tells = tells.is;
+        holds = ended_run answers due budget after tells.holds.served (next.own stands.own) (told_of IsInOrder _ after told tells.is ordered) (all new after tells.holds) (next.ends ∙ last);
+      }
+
+  -- the run goes on
+  pub goes_next : {A : Type 0} (router new : Router C A) (trace : Trace) (moment : ℕ) (what : Heard) (told : Option Trace) →
+      Stands standing awaited number made_due answers due router trace → is_end what ≡ false →
+      Tells (RouterStands standing awaited number made_due answers due new) (trace ++ steps.Heard moment what ∷ []) told →
+      TellsOfHeard what (trace ++ steps.Heard moment what ∷ []) told → Tells IsInOrder (trace ++ steps.Heard moment what ∷ []) told →
+      ToldNext (Stands standing awaited number made_due answers due new) trace told
+  goes_next router new trace moment what told stands other tells of ordered =
+      let after = (trace ++ steps.Heard moment what ∷ []) ++ tells.more in
+      let next = next_told trace moment what told after tells.is of in
+      record {
+        after = after;
+        tells = tells.is;
+        count = next.count;
+        holds = record { stands = tells.holds; own = next.own stands.own; ordered = told_of IsInOrder _ after told tells.is ordered; goes_on = next.ends ∙ other };
+      }
+
+  -- one turn more
+  pub next_turn : {A : Type 0} (router new : Router C A) (count : ℕ) (before after : Option Trace) → ToldTurn standing awaited number made_due answers due router count before →
+      ((trace : Trace) → Stands standing awaited number made_due answers due router trace → before ≡ Some trace → ToldNext (Stands standing awaited number made_due answers due new) trace after) →
+      ToldTurn standing awaited number made_due answers due new (count + 1) after
+  next_turn router new count before after turn step =
+      let next = step turn.trace turn.stands turn.tells in
+      record { trace = next.after; tells = next.tells; stands = next.holds; counts = next.count ∙ ap (λ (n : ℕ). n + 1) turn.counts }
+
+  -- all that may be heard was heard
+  pub tells_spent : {A : Type 0} (router : Router C A) (budget count : ℕ) (told : Option Trace) → ToldTurn standing awaited number made_due answers due router count told → count ≡ budget →
+      Told (IsRun answers due budget BudgetSpent) told
+  tells_spent router budget count told turn is = record {
+    trace = turn.trace;
+    tells = turn.tells;
+    holds = spent_run answers due budget turn.trace turn.stands.stands.served turn.stands.own turn.stands.ordered (all router turn.trace turn.stands.stands) turn.stands.goes_on (turn.counts ∙ is);
   }
 
-  within_heard : (trace : Trace) (moment : ℕ) (what : Heard) → IsAllSaid address trace → IsWithinSaid (trace ++ steps.Heard moment what ∷ [])
-  within_heard trace moment what all conv =
-      subst (λ (l : List Said). IsPrefixOf l (due_in address (trace ++ steps.Heard moment what ∷ []) conv))
-      (sym (said_heard trace moment what conv ∙ all conv)) (due_heard address trace moment what conv)
+  -- nothing was heard yet
+  pub first_turn : {A : Type 0} (router : Router C A) (told : Option Trace) → RouterStands standing awaited number made_due answers due router [] → told ≡ Some [] →
+      ToldTurn standing awaited number made_due answers due router 0 told
+  first_turn router told stands is = record { trace = []; tells = is; stands = record { stands = stands; own = tt; ordered = ordered_empty; goes_on = refl }; counts = refl }
 
-  -- what was said before is a beginning of what is due behind one more thing heard
-  pub heard_faithful : (trace : Trace) (moment : ℕ) (what : Heard) → IsFaithful address trace → IsAllSaid address trace →
-      IsFaithful address (trace ++ steps.Heard moment what ∷ [])
-  heard_faithful trace moment what faithful all = record {
-    always = always_more (IsWithinDue address) trace (steps.Heard moment what) faithful.always
-        (within_due (trace ++ steps.Heard moment what ∷ []) (within_heard trace moment what all));
-    sent = before_heard (IsAllSent address) trace moment what faithful.sent (all_sent trace all);
-    said = before_heard (IsAllSaid address) trace moment what faithful.said all;
-  }
+no_answer : (front : Trace) (conv : ℕ) (ask : Ask) (reply : Reply) → [] ≡ front ++ steps.Answered conv ask reply ∷ [] → ⊥
+no_answer [] conv ask reply e = cc
+no_answer (x ∷ front) conv ask reply e = cc
 
-  -- these are still to be said, in the conversation of this number
-  abbrev pub Owes : Trace → ℕ → List Said → Type 0
-  Owes trace number rest = (conv : ℕ) → due_in address trace conv ≡ said trace conv ++ (if number == conv then rest else [])
+-- before anything was heard
+pub empty_served : {S : Type 0} (answers : Answering S) (due : Due) → IsServed answers due []
+empty_served answers due = record {
+  within = always_empty (IsWithinDue due) (λ conv view told. (due_in due view conv [], refl));
+  told = before_empty (IsAllTold due);
+  met = always_empty (EndsMet answers due) (λ front conv ask reply e. absurd (no_answer front conv ask reply e));
+}
 
-  split_by : (x : Said) (rest : List Said) (here : Bool) →
-      (if here then x ∷ rest else []) ≡ (if here then x ∷ [] else []) ++ (if here then rest else [])
-  split_by x rest true = refl
-  split_by x rest false = refl
+pub empty_told : (due : Due) → IsAllTold due []
+empty_told due conv view told = refl
 
-  said_owes : (trace : Trace) (number : ℕ) (x : Said) (rest : List Said) → Owes trace number (x ∷ rest) → Owes (trace ++ steps.Said number x ∷ []) number rest
-  said_owes trace number x rest owes conv =
-      due_said address trace number x conv ∙ owes conv
-      ∙ ap (λ (l : List Said). said trace conv ++ l) (split_by x rest (number == conv))
-      ∙ sym (append_assoc (said trace conv) (said_in conv (steps.Said number x)) (if number == conv then rest else []))
-      ∙ ap (λ (l : List Said). l ++ (if number == conv then rest else [])) (sym (said_more trace (steps.Said number x) conv))
+-- the network does not listen
+pub error_first : {S : Type 0} (answers : Answering S) (due : Due) (budget : ℕ) (error : NetError) (status : Status) (told : Option Trace) →
+    told ≡ Some [] → 0 < budget → status ≡ status_of error → Told (IsRun answers due budget status) told
+error_first answers due budget error status told is below same = record {
+  trace = [];
+  tells = is;
+  holds = let P : Status → Type 0 = λ s. IsRun answers due budget s [] in
+      subst P (sym same) (error_run answers due budget [] (empty_served answers due) tt ordered_empty (empty_told due) error refl below);
+}
 
-  said_faithful : (trace : Trace) (number : ℕ) (x : Said) (rest : List Said) → IsFaithful address trace → Owes trace number (x ∷ rest) →
-      IsFaithful address (trace ++ steps.Said number x ∷ [])
-  said_faithful trace number x rest faithful owes = record {
-    always = always_more (IsWithinDue address) trace (steps.Said number x) faithful.always
-        (within_due (trace ++ steps.Said number x ∷ []) (λ conv. ((if number == conv then rest else []), said_owes trace number x rest owes conv)));
-    sent = before_said (IsAllSent address) trace number x faithful.sent;
-    said = before_said (IsAllSaid address) trace number x faithful.said;
-  }
-
-  -- some of what is owed was said
-  pub record Follows (trace : Trace) (number : ℕ) (given back : List Said) : Type 0 where
-    pub faithful : IsFaithful address (trace ++ map (steps.Said number) given)
-    pub owes : Owes (trace ++ map (steps.Said number) given) number back
-    pub same : conversation (trace ++ map (steps.Said number) given) ≡ conversation trace
-
-  follows_none : (trace more : Trace) (number : ℕ) (back : List Said) → trace ≡ more → IsFaithful address trace → Owes trace number back →
-      IsFaithful address more × Owes more number back × (conversation more ≡ conversation trace)
-  follows_none trace more number back e faithful owes =
-      subst (λ (t : Trace). IsFaithful address t × Owes t number back × (conversation t ≡ conversation trace)) e (faithful, owes, refl)
-
-  follows_more : (trace more : Trace) (number : ℕ) (x : Said) (given back : List Said) →
-      (trace ++ steps.Said number x ∷ []) ++ map (steps.Said number) given ≡ more →
-      Follows (trace ++ steps.Said number x ∷ []) number given back →
-      IsFaithful address more × Owes more number back × (conversation more ≡ conversation trace)
-  follows_more trace more number x given back e f =
-      subst (λ (t : Trace). IsFaithful address t × Owes t number back × (conversation t ≡ conversation trace)) e
-      (f.faithful, f.owes, f.same ∙ conversation_said trace number x)
-
-  pub follows : (given back : List Said) (trace : Trace) (number : ℕ) → IsFaithful address trace → Owes trace number (given ++ back) →
-      Follows trace number given back
-  follows [] back trace number faithful owes =
-      let f = follows_none trace (trace ++ []) number back (sym (append-nil trace)) faithful owes in
-      record { faithful = f.0; owes = f.1; same = f.2 }
-  follows (x ∷ given) back trace number faithful owes =
-      let f = follows_more trace (trace ++ steps.Said number x ∷ map (steps.Said number) given) number x given back
-      (append_assoc trace (steps.Said number x ∷ []) (map (steps.Said number) given))
-      (follows given back (trace ++ steps.Said number x ∷ []) number (said_faithful trace number x (given ++ back) faithful owes)
-      (said_owes trace number x (given ++ back) owes)) in
-      record { faithful = f.0; owes = f.1; same = f.2 }
-
-  -- nothing is left to say
-  pub all_said_at_end : (trace : Trace) (number : ℕ) → Owes trace number [] → IsAllSaid address trace
-  all_said_at_end trace number owes conv = sym (owes conv ∙ by_test (number == conv))
-    where
-      by_test : (here : Bool) → said trace conv ++ (if here then [] else []) ≡ said trace conv
-      by_test true = append-nil (said trace conv)
-      by_test false = append-nil (said trace conv)
-
-  -- what is due where the served conversation has this number
-  due_to_number : (state : Option ℕ × List Heard) (number conv : ℕ) → state.0 ≡ Some number →
-      due_to address state conv ≡ (if number == conv then owed address (seen state.1) else [])
-  due_to_number state number conv e = ap (λ (o : Option ℕ). due_to address (o, state.1) conv) e
-
-  due_to_none : (state : Option ℕ × List Heard) (conv : ℕ) → state.0 ≡ None → due_to address state conv ≡ []
-  due_to_none state conv e = ap (λ (o : Option ℕ). due_to address (o, state.1) conv) e
-
-  append_by : (a b : List Said) (here : Bool) → (if here then a ++ b else []) ≡ (if here then a else []) ++ (if here then b else [])
-  append_by a b true = refl
-  append_by a b false = refl
-
-  none_by : (a : List Said) (here : Bool) → a ≡ [] → [] ≡ (if here then a else [])
-  none_by a true e = sym e
-  none_by a false e = refl
-
-  due_before_by : (state : Option ℕ × List Heard) (was : Option ℕ) (what : Heard) (number conv : ℕ) (a : List Said) → state.0 ≡ was →
-      owed address (seen state.1) ≡ a → (was ≡ None → a ≡ []) → number_after was what ≡ Some number →
-      due_to address state conv ≡ (if number == conv then a else [])
-  due_before_by state None what number conv a is before fresh after = due_to_none state conv is ∙ none_by a (number == conv) (fresh refl)
-  due_before_by state (Some k) what number conv a is before fresh after =
-      due_to_number state k conv is
-      ∙ ap (λ (l : List Said). if k == conv then l else []) before
-      ∙ ap (λ (o : Option ℕ). some_or o) after
-    where
-      some_or : Option ℕ → List Said
-      some_or None = []
-      some_or (Some n) = if n == conv then a else []
-
-  -- what was heard is due to the conversation of this number, behind what was due
-  pub owes_heard : (trace : Trace) (moment : ℕ) (what : Heard) (was : Option ℕ) (number : ℕ) (before out : List Said) → IsAllSaid address trace →
-      (conversation trace).0 ≡ was → owed address (seen (conversation trace).1) ≡ before → (was ≡ None → before ≡ []) →
-      number_after was what ≡ Some number → owed address (seen (conversation (trace ++ steps.Heard moment what ∷ [])).1) ≡ before ++ out →
-      Owes (trace ++ steps.Heard moment what ∷ []) number out
-  owes_heard trace moment what was number before out all is due_before fresh after due_after conv =
-      due_to_number (conversation (trace ++ steps.Heard moment what ∷ [])) number conv
-      (number_heard trace moment what ∙ ap (λ (o : Option ℕ). number_after o what) is ∙ after)
-      ∙ ap (λ (l : List Said). if number == conv then l else []) due_after
-      ∙ append_by before out (number == conv)
-      ∙ ap (λ (l : List Said). l ++ (if number == conv then out else []))
-      (sym (due_before_by (conversation trace) was what number conv before is due_before fresh after) ∙ sym (all conv) ∙ sym (said_heard trace moment what conv))
-
-  pub was_none : (was : Option ℕ) (what : Heard) → number_after was what ≡ None → was ≡ None
-  was_none None what after = refl
-  was_none (Some k) what after = absurd (cc)
-
-  -- where no conversation is served, nothing is due
-  pub quiet_heard : (trace : Trace) (moment : ℕ) (what : Heard) (was : Option ℕ) → IsAllSaid address trace → (conversation trace).0 ≡ was →
-      number_after was what ≡ None → IsAllSaid address (trace ++ steps.Heard moment what ∷ [])
-  quiet_heard trace moment what was all is after conv =
-      said_heard trace moment what conv ∙ all conv ∙ due_to_none (conversation trace) conv (is ∙ was_none was what after)
-      ∙ sym (due_to_none (conversation (trace ++ steps.Heard moment what ∷ [])) conv
-      (number_heard trace moment what ∙ ap (λ (o : Option ℕ). number_after o what) is ∙ after))
+-- and memory ran out before it was asked
+pub memory_first : {S : Type 0} (answers : Answering S) (due : Due) (budget : ℕ) (told : Option Trace) → told ≡ Some [] → Told (IsRun answers due budget NoMemory) told
+memory_first answers due budget told is = record { trace = []; tells = is; holds = memory_run answers due budget [] (empty_served answers due) tt ordered_empty }

@@ -1,10 +1,11 @@
-pub mod Items
-pub mod Seen
-pub mod Due
-pub mod Faithful
 pub mod Words
 pub mod Lines
-pub mod Parts
 pub mod Statuses
+pub mod Going
+pub mod Files
+pub mod Listed
+pub mod Printed
+pub mod Own
+pub mod Servers
 pub mod Run
 pub mod Serving

@@ -1,9 +1,12 @@
 -- What a run promises by its status.
-use Rattle.std.specs.Prelude.{◌≡◌, ◌≢◌, ◌⊎◌, ℕ, true, false, List, Option, Some, None}
-use Rattle.px_event.specs.Trace.{Trace}
+use Rattle.std.specs.Prelude.{◌≡◌, ◌≢◌, ◌⊎◌, ℕ, ◌+◌, true, false, List, Option, Some, None}
+use Rattle.px_event.specs.Trace.{Trace, Always}
 use Rattle.px_message.specs.declared.address.Address.{Address}
 use Rattle.px_outside.specs.Net.{Listening, at}
-use Rattle.px_app.specs.Faithful.{IsFaithful, IsWhole}
+use Rattle.px_core.specs.Answers.{Answering}
+use Rattle.px_core.specs.Due.{Due, IsServed, IsAllTold}
+use Rattle.px_core.specs.Ordered.{IsInOrder}
+use Rattle.px_app.specs.Own.{IsOwn}
 use Rattle.px_app.specs.Statuses.{heard_count, ends_heard}
 use Rattle.px_app.specs.declared.status.Status.{Status}
 use Rattle.px_app.specs.declared.status.Status.TheVariants.{Ended, BudgetSpent, NoMemory}
@@ -11,22 +14,31 @@ use Rattle.px_app.specs.declared.status.Status.TheVariants.{Ended, BudgetSpent, 
 -- this status comes only where the trace has its cause, and where it has it
 pub record IsEnd (budget : ℕ) (status : Status) (trace : Trace) : Type 0 where
   pub ended : status ≡ Ended → ends_heard trace ≡ true
-  pub ends : ends_heard trace ≡ true → status ≡ Ended
+  pub ends : ends_heard trace ≡ true → (status ≡ Ended) ⊎ (status ≡ NoMemory)
   pub count : status ≡ BudgetSpent → heard_count trace ≡ budget
   pub goes_on : status ≡ BudgetSpent → ends_heard trace ≡ false
   pub spent : heard_count trace ≡ budget → ends_heard trace ≡ false → (status ≡ BudgetSpent) ⊎ (status ≡ NoMemory)
 
 -- the trace of a run that ended with this status, where so many things may be heard
-pub record IsRun (address : Address) (budget : ℕ) (status : Status) (trace : Trace) : Type 0 where
-  pub faithful : IsFaithful address trace
-  pub whole : status ≢ NoMemory → IsWhole address trace
+pub record IsRun {S : Type 0} (answers : Answering S) (due : Due) (budget : ℕ) (status : Status) (trace : Trace) : Type 0 where
+  pub served : IsServed answers due trace
+  pub whole : status ≢ NoMemory → IsAllTold due trace
+  pub own : IsOwn trace
+  pub ordered : IsInOrder trace
   pub is_end : IsEnd budget status trace
 
 -- the fact holds of the trace, which is told
-pub record Tells (P : Trace → Type 0) (told : Option Trace) : Type 0 where
+pub record Told (P : Trace → Type 0) (told : Option Trace) : Type 0 where
   pub trace : Trace
   pub tells : told ≡ Some trace
   pub holds : P trace
+
+-- a trace is told, with one more thing heard, and the fact holds of it
+pub record ToldNext (P : Trace → Type 0) (before : Trace) (told : Option Trace) : Type 0 where
+  pub after : Trace
+  pub tells : told ≡ Some after
+  pub count : heard_count after ≡ heard_count before + 1
+  pub holds : P after
 
 -- it listens for clients at this host and port, and for no operators
 pub record ListensAt (host : List ℕ) (port : ℕ) (listening : Listening) : Type 0 where

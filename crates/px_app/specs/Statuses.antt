@@ -9,7 +9,7 @@ use Rattle.px_event.specs.Trace.{Trace}
 use Rattle.px_outside.specs.declared.net.NetError.{NetError}
 use Rattle.px_outside.specs.declared.net.NetError.TheVariants as net
 use Rattle.px_app.specs.declared.status.Status.{Status}
-use Rattle.px_app.specs.declared.status.Status.TheVariants.{Ended, Usage, NetFault, BudgetSpent, NoMemory}
+use Rattle.px_app.specs.declared.status.Status.TheVariants.{Ended, Usage, NetFault, BudgetSpent, OutputFailed, NoMemory}
 
 -- the number that the program ends with
 abbrev pub code_of : Status → ℕ
@@ -17,6 +17,7 @@ code_of Ended = 0
 code_of Usage = 1
 code_of NetFault = 5
 code_of BudgetSpent = 6
+code_of OutputFailed = 7
 code_of NoMemory = 8
 
 -- the status of a net that failed

@@ -1,20 +1,19 @@
 //! What the program does: `run` takes the words, a network, files and a sink, and answers the exit status.
+//!
+//! Each connection at the door for clients is a conversation. Each hook is answered at once with the flow as it was asked
+//! about, and of each finished flow a line is printed.
 #![tactic(auto)]
 
-mod answered;
-mod asked;
-mod conversation;
-mod dial;
-mod item;
-mod joined;
+mod finished;
+mod going;
 mod local;
-mod owed;
-mod parts;
+mod printing;
 mod program;
-mod serve;
-mod served;
+mod reverse;
+mod serving;
 mod status;
 mod words;
 
-pub use dial::Dial;
+pub use going::Going;
 pub use program::run;
+pub use reverse::Conv;

@@ -1,35 +1,49 @@
 //! What the program does: the words, then the run, then the status's line.
 //!
-//! `run` is the whole program over a network, files and a sink that are handed in. Each promise is a clause of it: what
-//! each peer was sent is what is due to it by `specs/Due.antt`, and each status has its cause in the trace, in the words
-//! or in a count of faults. Want of memory alone has no cause; after it each peer has got a prefix of what is due.
-ghost use Rattle.std.specs.Prelude.{◌≡◌, ◌≢◌, ◌⊎◌, ℕ, [], Option, Some, None, codes, map, true, false};
+//! `run` is the whole program over a network, files and a sink that are handed in. Each promise is a clause of it. What each
+//! peer of each conversation was sent is what is due to it by px_http's `fixed_due`, by where its client is and the calls that
+//! the trace has of the conversation; each hook was answered with its flow as it was asked about; what is printed is a line of
+//! each finished flow of the trace, and the status's line behind them; and each status has its cause in the trace, in the words
+//! or in a count of faults. Want of memory alone has no cause; after it each peer has got a prefix of what is due, and a front
+//! of the lines is printed.
+ghost use Rattle.std.specs.Prelude.{◌≡◌, ◌≢◌, ◌⊎◌, ◌++◌, ◌≤◌, ℕ, List, [], Option, Some, None, codes, map, true, false};
 ghost use Rattle.std.specs.String.{string_bytes};
-ghost use Rattle.px_event.specs.Trace.{Trace};
+ghost use Rattle.px_event.specs.Trace.{Trace, Always};
 ghost use Rattle.px_message.specs.declared.address.Address.{Address as Place};
 ghost use Rattle.px_outside.specs.Count.{Rose};
 ghost use Rattle.px_outside.specs.Net.{idle};
 ghost use Rattle.px_outside.specs.Sink.{Writes, WritesPart};
-ghost use Rattle.px_app.specs.Faithful.{IsFaithful, IsWhole};
+ghost use Rattle.px_core.specs.Due.{IsServed, IsAllTold};
+ghost use Rattle.px_core.specs.Ordered.{IsInOrder};
+ghost use Rattle.px_http.specs.Fixed.{fixed_due};
+ghost use Rattle.px_app.specs.Files.{IsUntouched};
+ghost use Rattle.px_app.specs.Going.{goes_on, EndsGoing};
 ghost use Rattle.px_app.specs.Lines.{line_of};
-ghost use Rattle.px_app.specs.Run.{IsEnd, IsRun, Tells, ListensAt};
+ghost use Rattle.px_app.specs.Listed.{listed};
+ghost use Rattle.px_app.specs.Own.{IsOwn, IsIsolated};
+ghost use Rattle.px_app.specs.Servers.{CountsServers};
+ghost use Rattle.px_app.specs.Printed.{Has, Ends, at_end};
+ghost use Rattle.px_app.specs.Run.{IsEnd, IsRun, Told, ListensAt};
 ghost use Rattle.px_app.specs.Statuses.{code_of, heard_count, ends_heard};
 ghost use Rattle.px_app.specs.Words.{served_at};
 
-use crate::serve::serve;
+use crate::printing::Printing;
+use crate::reverse::{Ending, serve};
 use crate::status::Status;
 use crate::words::read_words;
-use px_outside::{Files, Net, Sink, SinkError};
+use px_outside::{Files, Net, Sink};
 use px_text::NoMemory;
 use std::alloc::Global;
 
 // How many things may be heard.
 const BUDGET: u64 = 9_223_372_036_854_775_807;
 
-/// Runs the program with these words: `serve HOST PORT` listens at 127.0.0.1, port 8080, and serves the first
-/// connection with that server. Answers the exit status: 0 at the net's end, 1 where the words have no form, 5 where the
-/// net failed, 6 where 9,223,372,036,854,775,807 things were heard and the last was not the end, 8 where memory ran out.
-/// The lines of 1, 5 and 6 are printed; a sink that fails to take one changes no status.
+/// Runs the program with these words: `serve HOST PORT` listens at 127.0.0.1, port 8080, serves each connection with that
+/// server, and prints a line of each finished flow. Answers the exit status: 0 at the net's end, 1 where the words have no
+/// form, 5 where the net failed, 6 where 9,223,372,036,854,775,807 things were heard and the last was not the end, 7 at the
+/// net's end where a line was not printed whole, 8 where memory ran out. The lines of 1, 5 and 6 are printed behind those of
+/// the flows. After a write that failed nothing more is printed, and the run goes on to its end; so a sink that fails to take
+/// a status's line changes no status.
 pub fn run<N: Net, F: Files, S: Sink>(
     alloc: Global,
     words: &[String],
@@ -39,14 +53,28 @@ pub fn run<N: Net, F: Files, S: Sink>(
 ) -> u8
     requires idle { N.listening net.old ≡ idle }
 
-    // At every moment each peer has got a prefix of what is due to it; before each thing heard all of it, with the dials
-    // and closes in their order. But for want of memory, at the end too.
-    ensures faithful { (address : Place) (trace : Trace) → N.trace net.old ≡ Some [] → N.trace net.new ≡ Some trace → served_at (map string_bytes words.now) ≡ Some (address.host, address.port) → IsFaithful address trace }
-    ensures whole { (address : Place) (trace : Trace) → N.trace net.old ≡ Some [] → N.trace net.new ≡ Some trace → served_at (map string_bytes words.now) ≡ Some (address.host, address.port) → result ≢ 8 → IsWhole address trace }
+    // At every moment, in each conversation and each view, the trace has a beginning of what is due; before each thing heard
+    // it has all of it, and but for want of memory at the end too. Each answer is one that an answerer gives who lets all go on.
+    ensures served { (address : Place) (trace : Trace) → N.trace net.old ≡ Some [] → N.trace net.new ≡ Some trace → served_at (map string_bytes words.now) ≡ Some (address.host, address.port) → IsServed goes_on (fixed_due address) trace }
+    ensures whole { (address : Place) (trace : Trace) → N.trace net.old ≡ Some [] → N.trace net.new ≡ Some trace → served_at (map string_bytes words.now) ≡ Some (address.host, address.port) → result ≢ 8 → IsAllTold (fixed_due address) trace }
+    ensures answered { (address : Place) (trace : Trace) → N.trace net.old ≡ Some [] → N.trace net.new ≡ Some trace → served_at (map string_bytes words.now) ≡ Some (address.host, address.port) → Always (EndsGoing (fixed_due address)) trace }
+
+    // The n-th dial of each conversation names its server n.
+    ensures servers { (address : Place) (trace : Trace) → N.trace net.old ≡ Some [] → N.trace net.new ≡ Some trace → served_at (map string_bytes words.now) ≡ Some (address.host, address.port) → Always CountsServers trace }
+
+    // No hook of a flow is asked once the flow is finished.
+    ensures ordered { (trace : Trace) → N.trace net.old ≡ Some [] → N.trace net.new ≡ Some trace → IsInOrder trace }
+
+    // A step is of the conversation that was heard last; what is due to a conversation is told by its own steps alone.
+    ensures own { (trace : Trace) → N.trace net.old ≡ Some [] → N.trace net.new ≡ Some trace → IsOwn trace }
+    ensures isolated { (address : Place) (trace : Trace) → N.trace net.old ≡ Some [] → N.trace net.new ≡ Some trace → Always (IsIsolated (fixed_due address)) trace }
 
     // Where the words have no form nothing is asked of the net. Else it listens before anything is heard.
     ensures nothing_heard { served_at (map string_bytes words.now) ≡ None → net.new ≡ net.old }
     ensures listening { (trace : Trace) → N.trace net.old ≡ Some [] → N.trace net.new ≡ Some trace → trace ≢ [] → ListensAt (codes "127.0.0.1") 8080 (N.listening net.new) }
+
+    // No file is touched.
+    ensures files { IsUntouched F.contents F.calls F.misses F.faults F.losses files.old files.new }
 
     // The causes of the statuses.
     ensures usage { result ≡ 1 → served_at (map string_bytes words.now) ≡ None }
@@ -54,48 +82,76 @@ pub fn run<N: Net, F: Files, S: Sink>(
     ensures fault { result ≡ 5 → Rose (N.faults net.old) (N.faults net.new) }
     ensures budget { (trace : Trace) → N.trace net.old ≡ Some [] → N.trace net.new ≡ Some trace → result ≡ 6 → (heard_count trace ≡ 9223372036854775807) × (ends_heard trace ≡ false) }
     ensures spent { (trace : Trace) → N.trace net.old ≡ Some [] → N.trace net.new ≡ Some trace → heard_count trace ≡ 9223372036854775807 → ends_heard trace ≡ false → (result ≡ 6) ⊎ (result ≡ 8) }
-    ensures ended { (trace : Trace) → N.trace net.old ≡ Some [] → N.trace net.new ≡ Some trace → result ≡ 0 → ends_heard trace ≡ true }
-    ensures ends { (trace : Trace) → N.trace net.old ≡ Some [] → N.trace net.new ≡ Some trace → ends_heard trace ≡ true → (result ≡ 0) ⊎ (result ≡ 8) }
-    ensures statuses { (result ≡ 0) ⊎ ((result ≡ 1) ⊎ ((result ≡ 5) ⊎ ((result ≡ 6) ⊎ (result ≡ 8)))) }
-    ensures complete { served_at (map string_bytes words.now) ≢ None → ¬ (Rose (N.faults net.old) (N.faults net.new)) → (result ≡ 0) ⊎ ((result ≡ 6) ⊎ (result ≡ 8)) }
+    ensures lost { result ≡ 7 → Rose (S.faults out.old) (S.faults out.new) }
+    ensures ended { (trace : Trace) → N.trace net.old ≡ Some [] → N.trace net.new ≡ Some trace → (result ≡ 0) ⊎ (result ≡ 7) → ends_heard trace ≡ true }
+    ensures ends { (trace : Trace) → N.trace net.old ≡ Some [] → N.trace net.new ≡ Some trace → ends_heard trace ≡ true → (result ≡ 0) ⊎ ((result ≡ 7) ⊎ (result ≡ 8)) }
+    ensures statuses { (result ≡ 0) ⊎ ((result ≡ 1) ⊎ ((result ≡ 5) ⊎ ((result ≡ 6) ⊎ ((result ≡ 7) ⊎ (result ≡ 8))))) }
+    ensures complete { served_at (map string_bytes words.now) ≢ None → ¬ (Rose (N.faults net.old) (N.faults net.new)) → ¬ (Rose (S.faults out.old) (S.faults out.new)) → (result ≡ 0) ⊎ ((result ≡ 6) ⊎ (result ≡ 8)) }
 
-    // What is printed is the status's line, whole unless the sink's faults rose, and then a prefix of it.
-    ensures printed { Writes (line_of result) (S.written out.old) (S.written out.new) ⊎ (Rose (S.faults out.old) (S.faults out.new) × WritesPart (line_of result) (S.written out.old) (S.written out.new)) }
-    ensures files { files.new ≡ files.old }
+    // What is printed begins the lines of the finished flows with the status's line behind them. It is all of them with status
+    // 0, and but for want of memory wherever the sink's faults did not rise.
+    ensures printed { (trace : Trace) → N.trace net.old ≡ Some [] → N.trace net.new ≡ Some trace → WritesPart (listed trace ++ line_of result) (S.written out.old) (S.written out.new) }
+    ensures printed_all { (trace : Trace) → N.trace net.old ≡ Some [] → N.trace net.new ≡ Some trace → (result ≡ 0) ⊎ ((result ≢ 8) × ¬ (Rose (S.faults out.old) (S.faults out.new))) → Writes (listed trace ++ line_of result) (S.written out.old) (S.written out.new) }
+    ensures printed_usage { served_at (map string_bytes words.now) ≡ None → Writes (line_of result) (S.written out.old) (S.written out.new) ⊎ (Rose (S.faults out.old) (S.faults out.new) × WritesPart (line_of result) (S.written out.old) (S.written out.new)) }
 {
-    let status = serve_words(alloc, words, net);
-    print(out, status).code()
+    let ending = serve_words(alloc, words, net, files, out);
+    end(out, ending).code()
 }
 
 // Serves as the words say.
-fn serve_words<N: Net>(alloc: Global, words: &[String], net: &mut N) -> Status
+fn serve_words<N: Net, F: Files, S: Sink>(
+    alloc: Global,
+    words: &[String],
+    net: &mut N,
+    files: &mut F,
+    out: &mut S,
+) -> Ending
     requires idle { N.listening net.old ≡ idle }
-    ensures run { (address : Place) → served_at (map string_bytes words.now) ≡ Some (address.host, address.port) → N.trace net.old ≡ Some [] → Tells (IsRun address 9223372036854775807 result) (N.trace net.new) }
-    ensures end { N.trace net.old ≡ Some [] → Tells (IsEnd 9223372036854775807 result) (N.trace net.new) }
-    ensures untouched { served_at (map string_bytes words.now) ≡ None → net.new ≡ net.old }
+    ensures run { (address : Place) → served_at (map string_bytes words.now) ≡ Some (address.host, address.port) → N.trace net.old ≡ Some [] → Told (IsRun goes_on (fixed_due address) 9223372036854775807 result.status) (N.trace net.new) }
+    ensures end { N.trace net.old ≡ Some [] → Told (λ trace. IsEnd 9223372036854775807 result.status trace × IsOwn trace × IsInOrder trace) (N.trace net.new) }
+    ensures untouched { served_at (map string_bytes words.now) ≡ None → (net.new ≡ net.old) × (S.written out.new ≡ S.written out.old) × (result.printing ≡ Printing.Whole) }
+    ensures prints { N.trace net.old ≡ Some [] → result.status ≢ Status.NoMemory → Told (λ told. Has result.printing (listed told) (S.written out.old) (S.written out.new)) (N.trace net.new) }
+    ensures part { N.trace net.old ≡ Some [] → Told (λ told. WritesPart (listed told) (S.written out.old) (S.written out.new)) (N.trace net.new) }
+    ensures failed { result.printing ≡ Printing.Failed → Rose (S.faults out.old) (S.faults out.new) }
+    ensures later { S.faults out.old ≤ S.faults out.new }
+    ensures files { IsUntouched F.contents F.calls F.misses F.faults F.losses files.old files.new }
     ensures listening { (N.trace net.new ≡ N.trace net.old) ⊎ ListensAt (codes "127.0.0.1") 8080 (N.listening net.new) }
-    ensures fault { result ≡ Status.NetFault → Rose (N.faults net.old) (N.faults net.new) }
-    ensures usage { result ≡ Status.Usage → served_at (map string_bytes words.now) ≡ None }
-    ensures refused { served_at (map string_bytes words.now) ≡ None → (result ≡ Status.Usage) ⊎ (result ≡ Status.NoMemory) }
+    ensures fault { result.status ≡ Status.NetFault → Rose (N.faults net.old) (N.faults net.new) }
+    ensures usage { result.status ≡ Status.Usage → served_at (map string_bytes words.now) ≡ None }
+    ensures refused { served_at (map string_bytes words.now) ≡ None → (result.status ≡ Status.Usage) ⊎ (result.status ≡ Status.NoMemory) }
+    ensures output { result.status ≢ Status.OutputFailed }
 {
-    match read_words(alloc, words) {
-        Ok(Some(address)) => serve(alloc, address, net, BUDGET),
+    let status = match read_words(alloc, words) {
+        Ok(Some(address)) => return serve(alloc, address, net, files, out, BUDGET),
         Ok(None) => Status::Usage,
         Err(NoMemory) => Status::NoMemory,
+    };
+    Ending {
+        status,
+        printing: Printing::Whole,
     }
 }
 
-// Prints the status's line. Where the sink fails the status stays.
-fn print<S: Sink>(out: &mut S, status: Status) -> Status
-    ensures status { (result ≡ status) ⊎ (result ≡ Status.NoMemory) }
-    ensures printed { Writes (line_of (code_of result)) (S.written out.old) (S.written out.new) ⊎ (Rose (S.faults out.old) (S.faults out.new) × WritesPart (line_of (code_of result)) (S.written out.old) (S.written out.new)) }
+// Prints the status's line. At the net's end a write that failed makes the status; else a failure changes none.
+fn end<S: Sink>(out: &mut S, ending: Ending) -> Status
+    ensures status { (result ≡ at_end ending.printing ending.status) ⊎ (result ≡ Status.NoMemory) }
+    ensures memory { ending.status ≡ Status.NoMemory → (result ≡ Status.NoMemory) × (S.written out.new ≡ S.written out.old) }
+    ensures prints { (start : Option (List ℕ)) (text : List ℕ) → Has ending.printing text start (S.written out.old) →
+        Ends ending.printing (text ++ line_of (code_of result)) start (S.written out.new) (S.faults out.old) (S.faults out.new) result }
+    ensures later { S.faults out.old ≤ S.faults out.new }
 {
-    let line = status.line();
-    if line.is_empty() {
-        return status;
-    }
-    match out.write(line.as_bytes()) {
-        Ok(()) | Err(SinkError::Failed) => status,
-        Err(SinkError::NoMemory) => Status::NoMemory,
+    let Ending { status, printing } = ending;
+    match status {
+        Status::Ended => match printing {
+            Printing::Whole => Status::Ended,
+            Printing::Failed => Status::OutputFailed,
+        },
+        Status::OutputFailed | Status::NoMemory => status,
+        Status::Usage | Status::NetFault | Status::BudgetSpent => {
+            match printing.print(out, status.line().as_bytes()) {
+                Ok(_) => status,
+                Err(NoMemory) => Status::NoMemory,
+            }
+        }
     }
 }

@@ -15,6 +15,8 @@ pub enum Status {
     NetFault,
     /// So many things were heard as may be, and the last was not the end.
     BudgetSpent,
+    /// The net gave its end, and a line was not printed whole.
+    OutputFailed,
     /// Memory ran out.
     NoMemory,
 }
@@ -32,6 +34,7 @@ impl Status {
             Status::Usage => 1,
             Status::NetFault => 5,
             Status::BudgetSpent => 6,
+            Status::OutputFailed => 7,
             Status::NoMemory => 8,
         }
     }
@@ -45,7 +48,7 @@ impl Status {
             Status::Usage => "usage: mitm serve HOST PORT\n",
             Status::NetFault => "network fault\n",
             Status::BudgetSpent => "event budget spent\n",
-            Status::Ended | Status::NoMemory => "",
+            Status::Ended | Status::OutputFailed | Status::NoMemory => "",
         }
     }
 }

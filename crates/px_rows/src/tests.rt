@@ -1,3 +1,8 @@
 //! Rows of the run, and of the notation itself.
-mod first_path;
+mod calls;
+mod lines;
+mod many;
 mod notation;
+mod play;
+mod rows;
+mod statuses;

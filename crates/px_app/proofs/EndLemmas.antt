@@ -1,0 +1,113 @@
+-- What is printed when a run ends.
+use Rattle.std.proofs.Common.{◌≡◌, ◌≢◌, ◌≤◌, ◌⊎◌, inl, inr, ℕ, List, [], ◌++◌, Option, Some, None, refl, sym, ap, ◌∙◌, subst, arith}
+use Rattle.std.proofs.lemmas.List.{append-nil}
+use Rattle.px_event.specs.Trace.{Trace}
+use Rattle.px_outside.specs.Count.{Rose}
+use Rattle.px_outside.specs.Sink.{Writes, WritesPart}
+use Rattle.px_app.specs.Lines.{line_of}
+use Rattle.px_app.specs.Printed.{Has, Ends}
+use Rattle.px_app.specs.Statuses.{code_of}
+use Rattle.px_app.specs.declared.printing.Printing.{Printing}
+use Rattle.px_app.specs.declared.printing.Printing.TheVariants.{Whole, Failed}
+use Rattle.px_app.specs.declared.status.Status.{Status}
+use Rattle.px_app.specs.declared.status.Status.TheVariants.{Ended, Usage, NetFault, BudgetSpent, OutputFailed, NoMemory}
+use Rattle.px_app.proofs.PrintLemmas.{has_still, has_part, part_longer}
+
+-- ---- statuses without a line
+
+pub no_line_ended : line_of (code_of Ended) ≡ []
+unfolding line_of
+no_line_ended = refl
+
+pub no_line_output : line_of (code_of OutputFailed) ≡ []
+unfolding line_of
+no_line_output = refl
+
+pub no_line_memory : line_of (code_of NoMemory) ≡ []
+unfolding line_of
+no_line_memory = refl
+
+-- one of these two
+pub no_line_either : (status : Status) → (status ≡ OutputFailed) ⊎ (status ≡ NoMemory) → line_of (code_of status) ≡ []
+no_line_either status (inl is) = ap (λ (s : Status). line_of (code_of s)) is ∙ no_line_output
+no_line_either status (inr is) = ap (λ (s : Status). line_of (code_of s)) is ∙ no_line_memory
+
+pub not_ended_either : (status : Status) → (status ≡ OutputFailed) ⊎ (status ≡ NoMemory) → status ≢ Ended
+not_ended_either status (inl is) ended = let wrong : OutputFailed ≡ Ended = sym is ∙ ended in cc
+not_ended_either status (inr is) ended = let wrong : NoMemory ≡ Ended = sym is ∙ ended in cc
+
+pub rose_later : (first old new : ℕ) → old ≤ new → Rose first old → Rose first new
+rose_later first old new later rose = omega (arith, later, rose)
+
+-- nothing more is printed
+pub ends_still : (printing : Printing) (text : List ℕ) (start now new : Option (List ℕ)) (old later : ℕ) (status : Status) → line_of (code_of status) ≡ [] → new ≡ now → old ≤ later →
+    (status ≡ Ended → printing ≡ Whole) → Has printing text start now → Ends printing (text ++ line_of (code_of status)) start new old later status
+ends_still printing text start now new old later status none same after whole has = record {
+  printing = printing;
+  has = has_still printing text (line_of (code_of status)) start now new none same has;
+  whole = whole;
+  failed = λ first low was failed. rose_later first old later after (was failed);
+}
+
+-- the status's line is printed
+pub ends_line : (before printing : Printing) (text line : List ℕ) (start new : Option (List ℕ)) (old later : ℕ) (status : Status) → line ≡ line_of (code_of status) → status ≢ Ended →
+    Has printing (text ++ line) start new → ((first : ℕ) → first ≤ old → (before ≡ Failed → Rose first old) → printing ≡ Failed → Rose first later) →
+    Ends before (text ++ line_of (code_of status)) start new old later status
+ends_line before printing text line start new old later status is other has failed = record {
+  printing = printing;
+  has = let P : List ℕ → Type 0 = λ l. Has printing (text ++ l) start new in subst P is has;
+  whole = λ ended. absurd (other ended);
+  failed = failed;
+}
+
+-- ---- behind the lines of the flows
+
+memory_or : (status : Status) → (status ≡ NoMemory) ⊎ (status ≢ NoMemory)
+memory_or Ended = inr (λ (e : Ended ≡ NoMemory). cc)
+memory_or Usage = inr (λ (e : Usage ≡ NoMemory). cc)
+memory_or NetFault = inr (λ (e : NetFault ≡ NoMemory). cc)
+memory_or BudgetSpent = inr (λ (e : BudgetSpent ≡ NoMemory). cc)
+memory_or OutputFailed = inr (λ (e : OutputFailed ≡ NoMemory). cc)
+memory_or NoMemory = inl refl
+
+-- a front of all is printed
+pub printed_part : (status shown : Status) (printing : Printing) (lines : List ℕ) (start mid new : Option (List ℕ)) (old later : ℕ) →
+    (status ≢ NoMemory → Has printing lines start mid) → WritesPart lines start mid → (status ≡ NoMemory → new ≡ mid) →
+    (Has printing lines start mid → Ends printing (lines ++ line_of (code_of shown)) start new old later shown) → WritesPart (lines ++ line_of (code_of shown)) start new
+printed_part status shown printing lines start mid new old later has part still ends = elim (memory_or status) [
+  | inl is ↦
+      let P : Option (List ℕ) → Type 0 = λ o. WritesPart (lines ++ line_of (code_of shown)) start o in
+      subst P (sym (still is)) (part_longer lines (line_of (code_of shown)) start mid part)
+  | inr other ↦ let e = ends (has other) in has_part e.printing (lines ++ line_of (code_of shown)) start new e.has
+]
+
+whole_by : (printing : Printing) (text : List ℕ) (start new : Option (List ℕ)) → printing ≢ Failed → Has printing text start new → Writes text start new
+whole_by Whole text start new not has = has
+whole_by Failed text start new not has = absurd (not refl)
+
+pub not_failed : (printing : Printing) → printing ≡ Whole → printing ≢ Failed
+not_failed printing is failed = let wrong : Whole ≡ Failed = sym is ∙ failed in cc
+
+-- all is printed where the run ended well, or no write failed
+pub printed_whole : (shown : Status) (printing : Printing) (lines : List ℕ) (start mid new : Option (List ℕ)) (first old later : ℕ) →
+    Has printing lines start mid → (Has printing lines start mid → Ends printing (lines ++ line_of (code_of shown)) start new old later shown) →
+    first ≤ old → (printing ≡ Failed → Rose first old) → (shown ≡ Ended) ⊎ (Rose first later → ⊥) → Writes (lines ++ line_of (code_of shown)) start new
+printed_whole shown printing lines start mid new first old later has ends low was (inl is) =
+    let e = ends has in whole_by e.printing _ start new (not_failed e.printing (e.whole is)) e.has
+printed_whole shown printing lines start mid new first old later has ends low was (inr quiet) =
+    let e = ends has in whole_by e.printing _ start new (λ failed. quiet (e.failed first low was failed)) e.has
+
+pub writes_none : (start now : Option (List ℕ)) → now ≡ start → Writes [] start now
+writes_none None now same = same
+writes_none (Some text) now same = same ∙ ap Some (sym (append-nil text))
+
+line_by : (printing : Printing) (line : List ℕ) (start new : Option (List ℕ)) (first later : ℕ) → (printing ≡ Failed → Rose first later) → Has printing line start new →
+    Writes line start new ⊎ (Rose first later × WritesPart line start new)
+line_by Whole line start new first later failed has = inl has
+line_by Failed line start new first later failed has = inr (failed refl, has)
+
+-- a line alone is printed, or a front of it where a write failed
+pub printed_line : (shown : Status) (printing : Printing) (line : List ℕ) (start new : Option (List ℕ)) (first old later : ℕ) → printing ≡ Whole → first ≤ old →
+    Ends printing line start new old later shown → Writes line start new ⊎ (Rose first later × WritesPart line start new)
+printed_line shown printing line start new first old later whole low e =
+    line_by e.printing line start new first later (e.failed first low (λ was. absurd (not_failed printing whole was))) e.has

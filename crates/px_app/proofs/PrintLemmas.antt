@@ -1,0 +1,86 @@
+-- Texts printed one behind the other.
+use Rattle.std.proofs.Common.{◌≡◌, ℕ, zero, suc, ◌+◌, ◌<◌, arith, length, take, drop, get_or, List, [], ◌∷◌, ◌++◌, Option, Some, None, Result, Ok, Err, IfOk, refl, sym, ap, ◌∙◌, subst, append_assoc}
+use Rattle.std.specs.List.{flat_map}
+use Rattle.std.proofs.lemmas.List.{append-nil, take-append-drop}
+use Rattle.std.proofs.lemmas.Grind.{flat_map-append}
+use Rattle.px_text.specs.Prefix.{AddsPrefixOf}
+use Rattle.px_message.specs.declared.flow.Flow.{Flow}
+use Rattle.px_view.specs.Line.{flow_line}
+use Rattle.px_outside.specs.Sink.{Writes, WritesPart}
+use Rattle.px_app.specs.declared.printing.Printing.{Printing}
+use Rattle.px_app.specs.declared.printing.Printing.TheVariants.{Whole, Failed}
+use Rattle.px_app.specs.Printed.{Has}
+
+-- two texts, the second whole
+pub writes_more : (a b : List ℕ) (old mid new : Option (List ℕ)) → Writes a old mid → Writes b mid new → Writes (a ++ b) old new
+writes_more a b None mid new w v = let P : Option (List ℕ) → Type 0 = λ m. Writes b m new in subst P w v
+writes_more a b (Some x) mid new w v =
+    let P : Option (List ℕ) → Type 0 = λ m. Writes b m new in
+    let more : new ≡ Some ((x ++ a) ++ b) = subst P w v in
+    more ∙ ap Some (append_assoc x a b)
+
+part_behind : (a b x after : List ℕ) → AddsPrefixOf b (x ++ a) after → AddsPrefixOf (a ++ b) x after
+part_behind a b x after (given, (rest, whole), grown) =
+    (a ++ given, (rest, ap (λ l. a ++ l) whole ∙ sym (append_assoc a given rest)), grown ∙ append_assoc x a given)
+
+-- two texts, the second in part
+pub writes_part : (a b : List ℕ) (old mid new : Option (List ℕ)) → Writes a old mid → WritesPart b mid new → WritesPart (a ++ b) old new
+writes_part a b None mid new w v = let P : Option (List ℕ) → Type 0 = λ m. WritesPart b m new in subst P w v
+writes_part a b (Some x) mid new w v =
+    let P : Option (List ℕ) → Type 0 = λ m. WritesPart b m new in
+    let part : (after : List ℕ) × (new ≡ Some after) × AddsPrefixOf b (x ++ a) after = subst P w v in
+    (part.0, part.1, part_behind a b x part.0 part.2)
+
+-- the whole is a part
+pub whole_part : (a : List ℕ) (old new : Option (List ℕ)) → Writes a old new → WritesPart a old new
+whole_part a None new w = w
+whole_part a (Some x) new w = (x ++ a, w, (a, ([], sym (append-nil a)), refl))
+
+part_within : (a b x after : List ℕ) → AddsPrefixOf a x after → AddsPrefixOf (a ++ b) x after
+part_within a b x after (given, (rest, whole), grown) = (given, (rest ++ b, ap (λ l. l ++ b) whole ∙ append_assoc given rest b), grown)
+
+-- a part of a text is a part of a longer one
+pub part_longer : (a b : List ℕ) (old new : Option (List ℕ)) → WritesPart a old new → WritesPart (a ++ b) old new
+part_longer a b None new v = v
+part_longer a b (Some x) new (after, is, part) = (after, is, part_within a b x after part)
+
+pub has_part : (printing : Printing) (text : List ℕ) (start now : Option (List ℕ)) → Has printing text start now → WritesPart text start now
+has_part Whole text start now has = whole_part text start now has
+has_part Failed text start now has = has
+
+-- nothing more
+pub has_still : (printing : Printing) (text more : List ℕ) (start now new : Option (List ℕ)) → more ≡ [] → new ≡ now → Has printing text start now → Has printing (text ++ more) start new
+has_still printing text more start now new none same has =
+    let P : List ℕ → Type 0 = λ l. Has printing l start new in
+    let Q : Option (List ℕ) → Type 0 = λ o. Has printing text start o in
+    subst P (sym (append-nil text) ∙ ap (λ l. text ++ l) (sym none)) (subst Q (sym same) has)
+
+pub at_ok : {T E : Type 0} (result : Result T E) (P Q : T → Type 0) → ((t : T) → P t → Q t) → IfOk result P → IfOk result Q
+at_ok (Ok t) P Q f p = f t p
+at_ok (Err e) P Q f p = tt
+
+-- a text stops within a longer one
+pub part_stops : (printing : Printing) (before taken rest all : List ℕ) (start now new : Option (List ℕ)) → all ≡ taken ++ rest → new ≡ now → Has printing (before ++ taken) start now →
+    WritesPart (before ++ all) start new
+part_stops printing before taken rest all start now new whole same has =
+    let P : Option (List ℕ) → Type 0 = λ o. WritesPart (before ++ all) start o in
+    let Q : List ℕ → Type 0 = λ l. WritesPart l start now in
+    subst P (sym same) (subst Q (append_assoc before taken rest ∙ ap (λ l. before ++ l) (sym whole)) (part_longer (before ++ taken) rest start now (has_part printing (before ++ taken) start now has)))
+
+flow_next : (list : List Flow) (i : ℕ) (x : Flow) → i < length list → x ≡ get_or list i x → take (suc i) list ≡ take i list ++ x ∷ []
+flow_next [] i x less is = absurd (omega arith)
+flow_next (y ∷ list) zero x less is = ap (λ z. z ∷ []) (sym is)
+flow_next (y ∷ list) (suc i) x less is = ap (λ l. y ∷ l) (flow_next list i x (omega arith) is)
+
+-- the lines of one flow more
+pub lines_next : (list : List Flow) (i : ℕ) (x : Flow) → i < length list → x ≡ get_or list i x →
+    flat_map flow_line (take (i + 1) list) ≡ flat_map flow_line (take i list) ++ flow_line x
+lines_next list i x less is =
+    let plus : i + 1 ≡ suc i = omega arith in
+    ap (λ n. flat_map flow_line (take n list)) plus
+    ∙ (ap (flat_map flow_line) (flow_next list i x less is)
+    ∙ (flat_map-append flow_line (take i list) (x ∷ []) ∙ ap (λ l. flat_map flow_line (take i list) ++ l) (append-nil (flow_line x))))
+
+-- those so far and the rest
+pub lines_all : (list : List Flow) (i : ℕ) → flat_map flow_line list ≡ flat_map flow_line (take i list) ++ flat_map flow_line (drop i list)
+lines_all list i = ap (flat_map flow_line) (sym (take-append-drop i list)) ∙ flat_map-append flow_line (take i list) (drop i list)

@@ -1,0 +1,45 @@
+use Rattle.std.proofs.Common.{◌≡◌, ◌∙◌, [], ap, sym, subst, refl, arith}
+use Rattle.px_message.specs.declared.address.Address.{Address}
+use Rattle.px_http.specs.declared.fixed.Fixed.{Fixed}
+use Rattle.px_http.specs.Fixed.{fixed_due}
+use Rattle.px_core.specs.declared.gates.Gates.{Gates}
+use Rattle.px_app.specs.Going.{goes_on}
+use Rattle.px_app.specs.Printed.{Has}
+use Rattle.px_app.specs.declared.printing.Printing.{Printing}
+use Rattle.px_app.specs.declared.printing.Printing.TheVariants.{Whole, Failed}
+use Rattle.px_app.proofs.EndLemmas.{not_failed, writes_none}
+use Rattle.px_app.proofs.GoingLemmas.{untouched}
+use Rattle.px_app.proofs.StepLemmas.{error_first}
+use Rattle.px_app.proofs.reverse.serve.Goals as goal
+
+pub returns-in-Err-clause-run : goal.returns-in-Err-clause-run
+returns-in-Err-clause-run g c = λ empty.
+    error_first goes_on (fixed_due c.args.address) c.args.budget c.in-Err.error _ _ (c.listen.ensures.trace ∙ empty) c.requires.budget c.into-status.ensures
+
+pub serve_all-status-requires : goal.serve_all-status-requires
+serve_all-status-requires g c =
+    let due = fixed_due c.new-serving.result.maker.layers.address in
+    record { sound = (due, [], (λ conv peer moves. refl), c.new-serving.ensures.stands due) }
+
+pub returns-clause-run : goal.returns-clause-run
+returns-clause-run g c = λ empty.
+    let there = ap (λ (m : Gates Fixed). m.layers.address) c.new-serving.ensures.maker ∙ (ap (λ (f : Fixed). f.address) c.new-maker.ensures ∙ c.new.ensures) in
+    c.serve_all-status.ensures.run (fixed_due c.args.address) (λ conv peer moves. ap (λ (a : Address). fixed_due a conv peer moves) there)
+    (c.new-serving.ensures.stands (fixed_due c.args.address)) (c.listen.ensures.trace ∙ empty)
+
+pub returns-clause-prints : goal.returns-clause-prints
+returns-clause-prints g c = λ empty other.
+    let P : Printing → Type 0 = λ p. Has p [] (g.S.Sink.written c.args.out.now) (g.S.Sink.written c.args.out.now) in
+    c.serve_all-status.ensures.prints (g.S.Sink.written c.args.out.now) (c.listen.ensures.trace ∙ empty) (subst P (sym c.new-serving.ensures.printing) (writes_none _ _ refl)) other
+
+pub returns-clause-part : goal.returns-clause-part
+returns-clause-part g c = λ empty.
+    let P : Printing → Type 0 = λ p. Has p [] (g.S.Sink.written c.args.out.now) (g.S.Sink.written c.args.out.now) in
+    c.serve_all-status.ensures.part (g.S.Sink.written c.args.out.now) (c.listen.ensures.trace ∙ empty) (subst P (sym c.new-serving.ensures.printing) (writes_none _ _ refl))
+
+pub returns-clause-failed : goal.returns-clause-failed
+returns-clause-failed g c = λ failed.
+    c.serve_all-status.ensures.failed (g.S.Sink.faults c.args.out.now) (omega arith) (λ was. absurd (not_failed c.new-serving.result.printing c.new-serving.ensures.printing was)) failed
+
+pub returns-clause-files : goal.returns-clause-files
+returns-clause-files g c = untouched _ _ c.serve_all-status.ensures.files

@@ -1,0 +1,52 @@
+use Rattle.std.proofs.Common.{◌≡◌, ◌≤◌, ◌∙◌, [], refl, sym, arith, Err}
+use Rattle.px_core.specs.Answers.{by_none}
+use Rattle.px_core.proofs.AnswerLemmas.{by_both}
+use Rattle.px_app.specs.declared.status.Status.TheVariants.{NoMemory}
+use Rattle.px_app.proofs.StepLemmas.{first_turn, next_turn, tells_spent}
+use Rattle.px_app.proofs.serving.serve_all.Goals as goal
+
+pub turns-init : goal.turns-init
+turns-init g c = record {
+  turn = λ due owes stands told.
+      first_turn g.C.Conversation.stands g.C.Conversation.awaited g.C.Conversation.number g.C.Owes.due g.met.C.Owes.gave g.C.Owes.grows g.A.Answerer.answers due
+      c.args.serving.now.router _ stands told;
+  sound = c.requires.sound;
+  due = λ n p m. refl;
+  prints = λ start told has. record { trace = []; tells = told; holds = has };
+  failed = λ first low was now. was now;
+  later_out = omega arith;
+  files = by_none _;
+  listening = refl;
+  later = omega arith;
+}
+
+pub returns-in-Err-clause-files : goal.returns-in-Err-clause-files
+returns-in-Err-clause-files g c = by_both g.A.Answerer.answers g.A.Answerer.fails _ _ _ c.turns.invariant.files c.in-Err.ensures.files
+
+pub turns-preserved : goal.turns-preserved
+turns-preserved g c =
+    let before = c.turns.invariant in
+    record {
+      turn = λ due owes stands told.
+          next_turn g.C.Conversation.stands g.C.Conversation.awaited g.C.Conversation.number g.C.Owes.due g.met.C.Owes.gave g.C.Owes.grows g.A.Answerer.answers due
+          c.turns.serving.router c.hear.new.self.router c.turns.turn _ _ (before.turn due owes stands told)
+          (λ trace here is. c.in_default.ensures.ok due trace (λ n p m. before.due n p m ∙ owes n p m) here is);
+      sound = c.in_default.ensures.sound;
+      due = λ n p m. c.in_default.ensures.due n p m ∙ before.due n p m;
+      prints = λ start told has.
+          let so_far = before.prints start told has in
+          c.in_default.ensures.prints start so_far.trace so_far.tells so_far.holds (λ e. absurd (cc));
+      failed = λ first low was now.
+          let later = before.later_out in
+          c.in_default.ensures.failed first (omega (arith, low, later)) (before.failed first low was) now;
+      later_out = omega (arith, c.in_default.ensures.later_out, before.later_out);
+      files = by_both g.A.Answerer.answers g.A.Answerer.fails _ _ _ before.files c.in_default.ensures.files;
+      listening = c.in_default.ensures.listening ∙ before.listening;
+      later = omega (arith, c.in_default.ensures.later, before.later);
+    }
+
+pub returns-clause-run : goal.returns-clause-run
+returns-clause-run g c = λ due owes stands told.
+    let same : c.turns.turn ≡ c.args.budget = omega arith in
+    tells_spent g.C.Conversation.stands g.C.Conversation.awaited g.C.Conversation.number g.C.Owes.due g.met.C.Owes.gave g.C.Owes.grows g.A.Answerer.answers due
+    c.turns.serving.router c.args.budget c.turns.turn _ (c.turns.invariant.turn due owes stands told) same

@@ -1,0 +1,220 @@
+//! A run of many conversations: each thing heard is worked off, and then the lines of the flows that it finished are printed.
+//!
+//! Between two things heard the state is a function of the trace: the router stands for it, and what is printed is the lines
+//! of its finished flows. Each clause holds for every trace that the router stands for, and for whoever makes conversations and
+//! answers hooks.
+ghost use Rattle.std.specs.Prelude.{◌≡◌, ◌≢◌, ◌≤◌, ◌<◌, ◌++◌, ◌∷◌, ℕ, [], Some, Err, List, Option, IfOk, IfErr, OnOk, OnErr};
+ghost use Rattle.std.specs.List.{flat_map};
+ghost use Rattle.px_message.specs.declared.address.Address.{Address as PeerAddress};
+ghost use Rattle.px_event.specs.Layer.{Move};
+ghost use Rattle.px_event.specs.Trace.{Trace};
+ghost use Rattle.px_event.specs.declared.heard.Heard.{Heard as WhatIsHeard};
+ghost use Rattle.px_event.specs.declared.step.Step.TheVariants.{Heard as WasHeard};
+ghost use Rattle.px_outside.specs.Count.{Rose};
+ghost use Rattle.px_outside.specs.Sink.{WritesPart};
+ghost use Rattle.px_core.specs.Answers.{ChangedByAnswers};
+ghost use Rattle.px_core.specs.Due.{Due, IsServed};
+ghost use Rattle.px_core.specs.Ordered.{IsInOrder};
+ghost use Rattle.px_core.specs.Router.{RouterStands};
+ghost use Rattle.px_core.specs.Run.{IsDueOf, Tells, TellsOfHeard, done_of};
+ghost use Rattle.px_app.specs.Listed.{listed};
+ghost use Rattle.px_app.specs.Printed.{Has};
+ghost use Rattle.px_app.specs.Run.{IsRun, Told, ToldNext};
+ghost use Rattle.px_app.specs.Serving.{Stands, IsSound};
+ghost use Rattle.px_app.specs.Statuses.{is_end, heard_count};
+
+use crate::finished::{Before, Finished};
+use crate::printing::Printing;
+use crate::status::Status;
+use px_core::{Answerer, Maker, Owes, Router, work_off};
+use px_event::Heard;
+use px_message::Flow;
+use px_outside::{Files, Net, Sink};
+use px_text::NoMemory;
+use std::alloc::Global;
+use std::marker::Brand;
+
+/// The conversations of a run, who makes them, and how the printing of lines went.
+#[derive(Drop)]
+pub(crate) struct Serving<C, A, M> {
+    pub(crate) router: Router<C, A>,
+    pub(crate) maker: M,
+    pub(crate) printing: Printing,
+}
+
+impl<C: Owes, A: Answerer, M: Maker<C>> Serving<C, A, M> {
+    /// Nothing was heard yet.
+    pub(crate) fn new(alloc: Global, answerer: A, maker: M) -> Serving<C, A, M>
+        ensures stands { (due : Due) → RouterStands C.stands C.awaited C.number C.due A.answers due result.router [] }
+        ensures maker { result.maker ≡ maker }
+        ensures printing { result.printing ≡ Printing.Whole }
+    {
+        Serving {
+            router: Router::new(alloc, answerer),
+            maker,
+            printing: Printing::Whole,
+        }
+    }
+
+    /// Works off one thing that the network has just told, and gives the flows that it finished.
+    fn finish<K: Before, N: Net, F: Files>(
+        &mut self,
+        alloc: Global,
+        net: &mut N,
+        files: &mut F,
+        moment: u64,
+        heard: Heard,
+    ) -> Result<Vec<Flow>, NoMemory>
+        requires sound { IsSound C.stands C.awaited C.number C.due A.answers (M.due self.old.maker) self.old.router }
+        ensures ok { (due : Due) (trace : Trace) → IsDueOf (M.due self.old.maker) due → RouterStands C.stands C.awaited C.number C.due A.answers due self.old.router trace →
+            N.trace net.old ≡ Some (trace ++ WasHeard moment heard ∷ []) →
+            OnOk result (Tells (RouterStands C.stands C.awaited C.number C.due A.answers due self.new.router) (trace ++ WasHeard moment heard ∷ []) (N.trace net.new)) }
+        ensures err { (due : Due) (trace : Trace) → IsDueOf (M.due self.old.maker) due → RouterStands C.stands C.awaited C.number C.due A.answers due self.old.router trace →
+            N.trace net.old ≡ Some (trace ++ WasHeard moment heard ∷ []) →
+            OnErr result (Tells (IsServed A.answers due) (trace ++ WasHeard moment heard ∷ []) (N.trace net.new)) }
+        ensures sound { OnOk result (IsSound C.stands C.awaited C.number C.due A.answers (M.due self.new.maker) self.new.router) }
+        ensures finished { (trace : Trace) → N.trace net.old ≡ Some (trace ++ WasHeard moment heard ∷ []) → K.before ≡ flat_map done_of trace →
+            IfOk result (λ flows. Tells (λ told. K.before ++ flows.items ≡ flat_map done_of told) (trace ++ WasHeard moment heard ∷ []) (N.trace net.new)) }
+        ensures own { (trace : Trace) → N.trace net.old ≡ Some trace → TellsOfHeard heard trace (N.trace net.new) }
+        ensures ordered { (due : Due) (trace : Trace) → IsDueOf (M.due self.old.maker) due → RouterStands C.stands C.awaited C.number C.due A.answers due self.old.router trace →
+            N.trace net.old ≡ Some (trace ++ WasHeard moment heard ∷ []) → Tells IsInOrder (trace ++ WasHeard moment heard ∷ []) (N.trace net.new) }
+        ensures due { (number : ℕ) (at : PeerAddress) (moves : List Move) → M.due self.new.maker number at moves ≡ M.due self.old.maker number at moves }
+        ensures printing { self.new.printing ≡ self.old.printing }
+        ensures files { ChangedByAnswers A.answers A.fails F.contents F.calls F.misses F.faults F.losses files.old files.new }
+        ensures listening { N.listening net.new ≡ N.listening net.old }
+        ensures faults { N.faults net.new ≡ N.faults net.old }
+    {
+        let mut finished = Finished::<K>::new(alloc);
+        work_off(
+            alloc,
+            &mut self.router,
+            &mut self.maker,
+            files,
+            net,
+            &mut finished,
+            moment,
+            heard,
+        )?;
+        Ok(finished.flows)
+    }
+
+    /// Works off one thing that the network has just told, and prints a line of each flow that it finished. After `NoMemory`
+    /// the lines of a front are printed.
+    fn take<N: Net, F: Files, S: Sink>(
+        &mut self,
+        alloc: Global,
+        net: &mut N,
+        files: &mut F,
+        out: &mut S,
+        moment: u64,
+        heard: Heard,
+    ) -> Result<(), NoMemory>
+        requires sound { IsSound C.stands C.awaited C.number C.due A.answers (M.due self.old.maker) self.old.router }
+        ensures ok { (due : Due) (trace : Trace) → IsDueOf (M.due self.old.maker) due → RouterStands C.stands C.awaited C.number C.due A.answers due self.old.router trace →
+            N.trace net.old ≡ Some (trace ++ WasHeard moment heard ∷ []) →
+            OnOk result (Tells (RouterStands C.stands C.awaited C.number C.due A.answers due self.new.router) (trace ++ WasHeard moment heard ∷ []) (N.trace net.new)) }
+        ensures err { (due : Due) (trace : Trace) → IsDueOf (M.due self.old.maker) due → RouterStands C.stands C.awaited C.number C.due A.answers due self.old.router trace →
+            N.trace net.old ≡ Some (trace ++ WasHeard moment heard ∷ []) →
+            OnErr result (Tells (IsServed A.answers due) (trace ++ WasHeard moment heard ∷ []) (N.trace net.new)) }
+        ensures sound { OnOk result (IsSound C.stands C.awaited C.number C.due A.answers (M.due self.new.maker) self.new.router) }
+        ensures own { (trace : Trace) → N.trace net.old ≡ Some trace → TellsOfHeard heard trace (N.trace net.new) }
+        ensures ordered { (due : Due) (trace : Trace) → IsDueOf (M.due self.old.maker) due → RouterStands C.stands C.awaited C.number C.due A.answers due self.old.router trace →
+            N.trace net.old ≡ Some (trace ++ WasHeard moment heard ∷ []) → Tells IsInOrder (trace ++ WasHeard moment heard ∷ []) (N.trace net.new) }
+        ensures due { (number : ℕ) (at : PeerAddress) (moves : List Move) → M.due self.new.maker number at moves ≡ M.due self.old.maker number at moves }
+        ensures prints { (start : Option (List ℕ)) (trace : Trace) → N.trace net.old ≡ Some (trace ++ WasHeard moment heard ∷ []) → Has self.old.printing (listed trace) start (S.written out.old) →
+            OnOk result (Told (λ told. Has self.new.printing (listed told) start (S.written out.new)) (N.trace net.new)) }
+        ensures part { (start : Option (List ℕ)) (trace : Trace) → N.trace net.old ≡ Some (trace ++ WasHeard moment heard ∷ []) → Has self.old.printing (listed trace) start (S.written out.old) →
+            OnErr result (Told (λ told. WritesPart (listed told) start (S.written out.new)) (N.trace net.new)) }
+        ensures failed { (first : ℕ) → first ≤ S.faults out.old → (self.old.printing ≡ Printing.Failed → Rose first (S.faults out.old)) →
+            self.new.printing ≡ Printing.Failed → Rose first (S.faults out.new) }
+        ensures later { S.faults out.old ≤ S.faults out.new }
+        ensures files { ChangedByAnswers A.answers A.fails F.contents F.calls F.misses F.faults F.losses files.old files.new }
+        ensures listening { N.listening net.new ≡ N.listening net.old }
+        ensures faults { N.faults net.new ≡ N.faults net.old }
+    {
+        let flows = self.finish::<Brand, N, F>(alloc, net, files, moment, heard)?;
+        self.printing = self.printing.print_flows(alloc, out, &flows)?;
+        Ok(())
+    }
+
+    /// Hears one thing, works it off, and prints a line of each flow that it finished; or ends the run.
+    fn hear<N: Net, F: Files, S: Sink>(
+        &mut self,
+        alloc: Global,
+        net: &mut N,
+        files: &mut F,
+        out: &mut S,
+    ) -> Result<(), Status>
+        requires sound { IsSound C.stands C.awaited C.number C.due A.answers (M.due self.old.maker) self.old.router }
+        ensures ok { (due : Due) (trace : Trace) → IsDueOf (M.due self.old.maker) due → Stands C.stands C.awaited C.number C.due A.answers due self.old.router trace → N.trace net.old ≡ Some trace →
+            OnOk result (ToldNext (Stands C.stands C.awaited C.number C.due A.answers due self.new.router) trace (N.trace net.new)) }
+        ensures err { (due : Due) (trace : Trace) (budget : ℕ) → IsDueOf (M.due self.old.maker) due → Stands C.stands C.awaited C.number C.due A.answers due self.old.router trace → N.trace net.old ≡ Some trace →
+            heard_count trace < budget → IfErr result (λ status. Told (IsRun A.answers due budget status) (N.trace net.new)) }
+        ensures sound { OnOk result (IsSound C.stands C.awaited C.number C.due A.answers (M.due self.new.maker) self.new.router) }
+        ensures due { (number : ℕ) (at : PeerAddress) (moves : List Move) → M.due self.new.maker number at moves ≡ M.due self.old.maker number at moves }
+        ensures prints { (start : Option (List ℕ)) (trace : Trace) → N.trace net.old ≡ Some trace → Has self.old.printing (listed trace) start (S.written out.old) → result ≢ Err Status.NoMemory →
+            Told (λ told. Has self.new.printing (listed told) start (S.written out.new)) (N.trace net.new) }
+        ensures part { (start : Option (List ℕ)) (trace : Trace) → N.trace net.old ≡ Some trace → Has self.old.printing (listed trace) start (S.written out.old) →
+            Told (λ told. WritesPart (listed told) start (S.written out.new)) (N.trace net.new) }
+        ensures failed { (first : ℕ) → first ≤ S.faults out.old → (self.old.printing ≡ Printing.Failed → Rose first (S.faults out.old)) →
+            self.new.printing ≡ Printing.Failed → Rose first (S.faults out.new) }
+        ensures later_out { S.faults out.old ≤ S.faults out.new }
+        ensures files { ChangedByAnswers A.answers A.fails F.contents F.calls F.misses F.faults F.losses files.old files.new }
+        ensures listening { N.listening net.new ≡ N.listening net.old }
+        ensures later { N.faults net.old ≤ N.faults net.new }
+        ensures fault { result ≡ Err Status.NetFault → Rose (N.faults net.old) (N.faults net.new) }
+        ensures usage { result ≢ Err Status.Usage }
+        ensures output { result ≢ Err Status.OutputFailed }
+    {
+        let (moment, heard) = net.next()?;
+        let ends = is_end(&heard);
+        self.take(alloc, net, files, out, moment, heard)?;
+        if ends { Err(Status::Ended) } else { Ok(()) }
+    }
+}
+
+/// Whether nothing more will be heard.
+fn is_end(heard: &Heard) -> bool
+    ensures { result ≡ is_end heard.now }
+{
+    match heard {
+        Heard::End => true,
+        Heard::Accepted { .. }
+        | Heard::Piece { .. }
+        | Heard::Closed { .. }
+        | Heard::Dialled { .. } => false,
+    }
+}
+
+/// Hears and works off one thing after the other, until the net ends or so many were heard.
+pub(crate) fn serve_all<C: Owes, A: Answerer, M: Maker<C>, N: Net, F: Files, S: Sink>(
+    alloc: Global,
+    serving: &mut Serving<C, A, M>,
+    net: &mut N,
+    files: &mut F,
+    out: &mut S,
+    budget: u64,
+) -> Status
+    requires sound { IsSound C.stands C.awaited C.number C.due A.answers (M.due serving.old.maker) serving.old.router }
+    ensures run { (due : Due) → IsDueOf (M.due serving.old.maker) due → RouterStands C.stands C.awaited C.number C.due A.answers due serving.old.router [] → N.trace net.old ≡ Some [] →
+        Told (IsRun A.answers due budget result) (N.trace net.new) }
+    ensures prints { (start : Option (List ℕ)) → N.trace net.old ≡ Some [] → Has serving.old.printing [] start (S.written out.old) → result ≢ Status.NoMemory →
+        Told (λ told. Has serving.new.printing (listed told) start (S.written out.new)) (N.trace net.new) }
+    ensures part { (start : Option (List ℕ)) → N.trace net.old ≡ Some [] → Has serving.old.printing [] start (S.written out.old) →
+        Told (λ told. WritesPart (listed told) start (S.written out.new)) (N.trace net.new) }
+    ensures failed { (first : ℕ) → first ≤ S.faults out.old → (serving.old.printing ≡ Printing.Failed → Rose first (S.faults out.old)) →
+        serving.new.printing ≡ Printing.Failed → Rose first (S.faults out.new) }
+    ensures later { S.faults out.old ≤ S.faults out.new }
+    ensures files { ChangedByAnswers A.answers A.fails F.contents F.calls F.misses F.faults F.losses files.old files.new }
+    ensures listening { N.listening net.new ≡ N.listening net.old }
+    ensures fault { result ≡ Status.NetFault → Rose (N.faults net.old) (N.faults net.new) }
+    ensures usage { result ≢ Status.Usage }
+    ensures output { result ≢ Status.OutputFailed }
+{
+    'turns: for turn in 0..budget {
+        if let Err(status) = serving.hear(alloc, net, files, out) {
+            return status;
+        }
+    }
+    Status::BudgetSpent
+}
