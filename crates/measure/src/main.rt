@@ -2,16 +2,26 @@
 //!
 //! With `whole` or `bytes`, the number of fields of 1,000 bytes each, and how often, a head is read again and again, whole
 //! or one byte at a time. With `counted` or `chunked`, the size of a piece and how many, a response is read whose body
-//! comes in such pieces, each a chunk where it is chunked. The program times nothing itself: take `time` or `perf stat`.
+//! comes in such pieces, each a chunk where it is chunked. With `conversation` before those, a request with such a body
+//! and a response with such a body go through a whole conversation, and with `pipelined` and a number, so many requests
+//! without bodies that come in one piece. With `clients` and a number, so many clients come one behind the other to the
+//! whole program, each with a GET that is answered. The program times nothing itself: take `time` or `perf stat`.
 #![tactic(auto)]
+
+mod clients;
+mod conversation;
+mod framing;
 
 ghost use Rattle.std.specs.Prelude.{◌≡◌, false, IfOk, OnOk};
 ghost use Rattle.px_head.specs.Front.{request_front};
 ghost use Rattle.px_head.specs.Reader.{answer};
 
+use clients::serve_clients;
+use conversation::{Sent, gets, post};
+use framing::{Framing, make_framed, make_piece, read_framing};
 use px_head::{Found, HeadReader};
 use px_read::{MessageReader, Part};
-use px_text::{NoMemory, push_decimal, push_hex, read_decimal};
+use px_text::{NoMemory, read_decimal};
 use std::alloc::Global;
 use std::process::ExitCode;
 use std::{env, io};
@@ -21,13 +31,6 @@ use std::{env, io};
 enum Pieces {
     Whole,
     Bytes,
-}
-
-/// How a body is framed.
-#[derive(Clone, Copy, Debug, PartialEq, Eq)]
-enum Framing {
-    Counted,
-    Chunked,
 }
 
 /// What is to be read.
@@ -45,6 +48,20 @@ enum Order {
         size: u64,
         pieces: u64,
     },
+    /// A conversation whose request and whose response have a body of so many pieces of this size.
+    Conversation {
+        framing: Framing,
+        size: u64,
+        pieces: u64,
+    },
+    /// A conversation of so many requests without bodies, which come in one piece.
+    Pipelined {
+        count: u64,
+    },
+    /// So many clients one behind the other.
+    Clients {
+        count: u32,
+    },
 }
 
 fn read_pieces(word: &str) -> Option<Pieces> {
@@ -55,20 +72,29 @@ fn read_pieces(word: &str) -> Option<Pieces> {
     }
 }
 
-fn read_framing(word: &str) -> Option<Framing> {
-    match word {
-        "counted" => Some(Framing::Counted),
-        "chunked" => Some(Framing::Chunked),
+fn read_order(words: &[String]) -> Option<Order> {
+    match words {
+        [kind, first, second] => read_reading(kind, first, second),
+        [kind, framing, size, pieces] if kind.as_str() == "conversation" => {
+            Some(Order::Conversation {
+                framing: read_framing(framing.as_str())?,
+                size: read_number(size)?,
+                pieces: read_number(pieces)?,
+            })
+        }
+        [kind, count] if kind.as_str() == "pipelined" => Some(Order::Pipelined {
+            count: read_number(count)?,
+        }),
+        [kind, count] if kind.as_str() == "clients" => Some(Order::Clients {
+            count: u32::try_from(read_number(count)?).ok()?,
+        }),
         _ => None,
     }
 }
 
-fn read_order(words: &[String]) -> Option<Order> {
-    let [kind, first, second] = words else {
-        return None;
-    };
-    let first = read_decimal(first.as_str().as_bytes())?;
-    let second = read_decimal(second.as_str().as_bytes())?;
+fn read_reading(kind: &String, first: &String, second: &String) -> Option<Order> {
+    let first = read_number(first)?;
+    let second = read_number(second)?;
     if let Some(framing) = read_framing(kind.as_str()) {
         return Some(Order::Body {
             framing,
@@ -81,6 +107,10 @@ fn read_order(words: &[String]) -> Option<Order> {
         fields: first,
         times: second,
     })
+}
+
+fn read_number(word: &String) -> Option<u64> {
+    read_decimal(word.as_str().as_bytes())
 }
 
 // A request's head with fields of 1,000 bytes.
@@ -130,36 +160,6 @@ fn count_fields(alloc: Global, pieces: Pieces, times: u64, head: &[u8]) -> Resul
     Ok(count)
 }
 
-// The head of a response with a body of so many bytes.
-fn make_response(alloc: Global, framing: Framing, total: u64) -> Result<Vec<u8>, NoMemory> {
-    let mut head = Vec::from_slice(alloc, b"HTTP/1.1 200 OK\r\n")?;
-    match framing {
-        Framing::Counted => {
-            head.extend_from_slice(b"Content-Length: ")?;
-            push_decimal(&mut head, total)?;
-        }
-        Framing::Chunked => head.extend_from_slice(b"Transfer-Encoding: chunked")?,
-    }
-    head.extend_from_slice(b"\r\n\r\n")?;
-    Ok(head)
-}
-
-// A piece of a body of so many bytes, as it stands on the wire.
-fn make_piece(alloc: Global, framing: Framing, size: u64) -> Result<Vec<u8>, NoMemory> {
-    let mut piece = Vec::new(alloc);
-    if let Framing::Chunked = framing {
-        push_hex(&mut piece, size)?;
-        piece.extend_from_slice(b"\r\n")?;
-    }
-    for _ in 0..size {
-        piece.push(b'x')?;
-    }
-    if let Framing::Chunked = framing {
-        piece.extend_from_slice(b"\r\n")?;
-    }
-    Ok(piece)
-}
-
 // How many bytes of a body the reader gives of what it was fed.
 fn count_given(reader: &mut MessageReader) -> Result<u64, NoMemory>
     ensures { OnOk result (reader.new.closed ≡ reader.old.closed) }
@@ -195,35 +195,70 @@ fn read_words(rt: &HostRuntime) -> io::Result<Vec<String>> {
     Ok(words)
 }
 
+fn measure_head(
+    alloc: Global,
+    pieces: Pieces,
+    fields: u64,
+    times: u64,
+) -> Result<String, NoMemory> {
+    let head = make_head(alloc, fields)?;
+    let count = count_fields(alloc, pieces, times, head.as_slice())?;
+    let len = head.len();
+    Ok(format!(in alloc; "{len} bytes, read {times} times: {count} fields")?)
+}
+
+fn measure_body(
+    alloc: Global,
+    framing: Framing,
+    size: u64,
+    pieces: u64,
+) -> Result<String, NoMemory> {
+    let total = size.saturating_mul(pieces);
+    let head = make_framed(alloc, b"HTTP/1.1 200 OK\r\n", framing, total)?;
+    let piece = make_piece(alloc, framing, size)?;
+    let count = count_body(alloc, head.as_slice(), piece.as_slice(), pieces)?;
+    Ok(format!(in alloc; "{pieces} pieces of {size} bytes: {count} bytes")?)
+}
+
 fn measure(alloc: Global, order: Order) -> Result<String, NoMemory> {
     match order {
         Order::Head {
             pieces,
             fields,
             times,
-        } => {
-            let head = make_head(alloc, fields)?;
-            let count = count_fields(alloc, pieces, times, head.as_slice())?;
-            let len = head.len();
-            Ok(format!(in alloc; "{len} bytes, read {times} times: {count} fields")?)
-        }
+        } => measure_head(alloc, pieces, fields, times),
         Order::Body {
             framing,
             size,
             pieces,
-        } => {
-            let head = make_response(alloc, framing, size.saturating_mul(pieces))?;
-            let piece = make_piece(alloc, framing, size)?;
-            let count = count_body(alloc, head.as_slice(), piece.as_slice(), pieces)?;
-            Ok(format!(in alloc; "{pieces} pieces of {size} bytes: {count} bytes")?)
-        }
+        } => measure_body(alloc, framing, size, pieces),
+        Order::Conversation {
+            framing,
+            size,
+            pieces,
+        } => tell(alloc, post(alloc, framing, size, pieces)?),
+        Order::Pipelined { count } => tell(alloc, gets(alloc, count)?),
+        Order::Clients { count } => tell_lines(alloc, serve_clients(alloc, count)?),
     }
+}
+
+// The line that tells what was given.
+fn tell(alloc: Global, sent: Sent) -> Result<String, NoMemory> {
+    let Sent { server, client } = sent;
+    Ok(format!(in alloc; "{server} bytes to the server, {client} bytes to the client")?)
+}
+
+// The line that tells what was printed.
+fn tell_lines(alloc: Global, bytes: u64) -> Result<String, NoMemory> {
+    Ok(format!(in alloc; "{bytes} bytes of lines")?)
 }
 
 fn main(rt: HostRuntime) -> io::Result<ExitCode> {
     let words = read_words(&rt)?;
     let Some(order) = read_order(words.as_slice()) else {
-        println!(rt; "measure whole|bytes FIELDS TIMES, or counted|chunked SIZE PIECES")?;
+        println!(rt;
+            "measure whole|bytes FIELDS TIMES, [conversation] counted|chunked SIZE PIECES, or pipelined COUNT"
+        )?;
         return Ok(ExitCode::from(2));
     };
     match measure(rt.alloc(), order) {
