@@ -49,7 +49,8 @@ pub(crate) fn post(
     Ok(run.sent)
 }
 
-/// What is given of so many GETs that come in one piece, and of their responses, each in a piece of its own.
+/// What is given of so many GETs that come in one piece, and of their responses, each in a piece of its own. Each request
+/// is sent to a server of its own.
 pub(crate) fn gets(alloc: Global, count: u64) -> Result<Sent, NoMemory> {
     let mut requests = Vec::new(alloc);
     for _ in 0..count {
@@ -58,7 +59,7 @@ pub(crate) fn gets(alloc: Global, count: u64) -> Result<Sent, NoMemory> {
     let mut run = begin(alloc)?;
     say(alloc, &mut run, Side::Client, requests.as_slice())?;
     let response = b"HTTP/1.1 200 OK\r\nContent-Length: 0\r\n\r\n";
-    say_often(alloc, &mut run, Side::Server(0), response, count)?;
+    say_of_each(alloc, &mut run, response, count)?;
     Ok(run.sent)
 }
 
@@ -107,6 +108,19 @@ fn say_often(
 {
     for _ in 0..times {
         say(alloc, run, side, piece)?;
+    }
+    Ok(())
+}
+
+// So many servers say this piece, one after the other.
+fn say_of_each(alloc: Global, run: &mut Run, piece: &[u8], servers: u64) -> Result<(), NoMemory>
+    requires { IsSound (GateStands HttpStands awaits) run.old.gate }
+    ensures { OnOk result (IsSound (GateStands HttpStands awaits) run.new.gate) }
+{
+    let mut server = 0u32;
+    for _ in 0..servers {
+        say(alloc, run, Side::Server(server), piece)?;
+        server = server.saturating_add(1);
     }
     Ok(())
 }

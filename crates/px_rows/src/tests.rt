@@ -1,5 +1,4 @@
 //! Rows of the run, and of the notation itself.
-mod calls;
 mod lines;
 mod many;
 mod notation;
