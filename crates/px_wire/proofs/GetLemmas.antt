@@ -1,0 +1,172 @@
+-- Reading a slot.
+use Rattle.std.proofs.Common.{◌≡◌, ◌∙◌, ◌⊎◌, inl, inr, ℕ, ◌+◌, Bool, true, false, refl, ap, sym, arith, subst, List, [], ◌∷◌, ◌++◌, length, Option, Some, None}
+use Rattle.std.specs.List.{find}
+use Rattle.std.proofs.lemmas.List.{append-nil, length-append}
+use Rattle.px_event.specs.declared.heard.Heard.{Heard}
+use Rattle.px_event.specs.declared.heard.Heard.TheVariants as heard
+use Rattle.px_wire.specs.declared.link.Link.{Link}
+use Rattle.px_wire.specs.declared.call.WireCall.{WireCall}
+use Rattle.px_wire.specs.declared.call.WireCall.TheVariants as calls
+use Rattle.px_wire.specs.Calls.{Calls}
+use Rattle.px_wire.specs.Links.{is_done, is_held, holds, is_open_to_read}
+use Rattle.px_wire.specs.Ledger.{Life, ledger, is_life_at, is_life_of, piece_of}
+use Rattle.px_wire.specs.Rules.{FirstIs, MayGet, waiting, holds_life, is_life_held}
+use Rattle.px_wire.specs.Stands.{Busy, idle, Fits, AllFit, name_of, Apart, Stands}
+use Rattle.px_wire.proofs.LedgerLemmas.{find_here}
+use Rattle.px_wire.proofs.PlaceLemmas.{own_slot, own_side, other_side}
+use Rattle.px_wire.proofs.ChangeLemmas.{here, before_misses, first_at_slot, changed_slot}
+
+-- how many bytes wait, by the calls and as they are kept
+waiting_same : (busy : Busy) (owed : Option Heard) (link : Link) (life : Life) → Fits busy owed link life → waiting life ≡ length link.queue
+waiting_same busy owed link life fits = by life.is_over refl
+  where
+    by : (b : Bool) → life.is_over ≡ b → waiting life ≡ length link.queue
+    by false is =
+        let e : length life.said ≡ length life.taken + length link.queue = ap length (fits.queued is) ∙ length-append life.taken link.queue in
+        rw is (omega arith)
+    by true is = rw (is, (fits.cut is).1) refl
+
+holds_same : (busy : Busy) (owed : Option Heard) (other link : Link) (o life : Life) → Fits busy owed other o → Fits busy owed link life → holds_life o life ≡ holds other link
+holds_same busy owed other link o life a b =
+    let e : waiting o ≡ length other.queue = waiting_same busy owed other o a in
+    rw (sym a.conv, sym a.side, sym b.conv, sym b.side, e) refl
+
+-- whether a side is held back, by the calls and as it is kept
+pub held_same : (busy : Busy) (owed : Option Heard) (link : Link) (life : Life) → Fits busy owed link life → (links : List Link) (lives : List Life) → AllFit (Fits busy owed) links lives
+    → is_life_held lives life ≡ is_held links link
+held_same busy owed link life fits [] [] all = refl
+held_same busy owed link life fits [] (o ∷ lives) all = absurd all
+held_same busy owed link life fits (other ∷ links) [] all = absurd all
+held_same busy owed link life fits (other ∷ links) (o ∷ lives) all =
+    let e : holds_life o life ≡ holds other link = holds_same busy owed other link o life all.0 fits in
+    let rest : is_life_held lives life ≡ is_held links link = held_same busy owed link life fits links lives all.1 in
+    rw (e, rest) refl
+
+-- what it is that may be read
+pub open_parts : (links : List Link) (link : Link) → is_open_to_read links link ≡ true → (link.is_readable ≡ true) × (is_held links link ≡ false)
+open_parts links link is = by link.is_readable refl (is_held links link) refl
+  where
+    by : (a : Bool) → link.is_readable ≡ a → (b : Bool) → is_held links link ≡ b → (link.is_readable ≡ true) × (is_held links link ≡ false)
+    by true x false y = (x, y)
+    by false x b y = let e : false ≡ true = rw x at is in cc
+    by true x true y = let e : false ≡ true = rw (x, y) at is in cc
+
+-- one that is over is not done with
+over_goes_on : (link : Link) → is_done (record link { queue = []; is_over = true }) ≡ false
+over_goes_on link = by link.is_closing refl
+  where
+    by : (b : Bool) → link.is_closing ≡ b → is_done (record link { queue = []; is_over = true }) ≡ false
+    by true is = rw is refl
+    by false is = rw is refl
+
+module _ (front back : List Link) (link : Link) (accepted moment : ℕ) (list : Calls) (readable : is_open_to_read (front ++ link ∷ back) link ≡ true) (live : link.is_over ≡ false)
+    (stands : Stands idle None (front ++ link ∷ back) accepted moment list) where
+  may_get : FirstIs (is_life_at link.slot) (MayGet (ledger list).lives) (ledger list).lives
+  may_get =
+      first_at_slot idle None front back link accepted moment list stands (MayGet (ledger list).lives) (λ life fits. record {
+        alive = sym fits.over ∙ live;
+        readable = sym fits.readable ∙ (open_parts (front ++ link ∷ back) link readable).0;
+        held = held_same idle None link life fits (front ++ link ∷ back) (ledger list).lives stands.fits ∙ (open_parts (front ++ link ∷ back) link readable).1;
+      })
+
+  -- it gives bytes, which are to be heard
+  pub gave : (bytes : List ℕ) → Stands idle (Some (heard.Piece link.conv link.side bytes)) (front ++ link ∷ back) accepted moment (list ++ calls.Gave link.slot bytes ∷ [])
+  gave bytes =
+      let h = here idle None front back link accepted moment list stands in
+      let m = before_misses idle None front back link accepted moment list stands in
+      let first : find (is_life_at link.slot) (ledger list).lives ≡ Some h.life =
+      ap (find (is_life_at link.slot)) h.lives_are ∙ find_here (is_life_at link.slot) h.before h.life h.behind m.slot (own_slot link h.life h.fits.slot) in
+      let owed : piece_of bytes (find (is_life_at link.slot) (ledger list).lives) ≡ Some (heard.Piece link.conv link.side bytes) =
+      ap (piece_of bytes) first ∙ rw (sym h.fits.conv, sym h.fits.side) refl in
+      changed_slot idle None front back link accepted moment list stands (calls.Gave link.slot bytes) idle (Some (heard.Piece link.conv link.side bytes)) accepted moment may_get
+      (λ life. record life { given = life.given ++ bytes }) link refl
+      (record { name = refl; fits = own; others = others })
+      (record { accepted_is = stands.accepted_is; moment_is = stands.moment_is; owed_is = owed; refused_is = stands.refused_is }) refl
+    where
+      own : (life : Life) → Fits idle None link life → Fits idle (Some (heard.Piece link.conv link.side bytes)) link (record life { given = life.given ++ bytes })
+      own life fits = record {
+        slot = fits.slot;
+        conv = fits.conv;
+        side = fits.side;
+        closing = fits.closing;
+        over = fits.over;
+        readable = fits.readable;
+        queued = fits.queued;
+        cut = fits.cut;
+        heard = (let e : life.given ≡ life.heard = fits.heard ∙ append-nil life.heard in
+            let mine : is_life_of link.conv link.side life ≡ true = own_side link life fits.conv fits.side in
+            rw mine (ap (λ (b : List ℕ). b ++ bytes) e));
+        blocked = fits.blocked;
+        still = fits.still;
+        unfinished = fits.unfinished;
+      }
+
+      others : (other : Link) (life : Life) → Apart (name_of link) (name_of other) → Fits idle None other life → Fits idle (Some (heard.Piece link.conv link.side bytes)) other life
+      others other life away fits = record {
+        slot = fits.slot;
+        conv = fits.conv;
+        side = fits.side;
+        closing = fits.closing;
+        over = fits.over;
+        readable = fits.readable;
+        queued = fits.queued;
+        cut = fits.cut;
+        heard = (let mine : is_life_of link.conv link.side life ≡ false = other_side (name_of link) other life away fits.conv fits.side in rw mine fits.heard);
+        blocked = fits.blocked;
+        still = fits.still;
+        unfinished = fits.unfinished;
+      }
+
+  -- it has nothing at present
+  pub get_blocked : Stands idle None (front ++ record link { is_readable = false } ∷ back) accepted moment (list ++ calls.GetBlocked link.slot ∷ [])
+  get_blocked =
+      changed_slot idle None front back link accepted moment list stands (calls.GetBlocked link.slot) idle None accepted moment may_get
+      (λ life. record life { is_readable = false }) (record link { is_readable = false }) refl
+      (record { name = refl; fits = own; others = λ other life away fits. fits })
+      (record { accepted_is = stands.accepted_is; moment_is = stands.moment_is; owed_is = stands.owed_is; refused_is = stands.refused_is }) refl
+    where
+      own : (life : Life) → Fits idle None link life → Fits idle None (record link { is_readable = false }) (record life { is_readable = false })
+      own life fits = record {
+        slot = fits.slot;
+        conv = fits.conv;
+        side = fits.side;
+        closing = fits.closing;
+        over = fits.over;
+        readable = refl;
+        queued = fits.queued;
+        cut = fits.cut;
+        heard = fits.heard;
+        blocked = fits.blocked;
+        still = fits.still;
+        unfinished = fits.unfinished;
+      }
+
+  cut_off : (life : Life) → Fits idle None link life → Fits idle None (record link { queue = []; is_over = true }) (record life { is_over = true })
+  cut_off life fits = record {
+    slot = fits.slot;
+    conv = fits.conv;
+    side = fits.side;
+    closing = fits.closing;
+    over = refl;
+    readable = fits.readable;
+    queued = λ is. (let wrong : true ≡ false = is in cc);
+    cut = λ _. ((link.queue, fits.queued (sym fits.over ∙ live)), refl);
+    heard = fits.heard;
+    blocked = λ free. inl refl;
+    still = λ free. over_goes_on link;
+    unfinished = fits.unfinished;
+  }
+
+  -- its bytes have ended, or its socket failed
+  pub get_over : (call : WireCall) → (call ≡ calls.GetEnded link.slot) ⊎ (call ≡ calls.GetBroke link.slot)
+      → Stands idle None (front ++ record link { queue = []; is_over = true } ∷ back) accepted moment (list ++ call ∷ [])
+  get_over call (inl is) = let P : WireCall → Type 0 = λ c. Stands idle None (front ++ record link { queue = []; is_over = true } ∷ back) accepted moment (list ++ c ∷ []) in
+      subst P (sym is) (changed_slot idle None front back link accepted moment list stands (calls.GetEnded link.slot) idle None accepted moment may_get
+      (λ life. record life { is_over = true }) (record link { queue = []; is_over = true }) refl
+      (record { name = refl; fits = cut_off; others = λ other life away fits. fits })
+      (record { accepted_is = stands.accepted_is; moment_is = stands.moment_is; owed_is = stands.owed_is; refused_is = stands.refused_is }) refl)
+  get_over call (inr is) = let P : WireCall → Type 0 = λ c. Stands idle None (front ++ record link { queue = []; is_over = true } ∷ back) accepted moment (list ++ c ∷ []) in
+      subst P (sym is) (changed_slot idle None front back link accepted moment list stands (calls.GetBroke link.slot) idle None accepted moment may_get
+      (λ life. record life { is_over = true }) (record link { queue = []; is_over = true }) refl
+      (record { name = refl; fits = cut_off; others = λ other life away fits. fits })
+      (record { accepted_is = stands.accepted_is; moment_is = stands.moment_is; owed_is = stands.owed_is; refused_is = stands.refused_is }) refl)

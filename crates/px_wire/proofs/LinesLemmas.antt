@@ -1,0 +1,128 @@
+-- What lines keep, over a call.
+use Rattle.std.proofs.Common.{◌≡◌, ◌∙◌, ◌⊎◌, inl, inr, ℕ, ◌+◌, ◌≤◌, Bool, true, false, refl, ap, sym, arith, subst, List, [], ◌∷◌, ◌++◌, drop, length, Option, Some, None}
+use Rattle.std.specs.List.{position}
+use Rattle.std.specs.Prelude.{Result, Ok, Err, OnOk, OnErr}
+use Rattle.px_event.specs.declared.heard.Heard.{Heard}
+use Rattle.px_event.specs.declared.step.Step.{Step}
+use Rattle.px_event.specs.Trace.{Trace}
+use Rattle.px_outside.specs.Count.{Rose}
+use Rattle.px_wire.specs.Hears.{AddsHeard}
+use Rattle.px_outside.specs.Net.{IsNote}
+use Rattle.px_wire.specs.declared.link.Link.{Link}
+use Rattle.px_wire.specs.declared.table.Table.{Table}
+use Rattle.px_wire.specs.declared.call.WireCall.TheVariants as calls
+use Rattle.px_wire.specs.Calls.{Calls, Tells, NoneTold, AsksMore, AsksAtMost}
+use Rattle.px_wire.specs.declared.link.Flushed.{Flushed}
+use Rattle.px_wire.specs.Found.{IsAt, Found}
+use Rattle.px_wire.specs.Links.{has_slot}
+use Rattle.px_wire.specs.Puts.{FlushedSo, first_queue, queue_at, queue_of}
+use Rattle.px_wire.specs.Lines.{Keeps}
+use Rattle.px_wire.specs.Stands.{idle, putting, Stands, StandsFor, Rests}
+use Rattle.px_wire.proofs.TableLemmas.{may_put_to, notes_so}
+use Rattle.px_wire.proofs.StepLemmas.{apart_at}
+use Rattle.px_wire.proofs.FindLemmas.{found_by, slot_is}
+
+-- before the first call
+pub begins_so : (told : Option Calls) → NoneTold told → StandsFor idle None [] 0 0 told
+begins_so None none = tt
+begins_so (Some list) none =
+    let P : Calls → Type 0 = λ ls. Stands idle None [] 0 0 ls in
+    subst P (sym none) (record { fits = tt; distinct = tt; used = tt; accepted_is = refl; most = omega arith; moment_is = refl; owed_is = refl; refused_is = refl; obeys = tt })
+
+-- whatever is still to be heard
+pub keeps_by : (spent : Bool) (old new : Table) (before after : Option Calls) → ((owed : Option Heard) → Rests owed old before → Rests owed new after) → Keeps spent old before → Keeps spent new after
+keeps_by false old new before after step keeps = step None keeps
+keeps_by true old new before after step keeps = (keeps.0, step keeps.0 keeps.1)
+
+-- once memory ran out while something was heard, something may be left
+pub keeps_loose : (table : Table) (told : Option Calls) → Rests None table told → Keeps true table told
+keeps_loose table told rests = (None, rests)
+
+-- a slot was flushed at its place
+pub keeps_flushed : (spent : Bool) (old new : Table) (before after : Option Calls) (slot place : ℕ) → Some place ≡ position (has_slot slot) old.links.items
+    → ((owed : Option Heard) (f b : List Link) (l : Link) → IsAt old.links.items place f l b → StandsFor (putting l.slot) owed (f ++ l ∷ b) old.accepted old.moment before → Rests owed new after)
+    → Keeps spent old before → Keeps spent new after
+keeps_flushed spent old new before after slot place is flushes keeps =
+    let f = found_by (has_slot slot) old.links.items place is in
+    keeps_by spent old new before after
+    (λ owed rests. flushes owed f.front f.back f.link f.is_at
+    (may_put_to owed f.front f.back f.link old.accepted old.moment before (apart_at idle owed old.links.items place f.front f.link f.back old.accepted old.moment before f.is_at rests)))
+    keeps
+
+-- the queue of a slot is that of what was found
+queue_here : (front back : List Link) (link : Link) → first_queue (drop (length front) (front ++ link ∷ back)) ≡ link.queue
+queue_here [] back link = refl
+queue_here (first ∷ front) back link = queue_here front back link
+
+queue_found : (slot place : ℕ) (links : List Link) (f : Found (has_slot slot) links place) → Some place ≡ position (has_slot slot) links → f.link.queue ≡ queue_of slot links
+queue_found slot place links f is =
+    let P : Option ℕ → Type 0 = λ p. f.link.queue ≡ queue_at p links in
+    let Q : List Link → Type 0 = λ ls. f.link.queue ≡ first_queue (drop place ls) in
+    let R : ℕ → Type 0 = λ n. f.link.queue ≡ first_queue (drop n (f.front ++ f.link ∷ f.back)) in
+    subst P is (subst Q (sym f.is_at.are) (subst R f.is_at.place_is (sym (queue_here f.front f.back f.link))))
+
+-- what the flush of a slot did, by the slot
+pub flushed_so : (outcome : Flushed) (slot place : ℕ) (links : List Link) (before after : Option Calls) → Some place ≡ position (has_slot slot) links
+    → ((f b : List Link) (l : Link) → IsAt links place f l b → FlushedSo outcome l.slot l.queue before after) → FlushedSo outcome slot (queue_of slot links) before after
+flushed_so outcome slot place links before after is flushes =
+    let f = found_by (has_slot slot) links place is in
+    let P : ℕ → Type 0 = λ s. FlushedSo outcome s f.link.queue before after in
+    let Q : List ℕ → Type 0 = λ queue. FlushedSo outcome slot queue before after in
+    subst Q (queue_found slot place links f is) (subst P (slot_is slot f.link f.passes) (flushes f.front f.back f.link f.is_at))
+
+-- a step was noted, or memory ran out and nothing was
+pub keeps_noted : {T E : Type 0} (r : Result T E) (spent : Bool) (table : Table) (step : Step) (before after : Option Calls) → IsNote step → OnOk r (Tells (calls.Noted step) before after)
+    → OnErr r (after ≡ before) → Keeps spent table before → Keeps spent table after
+keeps_noted (Ok value) spent table step before after is tells same keeps =
+    keeps_by spent table table before after (λ owed rests. notes_so table.accepted table.moment before after owed table.links.items step is tells rests) keeps
+keeps_noted (Err error) spent table step before after is tells same keeps =
+    let P : Option Calls → Type 0 = λ told. Keeps spent table told in subst P (sym same) keeps
+
+-- the calls have not changed
+pub keeps_same : (spent : Bool) (table : Table) (before after : Option Calls) → after ≡ before → Keeps spent table before → Keeps spent table after
+keeps_same spent table before after same keeps = let P : Option Calls → Type 0 = λ told. Keeps spent table told in subst P (sym same) keeps
+
+-- how often it was asked
+pub asked_none : (asks : Option ℕ) → AsksMore 0 asks asks
+asked_none None = refl
+asked_none (Some count) = inl (ap (λ (n : ℕ). Some n) (let e : count ≡ count + 0 = omega arith in e))
+
+pub asked_more : (n m : ℕ) (old mid new : Option ℕ) → AsksMore n old mid → AsksMore m mid new → AsksMore (n + m) old new
+asked_more n m None mid new a b = let P : Option ℕ → Type 0 = λ x. AsksMore m x new in let c : new ≡ None = subst P a b in c
+asked_more n m (Some old) mid new (inr a) b = let P : Option ℕ → Type 0 = λ x. AsksMore m x new in inr (subst P a b)
+asked_more n m (Some old) mid new (inl a) b = let P : Option ℕ → Type 0 = λ x. AsksMore m x new in by (subst P a b)
+  where
+    by : (new ≡ Some (old + n + m)) ⊎ (new ≡ None) → (new ≡ Some (old + (n + m))) ⊎ (new ≡ None)
+    by (inl c) = inl (c ∙ ap (λ (k : ℕ). Some k) (let e : old + n + m ≡ old + (n + m) = omega arith in e))
+    by (inr c) = inr c
+
+pub asked_same : (n m : ℕ) (old new : Option ℕ) → n ≡ m → AsksMore n old new → AsksMore m old new
+asked_same n m old new same asks = let P : ℕ → Type 0 = λ k. AsksMore k old new in subst P same asks
+
+pub asked_at_most : (n most : ℕ) (old new : Option ℕ) → n ≤ most → AsksMore n old new → AsksAtMost most old new
+asked_at_most n most None new below asks = asks
+asked_at_most n most (Some old) None below asks = tt
+asked_at_most n most (Some old) (Some new) below (inl is) = some_below is
+  where
+    some_below : Some new ≡ Some (old + n) → new ≤ old + most
+    some_below e = let f : new ≡ old + n = cc in omega (arith, below, f)
+asked_at_most n most (Some old) (Some new) below (inr is) = let wrong : Some new ≡ None = is in cc
+
+-- so often, and then at most so often
+pub asked_then : (n m most : ℕ) (old mid new : Option ℕ) → n + m ≤ most → AsksMore n old mid → AsksAtMost m mid new → AsksAtMost most old new
+asked_then n m most None mid new below a b = let P : Option ℕ → Type 0 = λ x. AsksAtMost m x new in let c : new ≡ None = subst P a b in c
+asked_then n m most (Some old) mid None below a b = tt
+asked_then n m most (Some old) mid (Some new) below (inr a) b = let P : Option ℕ → Type 0 = λ x. AsksAtMost m x (Some new) in let c : Some new ≡ None = subst P a b in cc
+asked_then n m most (Some old) mid (Some new) below (inl a) b =
+    let P : Option ℕ → Type 0 = λ x. AsksAtMost m x (Some new) in
+    let c : new ≤ old + n + m = subst P a b in omega (arith, below, c)
+
+-- what was heard behind steps in which nothing was
+pub adds_none : (told : Option (ℕ × Heard)) (old new : Option Trace) → told ≡ None → AddsHeard told old new → new ≡ old
+adds_none told old new is adds = let P : Option (ℕ × Heard) → Type 0 = λ t. AddsHeard t old new in subst P is adds
+
+pub adds_behind : (told : Option (ℕ × Heard)) (first old new : Option Trace) → old ≡ first → AddsHeard told old new → AddsHeard told first new
+adds_behind told first old new same adds = let P : Option Trace → Type 0 = λ t. AddsHeard told t new in subst P same adds
+
+pub rose_behind : (first old new : ℕ) → first ≤ old → Rose old new → Rose first new
+rose_behind first old new below rose = omega (arith, below, rose)

@@ -1,0 +1,153 @@
+-- The same at a place among the slots, and over several calls.
+use Rattle.std.proofs.Common.{◌≡◌, ◌∙◌, ℕ, true, false, refl, sym, subst, List, ◌∷◌, ◌++◌, get_or, Option, Some, None}
+use Rattle.std.specs.Prelude.{slice_set}
+use Rattle.std.specs.List.{remove}
+use Rattle.px_event.specs.declared.side.Side.{Side}
+use Rattle.px_event.specs.declared.side.Side.TheVariants.{Server}
+use Rattle.px_event.specs.declared.heard.Heard.{Heard}
+use Rattle.px_event.specs.declared.heard.Heard.TheVariants as heard
+use Rattle.px_event.specs.declared.said.Said.TheVariants as said
+use Rattle.px_event.specs.declared.step.Step.{Step}
+use Rattle.px_event.specs.declared.step.Step.TheVariants as steps
+use Rattle.px_outside.specs.Net.{IsNote}
+use Rattle.px_wire.specs.declared.link.Link.{Link}
+use Rattle.px_wire.specs.declared.call.WireCall.TheVariants as calls
+use Rattle.px_wire.specs.Calls.{Calls, Tells}
+use Rattle.px_wire.specs.Found.{IsAt, Missing}
+use Rattle.px_wire.specs.Hears.{IsPlain}
+use Rattle.px_wire.specs.Links.{is_done, is_link_of}
+use Rattle.px_wire.specs.Ledger.{ledger}
+use Rattle.px_wire.specs.Rules.{MayShut}
+use Rattle.px_wire.specs.Stands.{idle, putting, flushed, ending, Stands, StandsFor, EndsFor, name_of}
+use Rattle.px_wire.proofs.LedgerLemmas.{told_more, told_so}
+use Rattle.px_wire.proofs.PutLemmas.{reworked, refits}
+use Rattle.px_wire.proofs.HearLemmas.{plain, piece, closed, undialled, heard_at}
+use Rattle.px_wire.proofs.SayLemmas.{sent, sent_over, sent_to_none, closing, closed_none, noted, send_call, close_call}
+use Rattle.px_wire.proofs.FindLemmas.{at_is, set_at, remove_at}
+use Rattle.px_wire.proofs.CallLemmas.{shut_one, goes_on, ends, same_slot}
+
+-- a slot that may be shut, at a place
+pub shut_place : (owed : Option Heard) (links new : List Link) (place : ℕ) (front back : List Link) (link taken : Link) (accepted moment : ℕ) (old now : Option Calls)
+    → IsAt links place front link back → taken ≡ get_or links place taken → new ≡ remove links place → Tells (calls.Shut taken.slot) old now
+    → EndsFor link.slot owed (front ++ link ∷ back) accepted moment old → StandsFor idle owed new accepted moment now
+shut_place owed links new place front back link taken accepted moment old now at is gone tells ends =
+    let same : taken ≡ link = is ∙ at_is links place front link back at taken in
+    let T : Link → Type 0 = λ l. Tells (calls.Shut l.slot) old now in
+    let P : List Link → Type 0 = λ ls. StandsFor idle owed ls accepted moment now in
+    subst P (sym (gone ∙ remove_at links place front link back at)) (shut_one owed front back link accepted moment old now (subst T same tells) ends)
+
+-- a slot that is about to be put to
+pub may_put_to : (owed : Option Heard) (front back : List Link) (link : Link) (accepted moment : ℕ) (told : Option Calls)
+    → StandsFor idle owed (front ++ link ∷ back) accepted moment told → StandsFor (putting link.slot) owed (front ++ link ∷ back) accepted moment told
+may_put_to owed front back link accepted moment told stands =
+    told_so (Stands idle owed (front ++ link ∷ back) accepted moment) (Stands (putting link.slot) owed (front ++ link ∷ back) accepted moment) told stands
+    (λ list s. reworked idle (putting link.slot) owed front back link accepted moment list s
+    (λ life fits. refits idle (putting link.slot) owed link life fits (λ free. fits.blocked refl) (λ free. fits.still refl) fits.unfinished)
+    (λ other life away fits. refits idle (putting link.slot) owed other life fits (λ free. fits.blocked refl) (λ free. fits.still refl) fits.unfinished))
+
+module _ (accepted moment : ℕ) (old now : Option Calls) where
+  -- what is heard
+  pub hears_plain : (links : List Link) (what : Heard) → IsPlain what → Tells (heard_at moment what) old now → StandsFor idle (Some what) links accepted moment old → StandsFor idle None links accepted moment now
+  hears_plain links what is tells stands =
+      told_more (Stands idle (Some what) links accepted moment) (Stands idle None links accepted moment) (heard_at moment what) old now tells stands
+      (λ list s. plain links accepted moment list what is s)
+
+  pub hears_piece : (front back : List Link) (link : Link) (bytes : List ℕ) (what : Heard) → what ≡ heard.Piece link.conv link.side bytes → Tells (heard_at moment what) old now
+      → StandsFor idle (Some what) (front ++ link ∷ back) accepted moment old → StandsFor idle None (front ++ link ∷ back) accepted moment now
+  hears_piece front back link bytes what is tells stands =
+      let T : Heard → Type 0 = λ h. Tells (heard_at moment h) old now in
+      let S : Heard → Type 0 = λ h. StandsFor idle (Some h) (front ++ link ∷ back) accepted moment old in
+      told_more (Stands idle (Some (heard.Piece link.conv link.side bytes)) (front ++ link ∷ back) accepted moment) (Stands idle None (front ++ link ∷ back) accepted moment)
+      (heard_at moment (heard.Piece link.conv link.side bytes)) old now (subst T is tells) (subst S is stands) (λ list s. piece front back link accepted moment list bytes s)
+
+  pub hears_closed : (front back : List Link) (link : Link) (what : Heard) → what ≡ heard.Closed link.conv link.side → link.is_over ≡ true → Tells (heard_at moment what) old now
+      → StandsFor idle None (front ++ link ∷ back) accepted moment old → EndsFor link.slot None (front ++ link ∷ back) accepted moment now
+  hears_closed front back link what is over tells stands =
+      let T : Heard → Type 0 = λ h. Tells (heard_at moment h) old now in
+      told_more (Stands idle None (front ++ link ∷ back) accepted moment) (λ list. Stands (ending link.slot) None (front ++ link ∷ back) accepted moment list × MayShut (ledger list) link.slot)
+      (heard_at moment (heard.Closed link.conv link.side)) old now (subst T is tells) stands (λ list s. closed front back link accepted moment list over s)
+
+  pub hears_undialled : (front back : List Link) (link : Link) (server : ℕ) (what : Heard) → what ≡ heard.Dialled link.conv server false → link.side ≡ Server server → Tells (heard_at moment what) old now
+      → StandsFor idle (Some what) (front ++ link ∷ back) accepted moment old → EndsFor link.slot None (front ++ link ∷ back) accepted moment now
+  hears_undialled front back link server what is side tells stands =
+      let T : Heard → Type 0 = λ h. Tells (heard_at moment h) old now in
+      let S : Heard → Type 0 = λ h. StandsFor idle (Some h) (front ++ link ∷ back) accepted moment old in
+      told_more (Stands idle (Some (heard.Dialled link.conv server false)) (front ++ link ∷ back) accepted moment)
+      (λ list. Stands (ending link.slot) None (front ++ link ∷ back) accepted moment list × MayShut (ledger list) link.slot)
+      (heard_at moment (heard.Dialled link.conv server false)) old now (subst T is tells) (subst S is stands) (λ list s. undialled front back link accepted moment list server side s)
+
+  -- what is noted
+  pub notes_so : (owed : Option Heard) (links : List Link) (step : Step) → IsNote step → Tells (calls.Noted step) old now → StandsFor idle owed links accepted moment old → StandsFor idle owed links accepted moment now
+  notes_so owed links step is tells stands =
+      told_more (Stands idle owed links accepted moment) (Stands idle owed links accepted moment) (calls.Noted step) old now tells stands (λ list s. noted owed links accepted moment list s step is)
+
+  -- what is sent
+  pub sends : (owed : Option Heard) (front back : List Link) (link : Link) (bytes : List ℕ) (step : Step) → step ≡ steps.Said link.conv (said.Send link.side bytes) → link.is_over ≡ false
+      → Tells (calls.Noted step) old now → StandsFor idle owed (front ++ link ∷ back) accepted moment old
+      → StandsFor (putting link.slot) owed (front ++ record link { queue = link.queue ++ bytes } ∷ back) accepted moment now
+  sends owed front back link bytes step is live tells stands =
+      let T : Step → Type 0 = λ s. Tells (calls.Noted s) old now in
+      told_more (Stands idle owed (front ++ link ∷ back) accepted moment) (Stands (putting link.slot) owed (front ++ record link { queue = link.queue ++ bytes } ∷ back) accepted moment)
+      (send_call link.conv link.side bytes) old now (subst T is tells) stands (λ list s. sent owed front back link accepted moment list s bytes live)
+
+  pub sends_over : (owed : Option Heard) (front back : List Link) (link : Link) (bytes : List ℕ) (step : Step) → step ≡ steps.Said link.conv (said.Send link.side bytes) → link.is_over ≡ true
+      → Tells (calls.Noted step) old now → StandsFor idle owed (front ++ link ∷ back) accepted moment old → StandsFor idle owed (front ++ link ∷ back) accepted moment now
+  sends_over owed front back link bytes step is over tells stands =
+      let T : Step → Type 0 = λ s. Tells (calls.Noted s) old now in
+      told_more (Stands idle owed (front ++ link ∷ back) accepted moment) (Stands idle owed (front ++ link ∷ back) accepted moment)
+      (send_call link.conv link.side bytes) old now (subst T is tells) stands (λ list s. sent_over owed front back link accepted moment list s bytes over)
+
+  pub sends_none : (owed : Option Heard) (links : List Link) (conv : ℕ) (side : Side) (bytes : List ℕ) (step : Step) → step ≡ steps.Said conv (said.Send side bytes) → Missing (is_link_of conv side) links
+      → Tells (calls.Noted step) old now → StandsFor idle owed links accepted moment old → StandsFor idle owed links accepted moment now
+  sends_none owed links conv side bytes step is none tells stands =
+      let T : Step → Type 0 = λ s. Tells (calls.Noted s) old now in
+      told_more (Stands idle owed links accepted moment) (Stands idle owed links accepted moment) (send_call conv side bytes) old now (subst T is tells) stands
+      (λ list s. sent_to_none owed links accepted moment list s conv side bytes none)
+
+  -- what is closed
+  pub closes : (owed : Option Heard) (front back : List Link) (link : Link) (step : Step) → step ≡ steps.Said link.conv (said.Close link.side)
+      → Tells (calls.Noted step) old now → StandsFor idle owed (front ++ link ∷ back) accepted moment old
+      → StandsFor (flushed link.slot) owed (front ++ record link { is_closing = true } ∷ back) accepted moment now
+  closes owed front back link step is tells stands =
+      let T : Step → Type 0 = λ s. Tells (calls.Noted s) old now in
+      told_more (Stands idle owed (front ++ link ∷ back) accepted moment) (Stands (flushed link.slot) owed (front ++ record link { is_closing = true } ∷ back) accepted moment)
+      (close_call link.conv link.side) old now (subst T is tells) stands (λ list s. closing owed front back link accepted moment list s)
+
+  pub closes_none : (owed : Option Heard) (links : List Link) (conv : ℕ) (side : Side) (step : Step) → step ≡ steps.Said conv (said.Close side) → Missing (is_link_of conv side) links
+      → Tells (calls.Noted step) old now → StandsFor idle owed links accepted moment old → StandsFor idle owed links accepted moment now
+  closes_none owed links conv side step is none tells stands =
+      let T : Step → Type 0 = λ s. Tells (calls.Noted s) old now in
+      told_more (Stands idle owed links accepted moment) (Stands idle owed links accepted moment) (close_call conv side) old now (subst T is tells) stands
+      (λ list s. closed_none owed links accepted moment list s conv side none)
+
+-- a slot was flushed at its place
+module _ (owed : Option Heard) (links : List Link) (place : ℕ) (front back : List Link) (link old new seen : Link) (accepted moment : ℕ) (before now : Option Calls)
+    (at : IsAt links place front link back) (old_is : old ≡ get_or links place old)
+    (flushes : (o : Option Heard) (f b : List Link) (a m : ℕ) → StandsFor (putting old.slot) o (f ++ old ∷ b) a m before → StandsFor (flushed old.slot) o (f ++ new ∷ b) a m now)
+    (name : name_of new ≡ name_of old) (seen_is : seen ≡ get_or (slice_set links place new) place seen)
+    (stands : StandsFor (putting link.slot) owed (front ++ link ∷ back) accepted moment before) where
+  pub new_at : IsAt (slice_set links place new) place front new back
+  new_at = record { are = set_at links place front link back at new; place_is = at.place_is }
+
+  seen_new : seen ≡ new
+  seen_new = seen_is ∙ at_is (slice_set links place new) place front new back new_at seen
+
+  flushed_so : StandsFor (flushed old.slot) owed (front ++ new ∷ back) accepted moment now
+  flushed_so =
+      let same : old ≡ link = old_is ∙ at_is links place front link back at old in
+      let P : Link → Type 0 = λ l. StandsFor (putting l.slot) owed (front ++ l ∷ back) accepted moment before in
+      flushes owed front back accepted moment (subst P (sym same) stands)
+
+  slot_same : new.slot ≡ old.slot
+  slot_same = same_slot new old name
+
+  pub flushed_goes_on : is_done seen ≡ false → StandsFor idle owed (slice_set links place new) accepted moment now
+  flushed_goes_on is =
+      let D : Link → Type 0 = λ l. is_done l ≡ false in
+      let P : List Link → Type 0 = λ ls. StandsFor idle owed ls accepted moment now in
+      subst P (sym new_at.are) (goes_on owed front back new accepted moment old.slot now (subst D seen_new is) slot_same flushed_so)
+
+  pub flushed_ends : is_done seen ≡ true → EndsFor new.slot owed (front ++ new ∷ back) accepted moment now
+  flushed_ends is =
+      let D : Link → Type 0 = λ l. is_done l ≡ true in
+      ends owed front back new accepted moment old.slot now (subst D seen_new is) slot_same flushed_so

@@ -1,0 +1,69 @@
+use Rattle.std.proofs.Common.{◌≡◌, ◌∙◌, refl, arith}
+use Rattle.px_wire.specs.Stands.{name_of}
+use Rattle.px_wire.proofs.CallLemmas.{put_took, put_blocked, put_broke, put_all, same_slot}
+use Rattle.px_wire.proofs.PutsLemmas.{took_none, put_more, put_stopped, put_failed, put_whole}
+use Rattle.px_wire.proofs.flush.flush_link.Goals as goal
+
+pub loop-wire-init : goal.loop-wire-init
+loop-wire-init g c = record {
+  stands = λ owed front back accepted moment stands. stands;
+  name = refl;
+  steps = refl;
+  listening = refl;
+  faults = refl;
+  asks = refl;
+  took = took_none c.args.link.now.slot c.args.link.now.queue (g.W.Wire.calls c.args.wire.now);
+  blocks = omega arith;
+  breaks = omega arith;
+}
+
+pub loop-wire-preserved : goal.loop-wire-preserved
+loop-wire-preserved g c =
+    let before = c.loop-wire.invariant in
+    let at = same_slot c.loop-wire.link c.args.link.now before.name in
+    record {
+      stands = λ owed front back accepted moment stands.
+          put_took owed front back c.loop-wire.link c.put_once.new.link accepted moment c.args.link.now.slot c.in-Took.field-0 c.put_once.result _ _ (c.in-Took.is)
+          (omega arith) at c.put_once.ensures.link c.put_once.ensures.told (before.stands owed front back accepted moment stands);
+      name = (let e : name_of c.put_once.new.link ≡ name_of c.loop-wire.link = rw (c.put_once.ensures.link, c.in-Took.is) refl in e ∙ before.name);
+      steps = c.put_once.ensures.steps ∙ before.steps;
+      listening = c.put_once.ensures.listening ∙ before.listening;
+      faults = c.put_once.ensures.faults ∙ before.faults;
+      asks = c.put_once.ensures.asks ∙ before.asks;
+      took = put_more c.args.link.now.slot c.args.link.now.queue c.loop-wire.link c.put_once.result _ _ _ c.put_once.new.link c.in-Took.field-0 c.in-Took.is at c.put_once.ensures.link c.put_once.ensures.told before.took;
+      blocks = omega (arith, c.put_once.ensures.blocks, before.blocks);
+      breaks = omega (arith, c.put_once.ensures.breaks, before.breaks);
+    }
+
+pub returns-in-Blocked-clause-stands : goal.returns-in-Blocked-clause-stands
+returns-in-Blocked-clause-stands g c = λ owed front back accepted moment stands.
+    let before = c.loop-wire.invariant in
+    put_blocked owed front back c.loop-wire.link c.put_once.new.link accepted moment c.args.link.now.slot c.put_once.result _ _ (c.in-Blocked.is)
+    (omega arith) (same_slot c.loop-wire.link c.args.link.now before.name) c.put_once.ensures.link c.put_once.ensures.told (before.stands owed front back accepted moment stands)
+
+pub returns-in-Broken-clause-stands : goal.returns-in-Broken-clause-stands
+returns-in-Broken-clause-stands g c = λ owed front back accepted moment stands.
+    let before = c.loop-wire.invariant in
+    put_broke owed front back c.loop-wire.link c.put_once.new.link accepted moment c.args.link.now.slot c.put_once.result _ _ (c.in-Broken.is)
+    (omega arith) (same_slot c.loop-wire.link c.args.link.now before.name) c.put_once.ensures.link c.put_once.ensures.told (before.stands owed front back accepted moment stands)
+
+pub returns-clause-stands : goal.returns-clause-stands
+returns-clause-stands g c = λ owed front back accepted moment stands.
+    let before = c.loop-wire.invariant in
+    put_all owed front back c.loop-wire.link accepted moment c.args.link.now.slot _ (omega arith) (same_slot c.loop-wire.link c.args.link.now before.name) (before.stands owed front back accepted moment stands)
+
+pub returns-in-Blocked-clause-does : goal.returns-in-Blocked-clause-does
+returns-in-Blocked-clause-does g c =
+    let before = c.loop-wire.invariant in
+    put_stopped c.args.link.now.slot c.args.link.now.queue c.loop-wire.link c.put_once.result _ _ _ c.in-Blocked.is (omega arith) (same_slot c.loop-wire.link c.args.link.now before.name)
+    c.put_once.ensures.told before.took
+
+pub returns-in-Broken-clause-does : goal.returns-in-Broken-clause-does
+returns-in-Broken-clause-does g c =
+    let before = c.loop-wire.invariant in
+    put_failed c.args.link.now.slot c.args.link.now.queue c.loop-wire.link c.put_once.result _ _ _ c.in-Broken.is (omega arith) (same_slot c.loop-wire.link c.args.link.now before.name)
+    c.put_once.ensures.told before.took
+
+pub returns-clause-does : goal.returns-clause-does
+returns-clause-does g c =
+    put_whole c.args.link.now.slot c.args.link.now.queue c.loop-wire.link _ _ (omega arith) c.loop-wire.invariant.took

@@ -1,0 +1,20 @@
+use Rattle.std.proofs.Common.{◌≡◌, None, length}
+use Rattle.px_wire.specs.Found.{Missing, readable_count}
+use Rattle.px_wire.specs.Links.{is_over}
+use Rattle.px_wire.specs.Stands.{Rests}
+use Rattle.px_wire.proofs.hear.read_on.Given as goal
+
+-- what is kept stands still
+abbrev pub invariant-loop-place : goal.invariant-loop-place
+invariant-loop-place g l = record {
+  stands : Rests None l.initial.table (g.W.Wire.calls l.initial.wire) → Rests None l.table (g.W.Wire.calls l.wire);
+  alive : Missing is_over l.table.links.items;
+  room : length l.room ≡ length l.initial.room;
+  steps : g.W.Wire.steps l.wire ≡ g.W.Wire.steps l.initial.wire;
+  listening : g.W.Wire.listening l.wire ≡ g.W.Wire.listening l.initial.wire;
+  faults : g.W.Wire.faults l.wire ≡ g.W.Wire.faults l.initial.wire;
+  asks : g.W.Wire.asks l.wire ≡ g.W.Wire.asks l.initial.wire;
+}
+
+abbrev pub decreases-loop-place : goal.decreases-loop-place
+decreases-loop-place g l = readable_count l.table.links.items

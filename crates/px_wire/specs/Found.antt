@@ -1,0 +1,38 @@
+-- Places among the slots.
+use Rattle.std.specs.Prelude.{◌≡◌, ◌<◌, ◌≤◌, get_or, ◌+◌, ℕ, Bool, true, false, if◌then◌else◌, List, [], ◌∷◌, ◌++◌, length, Option}
+use Rattle.std.specs.List.{list_any}
+use Rattle.px_event.specs.declared.heard.Heard.{Heard}
+use Rattle.px_wire.specs.declared.link.Link.{Link}
+use Rattle.px_wire.specs.declared.table.Table.{Table}
+use Rattle.px_wire.specs.Calls.{Calls}
+use Rattle.px_wire.specs.Stands.{Rests}
+
+-- a slot stands at this place, between these others
+pub record IsAt (links : List Link) (place : ℕ) (front : List Link) (link : Link) (back : List Link) : Type 0 where
+  pub are : links ≡ front ++ link ∷ back
+  pub place_is : length front ≡ place
+
+-- one that passes stands at this place
+pub record Found (test : Link → Bool) (links : List Link) (place : ℕ) : Type 0 where
+  pub front : List Link
+  pub link : Link
+  pub back : List Link
+  pub is_at : IsAt links place front link back
+  pub passes : test link ≡ true
+
+-- none passes
+abbrev pub Missing : (Link → Bool) → List Link → Type 0
+Missing test links = list_any test links ≡ false
+
+-- none passes at this place or behind it
+abbrev pub NoneFrom : (Link → Bool) → ℕ → List Link → Type 0
+NoneFrom test start links = (i : ℕ) (d : Link) → start ≤ i → i < length links → test (get_or links i d) ≡ false
+
+-- how many are readable
+abbrev pub readable_count : List Link → ℕ
+readable_count [] = 0
+readable_count (link ∷ links) = (if link.is_readable then 1 else 0) + readable_count links
+
+-- what is kept after want of memory: something that the wire told or gave may not have been heard
+abbrev pub Loose : Table → Option Calls → Type 0
+Loose table told = (owed : Option Heard) × Rests owed table told

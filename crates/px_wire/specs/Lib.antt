@@ -1,0 +1,11 @@
+pub mod Calls
+pub mod Found
+pub mod Hears
+pub mod Ledger
+pub mod Lines
+pub mod Links
+pub mod MemWire
+pub mod Puts
+pub mod Rules
+pub mod Stands
+pub mod Taken

@@ -1,0 +1,243 @@
+//! What can be heard without waiting: what readable slots give, and the close of a side whose socket ended or failed.
+ghost use Rattle.std.specs.Prelude.{◌≡◌, ◌≢◌, ◌⊎◌, ◌<◌, ℕ, List, [], ◌∷◌, ◌++◌, length, Option, None, Some, Ok, Err, false, true, IfOk, OnOk, OnErr};
+ghost use Rattle.px_event.specs.declared.heard.Heard.{Heard as WhatIsHeard};
+ghost use Rattle.px_event.specs.declared.heard.Heard.TheVariants.{Piece as HeardPiece, Closed as HeardClosed, Dialled as HeardDialled};
+ghost use Rattle.px_event.specs.declared.side.Side.TheVariants.{Server as ServerSide};
+ghost use Rattle.px_event.specs.declared.step.Step.TheVariants.{Heard as WasHeard};
+ghost use Rattle.px_outside.specs.Net.{Adds};
+ghost use Rattle.px_wire.specs.declared.call.WireCall.TheVariants.{Noted as WasNoted};
+ghost use Rattle.px_wire.specs.declared.link.Link.{Link as LinkState};
+ghost use Rattle.px_wire.specs.Links.{is_open_to_read, is_over, after_get};
+ghost use Rattle.px_wire.specs.Hears.{IsPlain, AddsHeard};
+ghost use Rattle.px_wire.specs.Calls.{GotWithin, Tells, got_call};
+ghost use Rattle.px_wire.specs.Found.{IsAt, Missing, Loose, readable_count};
+ghost use Rattle.px_wire.specs.Stands.{StandsFor, EndsFor, Rests, AllCalm, idle, name_of, owed_by};
+
+use crate::find::{find_over, find_readable};
+use crate::flush::shut_at;
+use crate::link::Link;
+use crate::table::Table;
+use crate::{Got, Wire};
+use px_event::{Heard, Step};
+use px_text::{Bytes, NoMemory};
+use std::alloc::Global;
+
+/// Hands the wire the step in which it is heard, and gives it with its moment: something is heard, unless memory runs out.
+pub fn hear<W: Wire>(
+    wire: &mut W,
+    moment: u64,
+    heard: Heard,
+) -> Result<Option<(u64, Heard)>, NoMemory>
+    ensures told { IfOk result (λ told. told ≡ Some (moment, heard)) }
+    ensures steps { OnOk result (Adds (W.steps wire.old) (W.steps wire.new) (WasHeard moment heard)) }
+    ensures plain { (links : List LinkState) (accepted : ℕ) → IsPlain heard → StandsFor idle (Some heard) links accepted moment (W.calls wire.old) →
+        OnOk result (StandsFor idle None links accepted moment (W.calls wire.new)) }
+    ensures piece { (front back : List LinkState) (link : LinkState) (accepted : ℕ) (bytes : List ℕ) → heard ≡ HeardPiece link.conv link.side bytes →
+        StandsFor idle (Some heard) (front ++ link ∷ back) accepted moment (W.calls wire.old) →
+        OnOk result (StandsFor idle None (front ++ link ∷ back) accepted moment (W.calls wire.new)) }
+    ensures closed { (front back : List LinkState) (link : LinkState) (accepted : ℕ) → heard ≡ HeardClosed link.conv link.side → link.is_over ≡ true →
+        StandsFor idle None (front ++ link ∷ back) accepted moment (W.calls wire.old) →
+        OnOk result (EndsFor link.slot None (front ++ link ∷ back) accepted moment (W.calls wire.new)) }
+    ensures dialled { (front back : List LinkState) (link : LinkState) (accepted server : ℕ) → heard ≡ HeardDialled link.conv server false → link.side ≡ ServerSide server →
+        StandsFor idle (Some heard) (front ++ link ∷ back) accepted moment (W.calls wire.old) →
+        OnOk result (EndsFor link.slot None (front ++ link ∷ back) accepted moment (W.calls wire.new)) }
+    ensures calls_err { OnErr result (W.calls wire.new ≡ W.calls wire.old) }
+    ensures steps_err { OnErr result (W.steps wire.new ≡ W.steps wire.old) }
+    ensures listening { W.listening wire.new ≡ W.listening wire.old }
+    ensures faults { W.faults wire.new ≡ W.faults wire.old }
+    ensures asks { W.asks wire.new ≡ W.asks wire.old }
+{
+    note_heard(wire, moment, &heard)?;
+    Ok(Some((moment, heard)))
+}
+
+// Hands the wire the step in which it is heard.
+fn note_heard<W: Wire>(wire: &mut W, moment: u64, heard: &Heard) -> Result<(), NoMemory>
+    ensures told { OnOk result (Tells (WasNoted (WasHeard moment heard.now)) (W.calls wire.old) (W.calls wire.new)) }
+    ensures steps { OnOk result (Adds (W.steps wire.old) (W.steps wire.new) (WasHeard moment heard.now)) }
+    ensures calls_err { OnErr result (W.calls wire.new ≡ W.calls wire.old) }
+    ensures steps_err { OnErr result (W.steps wire.new ≡ W.steps wire.old) }
+    ensures listening { W.listening wire.new ≡ W.listening wire.old }
+    ensures faults { W.faults wire.new ≡ W.faults wire.old }
+    ensures asks { W.asks wire.new ≡ W.asks wire.old }
+{
+    let heard = heard.try_clone()?;
+    let step = Step::Heard { moment, heard };
+    wire.note(&step)
+}
+
+/// Hears the close of the side at this place, and shuts its slot.
+pub fn hear_close<W: Wire>(
+    wire: &mut W,
+    table: &mut Table,
+    place: usize,
+) -> Result<Option<(u64, Heard)>, NoMemory>
+    requires place { place < length table.old.links.items }
+    ensures some { result ≢ Ok None }
+    ensures steps { IfOk result (λ told. AddsHeard told (W.steps wire.old) (W.steps wire.new)) }
+    ensures stands { (front back : List LinkState) (link : LinkState) → IsAt table.old.links.items place front link back → link.is_over ≡ true →
+        Rests None table.old (W.calls wire.old) → OnOk result (Rests None table.new (W.calls wire.new)) }
+    ensures table_err { OnErr result (table.new ≡ table.old) }
+    ensures calls_err { OnErr result (W.calls wire.new ≡ W.calls wire.old) }
+    ensures steps_err { OnErr result (W.steps wire.new ≡ W.steps wire.old) }
+    ensures listening { W.listening wire.new ≡ W.listening wire.old }
+    ensures faults { W.faults wire.new ≡ W.faults wire.old }
+    ensures asks { W.asks wire.new ≡ W.asks wire.old }
+{
+    let link = &table.links[place];
+    let conv = link.conv;
+    let side = link.side;
+    let told = hear(wire, table.moment, Heard::Closed { conv, side })?;
+    shut_at(wire, table, place);
+    Ok(told)
+}
+
+/// Reads the slot once. One that has nothing at present is readable no more; one that ended or failed is over, and what
+/// waits for it is dropped.
+fn read_link<W: Wire>(wire: &mut W, link: &mut Link, room: &mut [u8]) -> Got
+    requires some { 0 < length room.old }
+    ensures link { link.new ≡ after_get link.old result }
+    ensures told { Tells (got_call link.old.slot room.new result) (W.calls wire.old) (W.calls wire.new) }
+    ensures within { GotWithin (length room.old) result }
+    ensures room { length room.new ≡ length room.old }
+    ensures steps { W.steps wire.new ≡ W.steps wire.old }
+    ensures listening { W.listening wire.new ≡ W.listening wire.old }
+    ensures faults { W.faults wire.new ≡ W.faults wire.old }
+    ensures asks { W.asks wire.new ≡ W.asks wire.old }
+{
+    let got = wire.get(link.slot, room);
+    match got {
+        Got::Gave(_) => {}
+        Got::Blocked => link.is_readable = false,
+        Got::Ended | Got::Broken => {
+            link.queue.clear();
+            link.is_over = true;
+        }
+    }
+    got
+}
+
+/// Reads the slot at this place once: its bytes or its close are heard, or it has none at present.
+fn read_at<W: Wire>(
+    alloc: Global,
+    wire: &mut W,
+    table: &mut Table,
+    room: &mut [u8],
+    place: usize,
+) -> Result<Option<(u64, Heard)>, NoMemory>
+    requires place { place < length table.old.links.items }
+    requires some { 0 < length room.old }
+    ensures steps { IfOk result (λ told. AddsHeard told (W.steps wire.old) (W.steps wire.new)) }
+    ensures stands { (front back : List LinkState) (link : LinkState) → IsAt table.old.links.items place front link back → is_open_to_read (front ++ link ∷ back) link ≡ true → link.is_over ≡ false →
+        Rests None table.old (W.calls wire.old) → OnOk result (Rests None table.new (W.calls wire.new)) }
+    ensures err { (front back : List LinkState) (link : LinkState) → IsAt table.old.links.items place front link back → is_open_to_read (front ++ link ∷ back) link ≡ true → link.is_over ≡ false →
+        Rests None table.old (W.calls wire.old) → OnErr result (Loose table.new (W.calls wire.new)) }
+    ensures none { (front back : List LinkState) (link : LinkState) → IsAt table.old.links.items place front link back →
+        result ≡ Ok None → table.new.links.items ≡ front ++ record link { is_readable = false } ∷ back }
+    ensures room { length room.new ≡ length room.old }
+    ensures steps_err { OnErr result (W.steps wire.new ≡ W.steps wire.old) }
+    ensures listening { W.listening wire.new ≡ W.listening wire.old }
+    ensures faults { W.faults wire.new ≡ W.faults wire.old }
+    ensures asks { W.asks wire.new ≡ W.asks wire.old }
+{
+    match read_link(wire, &mut table.links[place], room) {
+        Got::Gave(count) => {
+            table.cursor = place + 1;
+            let link = &table.links[place];
+            hear_piece(alloc, wire, table.moment, link, &room[..count])
+        }
+        Got::Blocked => Ok(None),
+        Got::Ended => hear_close(wire, table, place),
+        Got::Broken => hear_close(wire, table, place),
+    }
+}
+
+// Hears the bytes, which the slot gave.
+fn hear_piece<W: Wire>(
+    alloc: Global,
+    wire: &mut W,
+    moment: u64,
+    link: &Link,
+    bytes: &[u8],
+) -> Result<Option<(u64, Heard)>, NoMemory>
+    ensures some { result ≢ Ok None }
+    ensures steps { IfOk result (λ told. AddsHeard told (W.steps wire.old) (W.steps wire.new)) }
+    ensures stands { (front back : List LinkState) (accepted : ℕ) → StandsFor idle (Some (HeardPiece link.now.conv link.now.side bytes.now)) (front ++ link.now ∷ back) accepted moment (W.calls wire.old) →
+        OnOk result (StandsFor idle None (front ++ link.now ∷ back) accepted moment (W.calls wire.new)) }
+    ensures calls_err { OnErr result (W.calls wire.new ≡ W.calls wire.old) }
+    ensures steps_err { OnErr result (W.steps wire.new ≡ W.steps wire.old) }
+    ensures listening { W.listening wire.new ≡ W.listening wire.old }
+    ensures faults { W.faults wire.new ≡ W.faults wire.old }
+    ensures asks { W.asks wire.new ≡ W.asks wire.old }
+{
+    let copy = copied(alloc, bytes)?;
+    let conv = link.conv;
+    let side = link.side;
+    hear(
+        wire,
+        moment,
+        Heard::Piece {
+            conv,
+            side,
+            bytes: copy,
+        },
+    )
+}
+
+/// A copy of the bytes.
+pub fn copied(alloc: Global, bytes: &[u8]) -> Result<Bytes, NoMemory>
+    ensures { IfOk result (λ copy. copy ≡ bytes.now) }
+{
+    Ok(Bytes::new(Vec::from_slice(alloc, bytes)?))
+}
+
+/// What can be heard without waiting: the close of a side whose socket failed, and then what a readable slot gives.
+pub fn hear_waiting<W: Wire>(
+    alloc: Global,
+    wire: &mut W,
+    table: &mut Table,
+    room: &mut [u8],
+) -> Result<Option<(u64, Heard)>, NoMemory>
+    requires some { 0 < length room.old }
+    ensures steps { IfOk result (λ told. AddsHeard told (W.steps wire.old) (W.steps wire.new)) }
+    ensures stands { Rests None table.old (W.calls wire.old) → OnOk result (Rests None table.new (W.calls wire.new)) }
+    ensures err { Rests None table.old (W.calls wire.old) → OnErr result (Loose table.new (W.calls wire.new)) }
+    ensures calm { result ≡ Ok None → AllCalm table.new.links.items table.new.links.items }
+    ensures room { length room.new ≡ length room.old }
+    ensures steps_err { OnErr result (W.steps wire.new ≡ W.steps wire.old) }
+    ensures listening { W.listening wire.new ≡ W.listening wire.old }
+    ensures faults { W.faults wire.new ≡ W.faults wire.old }
+    ensures asks { W.asks wire.new ≡ W.asks wire.old }
+{
+    match find_over(&table.links) {
+        Some(place) => hear_close(wire, table, place),
+        None => read_on(alloc, wire, table, room),
+    }
+}
+
+// Reads the slots that may be read, until one gives something to be heard.
+fn read_on<W: Wire>(
+    alloc: Global,
+    wire: &mut W,
+    table: &mut Table,
+    room: &mut [u8],
+) -> Result<Option<(u64, Heard)>, NoMemory>
+    requires some { 0 < length room.old }
+    requires alive { Missing is_over table.old.links.items }
+    ensures steps { IfOk result (λ told. AddsHeard told (W.steps wire.old) (W.steps wire.new)) }
+    ensures stands { Rests None table.old (W.calls wire.old) → OnOk result (Rests None table.new (W.calls wire.new)) }
+    ensures err { Rests None table.old (W.calls wire.old) → OnErr result (Loose table.new (W.calls wire.new)) }
+    ensures calm { result ≡ Ok None → AllCalm table.new.links.items table.new.links.items }
+    ensures room { length room.new ≡ length room.old }
+    ensures steps_err { OnErr result (W.steps wire.new ≡ W.steps wire.old) }
+    ensures listening { W.listening wire.new ≡ W.listening wire.old }
+    ensures faults { W.faults wire.new ≡ W.faults wire.old }
+    ensures asks { W.asks wire.new ≡ W.asks wire.old }
+{
+    while let Some(place) = find_readable(&table.links, table.cursor) {
+        if let Some(told) = read_at(alloc, wire, table, room, place)? {
+            return Ok(Some(told));
+        }
+    }
+    Ok(None)
+}

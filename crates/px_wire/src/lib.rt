@@ -1,0 +1,28 @@
+//! Where the network meets sockets.
+//!
+//! A `Wire` is a bag of sockets that never wait: a slot for each, bytes put and got in parts, and one call, `ready`, that
+//! waits until some slot can go on. `Lines` makes a network of it: what is said waits in a queue for each side until the
+//! wire takes it, and what the wire gives is heard. It is one body for sockets and for `MemWire`, the wire in memory,
+//! which tells its calls.
+#![tactic(auto)]
+
+mod call;
+mod find;
+mod flush;
+mod hear;
+mod lines;
+mod link;
+mod mem_wire;
+mod queue;
+mod ready;
+mod say;
+mod table;
+#[cfg(test)]
+mod tests;
+mod wire;
+
+pub use call::WireCall;
+pub use lines::Lines;
+pub use link::Flushed;
+pub use mem_wire::MemWire;
+pub use wire::{Got, Put, Ready, Wire};
