@@ -1,0 +1,5 @@
+use Rattle.std.proofs.Common.{length}
+use Rattle.px_mio.proofs.socket.connect.Given as goal
+
+abbrev pub decreases-loop-address : goal.decreases-loop-address
+decreases-loop-address g l = length l.left.items

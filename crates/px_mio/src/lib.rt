@@ -1,0 +1,22 @@
+//! Real sockets, as a `Wire`.
+//!
+//! Each slot is a socket that never waits, registered with the system's readiness (epoll, by `mio`). Readiness is told
+//! once, when it begins, so that whoever is told it goes on until `Blocked`. What a socket carried, and what readiness the
+//! system tells, no contract knows: this wire tells no calls. The rules of a wire hold of it all the same, so that a
+//! network over it is that over the wire in memory.
+//!
+//! A socket that fails ends its slot and nothing else: it is `Broken`, or its dial failed. The wire as a whole fails where
+//! the system's readiness, its clock or its listening does.
+#![tactic(auto)]
+
+mod connection;
+mod listening;
+mod name;
+mod news;
+mod socket;
+mod sockets;
+#[cfg(test)]
+mod tests;
+mod wire;
+
+pub use wire::MioWire;
