@@ -1,4 +1,5 @@
 pub mod Fixed
 pub mod Names
 pub mod Ordered
+pub mod Silent
 pub mod Stands

@@ -1,6 +1,6 @@
 -- What a conversation of flows in sequence stands for: what its flow's machine does, on the chain whose finished flows lead to
 -- the next.
-use Rattle.std.proofs.Common.{◌≡◌, ℕ, Bool, List, Option}
+use Rattle.std.proofs.Common.{List, Option}
 use Rattle.px_event.specs.declared.ask.Ask.{Ask}
 use Rattle.px_event.specs.declared.command.Command.{Command}
 use Rattle.px_event.specs.declared.event.Event.{Event}
@@ -67,7 +67,8 @@ ends_there made =
 
 -- it stands as a flow does, whose end leads to the next
 pub flow_stands : (made state : HttpConv) (moves : List Move) (given : List Command) → HttpStands made state moves given → Stands sequence made.stream state.stream moves given
-flow_stands made state moves given stands = record { place = stands.place.is_at; used = stands.used; seen = stands.seen; gave = stands.gave }
+flow_stands made state moves given stands =
+    record { place = stands.place.is_at; used = stands.used; seen = stands.seen; gave = stands.gave; in_order = stands.in_order }
 
 -- what it stands for, its flow's machine does
 pub sound_within : (state : HttpConv) → IsSound HttpStands state → IsSound StandsInSequence state.stream

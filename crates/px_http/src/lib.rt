@@ -8,6 +8,7 @@
 mod chained;
 mod conversation;
 mod fixed;
+pub mod laws;
 #[cfg(test)]
 mod tests;
 

@@ -10,6 +10,7 @@ pub mod ResponseLemmas
 pub mod AnsweringLemmas
 pub mod AdvanceLemmas
 pub mod TakeLemmas
+pub mod OrderLemmas
 pub mod ResumeLemmas
 pub mod QuietLemmas
 pub mod MoveLemmas
@@ -19,3 +20,5 @@ pub mod PieceLemmas
 pub mod CutLemmas
 pub mod MomentLemmas
 pub mod RestLemmas
+pub mod SilentLemmas
+pub mod EndingLemmas

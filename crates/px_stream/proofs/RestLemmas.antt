@@ -1,5 +1,5 @@
 -- What a flow did not use of the bytes of its two sides, where it stands.
-use Rattle.std.proofs.Common.{◌≡◌, ℕ, ◌+◌, List, [], drop, Some, None, refl, ap, sym, ◌∙◌, subst}
+use Rattle.std.proofs.Common.{◌≡◌, ◌+◌, List, [], drop, Some, None, refl, ap, sym, ◌∙◌, subst}
 use Rattle.px_event.specs.declared.command.Command.{Command}
 use Rattle.px_event.specs.declared.event.Event.{Event}
 use Rattle.px_event.specs.Chain.{Timed, Look, NotYet, Asks, Ends}
@@ -14,7 +14,7 @@ use Rattle.px_stream.specs.declared.phase.Ready.{Ready}
 use Rattle.px_stream.specs.declared.terms.Terms.{Terms}
 use Rattle.px_stream.specs.Chain.{answers_over}
 use Rattle.px_stream.specs.Rests.{ready_rest, asked_rest, phase_rest, IsLinkUnread, ClientWaiting, ClientAsked, ClientLast, ServerWaiting, ServerAsked, size_in, LeavesRests}
-use Rattle.px_stream.specs.Stages.{At, Link, Stage, idle, receiving, dialling, answering, returning, given_head, given_body, next, over}
+use Rattle.px_stream.specs.Stages.{Link, Stage, idle, receiving, dialling, answering, returning, given_head, given_body, next, over}
 use Rattle.px_stream.specs.Stands.{IsLink, IsReady, IsAsked, KeepsLast, PhaseAt, last_of}
 use Rattle.px_stream.specs.Streams.{client_bytes, server_bytes}
 

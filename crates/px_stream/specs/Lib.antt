@@ -2,9 +2,11 @@ pub mod Bodies
 pub mod Calls
 pub mod Chain
 pub mod Cuts
+pub mod EndOrder
 pub mod Endings
 pub mod Found
 pub mod Heard
+pub mod InOrder
 pub mod Kept
 pub mod Law
 pub mod Laws
@@ -21,6 +23,7 @@ pub mod Rests
 pub mod Responses
 pub mod Sequence
 pub mod Shown
+pub mod Silent
 pub mod Stages
 pub mod Stands
 pub mod StateLaws

@@ -1,6 +1,5 @@
-use Rattle.std.proofs.Common.{◌+◌, ◌*◌, ◌≤◌, arith}
+use Rattle.std.proofs.Common.{◌≤◌, arith}
 use Rattle.px_stream.specs.Left.{sequence_left}
-use Rattle.px_event.specs.Layer.{weight}
 use Rattle.std.proofs.lemmas.Result.{on_ok_weaker}
 use Rattle.px_event.specs.Layer.{Took}
 use Rattle.px_event.proofs.Steps.{sound_after}

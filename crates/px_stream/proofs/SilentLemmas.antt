@@ -1,0 +1,445 @@
+-- A server is sent nothing before its dial was answered with the connection, and before the first move nobody is.
+use Rattle.std.proofs.Common.{◌≡◌, ℕ, ◌+◌, ◌≤◌, Bool, true, false, List, [], ◌∷◌, ◌++◌, drop, Option, Some, None, refl, ap, sym, ◌∙◌, arith}
+use Rattle.std.specs.Prelude.{◌==◌, map}
+use Rattle.std.proofs.lemmas.Bool.{eqb-true}
+use Rattle.px_message.specs.declared.fault.Fault.{Fault}
+use Rattle.px_message.specs.declared.fault.Fault.TheVariants.{BadResponse}
+use Rattle.px_message.specs.declared.flow.Flow.{Flow}
+use Rattle.px_message.specs.declared.request.Request.{Request}
+use Rattle.px_message.specs.declared.response.Response.{Response}
+use Rattle.px_message.specs.declared.version.Version.{Version}
+use Rattle.px_message.specs.declared.version.Version.TheVariants as versions
+use Rattle.px_event.specs.declared.command.Command.{Command}
+use Rattle.px_event.specs.declared.event.Event.{Event}
+use Rattle.px_event.specs.declared.reply.Reply.{Reply}
+use Rattle.px_event.specs.declared.reply.Reply.TheVariants as reply
+use Rattle.px_event.specs.declared.side.Side.TheVariants.{Server}
+use Rattle.px_event.specs.Chain.{Stamp, Stamped, Timed, Look, NotYet, Asks, Ends, Turn, Reached, Stop, Chain, worked_off, at_its_step, never, reach, reach_by, walk, walk_by, found, owed_at}
+use Rattle.px_event.specs.Layer.{Move, Took, Replied}
+use Rattle.px_event.specs.Stands.{due_by, events_in, replies_in}
+use Rattle.px_event.specs.View.{bytes, seen_of}
+use Rattle.px_event.proofs.Seen.{seen_append}
+use Rattle.px_read.specs.Items.{Item, missing, part, complete, bad_head, bad_body, request_item}
+use Rattle.px_read.specs.declared.head.RequestHead.{RequestHead as ReadRequest}
+use Rattle.px_read.specs.declared.head.ResponseHead.{ResponseHead as ReadResponse}
+use Rattle.px_stream.specs.declared.asked.Judged.{Judged}
+use Rattle.px_stream.specs.declared.asked.Judged.TheVariants.{Refused, Accepted}
+use Rattle.px_stream.specs.declared.ending.Used.{Used}
+use Rattle.px_stream.specs.declared.ending.Used.TheVariants.{NoServer, ByServer}
+use Rattle.px_stream.specs.declared.taken.Taken.{Taken}
+use Rattle.px_stream.specs.declared.taken.Taken.TheVariants.{GoesOn, Responds, Kills}
+use Rattle.px_stream.specs.declared.terms.Terms.{Terms}
+use Rattle.px_stream.specs.Chain.{sequence, http_chain, find, leaving, look, or_leaves, pass, pass_body, so_far, turn, look_head, look_judged, look_body, look_answer, look_answer_head, look_returned, turn_head, turn_judged, turn_taken_head, turn_body, turn_taken_body, turn_dial, turn_answer, turn_answer_head, turn_taken_answer, turn_returned, turn_whole_answer, turn_response, turn_taken_returned, turn_taken_given, meets_expectation, killed, is_relayed, set_out, request_over, answers_over, response_of, used_server, with_answer, with_body, with_end, with_returned, with_start}
+use Rattle.px_stream.specs.Cuts.{IsOnward, is_alone, is_sequence, place_of}
+use Rattle.px_stream.specs.Endings.{shut_server, shut_client, shut_unless, without_response, killed_message, closed_message, ends_early, ends_by_fault, refuses, finished, behind_flow, connection_goes_on}
+use Rattle.px_stream.specs.Replies.{taken_at_request_body, taken_at_request_head, taken_at_response_body, taken_at_response_head}
+use Rattle.px_stream.specs.Requests.{is_head, expects, flow_of, judged}
+use Rattle.px_stream.specs.Silent.{connects, connections, NoAnswer}
+use Rattle.px_stream.specs.Stages.{At, Link, Stage, idle, receiving, dialling, answering, returning, given_head, given_body, next, over}
+use Rattle.px_stream.specs.Streams.{client_closed, now_over, from_here}
+use Rattle.px_stream.specs.Texts.{interim_command, interim_commands}
+use Rattle.px_stream.proofs.TakeLemmas.{pass_owes_nothing}
+
+-- how many servers were dialled before the stage's flow dials
+abbrev dialled : Stage → ℕ
+dialled stage = (place_of stage).dials
+
+module _ (server : ℕ) where
+  -- nothing of this is sent to the server
+  abbrev IsSilent : List Command → Type 0
+  IsSilent owed = seen_of (bytes (Server server)) owed ≡ []
+
+  silent_both : (xs ys : List Command) → IsSilent xs → IsSilent ys → IsSilent (xs ++ ys)
+  silent_both xs ys a b = seen_append (bytes (Server server)) xs ys ∙ (ap (λ l. l ++ seen_of (bytes (Server server)) ys) a ∙ b)
+
+  -- ---- ends
+
+  client_silent : (closed : Bool) → IsSilent (shut_client closed)
+  client_silent true = refl
+  client_silent false = refl
+
+  server_silent : (used : Used) → IsSilent (shut_server used)
+  server_silent NoServer = refl
+  server_silent (ByServer number true) = refl
+  server_silent (ByServer number false) = refl
+
+  early_silent : (flow : Flow) (message : List ℕ) (moment : ℕ) (used : Used) (closed : Bool) → IsSilent (ends_early flow message moment used closed)
+  early_silent flow message moment used closed = silent_both (shut_server used) (shut_client closed) (server_silent used) (client_silent closed)
+
+  fault_silent : (flow : Flow) (fault : Fault) (moment : ℕ) (used : Used) (closed : Bool) → IsSilent (ends_by_fault flow fault moment used closed)
+  fault_silent flow fault moment used closed = silent_both (shut_server used) (shut_client closed) (server_silent used) (client_silent closed)
+
+  refuses_silent : (fault : Fault) (asked_head closed : Bool) → IsSilent (refuses fault asked_head closed)
+  refuses_silent fault asked_head closed = client_silent closed
+
+  unless_silent : (stays closed : Bool) → IsSilent (shut_unless stays closed)
+  unless_silent true closed = refl
+  unless_silent false closed = client_silent closed
+
+  finished_silent : (flow : Flow) (response : Response) (used : Used) → IsSilent (finished flow response used)
+  finished_silent flow response used = server_silent used
+
+  -- ---- while it waits
+
+  interim_silent : (heads : List ReadResponse) → IsSilent (map interim_command heads)
+  interim_silent [] = refl
+  interim_silent (head ∷ heads) = interim_silent heads
+
+  interim_by : (version : Version) (message : Request) (heads : List ReadResponse) → message.version ≡ version → IsSilent (interim_commands message heads)
+  interim_by versions.Http10 message heads is = rw is refl
+  interim_by versions.Http11 message heads is = rw is (interim_silent heads)
+
+  so_far_silent : (stage : Stage) (front : List (Timed Event)) → IsSilent (so_far stage front)
+  so_far_silent (idle at) front = refl
+  so_far_silent (receiving at flow given) front = refl
+  so_far_silent (dialling at flow) front = refl
+  so_far_silent (answering at flow link) front = interim_by flow.request.version flow.request _ refl
+  so_far_silent (returning at flow link) front = refl
+  so_far_silent (given_head at flow) front = refl
+  so_far_silent (given_body at flow) front = refl
+  so_far_silent (next at) front = refl
+  so_far_silent over front = refl
+
+  -- ---- what is found
+
+  module _ (terms : Terms) where
+    judged_silent : (index : ℕ) (head : ReadRequest) (made : Judged) (moment : ℕ) (closed : Bool) → IsSilent (found (look_judged terms index head made moment closed))
+    judged_silent index head (Refused fault) moment closed = refuses_silent fault (is_head head.method) closed
+    judged_silent index head (Accepted message) moment closed = refl
+
+    head_silent : (index : ℕ) (item : Item ReadRequest) (moment : ℕ) (closed : Bool) → IsSilent (found (look_head terms index item moment closed))
+    head_silent index missing moment closed = refl
+    head_silent index (part head body) moment closed = judged_silent index head (judged terms.address head) moment closed
+    head_silent index (complete head body trailers used) moment closed = judged_silent index head (judged terms.address head) moment closed
+    head_silent index (bad_head fault) moment closed = refuses_silent fault false closed
+    head_silent index (bad_body fault head body) moment closed = judged_silent index head (judged terms.address head) moment closed
+
+    body_silent : (flow : Flow) (item : Item ReadRequest) (moment : ℕ) (closed : Bool) → IsSilent (found (look_body flow item moment closed))
+    body_silent flow missing moment closed = refl
+    body_silent flow (part head body) moment closed = refl
+    body_silent flow (complete head body trailers used) moment closed = refl
+    body_silent flow (bad_head fault) moment closed = refl
+    body_silent flow (bad_body fault head body) moment closed = fault_silent flow fault moment NoServer closed
+
+    relays_silent : (flow : Flow) (head : ReadResponse) (moment : ℕ) (used : Used) (closed relays : Bool) → is_relayed head.code ≡ relays →
+        IsSilent (found (look_answer_head flow head moment used closed))
+    relays_silent flow head moment used closed true at = rw at refl
+    relays_silent flow head moment used closed false at = rw at (fault_silent flow BadResponse moment used closed)
+
+    answer_silent : (flow : Flow) (item : Item ReadResponse) (moment : ℕ) (used : Used) (closed : Bool) → IsSilent (found (look_answer flow item moment used closed))
+    answer_silent flow missing moment used closed = refl
+    answer_silent flow (part head body) moment used closed = relays_silent flow head moment used closed (is_relayed head.code) refl
+    answer_silent flow (complete head body trailers size) moment used closed = relays_silent flow head moment used closed (is_relayed head.code) refl
+    answer_silent flow (bad_head fault) moment used closed = fault_silent flow fault moment used closed
+    answer_silent flow (bad_body fault head body) moment used closed = relays_silent flow head moment used closed (is_relayed head.code) refl
+
+    returned_silent : (flow : Flow) (item : Item ReadResponse) (moment : ℕ) (used : Used) (closed : Bool) → IsSilent (found (look_returned flow item moment used closed))
+    returned_silent flow missing moment used closed = refl
+    returned_silent flow (part head body) moment used closed = refl
+    returned_silent flow (complete head body trailers size) moment used closed = refl
+    returned_silent flow (bad_head fault) moment used closed = refl
+    returned_silent flow (bad_body fault head body) moment used closed = fault_silent flow fault moment used closed
+
+    finds_silent : (stage : Stage) (front : List (Timed Event)) → IsSilent (found (find terms stage front))
+    finds_silent (idle at) front = head_silent at.flow (request_over at front) (now_over at.since front) (client_closed front)
+    finds_silent (receiving at flow given) front = body_silent flow (request_over at front) (now_over at.since front) (client_closed front)
+    finds_silent (dialling at flow) front = refl
+    finds_silent (answering at flow link) front =
+        answer_silent flow (answers_over flow.request link front).final (now_over at.since front) (used_server link front) (client_closed front)
+    finds_silent (returning at flow link) front =
+        returned_silent flow (answers_over flow.request link front).final (now_over at.since front) (used_server link front) (client_closed front)
+    finds_silent (given_head at flow) front = refl
+    finds_silent (given_body at flow) front = refl
+    finds_silent (next at) front = refl
+    finds_silent over front = refl
+
+    leaving_silent : (stage : Stage) (front : List (Timed Event)) → IsSilent (leaving stage front)
+    leaving_silent (idle at) front = refl
+    leaving_silent (receiving at flow given) front = early_silent flow closed_message (now_over at.since front) NoServer true
+    leaving_silent (dialling at flow) front = refl
+    leaving_silent (answering at flow link) front = early_silent flow closed_message (now_over at.since front) (used_server link front) true
+    leaving_silent (returning at flow link) front = early_silent (without_response flow) closed_message (now_over at.since front) (used_server link front) true
+    leaving_silent (given_head at flow) front = refl
+    leaving_silent (given_body at flow) front = refl
+    leaving_silent (next at) front = refl
+    leaving_silent over front = refl
+
+    leaves_silent : (closed : Bool) (leaves : List Command) (l : Look Command) → IsSilent leaves → IsSilent (found l) → IsSilent (found (or_leaves closed leaves l))
+    leaves_silent true leaves NotYet silent is = silent
+    leaves_silent false leaves NotYet silent is = refl
+    leaves_silent closed leaves (Asks ask) silent is = is
+    leaves_silent closed leaves (Ends owed) silent is = is
+
+    looks_silent : (stage : Stage) (front : List (Timed Event)) → IsSilent (found (look terms stage front))
+    looks_silent stage front = leaves_silent (client_closed front) (leaving stage front) (find terms stage front) (leaving_silent stage front) (finds_silent stage front)
+
+    -- ---- replies
+
+    -- What a reply brings sends nothing to the server, and leads to where at most so many servers were dialled.
+    abbrev Leads : ℕ → Turn Stage Command → Type 0
+    Leads most turned = IsSilent turned.owed × (dialled turned.stage ≤ most)
+
+    module _ (most : ℕ) where
+      over_leads : (owed : List Command) → IsSilent owed → Leads most (record { owed = owed; stage = over })
+      over_leads owed silent = (silent, omega arith)
+
+      killed_leads : (flow : Flow) (moment : ℕ) (used : Used) (closed : Bool) → Leads most (killed flow moment used closed)
+      killed_leads flow moment used closed = over_leads (ends_early flow killed_message moment used closed) (early_silent flow killed_message moment used closed)
+
+      expectation_silent : (expected : Bool) → IsSilent (meets_expectation expected)
+      expectation_silent true = refl
+      expectation_silent false = refl
+
+      taken_head_leads : (at : At) (flow : Flow) (expected : Bool) (taken : Taken Request) (moment : ℕ) (closed : Bool) → at.dials ≤ most →
+          Leads most (turn_taken_head at flow expected taken moment closed)
+      taken_head_leads at flow expected (GoesOn message) moment closed few = (expectation_silent expected, few)
+      taken_head_leads at flow expected (Responds response) moment closed few = (expectation_silent expected, few)
+      taken_head_leads at flow expected Kills moment closed few = killed_leads flow moment NoServer closed
+
+      judged_leads : (at : At) (head : ReadRequest) (made : Judged) (moment : ℕ) (answer : Timed Reply) (front : List (Timed Event)) → at.dials ≤ most →
+          Leads most (turn_judged terms at head made moment answer front)
+      judged_leads at head (Refused fault) moment answer front few = over_leads [] refl
+      judged_leads at head (Accepted message) moment answer front few =
+          taken_head_leads (set_out at answer.moment front) (flow_of terms at.flow message moment) (expects head) (taken_at_request_head message answer.value) answer.moment (client_closed front) few
+
+      head_leads : (at : At) (item : Item ReadRequest) (moment : ℕ) (answer : Timed Reply) (front : List (Timed Event)) → at.dials ≤ most →
+          Leads most (turn_head terms at item moment answer front)
+      head_leads at missing moment answer front few = over_leads [] refl
+      head_leads at (part head body) moment answer front few = judged_leads at head (judged terms.address head) moment answer front few
+      head_leads at (complete head body trailers used) moment answer front few = judged_leads at head (judged terms.address head) moment answer front few
+      head_leads at (bad_head fault) moment answer front few = over_leads [] refl
+      head_leads at (bad_body fault head body) moment answer front few = judged_leads at head (judged terms.address head) moment answer front few
+
+      taken_body_leads : (at : At) (flow : Flow) (taken : Taken Request) (moment : ℕ) (closed : Bool) → at.dials ≤ most → Leads most (turn_taken_body at flow taken moment closed)
+      taken_body_leads at flow (GoesOn message) moment closed few = (refl, few)
+      taken_body_leads at flow (Responds response) moment closed few = (refl, few)
+      taken_body_leads at flow Kills moment closed few = killed_leads flow moment NoServer closed
+
+      body_leads : (at : At) (flow : Flow) (item : Item ReadRequest) (moment : ℕ) (answer : Timed Reply) (front : List (Timed Event)) → at.dials ≤ most →
+          Leads most (turn_body at flow item moment answer front)
+      body_leads at flow missing moment answer front few = over_leads [] refl
+      body_leads at flow (part head body) moment answer front few = over_leads [] refl
+      body_leads at flow (complete head body trailers used) moment answer front few =
+          let asked_flow : Flow = with_body flow body.content trailers moment in
+          taken_body_leads (record at { used = at.used + used; since = from_here answer.moment front }) asked_flow (taken_at_request_body asked_flow.request answer.value) answer.moment (client_closed front) few
+      body_leads at flow (bad_head fault) moment answer front few = over_leads [] refl
+      body_leads at flow (bad_body fault head body) moment answer front few = over_leads [] refl
+
+      taken_answer_leads : (at : At) (flow : Flow) (link : Link) (taken : Taken Response) (moment : ℕ) (used : Used) (closed : Bool) → at.dials ≤ most →
+          Leads most (turn_taken_answer at flow link taken moment used closed)
+      taken_answer_leads at flow link (GoesOn message) moment used closed few = (refl, few)
+      taken_answer_leads at flow link (Responds response) moment used closed few = killed_leads (without_response flow) moment used closed
+      taken_answer_leads at flow link Kills moment used closed few = killed_leads (without_response flow) moment used closed
+
+      answer_head_leads : (at : At) (flow : Flow) (link : Link) (head : ReadResponse) (moment : ℕ) (answer : Timed Reply) (front : List (Timed Event)) → at.dials ≤ most →
+          Leads most (turn_answer_head at flow link head moment answer front)
+      answer_head_leads at flow link head moment answer front few =
+          taken_answer_leads (set_out at answer.moment front) (with_answer flow (response_of head) moment) link (taken_at_response_head (response_of head) answer.value) answer.moment (used_server link front) (client_closed front) few
+
+      answer_leads : (at : At) (flow : Flow) (link : Link) (item : Item ReadResponse) (moment : ℕ) (answer : Timed Reply) (front : List (Timed Event)) → at.dials ≤ most →
+          Leads most (turn_answer at flow link item moment answer front)
+      answer_leads at flow link missing moment answer front few = over_leads [] refl
+      answer_leads at flow link (part head body) moment answer front few = answer_head_leads at flow link head moment answer front few
+      answer_leads at flow link (complete head body trailers size) moment answer front few = answer_head_leads at flow link head moment answer front few
+      answer_leads at flow link (bad_head fault) moment answer front few = over_leads [] refl
+      answer_leads at flow link (bad_body fault head body) moment answer front few = answer_head_leads at flow link head moment answer front few
+
+      finish_leads : (at : At) (owed : List Command) (stays : Bool) → IsSilent owed → at.dials ≤ most → Leads most (record { owed = owed; stage = behind_flow stays at })
+      finish_leads at owed true silent few = (silent, few)
+      finish_leads at owed false silent few = over_leads owed silent
+
+      taken_returned_leads : (at : At) (flow : Flow) (taken : Taken Response) (moment : ℕ) (used : Used) (closed : Bool) → at.dials ≤ most →
+          Leads most (turn_taken_returned at flow taken moment used closed)
+      taken_returned_leads at flow (GoesOn message) moment used closed few =
+          let stays : Bool = connection_goes_on at.flow flow.request message in
+          finish_leads at (finished flow message used ++ shut_unless stays closed) stays
+          (silent_both (finished flow message used) (shut_unless stays closed) (finished_silent flow message used) (unless_silent stays closed)) few
+      taken_returned_leads at flow (Responds response) moment used closed few = killed_leads flow moment used closed
+      taken_returned_leads at flow Kills moment used closed few = killed_leads flow moment used closed
+
+      response_leads : (at : At) (flow : Flow) (o : Option Response) (takes : Response → Taken Response) (goes : Taken Response → Turn Stage Command) → ((taken : Taken Response) → Leads most (goes taken)) →
+          Leads most (turn_response at flow o takes goes)
+      response_leads at flow None takes goes leads = over_leads [] refl
+      response_leads at flow (Some message) takes goes leads = leads (takes message)
+
+      whole_answer_leads : (at : At) (flow : Flow) (answer : Timed Reply) (used : Used) (closed : Bool) → at.dials ≤ most → Leads most (turn_whole_answer at flow answer used closed)
+      whole_answer_leads at flow answer used closed few =
+          response_leads at flow flow.response (λ message. taken_at_response_body message answer.value) (λ taken. turn_taken_returned at flow taken answer.moment used closed)
+          (λ taken. taken_returned_leads at flow taken answer.moment used closed few)
+
+      returned_leads : (at : At) (flow : Flow) (link : Link) (item : Item ReadResponse) (moment : ℕ) (answer : Timed Reply) (front : List (Timed Event)) → at.dials ≤ most →
+          Leads most (turn_returned at flow link item moment answer front)
+      returned_leads at flow link missing moment answer front few = over_leads [] refl
+      returned_leads at flow link (part head body) moment answer front few = over_leads [] refl
+      returned_leads at flow link (complete head body trailers size) moment answer front few =
+          whole_answer_leads (set_out at answer.moment front) (with_returned flow body.content trailers moment) answer (used_server link front) (client_closed front) few
+      returned_leads at flow link (bad_head fault) moment answer front few = over_leads [] refl
+      returned_leads at flow link (bad_body fault head body) moment answer front few = over_leads [] refl
+
+      given_leads : (at : At) (flow : Flow) (taken : Taken Response) (moment : ℕ) (closed : Bool) → at.dials ≤ most → Leads most (turn_taken_given at flow taken moment closed)
+      given_leads at flow (GoesOn message) moment closed few = (refl, few)
+      given_leads at flow (Responds response) moment closed few = killed_leads (without_response flow) moment NoServer closed
+      given_leads at flow Kills moment closed few = killed_leads (without_response flow) moment NoServer closed
+
+      -- a connection is that of a server before this one
+      other_server : (dials : ℕ) → dials + 1 ≤ server → (other : Bool) → (dials == server) ≡ other → other ≡ false
+      other_server dials before false is = refl
+      other_server dials before true is = let same = eqb-true dials server is in absurd (let no : ⊥ = omega arith in no)
+
+      dial_leads : (at : At) (flow : Flow) (answer : Reply) (moment : ℕ) (front : List (Timed Event)) → at.dials + connects answer ≤ server → at.dials + connects answer ≤ most →
+          Leads most (turn_dial at flow answer moment front)
+      dial_leads at flow reply.Dialled moment front before few =
+          let other : (at.dials == server) ≡ false = other_server at.dials before (at.dials == server) refl in (rw other refl, few)
+      dial_leads at flow (reply.Refused fault) moment front before few = over_leads (ends_by_fault flow fault moment NoServer (client_closed front)) (fault_silent flow fault moment NoServer (client_closed front))
+      dial_leads at flow (reply.Go other stream) moment front before few = over_leads [] refl
+      dial_leads at flow (reply.Respond given) moment front before few = over_leads [] refl
+      dial_leads at flow reply.Kill moment front before few = over_leads [] refl
+      dial_leads at flow reply.Discard moment front before few = over_leads [] refl
+
+    turn_leads : (stage : Stage) (front : List (Timed Event)) (answer : Timed Reply) → dialled stage + connects answer.value ≤ server →
+        Leads (dialled stage + connects answer.value) (turn terms stage front answer)
+    turn_leads (idle at) front answer before =
+        head_leads (at.dials + connects answer.value) at (request_over at front) (now_over at.since front) answer front (omega arith)
+    turn_leads (receiving at flow given) front answer before =
+        body_leads (at.dials + connects answer.value) at flow (request_over at front) (now_over at.since front) answer front (omega arith)
+    turn_leads (dialling at flow) front answer before =
+        dial_leads (at.dials + connects answer.value) at flow answer.value answer.moment front before (omega arith)
+    turn_leads (answering at flow link) front answer before =
+        answer_leads (at.dials + connects answer.value) at flow link (answers_over flow.request link front).final (now_over at.since front) answer front (omega arith)
+    turn_leads (returning at flow link) front answer before =
+        returned_leads (at.dials + connects answer.value) at flow link (answers_over flow.request link front).final (now_over at.since front) answer front (omega arith)
+    turn_leads (given_head at flow) front answer before =
+        let asked_flow : Flow = with_start flow (now_over at.since front) in
+        response_leads (at.dials + connects answer.value) at asked_flow asked_flow.response (λ message. taken_at_response_head message answer.value)
+        (λ taken. turn_taken_given (set_out at answer.moment front) asked_flow taken answer.moment (client_closed front))
+        (λ taken. given_leads (at.dials + connects answer.value) (set_out at answer.moment front) asked_flow taken answer.moment (client_closed front) (omega arith))
+    turn_leads (given_body at flow) front answer before =
+        whole_answer_leads (at.dials + connects answer.value) (set_out at answer.moment front) (with_end flow (now_over at.since front)) answer NoServer (client_closed front) (omega arith)
+    turn_leads (next at) front answer before = (refl, omega arith)
+    turn_leads over front answer before = over_leads (0 + connects answer.value) [] refl
+
+-- ---- passing, and the next flow
+
+passes_by : (at : At) (flow : Flow) (given : Option Response) (item : Item ReadRequest) (moment : ℕ) (front : List (Timed Event)) → dialled (pass_body at flow given item moment front) ≡ at.dials
+passes_by at flow None item moment front = refl
+passes_by at flow (Some response) missing moment front = refl
+passes_by at flow (Some response) (part head body) moment front = refl
+passes_by at flow (Some response) (complete head body trailers used) moment front = refl
+passes_by at flow (Some response) (bad_head fault) moment front = refl
+passes_by at flow (Some response) (bad_body fault head body) moment front = refl
+
+passes_same : (stage : Stage) (front : List (Timed Event)) → dialled (pass stage front).stage ≡ dialled stage
+passes_same (idle at) front = refl
+passes_same (receiving at flow given) front = passes_by at flow given (request_over at front) (now_over at.since front) front
+passes_same (dialling at flow) front = refl
+passes_same (answering at flow link) front = refl
+passes_same (returning at flow link) front = refl
+passes_same (given_head at flow) front = refl
+passes_same (given_body at flow) front = refl
+passes_same (next at) front = refl
+passes_same over front = refl
+
+sequence_same : (stage : Stage) → dialled (sequence stage) ≡ dialled stage
+sequence_same (idle at) = refl
+sequence_same (receiving at flow given) = refl
+sequence_same (dialling at flow) = refl
+sequence_same (answering at flow link) = refl
+sequence_same (returning at flow link) = refl
+sequence_same (given_head at flow) = refl
+sequence_same (given_body at flow) = refl
+sequence_same (next at) = refl
+sequence_same over = refl
+
+onward_same : (onward : Stage → Stage) → IsOnward onward → (stage : Stage) → dialled (onward stage) ≡ dialled stage
+onward_same onward (is_alone is) stage = ap (λ f. dialled (f stage)) is
+onward_same onward (is_sequence is) stage = ap (λ f. dialled (f stage)) is ∙ sequence_same stage
+
+-- ---- the walk
+
+-- the connections among replies
+abbrev connected : List (Stamped Reply) → ℕ
+connected [] = 0
+connected (r ∷ rs) = connects r.value + connected rs
+
+connected_are : (step : ℕ) (moves : List Move) → connected (replies_in step moves) ≡ connections moves
+connected_are step [] = refl
+connected_are step (Took moment event ∷ moves) = connected_are (step + 1) moves
+connected_are step (Replied moment reply ∷ moves) = ap (λ n. connects reply + n) (connected_are (step + 1) moves)
+
+module _ (onward : Stage → Stage) (goes : IsOnward onward) (terms : Terms) (server : ℕ) where
+  abbrev chain : Chain Stage Event Reply Command
+  chain = http_chain onward terms
+
+  -- nothing was sent to the server, and so many connections do not reach it
+  abbrev Here : ℕ → Reached Stage Event Command → Type 0
+  Here more here = IsSilent server here.before × (dialled here.stage + more ≤ server)
+
+  reach_by_silent : (more : ℕ) (l : Look Command) (further here : Reached Stage Event Command) → Here more further → Here more here → Here more (reach_by l further here)
+  reach_by_silent more NotYet further here a b = a
+  reach_by_silent more (Asks ask) further here a b = b
+  reach_by_silent more (Ends owed) further here a b = b
+
+  passed_silent : (before : List Command) (s : Stage) (f : List (Timed Event)) → IsSilent server before → IsSilent server (before ++ (pass s f).owed)
+  passed_silent before s f silent =
+      let none : IsSilent server (pass s f).owed = ap (seen_of (bytes (Server server))) (pass_owes_nothing s f) in silent_both server before (pass s f).owed silent none
+
+  passed_before : (more : ℕ) (s : Stage) (f : List (Timed Event)) → dialled s + more ≤ server → dialled (pass s f).stage + more ≤ server
+  passed_before more s f few = let same = passes_same s f in omega arith
+
+  reach_silent : (more : ℕ) (last : Stamp) (before : List Command) (s : Stage) (f : List (Timed Event)) (es : List (Stamped Event)) → IsSilent server before → dialled s + more ≤ server →
+      Here more (reach chain last before s f es)
+  reach_silent more last before s f [] silent few = (passed_silent before s f silent, passed_before more s f few)
+  reach_silent more last before s f (e ∷ es) silent few =
+      let here = passed_silent before s f silent in
+      let fewer = passed_before more s f few in
+      reach_by_silent more (look terms (pass s f).stage f) _ _
+      (reach_silent more last (before ++ (pass s f).owed) (pass s f).stage (f ++ worked_off last e ∷ []) es here fewer) (here, fewer)
+
+  there_silent : (before : List Command) (s : Stage) (f : List (Timed Event)) → IsSilent server before → IsSilent server (before ++ (so_far s f ++ found (look terms s f)))
+  there_silent before s f silent =
+      silent_both server before (so_far s f ++ found (look terms s f)) silent (silent_both server (so_far s f) (found (look terms s f)) (so_far_silent server s f) (looks_silent server terms s f))
+
+  asked_silent : (ask : Command) (s : Stage) (f : List (Timed Event)) (owed : List Command) → look terms s f ≡ Asks ask → IsSilent server owed → IsSilent server (so_far s f ++ ask ∷ owed)
+  asked_silent ask s f owed is silent =
+      let one : IsSilent server (ask ∷ []) = ap (λ l. seen_of (bytes (Server server)) (found l)) (sym is) ∙ looks_silent server terms s f in
+      silent_both server (so_far s f) (ask ∷ owed) (so_far_silent server s f) (silent_both server (ask ∷ []) owed one silent)
+
+  walk_by_silent : (l : Look Command) (on : Command → Stop Stage Event Reply Command) (stop : Stop Stage Event Reply Command) →
+      ((ask : Command) → l ≡ Asks ask → IsSilent server (owed_at chain (on ask))) → IsSilent server (owed_at chain stop) → IsSilent server (owed_at chain (walk_by l on stop))
+  walk_by_silent NotYet on stop asked here = here
+  walk_by_silent (Asks ask) on stop asked here = asked ask refl
+  walk_by_silent (Ends owed) on stop asked here = here
+
+  walk_silent : (rs : List (Stamped Reply)) (last : Stamp) (before : List Command) (s : Stage) (f : List (Timed Event)) (es : List (Stamped Event)) → IsSilent server before → dialled s + connected rs ≤ server →
+      IsSilent server (owed_at chain (walk chain rs last before s f es))
+  walk_silent [] last before s f es silent few =
+      let here = reach chain last before s f es in
+      let there = reach_silent 0 last before s f es silent few in
+      there_silent here.before here.stage here.front there.0
+  walk_silent (r ∷ rs) last before s f es silent few =
+      let here = reach chain last before s f es in
+      let there = reach_silent (connects r.value + connected rs) last before s f es silent few in
+      let within = there.1 in
+      let turned = turn terms here.stage here.front (at_its_step r) in
+      let led = turn_leads server terms here.stage here.front (at_its_step r) (omega arith) in
+      let fewer = led.1 in
+      let same = onward_same onward goes turned.stage in
+      walk_by_silent (look terms here.stage here.front) _ _
+      (λ ask is. walk_silent rs r.stamp (here.before ++ (so_far here.stage here.front ++ ask ∷ turned.owed)) (onward turned.stage) here.front here.rest
+      (silent_both server here.before (so_far here.stage here.front ++ ask ∷ turned.owed) there.0 (asked_silent ask here.stage here.front turned.owed is led.0)) (omega arith))
+      (there_silent here.before here.stage here.front there.0)
+
+-- A conversation, or one flow, that begins with no server sends nothing to a server whose dial was not answered with its
+-- connection.
+pub silent_from : (onward : Stage → Stage) → IsOnward onward → (terms : Terms) (at : At) → at.dials ≡ 0 → (server : ℕ) (moves : List Move) → NoAnswer server moves →
+    seen_of (bytes (Server server)) (due_by (http_chain onward terms) (idle at) moves) ≡ []
+silent_from onward goes terms at first server moves none =
+    let are = connected_are 1 moves in
+    walk_silent onward goes terms server (replies_in 1 moves) never [] (idle at) [] (events_in 1 moves) refl (omega arith)
+
+-- Where no move was made nothing is due.
+pub nothing_yet : (onward : Stage → Stage) (terms : Terms) (at : At) → at.used ≡ 0 → due_by (http_chain onward terms) (idle at) [] ≡ []
+nothing_yet onward terms at none =
+    let empty : request_item [] ≡ missing = refl in
+    ap (λ n. found (or_leaves false [] (look_head terms at.flow (request_item (drop n [])) (now_over at.since []) false))) none
+    ∙ ap (λ i. found (or_leaves false [] (look_head terms at.flow i (now_over at.since []) false))) empty
