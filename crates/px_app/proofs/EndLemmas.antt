@@ -1,7 +1,6 @@
 -- What is printed when a run ends.
 use Rattle.std.proofs.Common.{◌≡◌, ◌≢◌, ◌≤◌, ◌⊎◌, inl, inr, ℕ, List, [], ◌++◌, Option, Some, None, refl, sym, ap, ◌∙◌, subst, arith}
 use Rattle.std.proofs.lemmas.List.{append-nil}
-use Rattle.px_event.specs.Trace.{Trace}
 use Rattle.px_outside.specs.Count.{Rose}
 use Rattle.px_outside.specs.Sink.{Writes, WritesPart}
 use Rattle.px_app.specs.Lines.{line_of}

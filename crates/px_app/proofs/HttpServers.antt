@@ -1,5 +1,5 @@
 -- The dials that are due in a conversation of HTTP are numbered by their order.
-use Rattle.std.proofs.Common.{◌≡◌, ℕ, ◌+◌, Bool, true, false, List, [], ◌∷◌, ◌++◌, length, Option, Some, None, refl, sym, ap, ◌∙◌, subst, arith}
+use Rattle.std.proofs.Common.{◌≡◌, ℕ, ◌+◌, Bool, true, false, List, [], ◌∷◌, length, Option, Some, None, refl, sym, ap, subst, arith}
 use Rattle.std.specs.Prelude.{⊤, not, if◌then◌else◌}
 use Rattle.px_message.specs.declared.address.Address.{Address}
 use Rattle.px_message.specs.declared.flow.Flow.{Flow}
@@ -24,8 +24,8 @@ use Rattle.px_stream.specs.declared.taken.Taken.{Taken}
 use Rattle.px_stream.specs.declared.taken.Taken.TheVariants.{GoesOn, Responds, Kills}
 use Rattle.px_stream.specs.declared.terms.Terms.{Terms}
 use Rattle.px_stream.specs.Chain
-use Rattle.px_stream.specs.Chain.{http_chain, sequence, look, find, leaving, or_leaves, pass, pass_body, so_far, turn, set_out, turn_taken_head, turn_judged, turn_head, turn_taken_body, turn_body, turn_dial, dial_leads, turn_taken_answer, turn_answer_head, turn_answer, turn_taken_returned, turn_response, turn_returned, turn_taken_given, look_judged, look_head, look_body, look_answer_head, look_answer, look_returned, request_over, answers_over, is_relayed, ask_of, response_of, used_server, with_answer, with_end, with_returned, with_start}
-use Rattle.px_stream.specs.Endings.{behind_flow, finish}
+use Rattle.px_stream.specs.Chain.{http_chain, sequence, look, leaving, or_leaves, pass, pass_body, so_far, turn, set_out, turn_taken_head, turn_judged, turn_head, turn_taken_body, turn_body, dial_leads, turn_taken_answer, turn_answer, turn_taken_returned, turn_response, turn_returned, turn_taken_given, look_judged, look_head, look_body, look_answer_head, look_answer, look_returned, request_over, answers_over, is_relayed, ask_of, response_of, used_server, with_answer, with_end, with_returned, with_start}
+use Rattle.px_stream.specs.Endings.{behind_flow}
 use Rattle.px_stream.specs.Quiet.{AllQuiet, LooksQuiet, any_flow}
 use Rattle.px_stream.specs.Streams.{client_closed, now_over}
 use Rattle.px_stream.specs.Stages.{At, Link, Stage, idle, receiving, dialling, answering, returning, given_head, given_body, next, over}
@@ -33,7 +33,7 @@ use Rattle.px_stream.proofs.QuietLemmas.{so_far_quiet, turn_quiet, finds_quiet_e
 use Rattle.px_stream.proofs.TakeLemmas.{pass_owes_nothing}
 use Rattle.px_http.specs.Fixed.{fixed_due, fixed_terms}
 use Rattle.px_app.specs.Servers.{CountsFrom}
-use Rattle.px_app.proofs.ServerLemmas.{dial_in, dials_in, CountsDials, due_counts}
+use Rattle.px_app.proofs.ServerLemmas.{dials_in, CountsDials, due_counts}
 
 -- so many servers were dialled before the stage, or nothing is dialled any more
 abbrev Dialled : ℕ → Stage → Type 0

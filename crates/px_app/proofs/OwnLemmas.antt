@@ -1,5 +1,5 @@
 -- Steps of the conversation that was heard last, and what is due by a conversation's own steps alone.
-use Rattle.std.proofs.Common.{◌≡◌, ◌≢◌, ◌⊎◌, inl, inr, ℕ, ◌+◌, Bool, true, false, cond, List, [], ◌∷◌, ◌++◌, Option, Some, None, refl, sym, ap, ◌∙◌, subst, arith}
+use Rattle.std.proofs.Common.{◌≡◌, inl, inr, ℕ, ◌+◌, Bool, true, false, cond, List, [], ◌∷◌, ◌++◌, Option, Some, None, refl, sym, ap, ◌∙◌, subst}
 use Rattle.std.specs.Prelude.{◌==◌, is_some}
 use Rattle.std.proofs.lemmas.Bool.Decides.{eqb_tells}
 use Rattle.px_message.specs.declared.address.Address.{Address}
@@ -20,7 +20,7 @@ use Rattle.px_core.specs.declared.news.News.{News}
 use Rattle.px_core.specs.declared.news.News.TheVariants as news
 use Rattle.px_core.specs.Calls.{Calls, no_calls, addressed, is_connected, is_dialling, connected_by, dial_reply, moved, takes, hears_by, dials, calls_on, calls_from}
 use Rattle.px_core.specs.Due.{Due, due_at}
-use Rattle.px_core.specs.Held.{IsOf, AllOf}
+use Rattle.px_core.specs.Held.{AllOf}
 use Rattle.px_core.specs.Run.{IsOfHeard}
 use Rattle.px_app.specs.Own.{number_of, OwnFrom, IsOwn, is_number, is_step_of, alone, IsIsolated}
 

@@ -1,10 +1,8 @@
 -- How a run ends, by its status.
-use Rattle.std.proofs.Common.{◌≡◌, ◌≢◌, ◌⊎◌, inl, inr, ℕ, ◌+◌, ◌<◌, Bool, true, false, List, [], ◌∷◌, ◌++◌, Option, Some, None, Result, Ok, Err, IfErr, refl, sym, ap, ◌∙◌, subst, arith}
+use Rattle.std.proofs.Common.{◌≡◌, ◌≢◌, ◌⊎◌, inl, inr, ℕ, ◌<◌, Bool, true, false, List, [], Option, Some, Result, Ok, Err, IfErr, refl, sym, ap, ◌∙◌, subst, arith}
 use Rattle.std.specs.Result.{IsErrAnd}
 use Rattle.px_message.specs.declared.address.Address.{Address}
 use Rattle.px_message.proofs.AddressLemmas.{address_eq}
-use Rattle.px_event.specs.declared.heard.Heard.{Heard}
-use Rattle.px_event.specs.declared.step.Step.TheVariants as steps
 use Rattle.px_event.specs.Trace.{Trace}
 use Rattle.px_outside.specs.declared.net.NetError.{NetError}
 use Rattle.px_outside.specs.declared.net.NetError.TheVariants as net
@@ -12,8 +10,8 @@ use Rattle.px_core.specs.Answers.{Answering}
 use Rattle.px_core.specs.Due.{Due, IsServed, IsAllTold}
 use Rattle.px_core.specs.Ordered.{IsInOrder}
 use Rattle.px_app.specs.Own.{IsOwn}
-use Rattle.px_app.specs.Run.{IsRun, IsEnd, Told, ToldNext}
-use Rattle.px_app.specs.Statuses.{code_of, status_of, heard_count, ends_heard}
+use Rattle.px_app.specs.Run.{IsRun, Told}
+use Rattle.px_app.specs.Statuses.{status_of, heard_count, ends_heard}
 use Rattle.px_app.specs.declared.status.Status.{Status}
 use Rattle.px_app.specs.declared.status.Status.TheVariants.{Ended, NetFault, BudgetSpent, NoMemory}
 

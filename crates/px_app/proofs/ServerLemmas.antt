@@ -4,7 +4,6 @@ use Rattle.std.specs.Prelude.{◌==◌}
 use Rattle.std.specs.List.{flat_map}
 use Rattle.std.proofs.lemmas.List.{append-nil, length-append}
 use Rattle.std.proofs.lemmas.Grind.{flat_map-append}
-use Rattle.px_text.specs.Prefix.{IsPrefixOf}
 use Rattle.px_message.specs.declared.address.Address.{Address}
 use Rattle.px_event.specs.declared.command.Command.{Command}
 use Rattle.px_event.specs.declared.command.Command.TheVariants as commands
@@ -18,7 +17,7 @@ use Rattle.px_event.specs.Chain.{Stamp, Stamped, Timed, worked_off, at_its_step,
 use Rattle.px_event.specs.Layer.{Move}
 use Rattle.px_event.specs.Stands.{events_in, replies_in, due_by}
 use Rattle.px_event.specs.Trace.{Trace, Always, said_in}
-use Rattle.px_event.specs.View.{Atom, asked, byte, close, done, about, dialled, questions, seen_of, seen_in, command_atoms, step_atoms, said_atoms}
+use Rattle.px_event.specs.View.{Atom, asked, dialled, questions, seen_of, seen_in, command_atoms, step_atoms, said_atoms}
 use Rattle.px_core.specs.Due.{Due, IsWithinDue, due_at}
 use Rattle.px_core.specs.Calls.{calls}
 use Rattle.px_app.specs.Servers.{server_of, dialled_in, CountsFrom, CountsServers}

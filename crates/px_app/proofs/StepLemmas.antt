@@ -1,6 +1,5 @@
 -- One thing heard by a run of many conversations, by how it ended.
-use Rattle.std.proofs.Common.{◌≡◌, ◌≢◌, ℕ, ◌+◌, ◌<◌, true, false, List, [], ◌∷◌, ◌++◌, Option, Some, refl, sym, ap, ◌∙◌, subst}
-use Rattle.std.proofs.lemmas.List.{append-nil}
+use Rattle.std.proofs.Common.{◌≡◌, ℕ, ◌+◌, ◌<◌, true, false, List, [], ◌∷◌, ◌++◌, Option, Some, refl, sym, ap, ◌∙◌, subst}
 use Rattle.px_text.specs.Prefix.{IsPrefixOf}
 use Rattle.px_event.specs.declared.ask.Ask.{Ask}
 use Rattle.px_event.specs.declared.command.Command.{Command}
@@ -16,7 +15,7 @@ use Rattle.px_core.specs.Answers.{Answering}
 use Rattle.px_core.specs.Due.{Due, due_in, IsServed, IsAllTold, IsWithinDue, EndsMet}
 use Rattle.px_core.specs.Ordered.{IsInOrder}
 use Rattle.px_core.specs.Router.{RouterStands}
-use Rattle.px_core.specs.Run.{IsDueOf, Tells, TellsOfHeard}
+use Rattle.px_core.specs.Run.{Tells, TellsOfHeard}
 use Rattle.px_event.proofs.TraceLemmas.{always_empty, before_empty}
 use Rattle.px_core.proofs.RouteLemmas.{all_told}
 use Rattle.px_app.specs.declared.status.Status.{Status}
@@ -24,7 +23,7 @@ use Rattle.px_app.specs.declared.status.Status.TheVariants.{Ended, BudgetSpent, 
 use Rattle.px_app.specs.Own.{IsOwn}
 use Rattle.px_app.specs.Run.{IsRun, Told, ToldNext}
 use Rattle.px_app.specs.Serving.{Stands, ToldTurn}
-use Rattle.px_app.specs.Statuses.{status_of, is_end, heard_count, ends_heard}
+use Rattle.px_app.specs.Statuses.{status_of, is_end, heard_count}
 use Rattle.px_app.proofs.CountLemmas.{next_told}
 use Rattle.px_app.proofs.RunLemmas.{memory_run, ended_run, spent_run, error_run}
 

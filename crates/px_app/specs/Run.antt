@@ -1,6 +1,6 @@
 -- What a run promises by its status.
 use Rattle.std.specs.Prelude.{◌≡◌, ◌≢◌, ◌⊎◌, ℕ, ◌+◌, true, false, List, Option, Some, None}
-use Rattle.px_event.specs.Trace.{Trace, Always}
+use Rattle.px_event.specs.Trace.{Trace}
 use Rattle.px_message.specs.declared.address.Address.{Address}
 use Rattle.px_outside.specs.Net.{Listening, at}
 use Rattle.px_core.specs.Answers.{Answering}

@@ -1,4 +1,4 @@
-use Rattle.std.proofs.Common.{◌≡◌, ◌⊎◌, inl, inr, ℕ, List, [], ◌++◌, sym, subst}
+use Rattle.std.proofs.Common.{◌⊎◌, inl, inr, ℕ, [], ◌++◌, sym, subst}
 use Rattle.px_outside.specs.Count.{Rose}
 use Rattle.px_outside.specs.Sink.{Writes, WritesPart}
 use Rattle.px_http.specs.Fixed.{fixed_due}

@@ -1,4 +1,4 @@
-use Rattle.std.proofs.Common.{◌≡◌, ◌∙◌, [], ap, sym, subst, refl, arith}
+use Rattle.std.proofs.Common.{◌∙◌, [], ap, sym, subst, refl, arith}
 use Rattle.px_message.specs.declared.address.Address.{Address}
 use Rattle.px_http.specs.declared.fixed.Fixed.{Fixed}
 use Rattle.px_http.specs.Fixed.{fixed_due}
@@ -6,7 +6,6 @@ use Rattle.px_core.specs.declared.gates.Gates.{Gates}
 use Rattle.px_app.specs.Going.{goes_on}
 use Rattle.px_app.specs.Printed.{Has}
 use Rattle.px_app.specs.declared.printing.Printing.{Printing}
-use Rattle.px_app.specs.declared.printing.Printing.TheVariants.{Whole, Failed}
 use Rattle.px_app.proofs.EndLemmas.{not_failed, writes_none}
 use Rattle.px_app.proofs.GoingLemmas.{untouched}
 use Rattle.px_app.proofs.StepLemmas.{error_first}

@@ -1,7 +1,6 @@
-use Rattle.std.proofs.Common.{◌≡◌, ◌≤◌, ◌∙◌, [], refl, sym, arith, Err}
+use Rattle.std.proofs.Common.{◌≡◌, ◌∙◌, [], refl, arith}
 use Rattle.px_core.specs.Answers.{by_none}
 use Rattle.px_core.proofs.AnswerLemmas.{by_both}
-use Rattle.px_app.specs.declared.status.Status.TheVariants.{NoMemory}
 use Rattle.px_app.proofs.StepLemmas.{first_turn, next_turn, tells_spent}
 use Rattle.px_app.proofs.serving.serve_all.Goals as goal
 

@@ -1,5 +1,4 @@
-use Rattle.std.proofs.Common.{◌∙◌, sym, subst, ◌++◌, ◌∷◌, []}
-use Rattle.px_event.specs.declared.step.Step.TheVariants as steps
+use Rattle.std.proofs.Common.{◌∙◌, sym, subst}
 use Rattle.px_core.specs.Answers.{by_none}
 use Rattle.px_app.specs.declared.status.Status.{Status}
 use Rattle.px_app.specs.Run.{IsRun, Told}

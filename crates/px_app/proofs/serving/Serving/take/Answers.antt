@@ -2,7 +2,6 @@ use Rattle.std.proofs.Common.{◌≡◌, ◌++◌, ◌∷◌, [], List, refl, sy
 use Rattle.std.specs.List.{flat_map}
 use Rattle.px_message.specs.declared.flow.Flow.{Flow}
 use Rattle.px_event.specs.declared.step.Step.TheVariants as steps
-use Rattle.px_event.specs.Trace.{Trace}
 use Rattle.px_core.specs.Run.{done_of, Tells}
 use Rattle.px_core.proofs.RunLemmas.{on_err}
 use Rattle.px_app.specs.Listed.{listed}
