@@ -1,0 +1,104 @@
+-- What a wire took begins what is due: what was sent begins it, nothing is sent to a side that was not opened, and so the wire
+-- took for each side what was sent to it.
+use Rattle.std.proofs.Common.{◌≡◌, ◌∙◌, ℕ, ◌≤◌, false, refl, ap, sym, subst, arith, List, [], ◌∷◌, ◌++◌, length, map, Option, Some, None}
+use Rattle.std.proofs.lemmas.List.{append-nil, append_assoc, map-append}
+use Rattle.px_text.specs.Prefix.{IsPrefixOf}
+use Rattle.px_message.specs.declared.address.Address.{Address}
+use Rattle.px_event.specs.declared.side.Side.{Side}
+use Rattle.px_event.specs.declared.side.Side.TheVariants.{Client, Server}
+use Rattle.px_event.specs.declared.step.Step.TheVariants as steps
+use Rattle.px_event.specs.Layer.{Move}
+use Rattle.px_event.specs.Trace.{Trace, Always, sent}
+use Rattle.px_event.specs.View.{Atom, byte, bytes, seen_of, seen_in}
+use Rattle.px_core.specs.Calls.{calls}
+use Rattle.px_core.specs.Due.{Due, due_at, due_in, IsWithinDue}
+use Rattle.px_app.specs.Going.{EndsGoing}
+use Rattle.px_app.specs.Servers.{dialled_in, CountsServers}
+use Rattle.px_stream.specs.Silent.{connects, connections, NoAnswer}
+use Rattle.px_proxy.specs.TakenDue.{TakesWhatIsDue, AlwaysTakesWhatIsDue}
+use Rattle.px_proxy.proofs.SentLemmas.{seen_is_sent}
+use Rattle.px_proxy.proofs.DialLemmas.{dials_once, not_dialled}
+use Rattle.px_proxy.proofs.CallLemmas.{NoDialAnswered, connections_most, not_begun}
+use Rattle.px_wire.specs.Calls.{Calls, steps_of}
+use Rattle.px_wire.specs.Rules.{Obeys}
+use Rattle.px_wire.specs.Taken.{taken_for, is_opened, SendsToOpened}
+use Rattle.px_wire.proofs.TakenLemmas.{steps_joined, front_obeys, taken_is_sent}
+
+-- no byte is due to a server before so many calls connect
+abbrev pub IsSilent : Due → Type 0
+IsSilent due = (conv : ℕ) (peer : Address) (server : ℕ) (moves : List Move) → NoAnswer server moves → seen_of (bytes (Server server)) (due conv peer moves) ≡ []
+
+-- ---- fronts
+
+pub front_always : (P : Trace → Type 0) (front rest : Trace) → Always P (front ++ rest) → Always P front
+front_always P front rest all = record { at = λ first more is. all.at first (more ++ rest) (ap (λ (t : Trace). t ++ rest) is ∙ append_assoc first more rest) }
+
+pub always_all : (P : Trace → Type 0) (trace : Trace) → Always P trace → P trace
+always_all P trace all = all.at trace [] (sym (append-nil trace))
+
+-- hooks are answered with their flows
+no_dial_answered : (due : Due) (trace : Trace) → Always (EndsGoing due) trace → NoDialAnswered trace
+no_dial_answered due trace going front rest conv ask reply is =
+    let step = steps.Answered conv ask reply in
+    let goes = going.at (front ++ step ∷ []) rest (is ∙ sym (append_assoc front (step ∷ []) rest)) front conv ask reply refl in
+    ap connects goes.same
+
+-- ---- nothing is sent to a side that was not opened
+
+none_sent : (xs : List ℕ) → map byte xs ≡ [] → xs ≡ []
+none_sent [] is = refl
+none_sent (x ∷ xs) is = absurd (cc)
+
+prefix_none : {A : Type 0} (xs ys : List A) → IsPrefixOf xs ys → ys ≡ [] → xs ≡ []
+prefix_none [] ys before none = refl
+prefix_none (x ∷ xs) ys before none = let e = sym none ∙ before.1 in absurd (cc)
+
+module _ (due : Due) (silent : IsSilent due) where
+  silent_at : (conv server : ℕ) (peer : Option Address) (moves : List Move) → NoAnswer server moves → seen_of (bytes (Server server)) (due_at due conv peer moves) ≡ []
+  silent_at conv server None moves none = refl
+  silent_at conv server (Some peer) moves none = silent conv peer server moves none
+
+  nothing_due : (trace : Trace) → CountsServers trace → NoDialAnswered trace → (conv : ℕ) (side : Side) → is_opened conv side trace ≡ false → due_in due (bytes side) conv trace ≡ []
+  nothing_due trace counts answered conv Client never =
+      let none = not_begun conv trace never in
+      ap (λ (peer : Option Address). seen_of (bytes Client) (due_at due conv peer (calls conv trace).moves)) none
+  nothing_due trace counts answered conv (Server server) never =
+      let few : connections (calls conv trace).moves ≤ length (dialled_in trace conv) = connections_most conv trace answered in
+      let most : length (dialled_in trace conv) ≤ server = not_dialled trace conv server counts never in
+      silent_at conv server (calls conv trace).peer (calls conv trace).moves (omega arith)
+
+  pub sends_to_opened : (trace : Trace) → CountsServers trace → NoDialAnswered trace → IsWithinDue due trace → SendsToOpened trace
+  sends_to_opened trace counts answered within conv side never =
+      none_sent (sent trace conv side) (sym (seen_is_sent side conv trace)
+      ∙ prefix_none (seen_in (bytes side) conv trace) (due_in due (bytes side) conv trace) (within conv (bytes side) tt) (nothing_due trace counts answered conv side never))
+
+  always_sends : (trace : Trace) → Always CountsServers trace → Always (EndsGoing due) trace → Always (IsWithinDue due) trace → Always SendsToOpened trace
+  always_sends trace counts going within = record {
+    at = λ front rest is.
+        (let Q : Trace → Type 0 = Always (EndsGoing due) in
+        sends_to_opened front (counts.at front rest is) (no_dial_answered due front (front_always (EndsGoing due) front rest (subst Q is going))) (within.at front rest is));
+  }
+
+  -- ---- what was taken
+
+  taken_due : (list : Calls) → Obeys list → Always CountsServers (steps_of list) → Always (EndsGoing due) (steps_of list) → Always (IsWithinDue due) (steps_of list) → TakesWhatIsDue due list
+  taken_due list obeys counts going within conv side =
+      let taken = taken_is_sent list obeys (always_sends (steps_of list) counts going within) (dials_once (steps_of list) counts) conv side in
+      let told = always_all (IsWithinDue due) (steps_of list) within conv (bytes side) tt in
+      let first = map byte (taken_for conv side list) in
+      let seen : seen_in (bytes side) conv (steps_of list) ≡ first ++ map byte taken.0 =
+      seen_is_sent side conv (steps_of list) ∙ (ap (map byte) taken.1 ∙ map-append byte (taken_for conv side list) taken.0) in
+      (map byte taken.0 ++ told.0, told.1 ∙ (ap (λ (l : List Atom). l ++ told.0) seen ∙ append_assoc first (map byte taken.0) told.0))
+
+  -- what the wire took for each side begins what is due to it, after each call
+  pub always_taken : (list : Calls) → Obeys list → Always CountsServers (steps_of list) → Always (EndsGoing due) (steps_of list) → Always (IsWithinDue due) (steps_of list) → AlwaysTakesWhatIsDue due list
+  always_taken list obeys counts going within front rest is =
+      let joined : steps_of list ≡ steps_of front ++ steps_of rest = ap steps_of is ∙ steps_joined front rest in
+      let O : Calls → Type 0 = Obeys in
+      let C : Trace → Type 0 = Always CountsServers in
+      let G : Trace → Type 0 = Always (EndsGoing due) in
+      let W : Trace → Type 0 = Always (IsWithinDue due) in
+      taken_due front (front_obeys front rest (subst O is obeys))
+      (front_always CountsServers (steps_of front) (steps_of rest) (subst C joined counts))
+      (front_always (EndsGoing due) (steps_of front) (steps_of rest) (subst G joined going))
+      (front_always (IsWithinDue due) (steps_of front) (steps_of rest) (subst W joined within))
