@@ -1,52 +1,56 @@
 //! `mitm`: a debugging proxy for plain HTTP/1.1.
 //!
-//! The words of the command line go to `px_app::run`, and the status that it answers is the program's. Until there are
-//! sockets the network is a script in memory: one client that sends a GET, and a server that answers it. What the client
-//! was sent is printed.
+//! The words of the command line go to `px_proxy::run`, with the sockets, the files and the standard output of the system, and
+//! the status that it answers is the program's. Where the system refuses to tell the readiness of sockets, it prints the
+//! line of a network fault and ends with 5; where memory runs out before the run, it ends with 8.
 #![tactic(auto)]
 
-mod script;
+mod real_files;
 mod std_sink;
+#[cfg(test)]
+mod tests;
 
-use crate::script::one_get;
+use crate::real_files::RealFiles;
 use crate::std_sink::StdSink;
-use px_app::run;
-use px_event::Side;
-use px_outside::{MemFiles, ScriptNet};
-use px_text::NoMemory;
-use std::alloc::Global;
+use px_mio::MioWire;
+use px_outside::{NetError, Sink};
+use px_proxy::run;
+use px_wire::Lines;
 use std::io::ErrorKind;
 use std::process::ExitCode;
 use std::{env, io};
+
+// The status where there are no sockets, and its line.
+const NET_FAULT: u8 = 5;
+
+const NET_FAULT_LINE: &str = "network fault\n";
 
 // The status for want of memory.
 const NO_MEMORY: u8 = 8;
 
 fn main(rt: HostRuntime) -> ExitCode {
-    match start(rt) {
-        Ok(status) => ExitCode::from(status),
-        Err(NoMemory) => ExitCode::from(NO_MEMORY),
-    }
-}
-
-// Runs with the words of the command line, and prints what the client was sent.
-fn start(rt: HostRuntime) -> Result<u8, NoMemory> {
-    let alloc = rt.alloc();
-    let words = words(rt)?;
-    let mut net = ScriptNet::new(alloc, one_get(alloc)?, Vec::new(alloc));
-    let mut files = MemFiles::new(alloc, Vec::new(alloc), Vec::new(alloc));
     let mut out = StdSink::new(rt);
-    let status = run(alloc, &words, &mut net, &mut files, &mut out);
-    let sent = net.sent(0, Side::Client)?;
-    let _ = rt.write_all(&sent);
-    Ok(status)
+    let Ok(words) = words(rt) else {
+        return ExitCode::from(NO_MEMORY);
+    };
+    let wire = match MioWire::new(rt) {
+        Ok(wire) => wire,
+        Err(NetError::Fault) => {
+            let _ = out.write(NET_FAULT_LINE.as_bytes());
+            return ExitCode::from(NET_FAULT);
+        }
+        Err(NetError::NoMemory) => return ExitCode::from(NO_MEMORY),
+    };
+    let mut net = Lines::new(rt.alloc(), wire);
+    let mut files = RealFiles::new(rt);
+    ExitCode::from(run(rt.alloc(), &words, &mut net, &mut files, &mut out))
 }
 
 // The words behind the program's name. Where one is no text there are none, which has no form.
-fn words(rt: HostRuntime) -> Result<Vec<String>, NoMemory> {
+fn words(rt: HostRuntime) -> io::Result<Vec<String>> {
     match read_words(rt) {
         Ok(words) => Ok(words),
-        Err(error) if error.kind() == ErrorKind::OutOfMemory => Err(NoMemory),
+        Err(error) if error.kind() == ErrorKind::OutOfMemory => Err(error),
         Err(_) => Ok(Vec::new(rt.alloc())),
     }
 }

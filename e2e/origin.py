@@ -1,0 +1,114 @@
+"""The origin of the end-to-end run: it answers by path. usage: origin.py PORT"""
+import socket
+import sys
+import threading
+
+BIG = 10 * 1024 * 1024
+SOME = 600_000
+
+
+def read_line(stream):
+    line = stream.readline(65537)
+    if not line.endswith(b"\n"):
+        raise EOFError
+    return line.rstrip(b"\r\n")
+
+
+def read_head(stream):
+    """The request line's words and the fields, names in lower case."""
+    method, target, _ = read_line(stream).split(b" ")
+    fields = {}
+    while True:
+        line = read_line(stream)
+        if not line:
+            return method.decode(), target.decode(), fields
+        name, value = line.split(b":", 1)
+        fields[name.strip().lower().decode()] = value.strip().decode()
+
+
+def read_body(stream, fields):
+    """The body, by its length or its chunks."""
+    if fields.get("transfer-encoding", "").lower() == "chunked":
+        body = b""
+        while True:
+            size = int(read_line(stream).split(b";")[0], 16)
+            if size == 0:
+                while read_line(stream):
+                    pass
+                return body
+            body += stream.read(size)
+            read_line(stream)
+    return stream.read(int(fields.get("content-length", "0")))
+
+
+def answer(status, body, *fields, length=True):
+    lines = [f"HTTP/1.1 {status}"] + list(fields)
+    if length:
+        lines.append(f"Content-Length: {len(body)}")
+    return "\r\n".join(lines + ["", ""]).encode() + body
+
+
+def serve(connection):
+    """Answers requests until the client closes, or the path has the origin close."""
+    stream = connection.makefile("rb")
+    while True:
+        method, target, fields = read_head(stream)
+        if target == "/unread":
+            connection.sendall(answer("413 Content Too Large", b"too large", "Connection: close"))
+            return
+        if fields.get("expect", "").lower() == "100-continue":
+            connection.sendall(b"HTTP/1.1 100 Continue\r\n\r\n")
+        body = read_body(stream, fields)
+        if not reply(connection, method, target, body):
+            return
+
+
+def reply(connection, method, target, body):
+    """Answers one request, and tells whether the connection stays."""
+    path = target.split("?")[0]
+    if method == "HEAD":
+        connection.sendall(b"HTTP/1.1 200 OK\r\nContent-Length: 5\r\n\r\n")
+    elif path == "/echo":
+        connection.sendall(answer("200 OK", body, "Content-Type: application/octet-stream"))
+    elif path == "/some":
+        connection.sendall(answer("200 OK", bytes(SOME)))
+    elif path == "/big":
+        connection.sendall(answer("200 OK", bytes(BIG)))
+    elif path == "/chunked":
+        connection.sendall(b"HTTP/1.1 200 OK\r\nTransfer-Encoding: chunked\r\nTrailer: X-Sum\r\n\r\n")
+        connection.sendall(b"5\r\nhello\r\n6;x=y\r\n world\r\n0\r\nX-Sum: 11\r\n\r\n")
+    elif path == "/close":
+        connection.sendall(b"HTTP/1.1 200 OK\r\nConnection: close\r\n\r\nuntil the close")
+        return False
+    elif path == "/early":
+        connection.sendall(b"HTTP/1.1 103 Early Hints\r\nLink: </style.css>\r\n\r\n")
+        connection.sendall(answer("200 OK", b"after hints"))
+    elif path == "/small":
+        for byte in answer("200 OK", b"one byte after the other"):
+            connection.sendall(bytes([byte]))
+    elif path == "/reset":
+        connection.sendall(b"HTTP/1.1 200 OK\r\nContent-Length: 100\r\n\r\nhalf")
+        connection.setsockopt(socket.SOL_SOCKET, socket.SO_LINGER, b"\1\0\0\0\0\0\0\0")
+        return False
+    else:
+        connection.sendall(answer("200 OK", target.encode() + b"\n", "Content-Type: text/plain"))
+    return True
+
+
+def keep(connection):
+    try:
+        serve(connection)
+    except (EOFError, OSError, ValueError):
+        pass
+    connection.close()
+
+
+def main():
+    listener = socket.create_server(("127.0.0.1", int(sys.argv[1])), backlog=512)
+    while True:
+        connection, _ = listener.accept()
+        connection.setsockopt(socket.IPPROTO_TCP, socket.TCP_NODELAY, 1)
+        threading.Thread(target=keep, args=(connection,), daemon=True).start()
+
+
+main()
