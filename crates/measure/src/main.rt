@@ -4,9 +4,11 @@
 //! or one byte at a time. With `counted` or `chunked`, the size of a piece and how many, a response is read whose body
 //! comes in such pieces, each a chunk where it is chunked. With `conversation` before those, a request with such a body
 //! and a response with such a body go through a whole conversation, and with `pipelined` and a number, so many requests
-//! without bodies that come in one piece. The program times nothing itself: take `time` or `perf stat`.
+//! without bodies that come in one piece. With `clients` and a number, so many clients come one behind the other to the
+//! whole program, each with a GET that is answered. The program times nothing itself: take `time` or `perf stat`.
 #![tactic(auto)]
 
+mod clients;
 mod conversation;
 mod framing;
 
@@ -14,6 +16,7 @@ ghost use Rattle.std.specs.Prelude.{◌≡◌, false, IfOk, OnOk};
 ghost use Rattle.px_head.specs.Front.{request_front};
 ghost use Rattle.px_head.specs.Reader.{answer};
 
+use clients::serve_clients;
 use conversation::{Sent, gets, post};
 use framing::{Framing, make_framed, make_piece, read_framing};
 use px_head::{Found, HeadReader};
@@ -55,6 +58,10 @@ enum Order {
     Pipelined {
         count: u64,
     },
+    /// So many clients one behind the other.
+    Clients {
+        count: u32,
+    },
 }
 
 fn read_pieces(word: &str) -> Option<Pieces> {
@@ -77,6 +84,9 @@ fn read_order(words: &[String]) -> Option<Order> {
         }
         [kind, count] if kind.as_str() == "pipelined" => Some(Order::Pipelined {
             count: read_number(count)?,
+        }),
+        [kind, count] if kind.as_str() == "clients" => Some(Order::Clients {
+            count: u32::try_from(read_number(count)?).ok()?,
         }),
         _ => None,
     }
@@ -228,6 +238,7 @@ fn measure(alloc: Global, order: Order) -> Result<String, NoMemory> {
             pieces,
         } => tell(alloc, post(alloc, framing, size, pieces)?),
         Order::Pipelined { count } => tell(alloc, gets(alloc, count)?),
+        Order::Clients { count } => tell_lines(alloc, serve_clients(alloc, count)?),
     }
 }
 
@@ -235,6 +246,11 @@ fn measure(alloc: Global, order: Order) -> Result<String, NoMemory> {
 fn tell(alloc: Global, sent: Sent) -> Result<String, NoMemory> {
     let Sent { server, client } = sent;
     Ok(format!(in alloc; "{server} bytes to the server, {client} bytes to the client")?)
+}
+
+// The line that tells what was printed.
+fn tell_lines(alloc: Global, bytes: u64) -> Result<String, NoMemory> {
+    Ok(format!(in alloc; "{bytes} bytes of lines")?)
 }
 
 fn main(rt: HostRuntime) -> io::Result<ExitCode> {

@@ -1,4 +1,5 @@
 //! Rows of the run, and of the notation itself.
+mod calls;
 mod lines;
 mod many;
 mod notation;
