@@ -1,4 +1,6 @@
 //! One run over real sockets, on loopback.
+mod memory;
+
 ghost use Rattle.std.specs.Prelude.{◌≡◌, ◌+◌, None, IfOk, if◌then◌else◌, option_map, unwrap_or};
 ghost use Rattle.px_outside.specs.Net.{idle};
 
