@@ -36,16 +36,17 @@ pub(crate) fn post(
     pieces: u64,
 ) -> Result<Sent, NoMemory> {
     let total = size.saturating_mul(pieces);
-    let piece = make_piece(alloc, framing, size)?;
+    let piece = Bytes::new(make_piece(alloc, framing, size)?)?;
+    let end = Bytes::copied(alloc, end_of(framing))?;
     let request = make_framed(alloc, b"POST / HTTP/1.1\r\nHost: h\r\n", framing, total)?;
     let response = make_framed(alloc, b"HTTP/1.1 200 OK\r\n", framing, total)?;
     let mut run = begin(alloc)?;
-    say(alloc, &mut run, Side::Client, request.as_slice())?;
-    say_often(alloc, &mut run, Side::Client, piece.as_slice(), pieces)?;
-    say(alloc, &mut run, Side::Client, end_of(framing))?;
-    say(alloc, &mut run, Side::Server(0), response.as_slice())?;
-    say_often(alloc, &mut run, Side::Server(0), piece.as_slice(), pieces)?;
-    say(alloc, &mut run, Side::Server(0), end_of(framing))?;
+    say(&mut run, Side::Client, Bytes::new(request)?)?;
+    say_often(&mut run, Side::Client, &piece, pieces)?;
+    say(&mut run, Side::Client, end.try_clone()?)?;
+    say(&mut run, Side::Server(0), Bytes::new(response)?)?;
+    say_often(&mut run, Side::Server(0), &piece, pieces)?;
+    say(&mut run, Side::Server(0), end)?;
     Ok(run.sent)
 }
 
@@ -57,9 +58,9 @@ pub(crate) fn gets(alloc: Global, count: u64) -> Result<Sent, NoMemory> {
         requests.extend_from_slice(b"GET / HTTP/1.1\r\nHost: h\r\n\r\n")?;
     }
     let mut run = begin(alloc)?;
-    say(alloc, &mut run, Side::Client, requests.as_slice())?;
-    let response = b"HTTP/1.1 200 OK\r\nContent-Length: 0\r\n\r\n";
-    say_of_each(alloc, &mut run, response, count)?;
+    say(&mut run, Side::Client, Bytes::new(requests)?)?;
+    let response = Bytes::copied(alloc, b"HTTP/1.1 200 OK\r\nContent-Length: 0\r\n\r\n")?;
+    say_of_each(&mut run, &response, count)?;
     Ok(run.sent)
 }
 
@@ -96,41 +97,34 @@ fn host_of_server(alloc: Global) -> Result<Host, NoMemory> {
 }
 
 // The side says this piece so often.
-fn say_often(
-    alloc: Global,
-    run: &mut Run,
-    side: Side,
-    piece: &[u8],
-    times: u64,
-) -> Result<(), NoMemory>
+fn say_often(run: &mut Run, side: Side, piece: &Bytes, times: u64) -> Result<(), NoMemory>
     requires { IsSound (GateStands HttpStands awaits) run.old.gate }
     ensures { OnOk result (IsSound (GateStands HttpStands awaits) run.new.gate) }
 {
     for _ in 0..times {
-        say(alloc, run, side, piece)?;
+        say(run, side, piece.try_clone()?)?;
     }
     Ok(())
 }
 
 // So many servers say this piece, one after the other.
-fn say_of_each(alloc: Global, run: &mut Run, piece: &[u8], servers: u64) -> Result<(), NoMemory>
+fn say_of_each(run: &mut Run, piece: &Bytes, servers: u64) -> Result<(), NoMemory>
     requires { IsSound (GateStands HttpStands awaits) run.old.gate }
     ensures { OnOk result (IsSound (GateStands HttpStands awaits) run.new.gate) }
 {
     let mut server = 0u32;
     for _ in 0..servers {
-        say(alloc, run, Side::Server(server), piece)?;
+        say(run, Side::Server(server), piece.try_clone()?)?;
         server = server.saturating_add(1);
     }
     Ok(())
 }
 
 // The side says this piece, and all that is asked then is answered.
-fn say(alloc: Global, run: &mut Run, side: Side, piece: &[u8]) -> Result<(), NoMemory>
+fn say(run: &mut Run, side: Side, bytes: Bytes) -> Result<(), NoMemory>
     requires { IsSound (GateStands HttpStands awaits) run.old.gate }
     ensures { OnOk result (IsSound (GateStands HttpStands awaits) run.new.gate) }
 {
-    let bytes = Bytes::new(Vec::from_slice(alloc, piece)?);
     run.gate
         .take(0, Event::Piece { side, bytes }, &mut run.given)?;
     answer_all(run)?;
@@ -194,7 +188,7 @@ fn count(given: &mut Vec<Command>, sent: Sent) -> Sent {
 fn add(command: &Command, sent: Sent) -> Sent {
     match command {
         Command::Send { side, bytes } => {
-            let len = bytes.as_slice().len() as u64;
+            let len = bytes.len() as u64;
             match side {
                 Side::Client => Sent {
                     server: sent.server,

@@ -21,7 +21,7 @@ use conversation::{Sent, gets, post};
 use framing::{Framing, make_framed, make_piece, read_framing};
 use px_head::{Found, HeadReader};
 use px_read::{MessageReader, Part};
-use px_text::{NoMemory, read_decimal};
+use px_text::{Bytes, NoMemory, read_decimal};
 use std::alloc::Global;
 use std::process::ExitCode;
 use std::{env, io};
@@ -168,7 +168,7 @@ fn count_given(reader: &mut MessageReader) -> Result<u64, NoMemory>
     for _ in 0..8 {
         match reader.next()? {
             Part::More | Part::End(_) | Part::Bad(_) => return Ok(count),
-            Part::Piece(bytes) => count = count.saturating_add(bytes.as_slice().len() as u64),
+            Part::Piece(bytes) => count = count.saturating_add(bytes.len() as u64),
             _ => {}
         }
     }
@@ -176,7 +176,7 @@ fn count_given(reader: &mut MessageReader) -> Result<u64, NoMemory>
 }
 
 // How many bytes the body has that was read.
-fn count_body(alloc: Global, head: &[u8], piece: &[u8], pieces: u64) -> Result<u64, NoMemory> {
+fn count_body(alloc: Global, head: &Bytes, piece: &Bytes, pieces: u64) -> Result<u64, NoMemory> {
     let mut reader = MessageReader::response(alloc, false);
     reader.feed(head)?;
     let mut count = 0u64;
@@ -214,9 +214,9 @@ fn measure_body(
     pieces: u64,
 ) -> Result<String, NoMemory> {
     let total = size.saturating_mul(pieces);
-    let head = make_framed(alloc, b"HTTP/1.1 200 OK\r\n", framing, total)?;
-    let piece = make_piece(alloc, framing, size)?;
-    let count = count_body(alloc, head.as_slice(), piece.as_slice(), pieces)?;
+    let head = Bytes::new(make_framed(alloc, b"HTTP/1.1 200 OK\r\n", framing, total)?)?;
+    let piece = Bytes::new(make_piece(alloc, framing, size)?)?;
+    let count = count_body(alloc, &head, &piece, pieces)?;
     Ok(format!(in alloc; "{pieces} pieces of {size} bytes: {count} bytes")?)
 }
 

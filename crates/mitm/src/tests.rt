@@ -71,7 +71,7 @@ impl<W: Wire> Net for Few<W> {
         self.lines.next()
     }
 
-    fn say(&mut self, conv: u32, said: &Said) -> Result<(), NoMemory> {
+    fn say(&mut self, conv: u32, said: Said) -> Result<(), NoMemory> {
         self.lines.say(conv, said)
     }
 

@@ -39,8 +39,7 @@ impl<K: Before> Finished<K> {
 impl<K: Before> Taker for Finished<K> {
     ghost taken = { λ finished. K.before ++ finished.flows.items };
 
-    fn done(&mut self, flow: &Flow) -> Result<(), NoMemory> {
-        let flow = flow.try_clone()?;
+    fn done(&mut self, flow: Flow) -> Result<(), NoMemory> {
         self.flows.push(flow)?;
         Ok(())
     }

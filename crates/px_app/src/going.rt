@@ -24,10 +24,9 @@ impl Answerer for Going {
     fn answer<F: Files>(
         &mut self,
         _hook: Hook,
-        flow: &Flow,
+        flow: Flow,
         _files: &mut F,
     ) -> Result<Answer, NoMemory> {
-        let flow = flow.try_clone()?;
         Ok(Answer::Reply(Reply::Go { flow, stream: None }))
     }
 }

@@ -56,6 +56,7 @@ pub(crate) fn serve<N: Net, F: Files, S: Sink>(
 {
     let printing = Printing::Whole;
     if let Err(error) = listen(alloc, net) {
+        drop(address);
         let status = error.into();
         return Ending { status, printing };
     }

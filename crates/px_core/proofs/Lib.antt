@@ -1,7 +1,6 @@
 pub mod AnswerLemmas
 pub mod AskLemmas
 pub mod CallLemmas
-pub mod EchoRunLemmas
 pub mod HearLemmas
 pub mod NamedLemmas
 pub mod OrderedLemmas

@@ -1,6 +1,6 @@
 -- One thing heard, worked off: the steps that follow, and those that were told.
-use Rattle.std.proofs.Common.{◌≡◌, ◌≢◌, Bool, true, false, nat_lt, ℕ, zero, suc, List, [], ◌∷◌, ◌++◌, Option, Some, None, refl, ap, sym, ◌∙◌, subst, append_assoc, ◌+◌, ◌<◌, ◌⊎◌, inl, inr, length, take, drop, get_or, arith, OnOk, OnErr, Result, Ok, Err}
-use Rattle.std.proofs.lemmas.List.{append-nil, take-append-drop}
+use Rattle.std.proofs.Common.{◌≡◌, ◌≢◌, Bool, true, false, nat_lt, ℕ, List, [], ◌∷◌, ◌++◌, Option, Some, None, refl, ap, sym, ◌∙◌, subst, append_assoc, ◌⊎◌, inl, inr, OnOk, OnErr, Result, Ok, Err}
+use Rattle.std.proofs.lemmas.List.{append-nil}
 use Rattle.std.specs.Prelude.{if◌then◌else◌}
 use Rattle.std.specs.List.{flat_map}
 use Rattle.std.proofs.lemmas.Grind.{flat_map-append}
@@ -83,34 +83,39 @@ module _ {C : Type 0} (standing : Standing C) (awaited : C → Option Ask) (numb
       by None is = let P : Trace → Type 0 = AllTellable in subst P (sym (same ∙ (r.none is).0)) tt
       by (Some (conv, news)) is = let P : Trace → Type 0 = AllTellable in subst P (sym same) (all_tellable conv r.more (r.own conv news is))
 
-pub item_tellable : (list : List Step) (i : ℕ) (x : Step) → AllTellable list → i < length list → x ≡ get_or list i x → IsTellable x
-item_tellable [] i x all less is = absurd (omega arith)
-item_tellable (y ∷ list) zero x (here, all) less is = let P : Step → Type 0 = IsTellable in subst P (sym is) here
-item_tellable (y ∷ list) (suc i) x (here, all) less is = item_tellable list i x all (omega arith) is
+tellable_behind : (front : List Step) (x : Step) (rest : List Step) → AllTellable (front ++ x ∷ rest) → IsTellable x
+tellable_behind [] x rest (here, all) = here
+tellable_behind (y ∷ front) x rest (here, all) = tellable_behind front x rest all
 
-front_one : (list : List Step) (i : ℕ) (x : Step) → i < length list → x ≡ get_or list i x → IsPrefixOf (take i list ++ x ∷ []) list
-front_one [] i x less is = absurd (omega arith)
-front_one (y ∷ list) zero x less is = (list, ap (λ z. z ∷ list) (sym is))
-front_one (y ∷ list) (suc i) x less is = let r = front_one list i x (omega arith) is in (r.0, ap (λ l. y ∷ l) r.1)
+pub tellable_at : (front : List Step) (x : Step) (rest list : List Step) → front ++ x ∷ rest ≡ list → AllTellable list → IsTellable x
+tellable_at front x rest list split all = let P : List Step → Type 0 = AllTellable in tellable_behind front x rest (subst P (sym split) all)
+
+-- what is left begins with the step that is told next
+pub rest_is : (front rest next list : List Step) → rest ≡ next → front ++ rest ≡ list → front ++ next ≡ list
+rest_is front rest next list is split = ap (λ l. front ++ l) (sym is) ∙ split
+
+-- the step moves from those that are left to those that are told
+pub front_next : (front : List Step) (x : Step) (rest list : List Step) → front ++ x ∷ rest ≡ list → (front ++ x ∷ []) ++ rest ≡ list
+front_next front x rest list split = append_assoc front (x ∷ []) rest ∙ split
 
 -- some of the steps were told, and the flows that those before finish were handed on
-pub told_taken : (now : Option Trace) (list : List Step) (i : ℕ) (x : Step) (trace : Trace) (before after : List Flow) → i < length list → x ≡ get_or list i x →
-    (now ≡ Some (trace ++ take i list)) ⊎ (now ≡ Some ((trace ++ take i list) ++ x ∷ [])) → after ≡ before ++ flat_map done_of (take i list) →
+pub told_taken : (now : Option Trace) (list front : List Step) (x : Step) (rest : List Step) (trace : Trace) (before after : List Flow) → front ++ x ∷ rest ≡ list →
+    (now ≡ Some (trace ++ front)) ⊎ (now ≡ Some ((trace ++ front) ++ x ∷ [])) → after ≡ before ++ flat_map done_of front →
     ToldPart list trace now before after
-told_taken now list i x trace before after less is (inl told) taken = record {
-  given = take i list;
-  front = (drop i list, sym (take-append-drop i list));
+told_taken now list front x rest trace before after split (inl told) taken = record {
+  given = front;
+  front = (x ∷ rest, sym split);
   is = told;
-  taken = flat_map done_of (take i list);
-  handed = ([], sym (append-nil (flat_map done_of (take i list))));
+  taken = flat_map done_of front;
+  handed = ([], sym (append-nil (flat_map done_of front)));
   grown = taken;
 }
-told_taken now list i x trace before after less is (inr told) taken = record {
-  given = take i list ++ x ∷ [];
-  front = front_one list i x less is;
-  is = told ∙ ap Some (append_assoc trace (take i list) (x ∷ []));
-  taken = flat_map done_of (take i list);
-  handed = (flat_map done_of (x ∷ []), flat_map-append done_of (take i list) (x ∷ []));
+told_taken now list front x rest trace before after split (inr told) taken = record {
+  given = front ++ x ∷ [];
+  front = (rest, sym (front_next front x rest list split));
+  is = told ∙ ap Some (append_assoc trace front (x ∷ []));
+  taken = flat_map done_of front;
+  handed = (flat_map done_of (x ∷ []), flat_map-append done_of front (x ∷ []));
   grown = taken;
 }
 
@@ -138,18 +143,8 @@ served_none answers due trace now served is =
     let P : Trace → Type 0 = IsServed answers due in
     record { more = []; is = is ∙ ap Some (sym (append-nil trace)); holds = subst P (sym (append-nil trace)) served }
 
-take_suc : (list : List Step) (i : ℕ) (x : Step) → i < length list → x ≡ get_or list i x → take (suc i) list ≡ take i list ++ x ∷ []
-take_suc [] i x less is = absurd (omega arith)
-take_suc (y ∷ list) zero x less is = ap (λ z. z ∷ []) (sym is)
-take_suc (y ∷ list) (suc i) x less is = ap (λ l. y ∷ l) (take_suc list i x (omega arith) is)
-
-pub take_next : (list : List Step) (i : ℕ) (x : Step) → i < length list → x ≡ get_or list i x → take (i + 1) list ≡ take i list ++ x ∷ []
-take_next list i x less is = let plus : i + 1 ≡ suc i = omega arith in ap (λ n. take n list) plus ∙ take_suc list i x less is
-
-pub done_next : (list : List Step) (i : ℕ) (x : Step) → i < length list → x ≡ get_or list i x → flat_map done_of (take (i + 1) list) ≡ flat_map done_of (take i list) ++ done_of x
-done_next list i x less is =
-    ap (flat_map done_of) (take_next list i x less is)
-    ∙ (flat_map-append done_of (take i list) (x ∷ []) ∙ ap (λ l. flat_map done_of (take i list) ++ l) (append-nil (done_of x)))
+pub done_next : (front : List Step) (x : Step) → flat_map done_of (front ++ x ∷ []) ≡ flat_map done_of front ++ done_of x
+done_next front x = flat_map-append done_of front (x ∷ []) ∙ ap (λ l. flat_map done_of front ++ l) (append-nil (done_of x))
 
 pub done_behind : (trace list : Trace) (moment : ℕ) (what : Heard) → flat_map done_of ((trace ++ steps.Heard moment what ∷ []) ++ list) ≡ flat_map done_of trace ++ flat_map done_of list
 done_behind trace list moment what =

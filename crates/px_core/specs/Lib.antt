@@ -2,8 +2,6 @@ pub mod Answers
 pub mod Calls
 pub mod Conversation
 pub mod Due
-pub mod EchoNamed
-pub mod EchoRuns
 pub mod GateLaws
 pub mod Held
 pub mod Leaving
@@ -11,4 +9,3 @@ pub mod Named
 pub mod Ordered
 pub mod Router
 pub mod Run
-pub mod Turns

@@ -57,10 +57,10 @@ pub trait Answerer {
     fn answer<F: Files>(
         &mut self,
         hook: Hook,
-        flow: &Flow,
+        flow: Flow,
         files: &mut F,
     ) -> Result<Answer, NoMemory>
-        ensures answers { IfOk result (λ answer. answers hook flow.now
+        ensures answers { IfOk result (λ answer. answers hook flow
             (state self.old) (record { contents = F.contents files.old; calls = F.calls files.old; misses = F.misses files.old; faults = F.faults files.old; losses = F.losses files.old })
             (state self.new) (record { contents = F.contents files.new; calls = F.calls files.new; misses = F.misses files.new; faults = F.faults files.new; losses = F.losses files.new })
             answer) }

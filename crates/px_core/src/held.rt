@@ -242,12 +242,13 @@ impl<C: Owes> Held<C> {
         ensures left { IfOk result (λ now_open. turns_left (C.left self.new.conversation) now_open < turns_left (C.left self.old.conversation) (Some question)) }
         ensures files { ChangedByAnswers A.answers A.fails F.contents F.calls F.misses F.faults F.losses files.old files.new }
     {
-        match answerer.answer(question.hook, &question.flow, files)? {
+        let Question { ask, hook, flow } = question;
+        match answerer.answer(hook, flow, files)? {
             Answer::Wait(draft) => {
                 self.draft = Some(draft);
                 Ok(None)
             }
-            Answer::Reply(reply) => self.reply(call, question.ask, reply, steps),
+            Answer::Reply(reply) => self.reply(call, ask, reply, steps),
         }
     }
 

@@ -19,8 +19,6 @@ mod numbered;
 mod owes;
 mod router;
 mod table;
-#[cfg(test)]
-mod tests;
 mod work;
 
 pub use answerer::{Answer, Answerer, Draft, Verdict};

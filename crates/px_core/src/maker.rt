@@ -33,7 +33,7 @@ pub trait Taker {
     ghost taken: { Self → List FinishedFlow };
 
     /// Takes a finished flow. After `NoMemory` it has not.
-    fn done(&mut self, flow: &Flow) -> Result<(), NoMemory>
-        ensures taken { OnOk result (taken self.new ≡ taken self.old ++ flow.now ∷ []) }
+    fn done(&mut self, flow: Flow) -> Result<(), NoMemory>
+        ensures taken { OnOk result (taken self.new ≡ taken self.old ++ flow ∷ []) }
         ensures err { OnErr result (taken self.new ≡ taken self.old) };
 }

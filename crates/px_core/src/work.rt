@@ -9,6 +9,7 @@ ghost use Rattle.px_message.specs.declared.address.Address.{Address as PeerAddre
 ghost use Rattle.px_event.specs.Layer.{Move};
 ghost use Rattle.px_event.specs.Trace.{Trace};
 ghost use Rattle.px_event.specs.declared.step.Step.TheVariants.{Heard as WasHeard};
+ghost use Rattle.px_outside.specs.Net.{IsNote};
 ghost use Rattle.px_core.specs.Answers.{ChangedByAnswers};
 ghost use Rattle.px_core.specs.Due.{Due, IsServed};
 ghost use Rattle.px_core.specs.Router.{RouterStands, IsRouted, BeginsNone, is_known, found};
@@ -108,7 +109,7 @@ fn follow<C: Owes, A: Answerer, M: Maker<C>, F: Files, N: Net, T: Taker>(
     ensures files { ChangedByAnswers A.answers A.fails F.contents F.calls F.misses F.faults F.losses files.old files.new }
 {
     let steps = route(alloc, router, maker, files, moment, heard)?;
-    tell_all(net, taker, &steps)
+    tell_all(net, taker, steps)
 }
 
 /// The steps that follow from something heard.
@@ -194,11 +195,11 @@ fn begins(heard: &Heard) -> Option<u32>
 }
 
 /// Says or notes each step in its order, and hands on each finished flow.
-fn tell_all<N: Net, T: Taker>(net: &mut N, taker: &mut T, steps: &[Step]) -> Result<(), NoMemory>
-    requires tellable { AllTellable steps.now }
-    ensures told { (trace : Trace) → N.trace net.old ≡ Some trace → OnOk result (N.trace net.new ≡ Some (trace ++ steps.now)) }
-    ensures part { (trace : Trace) → N.trace net.old ≡ Some trace → OnErr result (ToldPart steps.now trace (N.trace net.new) (T.taken taker.old) (T.taken taker.new)) }
-    ensures taken { OnOk result (T.taken taker.new ≡ T.taken taker.old ++ flat_map done_of steps.now) }
+fn tell_all<N: Net, T: Taker>(net: &mut N, taker: &mut T, steps: Vec<Step>) -> Result<(), NoMemory>
+    requires tellable { AllTellable steps.items }
+    ensures told { (trace : Trace) → N.trace net.old ≡ Some trace → OnOk result (N.trace net.new ≡ Some (trace ++ steps.items)) }
+    ensures part { (trace : Trace) → N.trace net.old ≡ Some trace → OnErr result (ToldPart steps.items trace (N.trace net.new) (T.taken taker.old) (T.taken taker.new)) }
+    ensures taken { OnOk result (T.taken taker.new ≡ T.taken taker.old ++ flat_map done_of steps.items) }
     ensures listening { N.listening net.new ≡ N.listening net.old }
     ensures faults { N.faults net.new ≡ N.faults net.old }
 {
@@ -209,22 +210,51 @@ fn tell_all<N: Net, T: Taker>(net: &mut N, taker: &mut T, steps: &[Step]) -> Res
 }
 
 /// Says or notes a step, and hands on a finished flow.
-fn tell<N: Net, T: Taker>(net: &mut N, taker: &mut T, step: &Step) -> Result<(), NoMemory>
-    requires tellable { IsTellable step.now }
-    ensures told { (trace : Trace) → N.trace net.old ≡ Some trace → OnOk result (N.trace net.new ≡ Some (trace ++ step.now ∷ [])) }
-    ensures part { (trace : Trace) → N.trace net.old ≡ Some trace → OnErr result ((N.trace net.new ≡ Some trace) ⊎ (N.trace net.new ≡ Some (trace ++ step.now ∷ []))) }
-    ensures taken { OnOk result (T.taken taker.new ≡ T.taken taker.old ++ done_of step.now) }
+fn tell<N: Net, T: Taker>(net: &mut N, taker: &mut T, step: Step) -> Result<(), NoMemory>
+    requires tellable { IsTellable step }
+    ensures told { (trace : Trace) → N.trace net.old ≡ Some trace → OnOk result (N.trace net.new ≡ Some (trace ++ step ∷ [])) }
+    ensures part { (trace : Trace) → N.trace net.old ≡ Some trace → OnErr result ((N.trace net.new ≡ Some trace) ⊎ (N.trace net.new ≡ Some (trace ++ step ∷ []))) }
+    ensures taken { OnOk result (T.taken taker.new ≡ T.taken taker.old ++ done_of step) }
     ensures taken_not { OnErr result (T.taken taker.new ≡ T.taken taker.old) }
     ensures listening { N.listening net.new ≡ N.listening net.old }
     ensures faults { N.faults net.new ≡ N.faults net.old }
 {
     match step {
-        Step::Said { conv, said } => net.say(*conv, said),
-        Step::Asked { .. } | Step::Answered { .. } => net.note(step),
-        Step::Done { flow } => {
-            net.note(step)?;
-            taker.done(flow)
-        }
+        Step::Said { conv, said } => net.say(conv, said),
         Step::Heard { .. } => unreachable!(),
+        step => note(net, taker, step),
+    }
+}
+
+/// Notes a step, and hands on a finished flow.
+fn note<N: Net, T: Taker>(net: &mut N, taker: &mut T, step: Step) -> Result<(), NoMemory>
+    requires note { IsNote step }
+    ensures told { (trace : Trace) → N.trace net.old ≡ Some trace → OnOk result (N.trace net.new ≡ Some (trace ++ step ∷ [])) }
+    ensures part { (trace : Trace) → N.trace net.old ≡ Some trace → OnErr result ((N.trace net.new ≡ Some trace) ⊎ (N.trace net.new ≡ Some (trace ++ step ∷ []))) }
+    ensures taken { OnOk result (T.taken taker.new ≡ T.taken taker.old ++ done_of step) }
+    ensures taken_not { OnErr result (T.taken taker.new ≡ T.taken taker.old) }
+    ensures listening { N.listening net.new ≡ N.listening net.old }
+    ensures faults { N.faults net.new ≡ N.faults net.old }
+{
+    match net.note(&step) {
+        Ok(()) => hand_on(taker, step),
+        Err(error) => {
+            drop(step);
+            Err(error)
+        }
+    }
+}
+
+/// Hands on the flow that the step finishes.
+fn hand_on<T: Taker>(taker: &mut T, step: Step) -> Result<(), NoMemory>
+    ensures taken { OnOk result (T.taken taker.new ≡ T.taken taker.old ++ done_of step) }
+    ensures taken_not { OnErr result (T.taken taker.new ≡ T.taken taker.old) }
+{
+    match step {
+        Step::Done { flow } => taker.done(flow),
+        step => {
+            drop(step);
+            Ok(())
+        }
     }
 }

@@ -143,6 +143,21 @@ module _ {S : Type 0} (standing : Standing S) (awaited : S → Option Ask) where
   asks_step (Some ask) first layer next out between new_out at free (same, kept) asks =
       absurd (let no : Some ask ≡ None = sym at ∙ (ap awaited (sym same) ∙ free) in cc)
 
+  -- a reply's asks and those of the events behind it
+  asks_then : (a : Option Ask) (layer next : S) (out between new_out : List Command) → awaited layer ≡ a →
+      AsksOnly a out between → TakeAsksWhere a (awaited next) layer next between new_out → AsksOnly (awaited next) out new_out
+  asks_then None layer next out between new_out at (more, grown, asked) (further, grown', further_asked) = (
+    more ++ further,
+    grown' ∙ (ap (λ l. l ++ further) grown ∙ append_assoc out more further),
+    flat_map-append asks_in more further ∙ (ap (λ l. l ++ flat_map asks_in further) asked ∙ further_asked),
+  )
+  asks_then (Some ask) layer next out between new_out at (more, grown, asked) (same, kept) =
+      (more, kept ∙ grown, asked ∙ ap option_to_list (sym (ap awaited same ∙ at)))
+
+  pub resume_asks : (layer next : S) (out between new_out : List Command) →
+      AsksOnly (awaited layer) out between → TakeAsks awaited layer next between new_out → AsksOnly (awaited next) out new_out
+  resume_asks layer next out between new_out asks more = asks_then (awaited layer) layer next out between new_out refl asks more
+
   pub along_step : (moment : ℕ) (first : S) (queue : List Event) (layer next : S) (event : Event) (waiting : List Event) (out between new_out : List Command) →
       AlongQueue moment first queue layer (event ∷ waiting) out between → awaited layer ≡ None →
       Goes standing layer next (Took moment event) between new_out → AsksOnly (awaited next) between new_out →

@@ -1,17 +1,19 @@
-//! A block read by the grammar: its parts copied out of the bytes, or the answer that it is no head.
+//! A block read by the grammar: its parts, or the answer that it is no head.
+//!
+//! A block that is a head is copied out of the bytes once, and its parts share that copy.
 //!
 //! The offset forms of `httparse` find each head that has no more fields than their room. So a block is a head exactly
 //! where they answer a head that is as long as the block (RFC 9112 sections 2 to 5).
 ghost use Rattle.std.specs.Prelude.{◌≡◌, ◌≤◌, All, IfOk, length, map};
 ghost use Rattle.httparse.specs.Grammar.{print_version};
-ghost use Rattle.httparse.specs.Spans.{IsHeaderWithin, header_bytes};
+ghost use Rattle.httparse.specs.Spans.{IsHeaderWithin, IsWithin, header_bytes, span_bytes};
 ghost use Rattle.px_head.specs.Heads.{request_in, response_in, trailers_in};
 ghost use Rattle.px_head.specs.Spans.{AnswersRequest, AnswersResponse, AnswersTrailers};
 
 use crate::raw::{RawHead, RawPairs};
 use httparse::Status;
 use httparse::spans::{
-    EMPTY_HEADER_SPAN, HeaderSpan, RequestSpans, ResponseSpans, parse_headers, parse_request,
+    EMPTY_HEADER_SPAN, HeaderSpan, RequestSpans, ResponseSpans, Span, parse_headers, parse_request,
     parse_response,
 };
 use px_text::{Bytes, NoMemory, push_decimal};
@@ -28,11 +30,12 @@ pub fn read_request(alloc: Global, block: &[u8]) -> Result<Option<RawHead>, NoMe
     let Some(spans) = request_spans(block, &mut room) else {
         return Ok(None);
     };
+    let block = Bytes::copied(alloc, block)?;
     Ok(Some(RawHead {
-        first: copy(alloc, spans.method.of(block))?,
-        second: copy(alloc, spans.path.of(block))?,
-        third: copy(alloc, version_text(spans.version))?,
-        pairs: copy_pairs(alloc, block, &room[..spans.headers])?,
+        first: part(&block, spans.method)?,
+        second: part(&block, spans.path)?,
+        third: Bytes::copied(alloc, version_text(spans.version))?,
+        pairs: share_pairs(alloc, &block, &room[..spans.headers])?,
     }))
 }
 
@@ -46,11 +49,12 @@ pub fn read_response(alloc: Global, block: &[u8]) -> Result<Option<RawHead>, NoM
     };
     let mut code = Vec::new(alloc);
     push_decimal(&mut code, u64::from(spans.code))?;
+    let block = Bytes::copied(alloc, block)?;
     Ok(Some(RawHead {
-        first: copy(alloc, version_text(spans.version))?,
-        second: Bytes::new(code),
-        third: copy(alloc, spans.reason.of(block))?,
-        pairs: copy_pairs(alloc, block, &room[..spans.headers])?,
+        first: Bytes::copied(alloc, version_text(spans.version))?,
+        second: Bytes::new(code)?,
+        third: part(&block, spans.reason)?,
+        pairs: share_pairs(alloc, &block, &room[..spans.headers])?,
     }))
 }
 
@@ -62,11 +66,12 @@ pub fn read_trailers(alloc: Global, block: &[u8]) -> Result<Option<RawHead>, NoM
     let Some(count) = trailer_spans(block, &mut room) else {
         return Ok(None);
     };
+    let block = Bytes::copied(alloc, block)?;
     Ok(Some(RawHead {
-        first: Bytes::new(Vec::new(alloc)),
-        second: Bytes::new(Vec::new(alloc)),
-        third: Bytes::new(Vec::new(alloc)),
-        pairs: copy_pairs(alloc, block, &room[..count])?,
+        first: Bytes::empty(),
+        second: Bytes::empty(),
+        third: Bytes::empty(),
+        pairs: share_pairs(alloc, &block, &room[..count])?,
     }))
 }
 
@@ -125,21 +130,23 @@ fn version_text(minor: u8) -> &'static [u8]
     if minor == 0 { b"HTTP/1.0" } else { b"HTTP/1.1" }
 }
 
-fn copy(alloc: Global, bytes: &[u8]) -> Result<Bytes, NoMemory>
-    ensures { IfOk result (λ copy. copy ≡ bytes.now) }
+// The bytes that the span covers, shared.
+fn part(block: &Bytes, span: Span) -> Result<Bytes, NoMemory>
+    requires { IsWithin (length block.now) span }
+    ensures { IfOk result (λ part. part ≡ span_bytes block.now span) }
 {
-    Ok(Bytes::new(Vec::from_slice(alloc, bytes)?))
+    block.part(span.start, span.end)
 }
 
-// The names and values that the spans cover.
-fn copy_pairs(alloc: Global, block: &[u8], spans: &[HeaderSpan]) -> Result<RawPairs, NoMemory>
+// The names and values that the spans cover, shared.
+fn share_pairs(alloc: Global, block: &Bytes, spans: &[HeaderSpan]) -> Result<RawPairs, NoMemory>
     requires { All (IsHeaderWithin (length block.now)) spans.now }
     ensures { IfOk result (λ pairs. pairs ≡ map (header_bytes block.now) spans.now) }
 {
     let mut pairs = Vec::with_capacity(alloc, spans.len())?;
     for span in spans {
-        let name = copy(alloc, span.name.of(block))?;
-        let value = copy(alloc, span.value.of(block))?;
+        let name = part(block, span.name)?;
+        let value = part(block, span.value)?;
         pairs.push((name, value))?;
     }
     Ok(RawPairs::new(pairs))

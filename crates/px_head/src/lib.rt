@@ -16,8 +16,6 @@ pub mod laws;
 mod place;
 mod raw;
 mod reader;
-#[cfg(test)]
-mod tests;
 
 pub use front::Found;
 pub use raw::{RawHead, RawPairs};

@@ -1,5 +1,5 @@
 //! A conversation: one flow after the other.
-ghost use Rattle.std.specs.Prelude.{◌≡◌, ◌≤◌, ◌<◌, ◌+◌, List, [], None};
+ghost use Rattle.std.specs.Prelude.{◌≡◌, ◌≤◌, ◌<◌, ◌+◌, List, [], None, IfOk};
 ghost use Rattle.px_event.specs.Layer.{Move};
 ghost use Rattle.px_event.specs.declared.command.Command.{Command as GivenCommand};
 ghost use Rattle.px_http.specs.Stands.{HttpStands, awaits, stop_at};
@@ -67,13 +67,13 @@ impl HttpConv {
     ///
     /// Behind a whole message they are exactly the side's bytes behind it; while one is read, those from where its reader
     /// stands. Of the server there are none where the flow has no side of it.
-    pub fn into_rests(self) -> (Rests, Option<Flow>)
-        ensures client { result.0.client ≡ self.stream.requests.rest }
-        ensures server { result.0.server ≡ phase_rest self.stream.phase }
-        ensures flow { result.1 ≡ None }
+    pub fn into_rests(self) -> Result<(Rests, Option<Flow>), NoMemory>
+        ensures client { IfOk result (λ left. left.0.client ≡ self.stream.requests.rest) }
+        ensures server { IfOk result (λ left. left.0.server ≡ phase_rest self.stream.phase) }
+        ensures flow { IfOk result (λ left. left.1 ≡ None) }
         ensures behind { (made : HttpConv) (moves : List Move) (given : List GivenCommand) → HttpStands made self moves given →
-            LeavesRests (look made.stream.terms (stop_at made moves).stage (stop_at made moves).front) (stop_at made moves).stage (stop_at made moves).front
-            result.0.client result.0.server }
+            IfOk result (λ left. LeavesRests (look made.stream.terms (stop_at made moves).stage (stop_at made moves).front) (stop_at made moves).stage (stop_at made moves).front
+            left.0.client left.0.server) }
     {
         self.stream.into_rests()
     }

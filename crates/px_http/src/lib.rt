@@ -9,8 +9,6 @@ mod chained;
 mod conversation;
 mod fixed;
 pub mod laws;
-#[cfg(test)]
-mod tests;
 
 pub use conversation::HttpConv;
 pub use fixed::Fixed;

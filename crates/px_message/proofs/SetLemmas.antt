@@ -48,6 +48,15 @@ set_in-None name value (field ∷ fields) none =
     let split = not_first (is_named name) field fields none in
     ap (λ l. field ∷ l) (set_in-None name value fields split.1) ∙ sym (set_in-other name value field fields split.0)
 
+-- a list with no field of that name, without them
+pub without-None : (name : List ℕ) (fields : List (List ℕ × List ℕ)) → position (is_named name) fields ≡ None →
+    fields ≡ without name fields
+without-None name [] none = refl
+without-None name (field ∷ fields) none =
+    let split = not_first (is_named name) field fields none in
+    ap (λ l. field ∷ l) (without-None name fields split.1)
+    ∙ sym (cond-true (not (is_named name field)) _ _ (ap not split.0))
+
 -- the first place of a name, at a name and fields that are equal to these
 pub same_position : (n name : List ℕ) (found fields : List (List ℕ × List ℕ)) (place : Option ℕ) →
     n ≡ name → found ≡ fields → place ≡ position (is_named n) found → position (is_named name) fields ≡ place

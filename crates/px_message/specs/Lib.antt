@@ -5,6 +5,8 @@ pub mod Status
 pub mod Request
 pub mod TellHost
 pub mod BadHost
+pub mod Refused
+pub mod Shared
 pub mod Authority
 pub mod Target
 pub mod Url

@@ -1,5 +1,5 @@
 //! Bodies of messages.
-ghost use Rattle.std.specs.Prelude.{◌≡◌, IfOk};
+ghost use Rattle.std.specs.Prelude.{◌≡◌, [], IfOk};
 
 use px_text::{Bytes, NoMemory};
 use std::alloc::AllocError;
@@ -32,13 +32,29 @@ impl Clone for Body {
 }
 
 impl Body {
-    /// The body of these bytes, without taking memory.
-    pub fn new(bytes: Vec<u8>) -> Body
-        ensures { result ≡ bytes.items }
+    /// No body, without taking memory.
+    pub fn empty() -> Body
+        ensures { result ≡ [] }
     {
         Body {
-            bytes: Bytes::new(bytes),
+            bytes: Bytes::empty(),
         }
+    }
+
+    /// The body of these bytes. They are not copied; the count of those who share them takes memory.
+    pub fn new(bytes: Vec<u8>) -> Result<Body, NoMemory>
+        ensures { IfOk result (λ body. body ≡ bytes.items) }
+    {
+        Ok(Body {
+            bytes: Bytes::new(bytes)?,
+        })
+    }
+
+    /// The body of these bytes, shared. It takes no memory.
+    pub fn from_bytes(bytes: Bytes) -> Body
+        ensures { result ≡ bytes }
+    {
+        Body { bytes }
     }
 
     /// The bytes.

@@ -23,19 +23,25 @@ pub use framing::settle_streamed;
 use px_text::NoMemory;
 use std::alloc::{AllocError, Global};
 use std::marker::Model;
+use std::rc::Rc;
 
 /// A list of fields, in the sender's order and spelling (RFC 9110 section 5.2). Names are compared without case.
+///
+/// Copies of a list share it, until one of them is changed: that one gets a list of its own then.
 #[derive(Debug, Drop)]
 pub struct Fields {
-    pairs: Vec<(Name, Value)>,
+    alloc: Global,
+    // None where there are no fields.
+    shared: Option<Rc<Vec<(Name, Value)>>>,
 }
 
 impl Model for Fields {
     ghost use Rattle.std.specs.Prelude.{List, ℕ};
+    ghost use Rattle.px_message.specs.Shared.{items_in};
 
     ghost Value = { List (List ℕ × List ℕ) };
 
-    ghost view = { λ f. f.pairs.items };
+    ghost view = { λ f. items_in (λ shared. shared.value.items) f.shared };
 }
 
 impl PartialEq for Fields {
@@ -44,7 +50,7 @@ impl PartialEq for Fields {
     ghost laws = { Prim.search (comparing, rules) };
 
     fn eq(&self, other: &Fields) -> bool {
-        self.pairs == other.pairs
+        self.pairs() == other.pairs()
     }
 }
 
@@ -57,7 +63,8 @@ impl Clone for Fields {
 
     fn clone(&self) -> Result<Fields, AllocError> {
         Ok(Fields {
-            pairs: self.pairs.clone()?,
+            alloc: self.alloc,
+            shared: self.shared.clone()?,
         })
     }
 }
@@ -68,27 +75,38 @@ impl Fields {
         ensures { result ≡ [] }
     {
         Fields {
-            pairs: Vec::new(alloc),
+            alloc,
+            shared: None,
         }
     }
 
     // The allocator that is kept for fields that are added.
     pub(crate) fn allocator(&self) -> Global {
-        *self.pairs.allocator()
+        self.alloc
+    }
+
+    // The pairs.
+    fn pairs(&self) -> &[(Name, Value)]
+        ensures { result.now ≡ self.now }
+    {
+        match &self.shared {
+            Some(shared) => shared.as_slice(),
+            None => &[],
+        }
     }
 
     /// How many fields there are.
     pub fn len(&self) -> usize
         ensures { result ≡ length self.now }
     {
-        self.pairs.len()
+        self.pairs().len()
     }
 
     /// Whether there are none.
     pub fn is_empty(&self) -> bool
         ensures { result ≡ (length self.now == 0) }
     {
-        self.pairs.is_empty()
+        self.pairs().is_empty()
     }
 
     /// The name and the value of the field at that index, counted from 0.
@@ -96,7 +114,7 @@ impl Fields {
         requires { i < length self.now }
         ensures { slice_get self.now i ≡ Some (result.0.now, result.1.now) }
     {
-        let pair = &self.pairs[i];
+        let pair = &self.pairs()[i];
         (&pair.0, &pair.1)
     }
 
@@ -106,7 +124,7 @@ impl Fields {
     {
         FieldsOf {
             name,
-            rest: &self.pairs,
+            rest: self.pairs(),
         }
     }
 
@@ -124,30 +142,43 @@ impl Fields {
         ensures added { OnOk result (self.new ≡ self.old ++ (name, value) ∷ []) }
         ensures unchanged { OnErr result (self.new ≡ self.old) }
     {
-        self.pairs.push((name, value))?;
-        Ok(())
+        match &mut self.shared {
+            Some(shared) => push_shared(shared, name, value),
+            None => {
+                self.shared = Some(share(self.alloc, name, value)?);
+                Ok(())
+            }
+        }
     }
 
-    /// Takes away all fields of that name, in any case. It takes no memory.
-    pub fn remove(&mut self, name: &[u8])
-        ensures { self.new ≡ without name.now self.old }
+    /// Takes away all fields of that name, in any case. A list that has none of them stays shared. After `NoMemory` the list
+    /// is as before.
+    pub fn remove(&mut self, name: &[u8]) -> Result<(), NoMemory>
+        ensures removed { OnOk result (self.new ≡ without name.now self.old) }
+        ensures unchanged { OnErr result (self.new ≡ self.old) }
     {
-        self.pairs
-            .retain(|pair| !is_same_name(pair.0.bytes(), name));
+        match &mut self.shared {
+            Some(shared) => remove_shared(shared, name),
+            None => Ok(()),
+        }
     }
 
     /// Whether a field of that name with that value stands, both in any case.
     pub fn has_value(&self, name: &[u8], value: &[u8]) -> bool
         ensures { result ≡ list_any (is_valued name.now value.now) self.now }
     {
-        self.pairs.iter().any(|pair| is_valued(pair, name, value))
+        self.pairs().iter().any(|pair| is_valued(pair, name, value))
     }
 
-    /// Takes away the fields of that name with that value, both in any case. It takes no memory.
-    pub fn remove_value(&mut self, name: &[u8], value: &[u8])
-        ensures { self.new ≡ filter (λ field. not (is_valued name.now value.now field)) self.old }
+    /// Takes away the fields of that name with that value, both in any case. After `NoMemory` the list is as before.
+    pub fn remove_value(&mut self, name: &[u8], value: &[u8]) -> Result<(), NoMemory>
+        ensures removed { OnOk result (self.new ≡ filter (λ field. not (is_valued name.now value.now field)) self.old) }
+        ensures unchanged { OnErr result (self.new ≡ self.old) }
     {
-        self.pairs.retain(|pair| !is_valued(pair, name, value));
+        match &mut self.shared {
+            Some(shared) => remove_value_shared(shared, name, value),
+            None => Ok(()),
+        }
     }
 
     /// Puts the field at the place of the first of its name, in any case, and takes away the others of that name; without
@@ -156,13 +187,9 @@ impl Fields {
         ensures set { OnOk result (self.new ≡ set_in name value self.old) }
         ensures unchanged { OnErr result (self.new ≡ self.old) }
     {
-        match position_of(&self.pairs, name.bytes()) {
+        match &mut self.shared {
+            Some(shared) => set_shared(shared, name, value),
             None => self.add(name, value),
-            Some(first) => {
-                remove_from(&mut self.pairs, first + 1, name.bytes());
-                self.pairs[first] = (name, value);
-                Ok(())
-            }
         }
     }
 
@@ -171,6 +198,97 @@ impl Fields {
         ensures { IfOk result (λ copy. copy ≡ self.now) }
     {
         Ok(self.clone()?)
+    }
+}
+
+// A list of this field alone.
+fn share(alloc: Global, name: Name, value: Value) -> Result<Rc<Vec<(Name, Value)>>, NoMemory>
+    ensures { IfOk result (λ shared. shared.value.items ≡ (name, value) ∷ []) }
+{
+    let mut pairs = Vec::new(alloc);
+    pairs.push((name, value))?;
+    Ok(Rc::new(alloc, pairs)?)
+}
+
+fn push_shared(
+    shared: &mut Rc<Vec<(Name, Value)>>,
+    name: Name,
+    value: Value,
+) -> Result<(), NoMemory>
+    ensures added { OnOk result (shared.new.value.items ≡ shared.old.value.items ++ (name, value) ∷ []) }
+    ensures unchanged { OnErr result (shared.new.value.items ≡ shared.old.value.items) }
+{
+    push_pair(Rc::make_mut(shared)?, name, value)
+}
+
+fn remove_shared(shared: &mut Rc<Vec<(Name, Value)>>, name: &[u8]) -> Result<(), NoMemory>
+    ensures removed { OnOk result (shared.new.value.items ≡ without name.now shared.old.value.items) }
+    ensures unchanged { OnErr result (shared.new.value.items ≡ shared.old.value.items) }
+{
+    match position_of(shared.as_slice(), name) {
+        None => Ok(()),
+        Some(_) => remove_from_own(shared, name),
+    }
+}
+
+fn remove_from_own(shared: &mut Rc<Vec<(Name, Value)>>, name: &[u8]) -> Result<(), NoMemory>
+    ensures removed { OnOk result (shared.new.value.items ≡ without name.now shared.old.value.items) }
+    ensures unchanged { OnErr result (shared.new.value.items ≡ shared.old.value.items) }
+{
+    remove_named(Rc::make_mut(shared)?, name);
+    Ok(())
+}
+
+fn remove_named(pairs: &mut Vec<(Name, Value)>, name: &[u8])
+    ensures { pairs.new.items ≡ without name.now pairs.old.items }
+{
+    pairs.retain(|pair| !is_same_name(pair.0.bytes(), name));
+}
+
+fn remove_value_shared(
+    shared: &mut Rc<Vec<(Name, Value)>>,
+    name: &[u8],
+    value: &[u8],
+) -> Result<(), NoMemory>
+    ensures removed { OnOk result (shared.new.value.items ≡ filter (λ field. not (is_valued name.now value.now field)) shared.old.value.items) }
+    ensures unchanged { OnErr result (shared.new.value.items ≡ shared.old.value.items) }
+{
+    remove_valued(Rc::make_mut(shared)?, name, value);
+    Ok(())
+}
+
+fn remove_valued(pairs: &mut Vec<(Name, Value)>, name: &[u8], value: &[u8])
+    ensures { pairs.new.items ≡ filter (λ field. not (is_valued name.now value.now field)) pairs.old.items }
+{
+    pairs.retain(|pair| !is_valued(pair, name, value));
+}
+
+fn set_shared(shared: &mut Rc<Vec<(Name, Value)>>, name: Name, value: Value) -> Result<(), NoMemory>
+    ensures set { OnOk result (shared.new.value.items ≡ set_in name value shared.old.value.items) }
+    ensures unchanged { OnErr result (shared.new.value.items ≡ shared.old.value.items) }
+{
+    set_among(Rc::make_mut(shared)?, name, value)
+}
+
+fn push_pair(pairs: &mut Vec<(Name, Value)>, name: Name, value: Value) -> Result<(), NoMemory>
+    ensures added { OnOk result (pairs.new.items ≡ pairs.old.items ++ (name, value) ∷ []) }
+    ensures unchanged { OnErr result (pairs.new.items ≡ pairs.old.items) }
+{
+    pairs.push((name, value))?;
+    Ok(())
+}
+
+fn set_among(pairs: &mut Vec<(Name, Value)>, name: Name, value: Value) -> Result<(), NoMemory>
+    ensures set { OnOk result (pairs.new.items ≡ set_in name value pairs.old.items) }
+    ensures unchanged { OnErr result (pairs.new.items ≡ pairs.old.items) }
+{
+    match position_of(pairs, name.bytes()) {
+        None => push_pair(pairs, name, value),
+        Some(first) => {
+            remove_from(pairs, first + 1, name.bytes());
+            pairs[first] = (name, value);
+            Ok(())
+        }
     }
 }
 

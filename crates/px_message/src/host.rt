@@ -63,9 +63,10 @@ impl Host {
         ensures refused { IfErr result (IsRefused bytes.items) }
     {
         match is_host(alloc, &bytes) {
-            Ok(true) => Ok(Host {
-                bytes: Bytes::new(bytes),
-            }),
+            Ok(true) => match Bytes::new(bytes) {
+                Ok(bytes) => Ok(Host { bytes }),
+                Err(NoMemory) => Err(BadHost::NoMemory),
+            },
             Ok(false) => Err(BadHost::Malformed(bytes)),
             Err(NoMemory) => Err(BadHost::NoMemory),
         }

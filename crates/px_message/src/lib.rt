@@ -3,7 +3,12 @@
 //!
 //! A value is right by its type: a `Name` is a token, a `Value` has no CR, LF or NUL, a `Host` is one that an authority
 //! may have, a `Path` has no blank and no control byte. So whatever is written from these types is read back as one
-//! message. A constructor that refuses hands its bytes back; the refusal is exact in both directions.
+//! message. A constructor that refuses hands its bytes back, but for want of memory; the refusal is exact in both
+//! directions.
+//!
+//! Copies share what they hold: the bytes of names, values, paths and bodies, and a list of fields as a whole until one of
+//! its copies is changed. So a copy of a message costs the same whatever its length, and a change of one copy is seen
+//! in no other.
 //!
 //! Contracts see a `Name`, a `Value`, a `Host`, a `Path` and a `Body` as the list of their bytes, a `Status` as its
 //! number and `Fields` as the list of their pairs, in the sender's order and spelling.
@@ -29,8 +34,6 @@ pub mod settle_laws;
 mod stated;
 mod status;
 mod target;
-#[cfg(test)]
-mod tests;
 mod url;
 mod value;
 mod version;

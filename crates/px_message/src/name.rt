@@ -1,6 +1,7 @@
 //! Names of fields and methods: tokens.
 ghost use Rattle.std.specs.Prelude.{◌≡◌, true, false, IfOk, IfErr};
 ghost use Rattle.httparse.specs.Grammar.{is_token};
+ghost use Rattle.px_message.specs.Refused.{IsNoName};
 
 use px_text::{Bytes, NoMemory};
 use std::alloc::{AllocError, Global};
@@ -12,9 +13,14 @@ pub struct Name {
     bytes: Bytes,
 }
 
-/// The bytes that were handed in: they are no token.
+/// Why a name was refused.
 #[derive(Debug, Drop)]
-pub struct BadName(pub Vec<u8>);
+pub enum BadName {
+    /// The bytes that were handed in: they are no token.
+    Malformed(Vec<u8>),
+    /// Memory ran out; it says nothing of the bytes.
+    NoMemory,
+}
 
 impl Model for Name {
     ghost use Rattle.std.specs.Prelude.{◌≡◌, List, ℕ, true};
@@ -44,14 +50,26 @@ impl Name {
     /// neither a letter, a digit nor one of ``!#$%&'*+-.^_`|~``.
     pub fn try_new(bytes: Vec<u8>) -> Result<Name, BadName>
         ensures ok { IfOk result (λ name. (name ≡ bytes.items) × (is_token bytes.items ≡ true)) }
-        ensures refused { IfErr result (λ e. (e.0.items ≡ bytes.items) × (is_token bytes.items ≡ false)) }
+        ensures refused { IfErr result (IsNoName bytes.items) }
     {
-        if httparse::is_token(&bytes) {
-            Ok(Name {
-                bytes: Bytes::new(bytes),
-            })
+        if !httparse::is_token(&bytes) {
+            return Err(BadName::Malformed(bytes));
+        }
+        match Bytes::new(bytes) {
+            Ok(bytes) => Ok(Name { bytes }),
+            Err(NoMemory) => Err(BadName::NoMemory),
+        }
+    }
+
+    /// The name of these bytes, shared. Refused, with the bytes, exactly where `try_new` refuses them. It takes no memory.
+    pub fn from_bytes(bytes: Bytes) -> Result<Name, Bytes>
+        ensures ok { IfOk result (λ name. (name ≡ bytes) × (is_token bytes ≡ true)) }
+        ensures refused { IfErr result (λ back. (back ≡ bytes) × (is_token bytes ≡ false)) }
+    {
+        if httparse::is_token(bytes.as_slice()) {
+            Ok(Name { bytes })
         } else {
-            Err(BadName(bytes))
+            Err(bytes)
         }
     }
 
@@ -61,7 +79,7 @@ impl Name {
         ensures { IfOk result (λ name. name ≡ text.now) }
     {
         Ok(Name {
-            bytes: Bytes::new(text.to_vec(alloc)?),
+            bytes: Bytes::copied(alloc, text)?,
         })
     }
 

@@ -2,6 +2,7 @@
 ghost use Rattle.std.specs.Prelude.{◌≡◌, ◌==◌, true, false, IfOk, IfErr, slice_index};
 ghost use Rattle.std.specs.List.{list_all};
 ghost use Rattle.px_message.specs.Path.{is_path, is_path_byte};
+ghost use Rattle.px_message.specs.Refused.{IsNoPath};
 
 use px_text::{Bytes, NoMemory};
 use std::alloc::AllocError;
@@ -14,9 +15,14 @@ pub struct Path {
     bytes: Bytes,
 }
 
-/// The bytes that were handed in: they are no path.
+/// Why a path was refused.
 #[derive(Debug, Drop)]
-pub struct BadPath(pub Vec<u8>);
+pub enum BadPath {
+    /// The bytes that were handed in: they are no path.
+    Malformed(Vec<u8>),
+    /// Memory ran out; it says nothing of the bytes.
+    NoMemory,
+}
 
 impl Model for Path {
     ghost use Rattle.std.specs.Prelude.{◌≡◌, List, ℕ, true};
@@ -46,14 +52,26 @@ impl Path {
     /// no byte up to 0x20 and no 0x7F.
     pub fn try_new(bytes: Vec<u8>) -> Result<Path, BadPath>
         ensures ok { IfOk result (λ path. (path ≡ bytes.items) × (is_path bytes.items ≡ true)) }
-        ensures refused { IfErr result (λ e. (e.0.items ≡ bytes.items) × (is_path bytes.items ≡ false)) }
+        ensures refused { IfErr result (IsNoPath bytes.items) }
     {
-        if is_path(&bytes) {
-            Ok(Path {
-                bytes: Bytes::new(bytes),
-            })
+        if !is_path(&bytes) {
+            return Err(BadPath::Malformed(bytes));
+        }
+        match Bytes::new(bytes) {
+            Ok(bytes) => Ok(Path { bytes }),
+            Err(NoMemory) => Err(BadPath::NoMemory),
+        }
+    }
+
+    /// The path of these bytes, shared. Refused, with the bytes, exactly where `try_new` refuses them. It takes no memory.
+    pub fn from_bytes(bytes: Bytes) -> Result<Path, Bytes>
+        ensures ok { IfOk result (λ path. (path ≡ bytes) × (is_path bytes ≡ true)) }
+        ensures refused { IfErr result (λ back. (back ≡ bytes) × (is_path bytes ≡ false)) }
+    {
+        if is_path(bytes.as_slice()) {
+            Ok(Path { bytes })
         } else {
-            Err(BadPath(bytes))
+            Err(bytes)
         }
     }
 

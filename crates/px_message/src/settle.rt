@@ -39,7 +39,7 @@ pub fn settle_response(response: &mut Response, asked_head: bool) -> Result<(), 
 {
     if has_no_body(response.status.code(), asked_head) {
         let alloc = response.fields.allocator();
-        response.body = Body::new(Vec::new(alloc));
+        response.body = Body::empty();
         response.trailers = Fields::new(alloc);
         return Ok(());
     }
@@ -53,10 +53,9 @@ fn settle_request_fields(fields: &mut Fields, length: u64) -> Result<(), NoMemor
     ensures { OnOk result (fields.new ≡ settled_request_fields length fields.old) }
 {
     if is_framed_in_chunks(fields) {
-        fields.remove(CONTENT_LENGTH);
-        return Ok(());
+        return fields.remove(CONTENT_LENGTH);
     }
-    fields.remove(TRANSFER_ENCODING);
+    fields.remove(TRANSFER_ENCODING)?;
     measure_request(fields, length)
 }
 
@@ -68,12 +67,9 @@ fn settle_response_fields(fields: &mut Fields, length: u64) -> Result<(), NoMemo
         return measure_response(fields, length);
     }
     match by_codings(fields) {
-        Ok(_) => {
-            fields.remove(CONTENT_LENGTH);
-            Ok(())
-        }
+        Ok(_) => fields.remove(CONTENT_LENGTH),
         Err(_) => {
-            fields.remove(TRANSFER_ENCODING);
+            fields.remove(TRANSFER_ENCODING)?;
             measure_response(fields, length)
         }
     }

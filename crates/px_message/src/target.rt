@@ -20,7 +20,7 @@ ghost use Rattle.px_message.specs.Target.{
 };
 
 use crate::authority::{after_host, copy, read_address};
-use crate::{Address, Path};
+use crate::{Address, BadPath, Path};
 use px_text::eq_ignore_case;
 use std::alloc::Global;
 
@@ -82,11 +82,12 @@ fn rooted(alloc: Global, tail: &[u8]) -> Result<Vec<u8>, TargetError>
 #[tactic(auto, unfolding(crate::specs::Target::path_form))]
 fn read_path(path: Vec<u8>) -> Result<Path, TargetError>
     ensures ok { IfOk result (λ read. path_form path.items ≡ Some read) }
-    ensures bad { IfErr result (λ e. (e ≡ TargetError.BadTarget) × (path_form path.items ≡ None)) }
+    ensures bad { result ≡ Err TargetError.BadTarget → path_form path.items ≡ None }
 {
     match Path::try_new(path) {
         Ok(read) => Ok(read),
-        Err(_) => Err(TargetError::BadTarget),
+        Err(BadPath::Malformed(_)) => Err(TargetError::BadTarget),
+        Err(BadPath::NoMemory) => Err(TargetError::NoMemory),
     }
 }
 

@@ -1,6 +1,7 @@
 //! Values of fields: bytes that end no line.
 ghost use Rattle.std.specs.Prelude.{◌≡◌, true, false, decimal, IfOk, IfErr};
 ghost use Rattle.px_message.specs.Value.{is_value};
+ghost use Rattle.px_message.specs.Refused.{IsNoValue};
 
 use itoa::Buffer;
 use px_text::{Bytes, NoMemory};
@@ -13,9 +14,14 @@ pub struct Value {
     bytes: Bytes,
 }
 
-/// The bytes that were handed in: they have a CR, an LF or a NUL.
+/// Why a value was refused.
 #[derive(Debug, Drop)]
-pub struct BadValue(pub Vec<u8>);
+pub enum BadValue {
+    /// The bytes that were handed in: they have a CR, an LF or a NUL.
+    Malformed(Vec<u8>),
+    /// Memory ran out; it says nothing of the bytes.
+    NoMemory,
+}
 
 impl Model for Value {
     ghost use Rattle.std.specs.Prelude.{◌≡◌, List, ℕ, true};
@@ -44,14 +50,26 @@ impl Value {
     /// The value of these bytes. Refused, with the bytes, exactly where a CR, an LF or a NUL stands among them.
     pub fn try_new(bytes: Vec<u8>) -> Result<Value, BadValue>
         ensures ok { IfOk result (λ value. (value ≡ bytes.items) × (is_value bytes.items ≡ true)) }
-        ensures refused { IfErr result (λ e. (e.0.items ≡ bytes.items) × (is_value bytes.items ≡ false)) }
+        ensures refused { IfErr result (IsNoValue bytes.items) }
     {
-        if is_value(&bytes) {
-            Ok(Value {
-                bytes: Bytes::new(bytes),
-            })
+        if !is_value(&bytes) {
+            return Err(BadValue::Malformed(bytes));
+        }
+        match Bytes::new(bytes) {
+            Ok(bytes) => Ok(Value { bytes }),
+            Err(NoMemory) => Err(BadValue::NoMemory),
+        }
+    }
+
+    /// The value of these bytes, shared. Refused, with the bytes, exactly where `try_new` refuses them. It takes no memory.
+    pub fn from_bytes(bytes: Bytes) -> Result<Value, Bytes>
+        ensures ok { IfOk result (λ value. (value ≡ bytes) × (is_value bytes ≡ true)) }
+        ensures refused { IfErr result (λ back. (back ≡ bytes) × (is_value bytes ≡ false)) }
+    {
+        if is_value(bytes.as_slice()) {
+            Ok(Value { bytes })
         } else {
-            Err(BadValue(bytes))
+            Err(bytes)
         }
     }
 
@@ -61,7 +79,7 @@ impl Value {
         ensures { IfOk result (λ value. value ≡ text.now) }
     {
         Ok(Value {
-            bytes: Bytes::new(text.to_vec(alloc)?),
+            bytes: Bytes::copied(alloc, text)?,
         })
     }
 

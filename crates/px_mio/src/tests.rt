@@ -2,6 +2,7 @@
 use crate::MioWire;
 use px_event::{Said, Side, Step};
 use px_message::{Address, Host};
+use px_text::NoMemory;
 use px_wire::{Got, Put, Ready, Wire};
 use std::alloc::Global;
 use std::io::{self, Read, Write};
@@ -81,13 +82,27 @@ fn dial<R: Net + Wait + Clock + Alloc<A = Global> + Drop>(
     port: u16,
 ) -> Result<u32, Fail> {
     let address = address(alloc, port)?;
+    let slot = dial_at(wire, &address)?;
+    Ok(slot)
+}
+
+fn dial_at<R: Net + Wait + Clock + Alloc<A = Global> + Drop>(
+    wire: &mut MioWire<R>,
+    address: &Address,
+) -> Result<u32, NoMemory> {
+    let step = some_step();
+    let slot = wire.dial(address, &step);
+    drop(step);
+    slot
+}
+
+// The step that a dial is handed; sockets only look at it.
+fn some_step() -> Step {
     let side = Side::Client;
-    let step = Step::Said {
+    Step::Said {
         conv: 0,
         said: Said::Close { side },
-    };
-    let slot = wire.dial(&address, &step)?;
-    Ok(slot)
+    }
 }
 
 // How the slot's dial ended, where this tells it.

@@ -82,7 +82,7 @@ impl MemFiles {
     fn copy(&self, bytes: &[u8]) -> Result<Bytes, NoMemory>
         ensures { IfOk result (λ copy. copy ≡ bytes.now) }
     {
-        Ok(Bytes::new(Vec::from_slice(self.alloc, bytes)?))
+        Bytes::copied(self.alloc, bytes)
     }
 }
 

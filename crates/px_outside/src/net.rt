@@ -70,8 +70,8 @@ pub trait Net {
         ensures fault { result ≡ Err NetError.Fault → Rose (faults self.old) (faults self.new) };
 
     /// Says something to a side of the conversation. After an error nothing was said.
-    fn say(&mut self, conv: u32, said: &Said) -> Result<(), NoMemory>
-        ensures said { OnOk result (Adds (trace self.old) (trace self.new) (Step.Said conv said.now)) }
+    fn say(&mut self, conv: u32, said: Said) -> Result<(), NoMemory>
+        ensures said { OnOk result (Adds (trace self.old) (trace self.new) (Step.Said conv said)) }
         ensures err { OnErr result (trace self.new ≡ trace self.old) }
         ensures listening { listening self.new ≡ listening self.old }
         ensures faults { faults self.new ≡ faults self.old };

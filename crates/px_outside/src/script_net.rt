@@ -174,17 +174,16 @@ impl Net for ScriptNet {
         Ok((moment, heard))
     }
 
-    fn say(&mut self, conv: u32, said: &Said) -> Result<(), NoMemory>
-        ensures said { OnOk result (Adds (Some self.old.trace) (Some self.new.trace) (Step.Said conv said.now)) }
+    fn say(&mut self, conv: u32, said: Said) -> Result<(), NoMemory>
+        ensures said { OnOk result (Adds (Some self.old.trace) (Some self.new.trace) (Step.Said conv said)) }
         ensures err { OnErr result (Some self.new.trace ≡ Some self.old.trace) }
         ensures listening { self.new.listening ≡ self.old.listening }
         ensures faults { self.new.faults ≡ self.old.faults }
 
         // What each answer leaves.
-        ensures after_ok { OnOk result (self.new ≡ after_step self.old (Step.Said conv said.now)) }
+        ensures after_ok { OnOk result (self.new ≡ after_step self.old (Step.Said conv said)) }
         ensures after_no_memory { OnErr result (self.new ≡ self.old) }
     {
-        let said = said.try_clone()?;
         self.add(Step::Said { conv, said })
     }
 

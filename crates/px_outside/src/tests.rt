@@ -12,7 +12,7 @@ use std::rt::HostRuntime;
 use std::test::Fail;
 
 fn bytes(alloc: Global, text: &[u8]) -> Result<Bytes, Fail> {
-    Ok(Bytes::new(Vec::from_slice(alloc, text)?))
+    Ok(Bytes::copied(alloc, text)?)
 }
 
 fn write_to<S: Sink>(sink: &mut S, piece: &[u8]) -> Result<(), SinkError> {
@@ -209,9 +209,9 @@ fn what_is_said_is_kept_for_each_side(rt: HostRuntime) -> Result<(), Fail> {
         (1, first, b"cd"),
         (1, client, b"y."),
     ] {
-        assert_eq!(rt; net.say(conv, &send(alloc, side, text)?), Ok(()));
+        assert_eq!(rt; net.say(conv, send(alloc, side, text)?), Ok(()));
     }
-    assert_eq!(rt; net.say(1, &Said::Close { side: first }), Ok(()));
+    assert_eq!(rt; net.say(1, Said::Close { side: first }), Ok(()));
     let hook = Hook::RequestHead;
     let ask = Ask::Hook { flow: 0, hook };
     assert_eq!(rt; net.note(&Step::Asked { conv: 1, ask }), Ok(()));

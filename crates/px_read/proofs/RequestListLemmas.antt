@@ -1,9 +1,9 @@
 -- Requests one behind the other, over more bytes.
-use Rattle.std.proofs.Common.{ℕ, zero, suc, ◌+◌, ◌≤◌, ◌≡◌, true, List, [], ◌∷◌, ◌++◌, length, drop, refl, sym, ap, ◌∙◌, subst, arith, length-drop, length-append}
+use Rattle.std.proofs.Common.{ℕ, zero, suc, ◌≤◌, ◌≡◌, List, [], ◌∷◌, ◌++◌, length, drop, refl, sym, ap, ◌∙◌, subst, arith, length-drop}
 use Rattle.std.proofs.lemmas.List.{drop-append-le}
 use Rattle.px_text.specs.Prefix.{IsPrefixOf}
 use Rattle.px_read.specs.Items.{Body, Item, missing, part, complete, bad_head, bad_body, request_item}
-use Rattle.px_read.specs.Requests.{Requests, behind_whole, requests_behind, requests_within, request_list}
+use Rattle.px_read.specs.Requests.{Requests, behind_whole, requests_behind, requests_within}
 use Rattle.px_read.specs.declared.head.RequestHead.{RequestHead}
 use Rattle.px_read.proofs.ItemLemmas.{request_carries, request_used}
 use Rattle.px_read.proofs.LawLemmas.{chunk_laws}

@@ -2,7 +2,7 @@
 -- is not whole, or none yet, or a refused one.
 use Rattle.std.specs.Prelude.{◌≡◌, ℕ, zero, suc, ◌+◌, ◌≤◌, List, [], ◌∷◌, ◌++◌, length, drop}
 use Rattle.px_text.specs.Prefix.{IsPrefixOf}
-use Rattle.px_read.specs.Items.{Item, missing, part, complete, bad_head, bad_body, request_item}
+use Rattle.px_read.specs.Items.{Item, complete, request_item}
 use Rattle.px_read.specs.declared.head.RequestHead.{RequestHead}
 
 pub record Requests : Type 0 where

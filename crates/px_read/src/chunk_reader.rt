@@ -5,7 +5,7 @@
 //! the bytes go, its CR, its LF, the trailers a line at a time. Each stage is a function of what it has and of the bytes,
 //! so the definition is met stage by stage (`specs/Chunks.antt`): where the bytes of a stage end, those behind them are
 //! heard from the place that it led to.
-ghost use Rattle.std.specs.Prelude.{◌≡◌, ◌<◌, ◌≤◌, [], drop, length};
+ghost use Rattle.std.specs.Prelude.{◌≡◌, ◌<◌, ◌≤◌, ◌^◌, [], IfOk, drop, length};
 
 mod content;
 mod line;
@@ -13,7 +13,7 @@ mod stage;
 mod trailers;
 
 use crate::ChunkPart;
-use px_text::NoMemory;
+use px_text::{Bytes, NoMemory};
 use stage::{Stage, Turn, hear};
 use std::alloc::{AllocError, AllocFailed, Global};
 use std::marker::Model;
@@ -88,7 +88,6 @@ impl Model for ChunkReader {
 }
 
 impl ChunkReader {
-    ghost use Rattle.std.specs.Prelude.{IfOk};
     ghost use Rattle.px_text.specs.Prefix.{IsPrefixOf};
     ghost use Rattle.px_read.specs.Chunks.{in_line};
     ghost use Rattle.px_read.specs.Chunking.{chunking_keeps, reads};
@@ -124,7 +123,7 @@ impl ChunkReader {
     ///
     /// After its end, and where it has ended, nothing is used. `BadChunk` comes with the parts before it, and again for
     /// ever.
-    pub fn feed(&mut self, bytes: &[u8], out: &mut Vec<ChunkPart>) -> Result<usize, ChunkError>
+    pub fn feed(&mut self, bytes: &Bytes, out: &mut Vec<ChunkPart>) -> Result<usize, ChunkError>
         ensures kept { IsPrefixOf out.old.items out.new.items }
         ensures parts { UnlessNoMemory result (Added self.old bytes.now (drop (length out.old.items) out.new.items)) }
         ensures answer { UnlessNoMemory result (result ≡ feed_answer self.old bytes.now) }
@@ -132,7 +131,7 @@ impl ChunkReader {
     {
         let mut at = 0;
         loop {
-            let step = self.step(&bytes[at..])?;
+            let step = self.step_at(bytes, at)?;
             at += step.used;
             match step.part {
                 Some(part) => out.push(part)?,
@@ -141,8 +140,20 @@ impl ChunkReader {
         }
     }
 
+    // Hears the bytes from a place on, up to the next part.
+    fn step_at(&mut self, bytes: &Bytes, at: usize) -> Result<ChunkStep, ChunkError>
+        requires { at ≤ length bytes.now }
+        ensures going { UnlessNoMemory result (IsOpen self.old) }
+        ensures within { IfOk result (λ step. step.used ≤ length (drop at bytes.now)) }
+        ensures small { length bytes.now < 2 ^ 64 }
+        ensures step { UnlessNoMemory result (Steps self.old (drop at bytes.now) result self.new) }
+    {
+        let rest = bytes_from(bytes, at)?;
+        self.step(&rest)
+    }
+
     /// Hears the bytes up to the next part.
-    pub(crate) fn step(&mut self, bytes: &[u8]) -> Result<ChunkStep, ChunkError>
+    pub(crate) fn step(&mut self, bytes: &Bytes) -> Result<ChunkStep, ChunkError>
         ensures going { IsOpen self.old }
         ensures within { IfOk result (λ step. step.used ≤ length bytes.now) }
         ensures step { Steps self.old bytes.now result self.new }
@@ -159,7 +170,7 @@ impl ChunkReader {
         }
         let mut at = 0;
         while at < bytes.len() {
-            let turn = self.turn(&bytes[at..])?;
+            let turn = self.turn(bytes, at)?;
             at += turn.used;
             if turn.part.is_some() {
                 return Ok(ChunkStep {
@@ -174,18 +185,28 @@ impl ChunkReader {
         })
     }
 
-    // Hears the bytes of the stage, at least one.
-    fn turn(&mut self, bytes: &[u8]) -> Result<ChunkStep, ChunkError>
+    // Hears the bytes of the stage from a place on, at least one.
+    fn turn(&mut self, bytes: &Bytes, at: usize) -> Result<ChunkStep, ChunkError>
         requires going { IsGoing self.old }
-        requires some { 0 < length bytes.now }
-        ensures { Moves self.old bytes.now result self.new }
+        requires some { at < length bytes.now }
+        ensures { Moves self.old (drop at bytes.now) result self.new }
     {
+        let rest = bytes_from(bytes, at)?;
         let stage = mem::replace(&mut self.stage, Stage::Refused);
-        let turn = hear(stage, &mut self.line, bytes)?;
+        let turn = hear(stage, &mut self.line, &rest)?;
         self.stage = turn.stage;
         Ok(ChunkStep {
             used: turn.used,
             part: turn.part,
         })
     }
+}
+
+// The bytes from a place on, shared.
+fn bytes_from(bytes: &Bytes, at: usize) -> Result<Bytes, NoMemory>
+    requires { at ≤ length bytes.now }
+    ensures rest { IfOk result (λ rest. rest ≡ drop at bytes.now) }
+    ensures small { length bytes.now < 2 ^ 64 }
+{
+    bytes.part(at, bytes.len())
 }

@@ -14,8 +14,6 @@ pub mod laws;
 mod message_reader;
 mod part;
 mod parts;
-#[cfg(test)]
-mod tests;
 
 pub use chunk_reader::{ChunkError, ChunkReader};
 pub use head::{RequestHead, ResponseHead};

@@ -11,14 +11,12 @@ mod body;
 mod head;
 mod pending;
 mod stage;
-#[cfg(test)]
-mod tests;
 
 use crate::Part;
 use pending::Pending;
 use px_head::HeadReader;
 use px_message::Fault;
-use px_text::NoMemory;
+use px_text::{Bytes, NoMemory};
 use stage::{Stage, take_turn};
 use std::alloc::Global;
 use std::marker::Model;
@@ -27,7 +25,9 @@ use std::mem;
 /// A reader of one request or one response, interim or final. In a contract it is where in the message the next byte stands,
 /// the bytes that were fed and not used, and whether its sender has closed.
 ///
-/// A message costs a small multiple of its bytes, however they are cut. After `NoMemory` the reader may only be dropped.
+/// A message costs a small multiple of its bytes, however they are cut, where the parts of a piece are taken before the next
+/// piece is fed. The parts share its bytes with who fed them: a piece of a body is not copied. After `NoMemory` the reader
+/// may only be dropped.
 #[derive(Debug, Drop)]
 pub struct MessageReader {
     alloc: Global,
@@ -56,7 +56,7 @@ impl MessageReader {
         MessageReader {
             alloc,
             stage: Stage::Request(HeadReader::new(alloc)),
-            rest: Pending::new(Vec::new(alloc)),
+            rest: Pending::new(Bytes::empty()),
             closed: false,
         }
     }
@@ -72,21 +72,21 @@ impl MessageReader {
                 asked_head,
                 reader: HeadReader::new(alloc),
             },
-            rest: Pending::new(Vec::new(alloc)),
+            rest: Pending::new(Bytes::empty()),
             closed: false,
         }
     }
 
     /// Adds a piece of the sender's bytes behind those that came before. None comes behind the sender's close.
-    pub fn feed(&mut self, bytes: &[u8]) -> Result<(), NoMemory>
+    pub fn feed(&mut self, bytes: &Bytes) -> Result<(), NoMemory>
         requires before_close { self.old.closed ≡ false }
         ensures state { OnOk result (self.new ≡ record self.old { rest = self.old.rest ++ bytes.now }) }
         ensures reads { (message : Message) (told : List Mark) (fed : List ℕ) → Reads message told fed false self.old → OnOk result (Reads message told (fed ++ bytes.now) false self.new) }
     {
         match &mut self.stage {
-            Stage::Request(reader) => reader.feed(bytes),
-            Stage::Response { reader, .. } => reader.feed(bytes),
-            _ => self.rest.feed(bytes),
+            Stage::Request(reader) => reader.feed(bytes.as_slice()),
+            Stage::Response { reader, .. } => reader.feed(bytes.as_slice()),
+            _ => self.rest.feed(self.alloc, bytes),
         }
     }
 
@@ -113,7 +113,7 @@ impl MessageReader {
         ensures again { has_stopped self.old.place ≡ true → OnOk result (self.new ≡ self.old) }
     {
         let stage = mem::replace(&mut self.stage, Stage::Refused(Fault::BadResponse));
-        let rest = mem::replace(&mut self.rest, Pending::new(Vec::new(self.alloc)));
+        let rest = mem::replace(&mut self.rest, Pending::new(Bytes::empty()));
         let turn = take_turn(self.alloc, stage, rest, self.closed)?;
         self.stage = turn.stage;
         self.rest = turn.rest;
@@ -136,15 +136,15 @@ impl MessageReader {
         }
     }
 
-    /// The bytes that were fed and not used, without taking memory. After `End` they are those behind the message.
-    pub fn into_rest(self) -> Vec<u8>
-        ensures { result.items ≡ self.rest }
+    /// The bytes that were fed and not used. After `End` they are those behind the message.
+    pub fn into_rest(self) -> Result<Bytes, NoMemory>
+        ensures { IfOk result (λ rest. rest ≡ self.rest) }
     {
         let MessageReader { stage, rest, .. } = self;
         match stage {
-            Stage::Request(reader) => reader.into_rest(),
-            Stage::Response { reader, .. } => reader.into_rest(),
-            _ => rest.into_vec(),
+            Stage::Request(reader) => Bytes::new(reader.into_rest()),
+            Stage::Response { reader, .. } => Bytes::new(reader.into_rest()),
+            _ => Ok(rest.into_bytes()),
         }
     }
 }

@@ -65,7 +65,7 @@ fn read_name(bytes: Bytes) -> Name
     requires { is_token bytes ≡ true }
     ensures { result ≡ bytes }
 {
-    match Name::try_new(bytes.into_vec()) {
+    match Name::from_bytes(bytes) {
         Ok(name) => name,
         Err(_) => unreachable!(),
     }
@@ -76,7 +76,7 @@ fn read_value(bytes: Bytes) -> Value
     requires { IsValueText bytes }
     ensures { result ≡ bytes }
 {
-    match Value::try_new(bytes.into_vec()) {
+    match Value::from_bytes(bytes) {
         Ok(value) => value,
         Err(_) => unreachable!(),
     }

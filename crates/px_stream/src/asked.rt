@@ -9,7 +9,7 @@ use px_message::{
     read_target,
 };
 use px_read::RequestHead;
-use px_text::NoMemory;
+use px_text::{Bytes, NoMemory};
 use std::alloc::Global;
 
 /// What is made of a head: a fault that makes no flow, or the request without its body.
@@ -76,7 +76,7 @@ fn allowed_path(alloc: Global, method: &[u8], target: &[u8]) -> Result<Option<Pa
 fn asterisk(alloc: Global) -> Result<Path, NoMemory>
     ensures { IfOk result (λ path. path ≡ (42 ∷ [])) }
 {
-    match Path::try_new(b"*".as_slice().to_vec(alloc)?) {
+    match Path::from_bytes(Bytes::copied(alloc, b"*")?) {
         Ok(path) => Ok(path),
         Err(_) => unreachable!(),
     }
@@ -94,26 +94,27 @@ fn accept(
 {
     let host = address.host.try_clone()?;
     let expected = expects(&head);
+    let fields = without_expectation(expected, head.fields)?;
     Ok(Request {
         method: head.method,
         host,
         port: address.port,
         path,
         version: head.version,
-        fields: without_expectation(expected, head.fields),
-        body: Body::new(Vec::new(alloc)),
+        fields,
+        body: Body::empty(),
         trailers: Fields::new(alloc),
         streamed: false,
     })
 }
 
 // The fields without the expectation, where it is met.
-fn without_expectation(expected: bool, fields: Fields) -> Fields
-    ensures { result ≡ unless_met expected fields }
+fn without_expectation(expected: bool, fields: Fields) -> Result<Fields, NoMemory>
+    ensures { IfOk result (λ left. left ≡ unless_met expected fields) }
 {
     let mut fields = fields;
     if expected {
-        fields.remove_value(b"Expect", b"100-continue");
+        fields.remove_value(b"Expect", b"100-continue")?;
     }
-    fields
+    Ok(fields)
 }

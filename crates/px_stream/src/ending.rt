@@ -1,8 +1,10 @@
 //! How flows and conversations end: the bytes, the finished flow and the closes, in this order.
 ghost use Rattle.std.specs.Prelude.{◌≡◌, ◌++◌, OnOk, IfOk};
 ghost use Rattle.px_message.specs.Length.{stands as has_field, transfer_encoding};
+ghost use Rattle.px_message.specs.Settle.{settled_response};
 ghost use Rattle.px_write.specs.Error.{error_text as fault_text};
 ghost use Rattle.px_stream.specs.Endings.{connection_goes_on, ends_by_fault, ends_early, finished, persists, refuses, runs_to_close, shut_client, shut_server, shut_unless};
+ghost use Rattle.px_stream.specs.Requests.{is_head as asks_head};
 
 use crate::asked::is_head;
 use crate::flows::{with_error, with_response, without_response};
@@ -56,7 +58,7 @@ fn fault_text(alloc: Global, fault: Fault, asked_head: bool) -> Result<Bytes, No
 {
     let mut text = Vec::new(alloc);
     error_text(fault, asked_head, &mut text)?;
-    Ok(Bytes::new(text))
+    Bytes::new(text)
 }
 
 /// Ends the conversation by a head that makes no flow.
@@ -133,33 +135,42 @@ fn runs_to_close(sent: &Response, asked_head: bool) -> bool
     }
 }
 
-// Whether the client's connection goes on behind this flow.
-fn connection_goes_on(index: u32, request: &Request, response: &Response) -> Result<bool, NoMemory>
-    ensures { IfOk result (λ stays. stays ≡ connection_goes_on index request.now response.now) }
+// The response as it is sent: its framing made true to its body.
+fn settled(request: &Request, response: &Response) -> Result<Response, NoMemory>
+    ensures { IfOk result (λ sent. sent ≡ settled_response (asks_head request.now.method) response.now) }
 {
-    let asked_head = is_head(request.method.bytes());
     let mut sent = response.try_clone()?;
-    settle_response(&mut sent, asked_head)?;
-    let asked = persists(request.version, &request.fields);
-    let answered = persists(response.version, &response.fields);
-    let to_close = runs_to_close(&sent, asked_head);
-    let stays = asked && answered && !to_close;
-    Ok(stays && index < MOST_FLOWS - 1)
+    settle_response(&mut sent, is_head(request.method.bytes()))?;
+    Ok(sent)
 }
 
-// The text, the flow, and the close of its server's side.
+// Whether the client's connection goes on behind this flow, whose response was settled to this one.
+fn connection_goes_on(index: u32, request: &Request, response: &Response, sent: &Response) -> bool
+    requires settled { sent.now ≡ settled_response (asks_head request.now.method) response.now }
+    ensures { result ≡ connection_goes_on index request.now response.now }
+{
+    let asked = persists(request.version, &request.fields);
+    let answered = persists(response.version, &response.fields);
+    let to_close = runs_to_close(sent, is_head(request.method.bytes()));
+    let stays = asked && answered && !to_close;
+    stays && index < MOST_FLOWS - 1
+}
+
+// The text, the flow, and the close of its server's side. The response was settled to the one that is sent.
 fn finish_flow(
     now: Now,
     flow: Flow,
     response: Response,
+    sent: &Response,
     used: Used,
     out: &mut Vec<Command>,
 ) -> Result<(), NoMemory>
+    requires settled { sent.now ≡ settled_response (asks_head flow.request.method) response }
     ensures { OnOk result (out.new.items ≡ out.old.items ++ finished flow response used) }
 {
     send(
         Side::Client,
-        returned_text(now.alloc, &flow.request, &response)?,
+        returned_text(now.alloc, &flow.request, sent)?,
         out,
     )?;
     done(with_response(flow, response), out)?;
@@ -179,8 +190,9 @@ pub fn finish(
     ensures stays { IfOk result (λ stays. stays ≡ connection_goes_on index flow.request response) }
     ensures gives { OnOk result (out.new.items ≡ out.old.items ++ finished flow response used ++ shut_unless (connection_goes_on index flow.request response) now.client_closed) }
 {
-    let stays = connection_goes_on(index, &flow.request, &response)?;
-    finish_flow(now, flow, response, used, out)?;
+    let sent = settled(&flow.request, &response)?;
+    let stays = connection_goes_on(index, &flow.request, &response, &sent);
+    finish_flow(now, flow, response, &sent, used, out)?;
     if stays {
         return Ok(true);
     }

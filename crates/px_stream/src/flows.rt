@@ -132,7 +132,7 @@ pub fn with_error(now: Now, flow: Flow, message: &[u8]) -> Result<Flow, NoMemory
 {
     let mut flow = flow;
     flow.error = Some(FlowError {
-        msg: Bytes::new(message.to_vec(now.alloc)?),
+        msg: Bytes::copied(now.alloc, message)?,
         moment: now.moment,
     });
     Ok(flow)

@@ -6,7 +6,7 @@ ghost use Rattle.px_stream.specs.Heard.{link_closes, link_hears};
 
 use crate::ending::Used;
 use px_read::{MessageReader, ResponseHead};
-use px_text::NoMemory;
+use px_text::{Bytes, NoMemory};
 use std::alloc::Global;
 
 /// The server's side of a flow.
@@ -49,15 +49,15 @@ impl Link {
     }
 
     /// What was fed and not used of this side.
-    pub fn into_rest(self) -> Vec<u8>
-        ensures { result.items ≡ self.responses.rest }
+    pub fn into_rest(self) -> Result<Bytes, NoMemory>
+        ensures { IfOk result (λ rest. rest ≡ self.responses.rest) }
     {
         let Link { responses, .. } = self;
         responses.into_rest()
     }
 
     /// Bytes of the server of that number.
-    pub fn hear(&mut self, server: u32, bytes: &[u8]) -> Result<(), NoMemory>
+    pub fn hear(&mut self, server: u32, bytes: &Bytes) -> Result<(), NoMemory>
         requires same { self.old.responses.closed ≡ self.old.closed }
         ensures { OnOk result (self.new ≡ link_hears server bytes.now self.old) }
     {

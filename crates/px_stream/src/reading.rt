@@ -55,7 +55,7 @@ fn hear_part(part: Part, body: &mut Content) -> Result<Option<Progress>, NoMemor
         Part::End(trailers) => Ok(Some(Progress::Whole(trailers))),
         Part::Bad(fault) => Ok(Some(Progress::Bad(fault))),
         Part::Piece(bytes) => {
-            body.push(bytes.as_slice())?;
+            body.push(&bytes)?;
             Ok(None)
         }
         Part::ChunkStart(_) => Ok(None),
@@ -81,7 +81,7 @@ pub fn read_answer(
             Came::Final(answer) => return Ok(answer),
             Came::Interim(head) => head,
         };
-        send_on(alloc, &head, sends, out)?;
+        send_on(alloc, head, sends, out)?;
         begin_next(alloc, link)?;
     }
 }
@@ -117,16 +117,16 @@ fn came_of(part: Part) -> Came
 // Sends an interim response on.
 fn send_on(
     alloc: Global,
-    head: &ResponseHead,
+    head: ResponseHead,
     sends: bool,
     out: &mut Vec<Command>,
 ) -> Result<(), NoMemory>
-    ensures { OnOk result (out.new.items ≡ out.old.items ++ sends_on sends (head.now ∷ [])) }
+    ensures { OnOk result (out.new.items ≡ out.old.items ++ sends_on sends (head ∷ [])) }
 {
     if !sends {
         return Ok(());
     }
-    send(Side::Client, interim_text(alloc, head)?, out)
+    send(Side::Client, interim_text(alloc, &head)?, out)
 }
 
 // Reads the next response, behind an interim one, which has no body.
@@ -135,7 +135,7 @@ fn begin_next(alloc: Global, link: &mut Link) -> Result<(), NoMemory>
 {
     link.responses.next()?;
     let next = MessageReader::response(alloc, link.asked_head);
-    let rest = mem::replace(&mut link.responses, next).into_rest();
+    let rest = mem::replace(&mut link.responses, next).into_rest()?;
     link.responses.feed(&rest)?;
     if link.closed {
         link.responses.close();

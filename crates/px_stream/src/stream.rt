@@ -348,66 +348,63 @@ impl Stream {
     ///
     /// Behind a whole message they are exactly the side's bytes behind it; while one is read, those from where its reader
     /// stands. Of the server there are none where the flow has no side of it, or is finished.
-    pub fn into_rests(self) -> (Rests, Option<Flow>)
-        ensures client { result.0.client ≡ self.requests.rest }
-        ensures server { result.0.server ≡ phase_rest self.phase }
-        ensures flow { result.1 ≡ None }
+    pub fn into_rests(self) -> Result<(Rests, Option<Flow>), NoMemory>
+        ensures client { IfOk result (λ left. left.0.client ≡ self.requests.rest) }
+        ensures server { IfOk result (λ left. left.0.server ≡ phase_rest self.phase) }
+        ensures flow { IfOk result (λ left. left.1 ≡ None) }
         ensures behind { (onward : Stage → Stage) (made : Stream) (moves : List Move) (given : List GivenCommand) → Stands onward made self moves given →
-            LeavesRests (look_at made.terms (stop_at onward made moves).stage (stop_at onward made moves).front) (stop_at onward made moves).stage
-            (stop_at onward made moves).front result.0.client result.0.server }
+            IfOk result (λ left. LeavesRests (look_at made.terms (stop_at onward made moves).stage (stop_at onward made moves).front) (stop_at onward made moves).stage
+            (stop_at onward made moves).front left.0.client left.0.server) }
     {
         let Stream {
-            alloc,
             requests,
             phase,
             ..
         } = self;
-        let rests = Rests {
-            client: Bytes::new(requests.into_rest()),
-            server: Bytes::new(rest_of_phase(alloc, phase)),
-        };
-        (rests, None)
+        let server = rest_of_phase(phase)?;
+        let client = requests.into_rest()?;
+        Ok((Rests { client, server }, None))
     }
 }
 
 // What was not used of the server's side.
-fn rest_of_phase(alloc: Global, phase: Phase) -> Vec<u8>
-    ensures { result.items ≡ phase_rest phase }
+fn rest_of_phase(phase: Phase) -> Result<Bytes, NoMemory>
+    ensures { IfOk result (λ rest. rest ≡ phase_rest phase) }
 {
     match phase {
-        Phase::Ready(ready) => rest_of_ready(alloc, ready),
-        Phase::Asked(asked) => rest_of_asked(alloc, asked),
+        Phase::Ready(ready) => rest_of_ready(ready),
+        Phase::Asked(asked) => rest_of_asked(asked),
     }
 }
 
-fn rest_of_ready(alloc: Global, ready: Ready) -> Vec<u8>
-    ensures { result.items ≡ ready_rest ready }
+fn rest_of_ready(ready: Ready) -> Result<Bytes, NoMemory>
+    ensures { IfOk result (λ rest. rest ≡ ready_rest ready) }
 {
     match ready {
         Ready::Answering { flow, link } => rest_of_link(flow, link),
         Ready::Returning { flow, link, .. } => rest_of_link(flow, link),
         other => {
             leave_ready(other);
-            Vec::new(alloc)
+            Ok(Bytes::empty())
         }
     }
 }
 
-fn rest_of_asked(alloc: Global, asked: Asked) -> Vec<u8>
-    ensures { result.items ≡ asked_rest asked }
+fn rest_of_asked(asked: Asked) -> Result<Bytes, NoMemory>
+    ensures { IfOk result (λ rest. rest ≡ asked_rest asked) }
 {
     match asked {
         Asked::Answer { flow, link } => rest_of_link(flow, link),
         Asked::Returned { flow, link } => rest_of_link(flow, link),
         other => {
             leave_asked(other);
-            Vec::new(alloc)
+            Ok(Bytes::empty())
         }
     }
 }
 
-fn rest_of_link(flow: Flow, link: Link) -> Vec<u8>
-    ensures { result.items ≡ link.responses.rest }
+fn rest_of_link(flow: Flow, link: Link) -> Result<Bytes, NoMemory>
+    ensures { IfOk result (λ rest. rest ≡ link.responses.rest) }
 {
     leave_flow(flow);
     link.into_rest()
@@ -560,7 +557,7 @@ fn begin_again(alloc: Global, requests: &mut MessageReader) -> Result<(), NoMemo
     ensures { OnOk result (requests.new ≡ before_all request requests.old.rest false) }
 {
     let next = MessageReader::request(alloc);
-    let rest = mem::replace(requests, next).into_rest();
+    let rest = mem::replace(requests, next).into_rest()?;
     requests.feed(&rest)
 }
 
@@ -581,11 +578,11 @@ fn hear(
         Event::Piece {
             side: Side::Client,
             bytes,
-        } => requests.feed(bytes.as_slice()),
+        } => requests.feed(bytes),
         Event::Piece {
             side: Side::Server(server),
             bytes,
-        } => hear_server(ready, *server, bytes.as_slice()),
+        } => hear_server(ready, *server, bytes),
         Event::Closed { side: Side::Client } => {
             *client_closed = true;
             Ok(())
@@ -600,7 +597,7 @@ fn hear(
     }
 }
 
-fn hear_server(ready: &mut Ready, server: u32, bytes: &[u8]) -> Result<(), NoMemory>
+fn hear_server(ready: &mut Ready, server: u32, bytes: &Bytes) -> Result<(), NoMemory>
     requires { LinkAgrees ready.old }
     ensures { OnOk result (ready.new ≡ ready_hears server bytes.now ready.old) }
 {

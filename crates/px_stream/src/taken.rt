@@ -25,68 +25,68 @@ pub enum Taken<M> {
 /// At the hook of the request's head: method, host, port, path, version and fields.
 pub fn take_at_request_head(
     alloc: Global,
-    asked: Request,
+    asked: &Request,
     reply: Reply,
 ) -> Result<Taken<Request>, NoMemory>
-    ensures { IfOk result (λ taken. taken ≡ taken_at_request_head asked reply) }
+    ensures { IfOk result (λ taken. taken ≡ taken_at_request_head asked.now reply) }
 {
     match reply {
-        Reply::Go { flow, .. } => Ok(Taken::GoesOn(with_request_head(asked, flow.request))),
+        Reply::Go { flow, .. } => Ok(Taken::GoesOn(with_request_head(asked, flow.request)?)),
         Reply::Respond(response) => Ok(Taken::Responds(in_place(alloc, response)?)),
         Reply::Kill => Ok(Taken::Kills),
-        _ => Ok(Taken::GoesOn(asked)),
+        _ => Ok(Taken::GoesOn(asked.try_clone()?)),
     }
 }
 
 /// At the hook of the whole request: its body and trailers besides.
 pub fn take_at_request_body(
     alloc: Global,
-    asked: Request,
+    asked: &Request,
     reply: Reply,
 ) -> Result<Taken<Request>, NoMemory>
-    ensures { IfOk result (λ taken. taken ≡ taken_at_request_body asked reply) }
+    ensures { IfOk result (λ taken. taken ≡ taken_at_request_body asked.now reply) }
 {
     match reply {
         Reply::Go { flow, .. } => Ok(Taken::GoesOn(with_request(asked, flow.request))),
         Reply::Respond(response) => Ok(Taken::Responds(in_place(alloc, response)?)),
         Reply::Kill => Ok(Taken::Kills),
-        _ => Ok(Taken::GoesOn(asked)),
+        _ => Ok(Taken::GoesOn(asked.try_clone()?)),
     }
 }
 
 /// At the hook of the response's head: version, status, reason and fields.
 pub fn take_at_response_head(
     alloc: Global,
-    asked: Response,
+    asked: &Response,
     reply: Reply,
 ) -> Result<Taken<Response>, NoMemory>
-    ensures { IfOk result (λ taken. taken ≡ taken_at_response_head asked reply) }
+    ensures { IfOk result (λ taken. taken ≡ taken_at_response_head asked.now reply) }
 {
     match reply {
         Reply::Go { flow, .. } => match response_in(flow) {
             Some(given) => Ok(Taken::GoesOn(with_response_head(alloc, asked, given)?)),
-            None => Ok(Taken::GoesOn(asked)),
+            None => Ok(Taken::GoesOn(asked.try_clone()?)),
         },
         Reply::Kill => Ok(Taken::Kills),
-        _ => Ok(Taken::GoesOn(asked)),
+        _ => Ok(Taken::GoesOn(asked.try_clone()?)),
     }
 }
 
 /// At the hook of the whole response: its body and trailers besides.
 pub fn take_at_response_body(
     alloc: Global,
-    asked: Response,
+    asked: &Response,
     reply: Reply,
 ) -> Result<Taken<Response>, NoMemory>
-    ensures { IfOk result (λ taken. taken ≡ taken_at_response_body asked reply) }
+    ensures { IfOk result (λ taken. taken ≡ taken_at_response_body asked.now reply) }
 {
     match reply {
         Reply::Go { flow, .. } => match response_in(flow) {
             Some(given) => Ok(Taken::GoesOn(with_response(alloc, asked, given)?)),
-            None => Ok(Taken::GoesOn(asked)),
+            None => Ok(Taken::GoesOn(asked.try_clone()?)),
         },
         Reply::Kill => Ok(Taken::Kills),
-        _ => Ok(Taken::GoesOn(asked)),
+        _ => Ok(Taken::GoesOn(asked.try_clone()?)),
     }
 }
 
@@ -98,7 +98,7 @@ pub fn take_at_head_of(
 ) -> Result<Option<Taken<Response>>, NoMemory>
     ensures { IfOk result (λ taken. taken ≡ taken_at_head_of flow.now.response reply) }
 {
-    match flow.response.clone()? {
+    match &flow.response {
         Some(asked) => Ok(Some(take_at_response_head(alloc, asked, reply)?)),
         None => Ok(None),
     }
@@ -112,7 +112,7 @@ pub fn take_at_body_of(
 ) -> Result<Option<Taken<Response>>, NoMemory>
     ensures { IfOk result (λ taken. taken ≡ taken_at_body_of flow.now.response reply) }
 {
-    match flow.response.clone()? {
+    match &flow.response {
         Some(asked) => Ok(Some(take_at_response_body(alloc, asked, reply)?)),
         None => Ok(None),
     }
@@ -125,36 +125,40 @@ fn response_in(flow: Flow) -> Option<Response>
     flow.response
 }
 
-fn with_request_head(asked: Request, given: Request) -> Request
-    ensures { result ≡ with_request_head asked given }
+fn with_request_head(asked: &Request, given: Request) -> Result<Request, NoMemory>
+    ensures { IfOk result (λ taken. taken ≡ with_request_head asked.now given) }
 {
     let mut taken = given;
-    taken.body = asked.body;
-    taken.trailers = asked.trailers;
+    taken.body = asked.body.try_clone()?;
+    taken.trailers = asked.trailers.try_clone()?;
+    taken.streamed = asked.streamed;
+    Ok(taken)
+}
+
+fn with_request(asked: &Request, given: Request) -> Request
+    ensures { result ≡ with_request asked.now given }
+{
+    let mut taken = given;
     taken.streamed = asked.streamed;
     taken
 }
 
-fn with_request(asked: Request, given: Request) -> Request
-    ensures { result ≡ with_request asked given }
+fn with_response_head(
+    alloc: Global,
+    asked: &Response,
+    given: Response,
+) -> Result<Response, NoMemory>
+    ensures { IfOk result (λ taken. taken ≡ with_response_head asked.now given) }
 {
     let mut taken = given;
-    taken.streamed = asked.streamed;
-    taken
-}
-
-fn with_response_head(alloc: Global, asked: Response, given: Response) -> Result<Response, NoMemory>
-    ensures { IfOk result (λ taken. taken ≡ with_response_head asked given) }
-{
-    let mut taken = given;
-    taken.body = asked.body;
-    taken.trailers = asked.trailers;
+    taken.body = asked.body.try_clone()?;
+    taken.trailers = asked.trailers.try_clone()?;
     taken.streamed = asked.streamed;
     without_upgrade(alloc, taken)
 }
 
-fn with_response(alloc: Global, asked: Response, given: Response) -> Result<Response, NoMemory>
-    ensures { IfOk result (λ taken. taken ≡ with_response asked given) }
+fn with_response(alloc: Global, asked: &Response, given: Response) -> Result<Response, NoMemory>
+    ensures { IfOk result (λ taken. taken ≡ with_response asked.now given) }
 {
     let mut taken = given;
     taken.streamed = asked.streamed;
@@ -195,8 +199,5 @@ fn bad_gateway() -> Status
 fn bad_gateway_reason(alloc: Global) -> Result<Value, NoMemory>
     ensures { IfOk result (λ reason. reason ≡ bad_gateway_reason) }
 {
-    match Value::try_new(b"Bad Gateway".as_slice().to_vec(alloc)?) {
-        Ok(reason) => Ok(reason),
-        Err(_) => unreachable!(),
-    }
+    Value::of_text(alloc, b"Bad Gateway")
 }

@@ -1,14 +1,18 @@
 //! The texts that a conversation sends.
-ghost use Rattle.std.specs.Prelude.{◌≡◌, IfOk};
-ghost use Rattle.px_write.specs.Text.{interim_text};
-ghost use Rattle.px_stream.specs.Texts.{continue_text, onward_text, returned_text};
+ghost use Rattle.std.specs.Prelude.{◌≡◌, [], IfOk};
+ghost use Rattle.px_write.specs.Text.{interim_text, response_text};
+ghost use Rattle.px_stream.specs.Requests.{is_head as asks_head};
+ghost use Rattle.px_stream.specs.Texts.{continue_text, onward_text};
 
 use crate::asked::is_head;
-use px_message::{Request, Response, settle_request, settle_response};
+use px_message::{Body, Request, Response, settle_request};
 use px_read::ResponseHead;
 use px_text::{Bytes, NoMemory};
 use px_write::{Form, write_interim, write_request, write_response};
 use std::alloc::Global;
+
+/// Room for the head of a message, beside its body.
+const HEAD_ROOM: usize = 512;
 
 /// The request as it goes to the server: its framing made true to its body.
 pub fn onward_text(alloc: Global, request: &Request) -> Result<Bytes, NoMemory>
@@ -16,25 +20,25 @@ pub fn onward_text(alloc: Global, request: &Request) -> Result<Bytes, NoMemory>
 {
     let mut settled = request.try_clone()?;
     settle_request(&mut settled)?;
-    let mut text = Vec::new(alloc);
+    let mut text = room_for(alloc, &settled.body)?;
     write_request(&settled, Form::Origin, &mut text)?;
-    Ok(Bytes::new(text))
+    Bytes::new(text)
 }
 
-/// The response as it goes to the client; to HEAD its head alone.
-pub fn returned_text(
-    alloc: Global,
-    request: &Request,
-    response: &Response,
-) -> Result<Bytes, NoMemory>
-    ensures { IfOk result (λ text. text ≡ returned_text request.now response.now) }
+/// The text of a settled response, as it goes to the client; to HEAD its head alone.
+pub fn returned_text(alloc: Global, request: &Request, sent: &Response) -> Result<Bytes, NoMemory>
+    ensures { IfOk result (λ text. text ≡ response_text sent.now (asks_head request.now.method)) }
 {
-    let asked_head = is_head(request.method.bytes());
-    let mut settled = response.try_clone()?;
-    settle_response(&mut settled, asked_head)?;
-    let mut text = Vec::new(alloc);
-    write_response(&settled, asked_head, &mut text)?;
-    Ok(Bytes::new(text))
+    let mut text = room_for(alloc, &sent.body)?;
+    write_response(sent, is_head(request.method.bytes()), &mut text)?;
+    Bytes::new(text)
+}
+
+// Room for a message with this body, so that a large text is not moved as it grows.
+fn room_for(alloc: Global, body: &Body) -> Result<Vec<u8>, NoMemory>
+    ensures { IfOk result (λ text. text.items ≡ []) }
+{
+    Ok(Vec::with_capacity(alloc, body.bytes().len().saturating_add(HEAD_ROOM))?)
 }
 
 /// An interim response, as it goes to the client.
@@ -49,7 +53,7 @@ pub fn interim_text(alloc: Global, head: &ResponseHead) -> Result<Bytes, NoMemor
         &head.fields,
         &mut text,
     )?;
-    Ok(Bytes::new(text))
+    Bytes::new(text)
 }
 
 /// The text that lets the body come (RFC 9110 section 15.2.1).
@@ -57,7 +61,5 @@ pub fn interim_text(alloc: Global, head: &ResponseHead) -> Result<Bytes, NoMemor
 pub fn continue_text(alloc: Global) -> Result<Bytes, NoMemory>
     ensures { IfOk result (λ text. text ≡ continue_text) }
 {
-    let mut text = Vec::new(alloc);
-    text.extend_from_slice(b"HTTP/1.1 100 Continue\r\n\r\n")?;
-    Ok(Bytes::new(text))
+    Bytes::copied(alloc, b"HTTP/1.1 100 Continue\r\n\r\n")
 }

@@ -75,8 +75,7 @@ fn turn_head(
     ensures gives { OnOk result (out.new.items ≡ out.old.items ++ (turn_taken_head (numbered 0) flow expected (taken_at_request_head flow.request reply) now.moment now.client_closed).owed) }
     ensures ready { IfOk result (λ next. next ≡ behind_request_head flow (taken_at_request_head flow.request reply)) }
 {
-    let asked = flow.request.try_clone()?;
-    let taken = take_at_request_head(now.alloc, asked, reply)?;
+    let taken = take_at_request_head(now.alloc, &flow.request, reply)?;
     receive(now, flow, expected, taken, out)
 }
 
@@ -127,8 +126,7 @@ fn turn_body(now: Now, flow: Flow, reply: Reply, out: &mut Vec<Command>) -> Resu
     ensures gives { OnOk result (out.new.items ≡ out.old.items ++ (turn_taken_body (numbered 0) flow (taken_at_request_body flow.request reply) now.moment now.client_closed).owed) }
     ensures ready { IfOk result (λ next. next ≡ behind_request flow (taken_at_request_body flow.request reply)) }
 {
-    let asked = flow.request.try_clone()?;
-    let taken = take_at_request_body(now.alloc, asked, reply)?;
+    let taken = take_at_request_body(now.alloc, &flow.request, reply)?;
     send_onward(now, flow, taken, out)
 }
 

@@ -1,4 +1,4 @@
-//! Small text: the byte list that every type above holds, and the want of memory that every call above may answer.
+//! Small text: the shared byte list that every type above holds, and the want of memory that every call above may answer.
 //!
 //! Each call equals its definition in `specs/`. Numbers are decimal or hexadecimal digits without a sign (RFC 9110
 //! section 8.6, RFC 9112 section 7.1); letters are compared as ASCII (RFC 9110 section 5.1).
@@ -6,14 +6,14 @@
 
 mod ascii;
 mod blank;
-mod bytes;
 mod no_memory;
 mod number;
+mod shared;
 #[cfg(test)]
 mod tests;
 
 pub use ascii::eq_ignore_case;
 pub use blank::find_blank;
-pub use bytes::Bytes;
 pub use no_memory::NoMemory;
 pub use number::{push_decimal, push_hex, read_decimal, read_hex};
+pub use shared::Bytes;

@@ -1,5 +1,8 @@
 //! Worked rows: each call once with ample memory.
-use crate::{Bytes, eq_ignore_case, find_blank, push_decimal, push_hex, read_decimal, read_hex};
+use crate::{
+    Bytes, NoMemory, eq_ignore_case, find_blank, push_decimal, push_hex, read_decimal, read_hex,
+};
+use std::alloc::Global;
 use std::rt::HostRuntime;
 
 #[test]
@@ -62,13 +65,36 @@ fn bytes_and_letters(rt: HostRuntime) {
     let Ok(vector) = Vec::from_slice(rt.alloc(), b"ab") else {
         panic!(rt; "memory");
     };
-    let bytes = Bytes::new(vector);
+    let Ok(bytes) = Bytes::new(vector) else {
+        panic!(rt; "memory");
+    };
     let Ok(copy) = bytes.try_clone() else {
         panic!(rt; "memory");
     };
     assert!(rt; copy == bytes);
     assert!(rt; copy.as_slice() == b"ab".as_slice());
-    assert!(rt; bytes.into_vec().as_slice() == b"ab".as_slice());
     assert!(rt; eq_ignore_case(b"Host", b"hOST"));
     assert!(rt; !eq_ignore_case(b"[", b"{"));
+}
+
+// Parts, and bytes that are added while others have a share.
+fn cut_and_joined(alloc: Global) -> Result<bool, NoMemory> {
+    let mut text = Bytes::copied(alloc, b"abcd")?;
+    let middle = text.part(1, 3)?;
+    let front = text.split_to(1)?;
+    let joined = front.append(alloc, middle.as_slice())?;
+    text.advance(2);
+    let whole = joined.append(alloc, text.as_slice())?;
+    let vector = whole.try_clone()?.into_vec(alloc)?;
+    let same = vector.as_slice() == b"abcd".as_slice();
+    Ok(
+        same && middle.as_slice() == b"bc".as_slice()
+            && Bytes::empty().is_empty()
+            && whole.len() == 4,
+    )
+}
+
+#[test]
+fn shared_parts(rt: HostRuntime) {
+    assert!(rt; cut_and_joined(rt.alloc()) == Ok(true));
 }

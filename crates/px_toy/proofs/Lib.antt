@@ -1,2 +1,3 @@
 pub mod EchoGoes
 pub mod EchoSteps
+pub mod EchoRunLemmas

@@ -138,7 +138,7 @@ impl LineEcho {
         ensures line { IfOk result (λ line. line ≡ take size self.old.unread.items) }
     {
         let rest = self.unread.split_off(size)?;
-        Ok(Bytes::new(mem::replace(&mut self.unread, rest)))
+        Bytes::new(mem::replace(&mut self.unread, rest))
     }
 }
 

@@ -1,8 +1,10 @@
 //! Worked rows: late answers, pieces and closes that wait, through a gate.
-ghost use Rattle.std.specs.Prelude.{OnOk, Some};
+ghost use Rattle.std.specs.Prelude.{IfOk, OnOk, Some};
 ghost use Rattle.px_event.specs.Layer.{IsSound, IsNews, MayAnswer};
 ghost use Rattle.px_gate.specs.Gate.{GateStands};
 ghost use Rattle.px_toy.specs.Stands.{EchoStands, awaits};
+
+mod runs;
 
 use crate::LineEcho;
 use px_event::{Ask, Command, Event, Hook, Reply, Side};
@@ -49,7 +51,7 @@ fn plain_flow(alloc: Global) -> Result<Option<Flow>, NoMemory> {
             path,
             version: Version::Http11,
             fields: Fields::new(alloc),
-            body: Body::new(Vec::new(alloc)),
+            body: Body::empty(),
             trailers: Fields::new(alloc),
             streamed: false,
         },
@@ -113,7 +115,7 @@ fn make(
     };
     match call {
         Call::Piece(text) => {
-            let bytes = Bytes::new(Vec::from_slice(alloc, text.as_bytes())?);
+            let bytes = Bytes::copied(alloc, text.as_bytes())?;
             hand(
                 gate,
                 Event::Piece {
@@ -124,7 +126,7 @@ fn make(
             )
         }
         Call::ServerPiece => {
-            let bytes = Bytes::new(Vec::from_slice(alloc, b"s\n")?);
+            let bytes = Bytes::copied(alloc, b"s\n")?;
             hand(
                 gate,
                 Event::Piece {
@@ -200,12 +202,30 @@ fn play_all(
 
 /// The same of a new gate.
 fn play(alloc: Global, calls: &[Call]) -> Result<Vec<u8>, NoMemory> {
-    let mut text = Vec::new(alloc);
-    if let Some(flow) = plain_flow(alloc)? {
-        let mut gate = Gate::new(alloc, LineEcho::new(alloc, flow.try_clone()?));
-        play_all(alloc, &flow, &mut gate, calls, &mut text)?;
+    match plain_flow(alloc)? {
+        Some(flow) => {
+            let text = play_about(alloc, &flow, calls);
+            drop(flow);
+            text
+        }
+        None => Ok(Vec::new(alloc)),
     }
+}
+
+/// The same of a new gate about this flow.
+fn play_about(alloc: Global, flow: &Flow, calls: &[Call]) -> Result<Vec<u8>, NoMemory> {
+    let mut text = Vec::new(alloc);
+    let mut gate = new_gate(alloc, flow)?;
+    let played = play_all(alloc, flow, &mut gate, calls, &mut text);
+    drop(gate);
+    played?;
     Ok(text)
+}
+
+fn new_gate(alloc: Global, flow: &Flow) -> Result<Gate<LineEcho>, NoMemory>
+    ensures { IfOk result (IsSound (GateStands EchoStands awaits)) }
+{
+    Ok(Gate::new(alloc, LineEcho::new(alloc, flow.try_clone()?)))
 }
 
 /// Whether the calls give this.

@@ -45,7 +45,7 @@ fn request(alloc: Global, text: &[u8]) -> Result<Request, Fail> {
         path,
         version: Version::Http11,
         fields: Fields::new(alloc),
-        body: Body::new(Vec::new(alloc)),
+        body: Body::empty(),
         trailers: Fields::new(alloc),
         streamed: false,
     })
@@ -54,7 +54,7 @@ fn request(alloc: Global, text: &[u8]) -> Result<Request, Fail> {
 fn response(alloc: Global, text: &[u8], streamed: bool) -> Result<Response, Fail> {
     let status = Status::try_new(200).ok_or("status")?;
     let reason = value(alloc, b"OK")?;
-    let body = Body::new(text.to_vec(alloc)?);
+    let body = Body::from_bytes(Bytes::copied(alloc, text)?);
     Ok(Response {
         version: Version::Http11,
         status,
@@ -115,7 +115,7 @@ fn a_body_that_passed_by(rt: HostRuntime) -> Result<(), Fail> {
 fn a_flow_that_ended_early(rt: HostRuntime) -> Result<(), Fail> {
     let alloc = rt.alloc();
     let error = FlowError {
-        msg: Bytes::new(b"killed".as_slice().to_vec(alloc)?),
+        msg: Bytes::copied(alloc, b"killed")?,
         moment: 1,
     };
     let flow = flow(request(alloc, b"*")?, None, Some(error));

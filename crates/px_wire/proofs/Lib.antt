@@ -11,6 +11,7 @@ pub mod OwnLives
 pub mod PlaceLemmas
 pub mod PutLemmas
 pub mod PutsLemmas
+pub mod QueueLemmas
 pub mod ReadyLemmas
 pub mod SayLemmas
 pub mod StepLemmas

@@ -5,7 +5,6 @@ ghost use Rattle.px_event.specs.declared.heard.Heard.TheVariants.{Piece as Heard
 ghost use Rattle.px_event.specs.declared.side.Side.TheVariants.{Server as ServerSide};
 ghost use Rattle.px_event.specs.declared.step.Step.TheVariants.{Heard as WasHeard};
 ghost use Rattle.px_outside.specs.Net.{Adds};
-ghost use Rattle.px_wire.specs.declared.call.WireCall.TheVariants.{Noted as WasNoted};
 ghost use Rattle.px_wire.specs.declared.link.Link.{Link as LinkState};
 ghost use Rattle.px_wire.specs.Links.{is_open_to_read, is_over, after_get};
 ghost use Rattle.px_wire.specs.Hears.{IsPlain, AddsHeard};
@@ -47,23 +46,19 @@ pub fn hear<W: Wire>(
     ensures faults { W.faults wire.new ≡ W.faults wire.old }
     ensures asks { W.asks wire.new ≡ W.asks wire.old }
 {
-    note_heard(wire, moment, &heard)?;
-    Ok(Some((moment, heard)))
+    let step = Step::Heard { moment, heard };
+    wire.note(&step)?;
+    Ok(heard_in(step))
 }
 
-// Hands the wire the step in which it is heard.
-fn note_heard<W: Wire>(wire: &mut W, moment: u64, heard: &Heard) -> Result<(), NoMemory>
-    ensures told { OnOk result (Tells (WasNoted (WasHeard moment heard.now)) (W.calls wire.old) (W.calls wire.new)) }
-    ensures steps { OnOk result (Adds (W.steps wire.old) (W.steps wire.new) (WasHeard moment heard.now)) }
-    ensures calls_err { OnErr result (W.calls wire.new ≡ W.calls wire.old) }
-    ensures steps_err { OnErr result (W.steps wire.new ≡ W.steps wire.old) }
-    ensures listening { W.listening wire.new ≡ W.listening wire.old }
-    ensures faults { W.faults wire.new ≡ W.faults wire.old }
-    ensures asks { W.asks wire.new ≡ W.asks wire.old }
+// What is heard in the step, and when.
+fn heard_in(step: Step) -> Option<(u64, Heard)>
+    ensures { (moment : ℕ) (heard : WhatIsHeard) → step ≡ WasHeard moment heard → result ≡ Some (moment, heard) }
 {
-    let heard = heard.try_clone()?;
-    let step = Step::Heard { moment, heard };
-    wire.note(&step)
+    match step {
+        Step::Heard { moment, heard } => Some((moment, heard)),
+        _ => None,
+    }
 }
 
 /// Hears the close of the side at this place, and shuts its slot.
@@ -170,25 +165,10 @@ fn hear_piece<W: Wire>(
     ensures faults { W.faults wire.new ≡ W.faults wire.old }
     ensures asks { W.asks wire.new ≡ W.asks wire.old }
 {
-    let copy = copied(alloc, bytes)?;
+    let bytes = Bytes::copied(alloc, bytes)?;
     let conv = link.conv;
     let side = link.side;
-    hear(
-        wire,
-        moment,
-        Heard::Piece {
-            conv,
-            side,
-            bytes: copy,
-        },
-    )
-}
-
-/// A copy of the bytes.
-pub fn copied(alloc: Global, bytes: &[u8]) -> Result<Bytes, NoMemory>
-    ensures { IfOk result (λ copy. copy ≡ bytes.now) }
-{
-    Ok(Bytes::new(Vec::from_slice(alloc, bytes)?))
+    hear(wire, moment, Heard::Piece { conv, side, bytes })
 }
 
 /// What can be heard without waiting: the close of a side whose socket failed, and then what a readable slot gives.

@@ -159,8 +159,8 @@ impl<W: Wire> Net for Lines<W> {
         }
     }
 
-    fn say(&mut self, conv: u32, said: &Said) -> Result<(), NoMemory>
-        ensures said { OnOk result (Adds (W.steps self.old.wire) (W.steps self.new.wire) (Step.Said conv said.now)) }
+    fn say(&mut self, conv: u32, said: Said) -> Result<(), NoMemory>
+        ensures said { OnOk result (Adds (W.steps self.old.wire) (W.steps self.new.wire) (Step.Said conv said)) }
         ensures err { OnErr result (W.steps self.new.wire ≡ W.steps self.old.wire) }
         ensures listening { W.listening self.new.wire ≡ W.listening self.old.wire }
         ensures faults { W.faults self.new.wire + self.new.faults ≡ W.faults self.old.wire + self.old.faults }
@@ -173,18 +173,7 @@ impl<W: Wire> Net for Lines<W> {
         if self.is_spent {
             return Err(NoMemory);
         }
-        let step = Step::Said {
-            conv,
-            said: said.try_clone()?,
-        };
-        say(
-            self.alloc,
-            &mut self.wire,
-            &mut self.table,
-            conv,
-            said,
-            &step,
-        )
+        say(self.alloc, &mut self.wire, &mut self.table, conv, said)
     }
 
     fn note(&mut self, step: &Step) -> Result<(), NoMemory>

@@ -14,7 +14,6 @@ ghost use Rattle.px_wire.specs.Calls.{Calls, AsksMore, Tells, IfTold, IsFree, Gi
 ghost use Rattle.px_wire.specs.Puts.{taken_in, taken_from};
 ghost use Rattle.px_wire.specs.MemWire.{calls_of, steps_in, calls_told, steps_told, later_of, no_calls, may_tell as may_be_told, told_by, script_left, taken_by as count_taken, put_answer, given_by, room_after, gives_left, pieces_of, asked_once, blocks_put, blocks_got, IsLeastFree, keeping, after_told, after_not_ready, after_dial, after_put, after_get, after_shut, listens};
 
-use crate::hear::copied;
 use crate::{Got, Put, Ready, Wire, WireCall};
 use px_event::Step;
 use px_message::Address;
@@ -325,7 +324,7 @@ fn put_call(alloc: Global, slot: u32, bytes: &[u8], answer: Put) -> Result<WireC
     match answer {
         Put::Took(count) => Ok(WireCall::Took {
             slot,
-            bytes: copied(alloc, &bytes[..count])?,
+            bytes: Bytes::copied(alloc, &bytes[..count])?,
         }),
         Put::Blocked => Ok(WireCall::PutBlocked { slot }),
         Put::Broken => Ok(WireCall::PutBroke { slot }),
@@ -339,7 +338,7 @@ fn got_call(alloc: Global, slot: u32, room: &[u8], answer: Got) -> Result<WireCa
     match answer {
         Got::Gave(count) => Ok(WireCall::Gave {
             slot,
-            bytes: copied(alloc, &room[..count])?,
+            bytes: Bytes::copied(alloc, &room[..count])?,
         }),
         Got::Ended => Ok(WireCall::GetEnded { slot }),
         Got::Blocked => Ok(WireCall::GetBlocked { slot }),

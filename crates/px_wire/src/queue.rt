@@ -1,25 +1,33 @@
 //! Bytes that wait.
-ghost use Rattle.std.specs.Prelude.{◌≡◌, ◌+◌, ◌≤◌, ◌<◌, [], ◌++◌, length, take, drop, OnOk, OnErr, Bool};
+ghost use Rattle.std.specs.Prelude.{◌≡◌, ◌≤◌, ◌<◌, [], ◌++◌, length, take, drop, OnOk, OnErr};
+ghost use Rattle.px_outside.specs.Net.{Adds};
+ghost use Rattle.px_wire.specs.declared.call.WireCall.TheVariants.{Noted};
+ghost use Rattle.px_wire.specs.Calls.{Tells};
 
-use px_text::NoMemory;
+use crate::Wire;
+use px_event::Step;
+use px_text::{Bytes, NoMemory};
 use std::alloc::Global;
+use std::collections::VecDeque;
 use std::marker::Model;
 
-/// Bytes that wait to be taken, in their order.
+/// Bytes that wait to be taken, in their order. They are kept in the pieces in which they came, shared; no piece is empty.
 #[derive(Debug, Drop)]
 pub struct Queue {
-    bytes: Vec<u8>,
-    start: usize,
+    pieces: VecDeque<Bytes>,
+    // How many bytes there are in all pieces.
+    len: usize,
 }
 
 impl Model for Queue {
-    ghost use Rattle.std.specs.Prelude.{List, ℕ, ◌≤◌, length, drop};
+    ghost use Rattle.std.specs.Prelude.{◌≡◌, List, ℕ, ◌<◌, length, All};
+    ghost use Rattle.std.specs.List.{concat};
 
     ghost Value = { List ℕ };
 
-    ghost view = { λ q. drop q.start q.bytes.items };
+    ghost view = { λ q. concat q.pieces.items };
 
-    ghost invariant = { λ q. q.start ≤ length q.bytes.items };
+    ghost invariant = { λ q. (q.len ≡ length (concat q.pieces.items)) × All (λ piece. 0 < length piece) q.pieces.items };
 }
 
 impl Queue {
@@ -28,8 +36,8 @@ impl Queue {
         ensures { result ≡ [] }
     {
         Queue {
-            bytes: Vec::new(alloc),
-            start: 0,
+            pieces: VecDeque::new(alloc),
+            len: 0,
         }
     }
 
@@ -37,23 +45,49 @@ impl Queue {
     pub fn len(&self) -> usize
         ensures { result ≡ length self.now }
     {
-        self.bytes.len() - self.start
+        self.len
     }
 
-    /// The bytes that wait.
+    /// The first of the bytes that wait: those of the first piece.
     pub fn front(&self) -> &[u8]
-        ensures { result.now ≡ self.now }
+        ensures begins { result.now ≡ take (length result.now) self.now }
+        ensures within { length result.now ≤ length self.now }
+        ensures some { 0 < length self.now → 0 < length result.now }
     {
-        &self.bytes[self.start..]
+        match self.pieces.front() {
+            Some(piece) => piece.as_slice(),
+            None => &[],
+        }
     }
 
-    /// Appends the bytes. After an error nothing has changed.
-    pub fn push(&mut self, bytes: &[u8]) -> Result<(), NoMemory>
+    /// Appends the bytes, shared, and hands the wire the step that says them: both or neither.
+    pub fn push_noted<W: Wire>(
+        &mut self,
+        wire: &mut W,
+        bytes: &Bytes,
+        step: &Step,
+    ) -> Result<(), NoMemory>
+        ensures steps { OnOk result (Adds (W.steps wire.old) (W.steps wire.new) step.now) }
+        ensures told { OnOk result (Tells (Noted step.now) (W.calls wire.old) (W.calls wire.new)) }
         ensures ok { OnOk result (self.new ≡ self.old ++ bytes.now) }
         ensures err { OnErr result (self.new ≡ self.old) }
+        ensures calls_err { OnErr result (W.calls wire.new ≡ W.calls wire.old) }
+        ensures steps_err { OnErr result (W.steps wire.new ≡ W.steps wire.old) }
+        ensures listening { W.listening wire.new ≡ W.listening wire.old }
+        ensures faults { W.faults wire.new ≡ W.faults wire.old }
+        ensures asks { W.asks wire.new ≡ W.asks wire.old }
     {
-        self.compact();
-        self.bytes.extend_from_slice(bytes)?;
+        if bytes.is_empty() {
+            return wire.note(step);
+        }
+        let Some(len) = self.len.checked_add(bytes.len()) else {
+            return Err(NoMemory);
+        };
+        self.pieces.try_reserve(1)?;
+        let piece = bytes.try_clone()?;
+        wire.note(step)?;
+        self.pieces.push_back_reserved(piece);
+        self.len = len;
         Ok(())
     }
 
@@ -62,33 +96,36 @@ impl Queue {
         requires { count ≤ length self.old }
         ensures { self.new ≡ drop count self.old }
     {
-        self.start += count;
-    }
-
-    /// Takes the bytes off that were appended last, so that this many are left.
-    pub fn truncate(&mut self, len: usize)
-        requires { len ≤ length self.old }
-        ensures { self.new ≡ take len self.old }
-    {
-        let end = self.start + len;
-        self.bytes.truncate(end);
+        let mut left = count;
+        while left > 0 {
+            left -= self.take_first(left);
+        }
     }
 
     /// Nothing waits any more.
     pub fn clear(&mut self)
         ensures { self.new ≡ [] }
     {
-        self.bytes.clear();
-        self.start = 0;
+        self.pieces.clear();
+        self.len = 0;
     }
 
-    // Drops the bytes that were taken, once they are more than half of what is kept.
-    fn compact(&mut self)
-        ensures { self.new ≡ self.old }
+    // Takes at most this many bytes off, all of the first piece, and tells how many.
+    fn take_first(&mut self, most: usize) -> usize
+        requires some { 0 < most }
+        requires within { most ≤ length self.old }
+        ensures count { (0 < result) × (result ≤ most) }
+        ensures rest { self.new ≡ drop result self.old }
     {
-        if self.start > self.bytes.len() / 2 {
-            self.bytes.drain(..self.start);
-            self.start = 0;
+        let Some(mut first) = self.pieces.pop_front() else {
+            unreachable!()
+        };
+        let taken = most.min(first.len());
+        first.advance(taken);
+        if !first.is_empty() {
+            self.pieces.push_front_reserved(first);
         }
+        self.len -= taken;
+        taken
     }
 }

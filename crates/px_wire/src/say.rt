@@ -18,11 +18,35 @@ use crate::ready::reserve;
 use crate::table::Table;
 use px_event::{Said, Side, Step};
 use px_message::Address;
-use px_text::NoMemory;
+use px_text::{Bytes, NoMemory};
 use std::alloc::Global;
 
-/// Says it; the step is the one that says it. After an error nothing was said.
+/// Says it. After an error nothing was said.
 pub fn say<W: Wire>(
+    alloc: Global,
+    wire: &mut W,
+    table: &mut Table,
+    conv: u32,
+    said: Said,
+) -> Result<(), NoMemory>
+    ensures steps { OnOk result (Adds (W.steps wire.old) (W.steps wire.new) (WasSaid conv said)) }
+    ensures stands { Rests None table.old (W.calls wire.old) → OnOk result (Rests None table.new (W.calls wire.new)) }
+    ensures err { Rests None table.old (W.calls wire.old) → OnErr result (Rests None table.new (W.calls wire.new)) }
+    ensures calls_err { OnErr result (W.calls wire.new ≡ W.calls wire.old) }
+    ensures steps_err { OnErr result (W.steps wire.new ≡ W.steps wire.old) }
+    ensures listening { W.listening wire.new ≡ W.listening wire.old }
+    ensures faults { W.faults wire.new ≡ W.faults wire.old }
+    ensures asks { W.asks wire.new ≡ W.asks wire.old }
+{
+    let step = Step::Said { conv, said };
+    match &step {
+        Step::Said { said, .. } => say_in(alloc, wire, table, conv, said, &step),
+        _ => unreachable!(),
+    }
+}
+
+// Says it; the step is the one that says it.
+fn say_in<W: Wire>(
     alloc: Global,
     wire: &mut W,
     table: &mut Table,
@@ -40,7 +64,7 @@ pub fn say<W: Wire>(
     ensures asks { W.asks wire.new ≡ W.asks wire.old }
 {
     match said {
-        Said::Send { side, bytes } => say_send(wire, table, conv, *side, bytes.as_slice(), step),
+        Said::Send { side, bytes } => say_send(wire, table, conv, *side, bytes, step),
         Said::Close { side } => say_close(wire, table, conv, *side, step),
         Said::Dial { server, address } => {
             say_dial(alloc, wire, table, conv, *server, address, step)
@@ -102,7 +126,7 @@ fn say_send<W: Wire>(
     table: &mut Table,
     conv: u32,
     side: Side,
-    bytes: &[u8],
+    bytes: &Bytes,
     step: &Step,
 ) -> Result<(), NoMemory>
     ensures steps { OnOk result (Adds (W.steps wire.old) (W.steps wire.new) step.now) }
@@ -125,7 +149,7 @@ fn send_at<W: Wire>(
     wire: &mut W,
     table: &mut Table,
     place: usize,
-    bytes: &[u8],
+    bytes: &Bytes,
     step: &Step,
 ) -> Result<(), NoMemory>
     requires place { place < length table.old.links.items }
@@ -152,7 +176,7 @@ fn send_at<W: Wire>(
 fn queue_and_note<W: Wire>(
     wire: &mut W,
     link: &mut Link,
-    bytes: &[u8],
+    bytes: &Bytes,
     step: &Step,
 ) -> Result<(), NoMemory>
     ensures steps { OnOk result (Adds (W.steps wire.old) (W.steps wire.new) step.now) }
@@ -165,15 +189,7 @@ fn queue_and_note<W: Wire>(
     ensures faults { W.faults wire.new ≡ W.faults wire.old }
     ensures asks { W.asks wire.new ≡ W.asks wire.old }
 {
-    let len = link.queue.len();
-    link.queue.push(bytes)?;
-    match wire.note(step) {
-        Ok(()) => Ok(()),
-        Err(error) => {
-            link.queue.truncate(len);
-            Err(error)
-        }
-    }
+    link.queue.push_noted(wire, bytes, step)
 }
 
 // Closes the side once all that was said to it is taken; the step says it.

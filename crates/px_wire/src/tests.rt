@@ -36,17 +36,17 @@ fn script_of(alloc: Global, told: &[Ready]) -> Result<Vec<(u64, Ready)>, Fail> {
 }
 
 fn say<N: Net>(alloc: Global, net: &mut N, side: Side, text: &[u8]) -> Result<(), Fail> {
-    let bytes = Bytes::new(Vec::from_slice(alloc, text)?);
-    Ok(net.say(0, &Said::Send { side, bytes })?)
+    let bytes = Bytes::copied(alloc, text)?;
+    Ok(net.say(0, Said::Send { side, bytes })?)
 }
 
 fn close<N: Net>(net: &mut N, side: Side) -> Result<(), Fail> {
-    Ok(net.say(0, &Said::Close { side })?)
+    Ok(net.say(0, Said::Close { side })?)
 }
 
 fn dial<N: Net>(alloc: Global, net: &mut N) -> Result<(), Fail> {
     let address = address(alloc)?;
-    Ok(net.say(0, &Said::Dial { server: 0, address })?)
+    Ok(net.say(0, Said::Dial { server: 0, address })?)
 }
 
 fn next<N: Net>(net: &mut N) -> Result<(u64, Heard), NetError> {
@@ -89,6 +89,25 @@ fn a_write_in_parts(rt: HostRuntime) -> Result<(), Fail> {
     assert!(rt; lines.wire().taken(5)?.as_slice() == b"hel".as_slice());
     assert!(rt; look(&mut lines) == Seen::Fault);
     assert!(rt; lines.wire().taken(5)?.as_slice() == b"hello".as_slice());
+    Ok(())
+}
+
+#[test]
+fn pieces_that_wait_are_put_in_parts(rt: HostRuntime) -> Result<(), Fail> {
+    let alloc = rt.alloc();
+    let script = script_of(alloc, &[Ready::Writable(5), Ready::Writable(5)])?;
+    let takes = [2, 0, 0, 0, 100, 1, 0, 0].to_vec(alloc)?;
+    let wire = MemWire::new(alloc, script, takes, Vec::new(alloc));
+    let mut lines = Lines::new(alloc, wire);
+    assert!(rt; look(&mut lines) == Seen::Accepted(7, 0));
+    for text in [b"abc".as_slice(), b"", b"de"] {
+        say(alloc, &mut lines, Side::Client, text)?;
+    }
+    assert!(rt; lines.wire().taken(5)?.as_slice() == b"ab".as_slice());
+    assert!(rt; look(&mut lines) == Seen::Fault);
+    assert!(rt; lines.wire().taken(5)?.as_slice() == b"abcd".as_slice());
+    say(alloc, &mut lines, Side::Client, b"f")?;
+    assert!(rt; lines.wire().taken(5)?.as_slice() == b"abcdef".as_slice());
     Ok(())
 }
 

@@ -21,8 +21,6 @@ mod message;
 pub mod part_text;
 pub mod read_back;
 mod short;
-#[cfg(test)]
-mod tests;
 
 pub use body::{write_chunk_end, write_chunk_start, write_last_chunk};
 pub use error::{error_text, fault_message};

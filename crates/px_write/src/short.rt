@@ -21,7 +21,7 @@ pub fn short_response(alloc: Global, status: Status) -> Result<Response, NoMemor
         status,
         reason,
         fields,
-        body: Body::new(Vec::new(alloc)),
+        body: Body::empty(),
         trailers: Fields::new(alloc),
         streamed: false,
     })

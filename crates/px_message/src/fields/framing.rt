@@ -24,8 +24,8 @@ pub fn settle_streamed(fields: &mut Fields, read: &Fields) -> Result<(), NoMemor
     if is_framed_by(fields, &wanted)? {
         return Ok(());
     }
-    fields.remove(TRANSFER_ENCODING);
-    fields.remove(CONTENT_LENGTH);
+    fields.remove(TRANSFER_ENCODING)?;
+    fields.remove(CONTENT_LENGTH)?;
     append(fields, wanted)
 }
 
@@ -40,8 +40,12 @@ fn is_framed_by(fields: &Fields, wanted: &Fields) -> Result<bool, NoMemory>
 fn framing_of(fields: &Fields) -> Result<Fields, NoMemory>
     ensures { IfOk result (λ kept. kept ≡ framing fields.now) }
 {
-    let mut kept = fields.try_clone()?;
-    kept.pairs.retain(|pair| is_framing(&pair.0));
+    let mut kept = Fields::new(fields.allocator());
+    for (name, value) in fields.pairs() {
+        if is_framing(name) {
+            kept.add(name.try_clone()?, value.try_clone()?)?;
+        }
+    }
     Ok(kept)
 }
 
@@ -55,7 +59,8 @@ fn is_framing(name: &Name) -> bool
 fn append(fields: &mut Fields, others: Fields) -> Result<(), NoMemory>
     ensures { OnOk result (fields.new ≡ fields.old ++ others) }
 {
-    let mut rest = others.pairs;
-    fields.pairs.append(&mut rest)?;
+    for (name, value) in others.pairs() {
+        fields.add(name.try_clone()?, value.try_clone()?)?;
+    }
     Ok(())
 }

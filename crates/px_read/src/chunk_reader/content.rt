@@ -7,30 +7,29 @@ use super::ChunkError;
 use super::stage::{Stage, Turn};
 use crate::ChunkPart;
 use px_text::Bytes;
-use std::alloc::Global;
 
 /// Hears bytes of a content of which so many are to come.
-pub fn hear_content(alloc: Global, left: u64, bytes: &[u8]) -> Result<Turn, ChunkError>
+pub fn hear_content(left: u64, bytes: &Bytes) -> Result<Turn, ChunkError>
     requires left { 0 < left }
     requires some { 0 < length bytes.now }
     ensures { Turns (behind_content left) bytes.now [] result }
 {
-    let count = piece_length(left, bytes);
-    let piece = Vec::from_slice(alloc, &bytes[..count])?;
+    let count = piece_length(left, bytes.len());
+    let piece = bytes.part(0, count)?;
     Ok(Turn {
         used: count,
-        part: Some(ChunkPart::Piece(Bytes::new(piece))),
+        part: Some(ChunkPart::Piece(piece)),
         stage: Stage::Content(left - count as u64),
     })
 }
 
-fn piece_length(left: u64, bytes: &[u8]) -> usize
+fn piece_length(left: u64, there: usize) -> usize
     ensures left { result ≤ left }
-    ensures within { result ≤ length bytes.now }
-    ensures some { 0 < left → 0 < length bytes.now → 0 < result }
+    ensures within { result ≤ there }
+    ensures some { 0 < left → 0 < there → 0 < result }
 {
-    if bytes.len() as u64 <= left {
-        bytes.len()
+    if there as u64 <= left {
+        there
     } else {
         left as usize
     }

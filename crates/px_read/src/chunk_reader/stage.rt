@@ -10,6 +10,7 @@ use super::trailers::hear_trailers;
 use crate::ChunkPart;
 use px_head::HeadReader;
 use px_message::Fields;
+use px_text::Bytes;
 
 /// What the next byte belongs to.
 #[derive(Debug, Drop)]
@@ -37,7 +38,7 @@ pub struct Turn {
 }
 
 /// Hears the bytes of a stage, at least one.
-pub fn hear(stage: Stage, line: &mut Vec<u8>, bytes: &[u8]) -> Result<Turn, ChunkError>
+pub fn hear(stage: Stage, line: &mut Vec<u8>, bytes: &Bytes) -> Result<Turn, ChunkError>
     requires going { IsGoing (seen_as line.old.items stage) }
     requires stage { IsStage line.old.items stage }
     requires some { 0 < length bytes.now }
@@ -45,11 +46,11 @@ pub fn hear(stage: Stage, line: &mut Vec<u8>, bytes: &[u8]) -> Result<Turn, Chun
 {
     let alloc = *line.allocator();
     match stage {
-        Stage::Line => hear_line(line, bytes),
-        Stage::Content(0) => hear_return(bytes),
-        Stage::Content(left) => hear_content(alloc, left, bytes),
-        Stage::LineFeed => hear_line_feed(bytes),
-        Stage::Trailers(reader) => hear_trailers(alloc, reader, bytes),
+        Stage::Line => hear_line(line, bytes.as_slice()),
+        Stage::Content(0) => hear_return(bytes.as_slice()),
+        Stage::Content(left) => hear_content(left, bytes),
+        Stage::LineFeed => hear_line_feed(bytes.as_slice()),
+        Stage::Trailers(reader) => hear_trailers(alloc, reader, bytes.as_slice()),
         Stage::Ended(_) | Stage::Refused => unreachable!(),
     }
 }

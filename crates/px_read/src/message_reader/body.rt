@@ -12,7 +12,7 @@ use super::stage::{Sender, Stage, Turn, end, refuse, wait};
 use crate::chunk_reader::ChunkError;
 use crate::{ChunkPart, ChunkReader, Part};
 use px_message::{Fault, Fields};
-use px_text::{Bytes, NoMemory};
+use px_text::NoMemory;
 use std::alloc::Global;
 
 /// A piece of a body of which so many bytes are to come, or its end.
@@ -29,7 +29,7 @@ pub fn take_counted(
     if left == 0 {
         return end(Fields::new(alloc), rest);
     }
-    let count = piece_length(left, rest.bytes());
+    let count = piece_length(left, rest.len());
     if count == 0 {
         return Ok(wait(
             Stage::Counted { sender, left },
@@ -38,7 +38,7 @@ pub fn take_counted(
         ));
     }
     let left = left - count as u64;
-    take_piece(alloc, count, Stage::Counted { sender, left }, rest)
+    take_piece(count, Stage::Counted { sender, left }, rest)
 }
 
 /// A piece of a body up to the close, or its end.
@@ -51,9 +51,9 @@ pub fn take_to_close(
     ensures turn { IfOk result (λ turn. IsTurn (state_at (up_to_close sender) rest closed) turn.part (seen_as turn.stage turn.rest closed)) }
     ensures stage { IfOk result (λ turn. IsStage turn.stage) }
 {
-    let count = rest.bytes().len();
+    let count = rest.len();
     if count > 0 {
-        return take_piece(alloc, count, Stage::ToClose { sender }, rest);
+        return take_piece(count, Stage::ToClose { sender }, rest);
     }
     if is_shut(sender, closed) {
         return end(Fields::new(alloc), rest);
@@ -66,30 +66,24 @@ pub fn take_to_close(
 }
 
 // How many bytes of a body are there, of those that are to come.
-fn piece_length(left: u64, bytes: &[u8]) -> usize
+fn piece_length(left: u64, there: usize) -> usize
     ensures left { result ≤ left }
-    ensures within { result ≤ length bytes.now }
-    ensures all { result ≡ 0 → 0 < left → length bytes.now ≡ 0 }
+    ensures within { result ≤ there }
+    ensures all { result ≡ 0 → 0 < left → there ≡ 0 }
 {
-    if bytes.len() as u64 <= left {
-        bytes.len()
+    if there as u64 <= left {
+        there
     } else {
         left as usize
     }
 }
 
 // A piece of so many bytes, and this stage behind it.
-fn take_piece(
-    alloc: Global,
-    count: usize,
-    stage: Stage,
-    mut rest: Pending,
-) -> Result<Turn, NoMemory>
+fn take_piece(count: usize, stage: Stage, mut rest: Pending) -> Result<Turn, NoMemory>
     requires { count ≤ length rest }
     ensures { IfOk result (λ turn. turn ≡ record { part = Part.Piece (take count rest); stage = stage; rest = drop count rest }) }
 {
-    let piece = Bytes::new(Vec::from_slice(alloc, &rest.bytes()[..count])?);
-    rest.skip(count);
+    let piece = rest.split(count)?;
     Ok(Turn {
         part: Part::Piece(piece),
         stage,

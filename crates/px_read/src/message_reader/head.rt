@@ -10,7 +10,7 @@ use crate::parts::{read_request_head, read_response_head};
 use crate::{ChunkReader, Part, ResponseHead};
 use px_head::{Found, HeadReader, RawHead};
 use px_message::{Fault, Fields, Length, length_of_request, length_of_response};
-use px_text::NoMemory;
+use px_text::{Bytes, NoMemory};
 use std::alloc::Global;
 
 /// The head of a request. It is given before a fault of its length.
@@ -30,18 +30,26 @@ pub fn take_request(
             stage: Stage::Request(reader),
             rest,
         }),
-        Found::TooLong => Ok(refuse(Fault::TooLong, Pending::new(reader.into_rest()))),
-        Found::BadHead => Ok(refuse(Fault::BadHead, Pending::new(reader.into_rest()))),
+        Found::TooLong => Ok(refuse(Fault::TooLong, rest_of(reader)?)),
+        Found::BadHead => Ok(refuse(Fault::BadHead, rest_of(reader)?)),
         Found::Head(raw) => {
+            let rest = rest_of(reader)?;
             let head = read_request_head(alloc, raw)?;
             let stage = behind_request(alloc, length_of_request(&head.fields));
             Ok(Turn {
                 part: Part::Request(head),
                 stage,
-                rest: Pending::new(reader.into_rest()),
+                rest,
             })
         }
     }
+}
+
+// What the reader of a head did not use.
+fn rest_of(reader: HeadReader) -> Result<Pending, NoMemory>
+    ensures { IfOk result (λ rest. rest ≡ reader.rest) }
+{
+    Ok(Pending::new(Bytes::new(reader.into_rest())?))
 }
 
 /// The head of a response. Where its length is at fault, it is refused and not given.
@@ -57,30 +65,27 @@ pub fn take_response(
     ensures stage { IfOk result (λ turn. IsStage turn.stage) }
 {
     match reader.take_response()? {
-        Found::Partial if closed => Ok(refuse(
-            Fault::ServerClosed,
-            Pending::new(reader.into_rest()),
-        )),
+        Found::Partial if closed => Ok(refuse(Fault::ServerClosed, rest_of(reader)?)),
         Found::Partial => Ok(Turn {
             part: Part::More,
             stage: Stage::Response { asked_head, reader },
             rest,
         }),
-        Found::TooLong => Ok(refuse_response(reader)),
-        Found::BadHead => Ok(refuse_response(reader)),
+        Found::TooLong => refuse_response(reader),
+        Found::BadHead => refuse_response(reader),
         Found::Head(raw) => {
+            let rest = rest_of(reader)?;
             let head = read_response_head(alloc, raw)?;
-            let rest = Pending::new(reader.into_rest());
             Ok(give_response(alloc, asked_head, head, rest))
         }
     }
 }
 
 // A response without a head.
-fn refuse_response(reader: HeadReader) -> Turn
-    ensures { result ≡ record { part = Part.Bad Fault.BadResponse; stage = Stage.Refused Fault.BadResponse; rest = reader.rest } }
+fn refuse_response(reader: HeadReader) -> Result<Turn, NoMemory>
+    ensures { IfOk result (λ turn. turn ≡ record { part = Part.Bad Fault.BadResponse; stage = Stage.Refused Fault.BadResponse; rest = reader.rest }) }
 {
-    refuse(Fault::BadResponse, Pending::new(reader.into_rest()))
+    Ok(refuse(Fault::BadResponse, rest_of(reader)?))
 }
 
 // The head of a response, or its refusal for a fault of its length.

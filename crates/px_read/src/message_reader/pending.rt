@@ -1,61 +1,68 @@
 //! Bytes that were fed and not used.
 //!
-//! Those that were used stay in the buffer until they are as many as the others, so that each byte is moved a few times at
-//! most.
-ghost use Rattle.std.specs.Prelude.{◌≡◌, ◌≤◌, ◌++◌, drop, length, OnOk};
+//! A piece that comes when all before it was used is kept as it is, shared with who fed it; any other is added behind the
+//! bytes that wait, which stay where they are as long as nobody else has a share in them and there is room.
+ghost use Rattle.std.specs.Prelude.{◌≡◌, ◌≤◌, ◌++◌, take, drop, length, IfOk, OnOk};
 
-use px_text::NoMemory;
+use px_text::{Bytes, NoMemory};
+use std::alloc::Global;
 use std::marker::Model;
+use std::mem;
 
 /// Bytes that were fed and not used. In a contract they are the list of them.
 #[derive(Debug, Drop)]
 pub struct Pending {
-    buffer: Vec<u8>,
-    used: usize,
+    waiting: Bytes,
 }
 
 impl Model for Pending {
-    ghost use Rattle.std.specs.Prelude.{List, ℕ, ◌≤◌, drop, length};
+    ghost use Rattle.std.specs.Prelude.{List, ℕ};
 
     ghost Value = { List ℕ };
 
-    ghost view = { λ p. drop p.used p.buffer.items };
+    ghost view = { λ p. p.waiting };
 
-    ghost invariant = { λ p. p.used ≤ length p.buffer.items };
+    ghost inverse = { λ text. record { waiting = text } };
 }
 
 impl Pending {
-    /// These bytes, without taking memory.
-    pub fn new(bytes: Vec<u8>) -> Pending
-        ensures { result ≡ bytes.items }
+    /// These bytes.
+    pub fn new(bytes: Bytes) -> Pending
+        ensures { result ≡ bytes }
     {
-        Pending {
-            buffer: bytes,
-            used: 0,
-        }
+        Pending { waiting: bytes }
     }
 
     /// Adds bytes behind the others.
-    pub fn feed(&mut self, bytes: &[u8]) -> Result<(), NoMemory>
+    pub fn feed(&mut self, alloc: Global, bytes: &Bytes) -> Result<(), NoMemory>
         ensures { OnOk result (self.new ≡ self.old ++ bytes.now) }
     {
-        self.used = compact(&mut self.buffer, self.used);
-        self.buffer.extend_from_slice(bytes)?;
+        let before = mem::replace(&mut self.waiting, Bytes::empty());
+        self.waiting = joined(alloc, before, bytes)?;
         Ok(())
     }
 
     /// The bytes.
-    pub fn bytes(&self) -> &[u8]
+    pub fn bytes(&self) -> &Bytes
         ensures { result.now ≡ self.now }
     {
-        &self.buffer[self.used..]
+        &self.waiting
     }
 
     /// How many bytes there are.
     pub fn len(&self) -> usize
         ensures { result ≡ length self.now }
     {
-        self.buffer.len() - self.used
+        self.waiting.len()
+    }
+
+    /// Takes the first `count` bytes off, shared.
+    pub fn split(&mut self, count: usize) -> Result<Bytes, NoMemory>
+        requires { count ≤ length self.old }
+        ensures front { IfOk result (λ made. made ≡ take count self.old) }
+        ensures rest { OnOk result (self.new ≡ drop count self.old) }
+    {
+        self.waiting.split_to(count)
     }
 
     /// Uses so many bytes.
@@ -63,37 +70,23 @@ impl Pending {
         requires { count ≤ length self.old }
         ensures { self.new ≡ drop count self.old }
     {
-        self.used += count;
+        self.waiting.advance(count);
     }
 
-    /// The bytes, without taking memory.
-    pub fn into_vec(self) -> Vec<u8>
-        ensures { result.items ≡ self }
+    /// The bytes.
+    pub fn into_bytes(self) -> Bytes
+        ensures { result ≡ self }
     {
-        let Pending { mut buffer, used } = self;
-        move_to_front(&mut buffer, used);
-        buffer
+        self.waiting
     }
 }
 
-// Moves what is left to the front of the buffer where it is no longer than what was used, and says where it begins.
-fn compact(buffer: &mut Vec<u8>, used: usize) -> usize
-    requires { used ≤ length buffer.old.items }
-    ensures rest { drop result buffer.new.items ≡ drop used buffer.old.items }
-    ensures within { result ≤ length buffer.new.items }
+// These bytes with others behind them: the others themselves, shared, where there are no bytes before them.
+fn joined(alloc: Global, before: Bytes, bytes: &Bytes) -> Result<Bytes, NoMemory>
+    ensures { IfOk result (λ made. made ≡ before ++ bytes.now) }
 {
-    if used < buffer.len() - used {
-        return used;
+    if before.is_empty() {
+        return bytes.try_clone();
     }
-    move_to_front(buffer, used);
-    0
-}
-
-fn move_to_front(buffer: &mut Vec<u8>, used: usize)
-    requires { used ≤ length buffer.old.items }
-    ensures { buffer.new.items ≡ drop used buffer.old.items }
-{
-    let rest = buffer.len() - used;
-    buffer.copy_within(used.., 0);
-    buffer.truncate(rest);
+    before.append(alloc, bytes.as_slice())
 }

@@ -109,7 +109,7 @@ fn response_of(alloc: Global, head: ResponseHead, status: Status) -> Response
         status,
         reason: head.reason,
         fields: head.fields,
-        body: Body::new(Vec::new(alloc)),
+        body: Body::empty(),
         trailers: Fields::new(alloc),
         streamed: false,
     }

@@ -162,9 +162,15 @@ fn look_at_body(
             let flow = flows::with_body(flow, body, trailers, now.moment);
             ask_whole(now, flow, given, out)
         }
-        Progress::Bad(fault) => fail(now, flow, fault, Used::NoServer, out),
+        Progress::Bad(fault) => {
+            drop(body);
+            drop(given);
+            fail(now, flow, fault, Used::NoServer, out)
+        }
         Progress::Missing => {
             if now.client_closed {
+                drop(body);
+                drop(given);
                 return leave(now, flow, Used::NoServer, out);
             }
             Ok(Phase::Ready(Ready::Receiving { flow, given, body }))

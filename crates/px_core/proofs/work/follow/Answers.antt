@@ -1,10 +1,8 @@
-use Rattle.std.proofs.Common.{◌∙◌, ap, ◌++◌, ◌∷◌, [], Some, subst, sym}
+use Rattle.std.proofs.Common.{◌∙◌, ap, ◌++◌, ◌∷◌, [], sym}
 use Rattle.std.proofs.lemmas.Result.{on_ok_weaker}
 use Rattle.px_event.specs.declared.step.Step.TheVariants as steps
 use Rattle.std.specs.List.{flat_map}
-use Rattle.px_core.specs.Run.{done_of, IsOfHeard}
-use Rattle.px_event.specs.Trace.{Trace}
-use Rattle.px_core.specs.Due.{IsServed}
+use Rattle.px_core.specs.Run.{done_of}
 use Rattle.px_core.proofs.ResultLemmas.{on_ok_of, on_ok_both}
 use Rattle.px_core.proofs.RouteLemmas.{heard_served}
 use Rattle.px_core.proofs.RunLemmas.{done_behind, on_err, at_err, served_part, served_none, handed_part, handed_none, tells_none, tells_by}
@@ -20,16 +18,14 @@ pub returns-clause-ok : goal.returns-clause-ok
 returns-clause-ok g c = λ due trace owes stands told. on_ok_weaker c.tell_all.result
     (λ is. record {
       more = c.in_ok-steps.steps.items;
-      is = is ∙ ap (λ l. Some ((trace ++ steps.Heard c.args.moment c.args.heard ∷ []) ++ l)) c.deref.ensures.value;
+      is = is;
       holds = c.in_ok-steps.ensures.stands due trace owes stands;
     }) (c.tell_all.ensures.told _ told)
 
 pub returns-clause-err : goal.returns-clause-err
 returns-clause-err g c = λ due trace owes stands told. at_err c.tell_all.result
-    (λ part. served_part g.A.Answerer.answers due (trace ++ steps.Heard c.args.moment c.args.heard ∷ []) c.deref.result.now _ _ _
-    (let served = (c.in_ok-steps.ensures.stands due trace owes stands).served in
-    let same = ap (λ l. (trace ++ steps.Heard c.args.moment c.args.heard ∷ []) ++ l) (sym c.deref.ensures.value) in
-    let P : Trace → Type 0 = IsServed g.A.Answerer.answers due in subst P same served) part) (c.tell_all.ensures.part _ told)
+    (λ part. served_part g.A.Answerer.answers due (trace ++ steps.Heard c.args.moment c.args.heard ∷ []) c.in_ok-steps.steps.items _ _ _
+    ((c.in_ok-steps.ensures.stands due trace owes stands).served) part) (c.tell_all.ensures.part _ told)
 
 pub returns-clause-stands : goal.returns-clause-stands
 returns-clause-stands g c = λ due trace owes stands. on_ok_of c.tell_all.result (c.in_ok-steps.steps.items, c.in_ok-steps.ensures.stands due trace owes stands)
@@ -38,9 +34,8 @@ pub returns-clause-taken : goal.returns-clause-taken
 returns-clause-taken g c = λ trace told before. on_ok_both c.tell_all.result
     (λ is taken. record {
       more = c.in_ok-steps.steps.items;
-      is = is ∙ ap (λ l. Some ((trace ++ steps.Heard c.args.moment c.args.heard ∷ []) ++ l)) c.deref.ensures.value;
-      holds = taken ∙ (ap (λ l. g.T.Taker.taken c.args.taker.now ++ flat_map done_of l) c.deref.ensures.value
-          ∙ (ap (λ l. l ++ flat_map done_of c.in_ok-steps.steps.items) before ∙ sym (done_behind trace c.in_ok-steps.steps.items c.args.moment c.args.heard)));
+      is = is;
+      holds = taken ∙ (ap (λ l. l ++ flat_map done_of c.in_ok-steps.steps.items) before ∙ sym (done_behind trace c.in_ok-steps.steps.items c.args.moment c.args.heard));
     }) (c.tell_all.ensures.told _ told) c.tell_all.ensures.taken
 
 pub returns-in_err-steps-clause-taken_part : goal.returns-in_err-steps-clause-taken_part
@@ -49,12 +44,12 @@ returns-in_err-steps-clause-taken_part g c = λ trace told before.
 
 pub returns-clause-taken_part : goal.returns-clause-taken_part
 returns-clause-taken_part g c = λ trace told before. at_err c.tell_all.result
-    (λ part. handed_part trace c.deref.result.now c.args.moment c.args.heard _ _ _ before part) (c.tell_all.ensures.part _ told)
+    (λ part. handed_part trace c.in_ok-steps.steps.items c.args.moment c.args.heard _ _ _ before part) (c.tell_all.ensures.part _ told)
 
 pub returns-in_err-steps-clause-own : goal.returns-in_err-steps-clause-own
 returns-in_err-steps-clause-own g c = λ trace told. tells_none c.args.heard trace _ told
 
 pub returns-clause-own : goal.returns-clause-own
 returns-clause-own g c = λ trace told.
-    tells_by c.tell_all.result c.args.heard trace c.deref.result.now _ _ _
-    (let P : Trace → Type 0 = IsOfHeard c.args.heard in subst P (sym c.deref.ensures.value) c.in_ok-steps.ensures.own) (c.tell_all.ensures.told _ told) (c.tell_all.ensures.part _ told)
+    tells_by c.tell_all.result c.args.heard trace c.in_ok-steps.steps.items _ _ _
+    c.in_ok-steps.ensures.own (c.tell_all.ensures.told _ told) (c.tell_all.ensures.part _ told)

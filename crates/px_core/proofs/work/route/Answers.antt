@@ -29,3 +29,6 @@ returns-in-Some-clause-own g c = IfOk-weaker c.begin.result _ _ (λ made own. be
 
 pub returns-in-Some-clause-others : goal.returns-in-Some-clause-others
 returns-in-Some-clause-others g c = begun_keeps_by c.begin.result c.args.heard c.in-Some.conv c.in-Some.ensures.fresh.0 c.args.router.now c.begin.new.router c.in-Some.ensures.fresh.1 c.begin.ensures.others
+
+pub take-requires-clause-begins : goal.take-requires-clause-begins
+take-requires-clause-begins g c = c.fresh.ensures.none c.in_default.is

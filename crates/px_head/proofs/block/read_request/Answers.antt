@@ -1,12 +1,16 @@
-use Rattle.std.proofs.Common.{◌∙◌}
+use Rattle.std.proofs.Common.{ℕ, List, ◌∙◌, ap, map, take}
+use Rattle.httparse.specs.Spans.{header_bytes, span_bytes}
 use Rattle.px_head.proofs.BlockLemmas.{request_parts}
 use Rattle.px_head.proofs.block.read_request.Goals as goal
 
 pub returns : goal.returns
 returns c =
     let w = c.in-Some.ensures in
-    request_parts c.args.block.now c.request_spans.new.room c.in-Some.spans w.0 _ _ _ _ w.1 w.2
-    (c.in_ok-copy.ensures ∙ c.of.ensures)
-    (c.in_ok-copy-2.ensures ∙ c.of-2.ensures)
-    (c.in_ok-copy-3.ensures ∙ c.version_text.ensures)
-    c.in_ok-copy_pairs.ensures
+    let spans = c.in-Some.spans in
+    let room = c.request_spans.new.room in
+    let same = c.in_ok-block.ensures in
+    request_parts c.args.block.now room spans w.0 _ _ _ _ w.1 w.2
+    (c.in_ok-part.ensures ∙ ap (λ (b : List ℕ). span_bytes b spans.method) same)
+    (c.in_ok-part-2.ensures ∙ ap (λ (b : List ℕ). span_bytes b spans.path) same)
+    (c.in_ok-copied.ensures ∙ c.version_text.ensures)
+    (c.in_ok-share_pairs.ensures ∙ ap (λ (b : List ℕ). map (header_bytes b) (take spans.headers room)) same)

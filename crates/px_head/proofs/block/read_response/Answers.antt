@@ -1,12 +1,16 @@
-use Rattle.std.proofs.Common.{◌∙◌, refl}
+use Rattle.std.proofs.Common.{ℕ, List, ◌∙◌, ap, map, refl, take}
+use Rattle.httparse.specs.Spans.{header_bytes, span_bytes}
 use Rattle.px_head.proofs.BlockLemmas.{response_parts}
 use Rattle.px_head.proofs.block.read_response.Goals as goal
 
 pub returns : goal.returns
 returns c =
     let w = c.in-Some.ensures in
-    response_parts c.args.block.now c.response_spans.new.room c.in-Some.spans w.0 _ _ _ _ w.1 w.2
-    (c.in_ok-copy.ensures ∙ c.version_text.ensures)
-    (c.new.ensures ∙ c.in_ok-push_decimal.ensures.ok ∙ rw (c.new-code.ensures.items, c.from.ensures) refl)
-    (c.in_ok-copy-2.ensures ∙ c.of.ensures)
-    c.in_ok-copy_pairs.ensures
+    let spans = c.in-Some.spans in
+    let room = c.response_spans.new.room in
+    let same = c.in_ok-block.ensures in
+    response_parts c.args.block.now room spans w.0 _ _ _ _ w.1 w.2
+    (c.in_ok-copied.ensures ∙ c.version_text.ensures)
+    (c.in_ok-new.ensures ∙ c.in_ok-push_decimal.ensures.ok ∙ rw (c.new-code.ensures.items, c.from.ensures) refl)
+    (c.in_ok-part.ensures ∙ ap (λ (b : List ℕ). span_bytes b spans.reason) same)
+    (c.in_ok-share_pairs.ensures ∙ ap (λ (b : List ℕ). map (header_bytes b) (take spans.headers room)) same)

@@ -1,4 +1,4 @@
-use Rattle.std.proofs.Common.{◌++◌, List, ℕ, ◌≤◌, length, subst, arith, length-append, ◌≡◌}
+use Rattle.std.proofs.Common.{◌++◌, length, subst, arith, length-append, ◌≡◌}
 use Rattle.px_text.specs.Prefix.{IsPrefixOf}
 use Rattle.px_read.specs.Requests.{Requests, requests_within, request_list}
 use Rattle.px_read.proofs.RequestListLemmas.{enough_requests, whole_grow}

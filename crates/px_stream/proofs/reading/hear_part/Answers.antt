@@ -1,4 +1,4 @@
-use Rattle.std.proofs.Common.{◌≡◌, ◌++◌, ap, sym, ◌∙◌, rules}
+use Rattle.std.proofs.Common.{◌≡◌, ◌++◌, ap, sym, ◌∙◌}
 use Rattle.px_read.specs.Marks.{marks_of}
 use Rattle.px_stream.specs.Stands.{content_of}
 use Rattle.px_stream.proofs.BodyLemmas.{content_bytes}
@@ -7,5 +7,4 @@ use Rattle.px_stream.proofs.reading.hear_part.Goals as goal
 pub returns-in-Piece-clause-body : goal.returns-in-Piece-clause-body
 returns-in-Piece-clause-body c =
     let content : content_of (marks_of c.args.part) ≡ c.in-Piece.bytes = ap (λ p. content_of (marks_of p)) c.in-Piece.is ∙ content_bytes c.in-Piece.bytes in
-    let piece : c.as_slice.result.now ≡ c.in-Piece.bytes = search rules in
-    c.in_ok-push-in-Piece.ensures ∙ ap (λ l. c.args.body.now ++ l) (piece ∙ sym content)
+    c.in_ok-push-in-Piece.ensures ∙ ap (λ l. c.args.body.now ++ l) (sym content)

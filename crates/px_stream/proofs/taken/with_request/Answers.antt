@@ -4,4 +4,4 @@ use Rattle.px_stream.specs.Replies.{with_request}
 use Rattle.px_stream.proofs.taken.with_request.Goals as goal
 
 pub returns : goal.returns
-returns c = request_eq _ (with_request c.args.asked c.args.given) refl refl refl refl refl refl refl refl refl
+returns c = request_eq _ (with_request c.args.asked.now c.args.given) refl refl refl refl refl refl refl refl refl

@@ -3,16 +3,16 @@ use Rattle.px_wire.proofs.hear.hear.Goals as goal
 
 pub returns-clause-plain : goal.returns-clause-plain
 returns-clause-plain g c = λ links accepted is stands.
-    hears_plain accepted c.args.moment _ _ links c.args.heard is c.in_ok-note_heard.ensures.told stands
+    hears_plain accepted c.args.moment _ _ links c.args.heard is c.in_ok-note.ensures.told stands
 
 pub returns-clause-piece : goal.returns-clause-piece
 returns-clause-piece g c = λ front back link accepted bytes is stands.
-    hears_piece accepted c.args.moment _ _ front back link bytes c.args.heard is c.in_ok-note_heard.ensures.told stands
+    hears_piece accepted c.args.moment _ _ front back link bytes c.args.heard is c.in_ok-note.ensures.told stands
 
 pub returns-clause-closed : goal.returns-clause-closed
 returns-clause-closed g c = λ front back link accepted is over stands.
-    hears_closed accepted c.args.moment _ _ front back link c.args.heard is over c.in_ok-note_heard.ensures.told stands
+    hears_closed accepted c.args.moment _ _ front back link c.args.heard is over c.in_ok-note.ensures.told stands
 
 pub returns-clause-dialled : goal.returns-clause-dialled
 returns-clause-dialled g c = λ front back link accepted server is side stands.
-    hears_undialled accepted c.args.moment _ _ front back link server c.args.heard is side c.in_ok-note_heard.ensures.told stands
+    hears_undialled accepted c.args.moment _ _ front back link server c.args.heard is side c.in_ok-note.ensures.told stands

@@ -10,15 +10,15 @@ returns-in-Wait-clause-asks g c =
     wait_works g.C.Conversation.stands g.C.Conversation.awaited g.C.Conversation.number g.C.Owes.due g.met.C.Owes.gave g.A.Answerer.answers
     c.args.call.conv c.args.call.moment c.args.question c.args.self.now _ c.args.steps.now.items _ refl refl refl (λ flow hook is. refl)
 
-pub returns-clause-asks : goal.returns-clause-asks
-returns-clause-asks g c =
+pub returns-in-Reply-clause-asks : goal.returns-in-Reply-clause-asks
+returns-in-Reply-clause-asks g c =
     if_ok_both c.reply.result _ _ (λ now_open named replies.
     reply_works g.C.Conversation.stands g.C.Conversation.awaited g.C.Conversation.number g.C.Owes.due g.met.C.Owes.gave g.A.Answerer.answers
     c.args.call.conv c.args.call.moment c.args.question c.in-Reply.reply c.args.self.now _ now_open _ _ _ _ _ _ c.requires.next named _ c.in_ok-draft.ensures.answers c.in-Reply.is replies)
     c.reply.ensures.number c.reply.ensures.replies
 
-pub returns-clause-left : goal.returns-clause-left
-returns-clause-left g c = IfOk-weaker c.reply.result _ _ (λ now_open less. turns_less _ _ now_open less) c.reply.ensures.left
+pub returns-in-Reply-clause-left : goal.returns-in-Reply-clause-left
+returns-in-Reply-clause-left g c = IfOk-weaker c.reply.result _ _ (λ now_open less. turns_less _ _ now_open less) c.reply.ensures.left
 
 pub returns-in_err-draft-clause-files : goal.returns-in_err-draft-clause-files
 returns-in_err-draft-clause-files g c = by_failed g.A.Answerer.answers g.A.Answerer.fails _ _ c.in_err-draft.ensures.fails
@@ -26,5 +26,5 @@ returns-in_err-draft-clause-files g c = by_failed g.A.Answerer.answers g.A.Answe
 pub returns-in-Wait-clause-files : goal.returns-in-Wait-clause-files
 returns-in-Wait-clause-files g c = by_one g.A.Answerer.answers g.A.Answerer.fails _ _ _ _ _ _ _ c.in_ok-draft.ensures.answers
 
-pub returns-clause-files : goal.returns-clause-files
-returns-clause-files g c = by_one g.A.Answerer.answers g.A.Answerer.fails _ _ _ _ _ _ _ c.in_ok-draft.ensures.answers
+pub returns-in-Reply-clause-files : goal.returns-in-Reply-clause-files
+returns-in-Reply-clause-files g c = by_one g.A.Answerer.answers g.A.Answerer.fails _ _ _ _ _ _ _ c.in_ok-draft.ensures.answers

@@ -1,4 +1,4 @@
-use Rattle.std.proofs.Common.{◌≡◌, ◌∙◌, take}
+use Rattle.std.proofs.Common.{ℕ, ◌-◌, ◌<◌, ◌≤◌, ◌≡◌, ◌∙◌, ap, length, take, arith}
 use Rattle.px_read.proofs.TurnLemmas.{piece_taken, want_of_memory}
 use Rattle.px_read.proofs.chunk_reader.content.hear_content.Goals as goal
 
@@ -8,5 +8,9 @@ returns-in_err-piece c = want_of_memory _ _ _ c.from_residual.result c.from_resi
 pub returns : goal.returns
 returns c =
     let count = c.piece_length-count.ensures in
-    let piece : c.new.result ≡ take c.piece_length-count.result c.args.bytes.now = c.new.ensures ∙ c.in_ok-piece.ensures.items in
-    piece_taken c.args.left c.piece_length-count.result c.args.bytes.now c.new.result (count.some c.requires.left c.requires.some) count.left count.within piece
+    let some = c.requires.some in
+    let there : 0 < c.len.result = omega arith in
+    let within : c.piece_length-count.result ≤ length c.args.bytes.now = omega arith in
+    let whole : c.piece_length-count.result - 0 ≡ c.piece_length-count.result = omega arith in
+    piece_taken c.args.left c.piece_length-count.result c.args.bytes.now c.in_ok-piece.piece (count.some c.requires.left there) count.left within
+    (c.in_ok-piece.ensures ∙ ap (λ (n : ℕ). take n c.args.bytes.now) whole)

@@ -1,4 +1,4 @@
-use Rattle.std.proofs.Common.{ℕ, List, Bool, ◌∙◌, ◌≡◌, ◌<◌, ◌≤◌, ◌-◌, take, drop, length, arith, ap, subst, sym}
+use Rattle.std.proofs.Common.{Bool, ◌∙◌, ◌≡◌, ◌<◌, ◌≤◌, ◌-◌, take, drop, length, arith, ap, subst, sym}
 use Rattle.px_read.specs.Reader.{in_counted, IsTurn}
 use Rattle.px_read.specs.Stages.{state_at, seen_as}
 use Rattle.px_read.specs.Waits.{waited}
@@ -19,7 +19,7 @@ pub returns-then-count-eq0-clause-turn : goal.returns-then-count-eq0-clause-turn
 returns-then-count-eq0-clause-turn c =
     let some : 0 < c.args.left = omega arith in
     let none : length c.args.rest ≡ 0 =
-    sym (ap (λ (bytes : List ℕ). length bytes) c.bytes.ensures) ∙ c.piece_length-count.ensures.all c.if-count-eq0.true some in
+    sym c.len.ensures ∙ c.piece_length-count.ensures.all c.if-count-eq0.true some in
     let kept = stage.Counted c.args.sender c.args.left in
     subst
     (λ (t : Turn). IsTurn (state_at (in_counted c.args.sender c.args.left) c.args.rest c.args.closed) t.part (seen_as t.stage t.rest c.args.closed))
@@ -29,8 +29,7 @@ returns-then-count-eq0-clause-turn c =
 pub returns-clause-turn : goal.returns-clause-turn
 returns-clause-turn c =
     let n = c.piece_length-count.result in
-    let there : n ≤ length c.args.rest =
-    subst (λ (bytes : List ℕ). n ≤ length bytes) c.bytes.ensures c.piece_length-count.ensures.within in
+    let there : n ≤ length c.args.rest = omega arith in
     let some : 0 < n = omega arith in
     turn-made c.take_piece.result
     (record { part = part.Piece (take n c.args.rest); stage = stage.Counted c.args.sender (c.args.left - n); rest = drop n c.args.rest })

@@ -1,4 +1,4 @@
-use Rattle.std.proofs.Common.{ℕ, List, ◌∙◌, ◌≡◌, ◌≤◌, take, drop, length, arith, ap, sym}
+use Rattle.std.proofs.Common.{◌∙◌, ◌≡◌, ◌≤◌, take, drop, length, arith, sym}
 use Rattle.px_read.specs.Reader.{up_to_close}
 use Rattle.px_read.specs.Stages.{state_at}
 use Rattle.px_read.specs.declared.message_reader.stage.Stage.TheVariants as stage
@@ -9,8 +9,7 @@ use Rattle.px_read.proofs.message_reader.body.take_to_close.Goals as goal
 
 pub returns-then-count-gt0-clause-turn : goal.returns-then-count-gt0-clause-turn
 returns-then-count-gt0-clause-turn c =
-    let n = length c.bytes-count.result.now in
-    let same : n ≡ length c.args.rest = ap (λ (bytes : List ℕ). length bytes) c.bytes-count.ensures in
+    let n = c.len-count.result in
     let there : n ≤ length c.args.rest = omega arith in
     turn-made c.take_piece.result
     (record { part = part.Piece (take n c.args.rest); stage = stage.ToClose c.args.sender; rest = drop n c.args.rest })
@@ -19,7 +18,6 @@ returns-then-count-gt0-clause-turn c =
 
 pub returns-then-is_shut-clause-turn : goal.returns-then-is_shut-clause-turn
 returns-then-is_shut-clause-turn c =
-    let same : length c.bytes-count.result.now ≡ length c.args.rest = ap (λ (bytes : List ℕ). length bytes) c.bytes-count.ensures in
     let none : length c.args.rest ≡ 0 = omega arith in
     turn-made c.end.result (record { part = part.End c.new.result; stage = stage.Ended c.new.result; rest = c.args.rest })
     (state_at (up_to_close c.args.sender) c.args.rest c.args.closed) c.args.closed
@@ -28,6 +26,5 @@ returns-then-is_shut-clause-turn c =
 
 pub returns-clause-turn : goal.returns-clause-turn
 returns-clause-turn c =
-    let same : length c.bytes-count.result.now ≡ length c.args.rest = ap (λ (bytes : List ℕ). length bytes) c.bytes-count.ensures in
     let none : length c.args.rest ≡ 0 = omega arith in
     closing-waits c.args.sender c.args.rest c.args.closed none (sym c.is_shut.ensures ∙ c.if-is_shut.false)

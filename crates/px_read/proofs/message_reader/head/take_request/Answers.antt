@@ -23,31 +23,31 @@ returns-in-Partial-clause-turn c =
     (waits kind.Request c.args.reader c.take_request.new.self c.requires
     (sym c.in-Partial.is ∙ c.in_ok-take_request.ensures.found) c.in_ok-take_request.ensures.state)
 
-pub returns-in-TooLong-clause-turn : goal.returns-in-TooLong-clause-turn
-returns-in-TooLong-clause-turn c =
+pub returns-in_ok-rest_of-in-TooLong-clause-turn : goal.returns-in_ok-rest_of-in-TooLong-clause-turn
+returns-in_ok-rest_of-in-TooLong-clause-turn c =
     subst
     (λ (t : Turn). IsTurn (state_at (at_head request) c.args.reader.rest c.args.closed) t.part (seen_as t.stage t.rest c.args.closed))
     (sym c.refuse.ensures)
-    (request-too_long c.args.reader c.take_request.new.self c.new.result c.args.closed
+    (request-too_long c.args.reader c.take_request.new.self c.in_ok-rest_of-in-TooLong.field-0 c.args.closed
     (is_too_long kind.Request c.args.reader c.take_request.new.self c.requires
     (sym c.in-TooLong.is ∙ c.in_ok-take_request.ensures.found) c.in_ok-take_request.ensures.state)
-    (c.new.ensures ∙ c.into_rest.ensures))
+    c.in_ok-rest_of-in-TooLong.ensures)
 
-pub returns-in-BadHead-clause-turn : goal.returns-in-BadHead-clause-turn
-returns-in-BadHead-clause-turn c =
+pub returns-in_ok-rest_of-in-BadHead-clause-turn : goal.returns-in_ok-rest_of-in-BadHead-clause-turn
+returns-in_ok-rest_of-in-BadHead-clause-turn c =
     subst
     (λ (t : Turn). IsTurn (state_at (at_head request) c.args.reader.rest c.args.closed) t.part (seen_as t.stage t.rest c.args.closed))
     (sym c.refuse-in-BadHead.ensures)
-    (request-bad c.args.reader c.take_request.new.self c.new-in-BadHead.result c.args.closed
+    (request-bad c.args.reader c.take_request.new.self c.in_ok-rest_of-in-BadHead.field-0 c.args.closed
     (is_bad kind.Request c.args.reader c.take_request.new.self c.requires
     (sym c.in-BadHead.is ∙ c.in_ok-take_request.ensures.found) c.in_ok-take_request.ensures.state)
-    (c.new-in-BadHead.ensures ∙ c.into_rest-in-BadHead.ensures))
+    c.in_ok-rest_of-in-BadHead.ensures)
 
 pub returns-in_ok-head-in-Head-clause-turn : goal.returns-in_ok-head-in-Head-clause-turn
 returns-in_ok-head-in-Head-clause-turn c =
     let head : RequestHead = c.in_ok-head-in-Head.head in
     let raw = c.in-Head.raw in
-    let rest = c.new-in-Head.result in
+    let rest = c.in_ok-rest-in-Head.rest in
     let seen : seen_as c.behind_request-stage.result rest c.args.closed ≡ state_at (request_place (request_length raw.pairs)) rest c.args.closed =
     c.behind_request-stage.ensures.seen rest c.args.closed
     ∙ ap (λ (framing : Result Length Fault). state_at (request_place framing) rest c.args.closed)
@@ -59,4 +59,4 @@ returns-in_ok-head-in-Head-clause-turn c =
     (request-gives c.args.reader c.take_request.new.self raw rest c.args.closed
     (finds kind.Request c.args.reader c.take_request.new.self raw c.requires
     (sym c.in-Head.is ∙ c.in_ok-take_request.ensures.found) c.in_ok-take_request.ensures.state)
-    (c.new-in-Head.ensures ∙ c.into_rest-in-Head.ensures)))
+    c.in_ok-rest-in-Head.ensures))

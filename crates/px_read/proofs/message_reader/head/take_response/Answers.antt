@@ -1,12 +1,16 @@
 use Rattle.std.proofs.Common.{◌∙◌, ◌≡◌, ap, subst, sym, refl}
 use Rattle.px_head.specs.declared.front.Kind.TheVariants as kind
 use Rattle.px_message.specs.Length.{response_length}
+use Rattle.px_message.specs.declared.fault.Fault.TheVariants.{BadResponse}
 use Rattle.px_read.specs.Heads.{code_of, response_head}
 use Rattle.px_read.specs.Reader.{State, at_head, response, IsTurn}
 use Rattle.px_read.specs.Stages.{seen_as, state_at, answered}
 use Rattle.px_read.specs.declared.head.ResponseHead.{ResponseHead}
 use Rattle.px_read.specs.declared.message_reader.stage.Turn.{Turn}
+use Rattle.px_read.specs.declared.message_reader.stage.Stage.TheVariants as stage
 use Rattle.px_read.specs.declared.part.Part.{Part}
+use Rattle.px_read.specs.declared.part.Part.TheVariants as part
+use Rattle.px_read.proofs.ReaderLemmas.{turn-made}
 use Rattle.px_read.proofs.HeadLemmas.{finds, waits, is_too_long, is_bad, response-parts, response-waits, response-cut, response-too_long, response-bad, response-gives}
 use Rattle.px_read.proofs.message_reader.head.take_response.Goals as goal
 
@@ -16,15 +20,15 @@ read_response_head-requires c =
     (finds kind.Response c.args.reader c.take_response.new.self c.in-Head.raw c.requires
     (sym c.in-Head.is ∙ c.in_ok-take_response.ensures.found) c.in_ok-take_response.ensures.state)
 
-pub returns-in-Partial-clause-turn : goal.returns-in-Partial-clause-turn
-returns-in-Partial-clause-turn c =
+pub returns-in_ok-rest_of-in-Partial-clause-turn : goal.returns-in_ok-rest_of-in-Partial-clause-turn
+returns-in_ok-rest_of-in-Partial-clause-turn c =
     subst
     (λ (t : Turn). IsTurn (state_at (at_head (response c.args.asked_head)) c.args.reader.rest c.args.closed) t.part (seen_as t.stage t.rest c.args.closed))
     (sym c.refuse.ensures)
-    (response-cut c.args.reader c.take_response.new.self c.new.result c.args.asked_head c.args.closed
+    (response-cut c.args.reader c.take_response.new.self c.in_ok-rest_of-in-Partial.field-0 c.args.asked_head c.args.closed
     (waits kind.Response c.args.reader c.take_response.new.self c.requires
     (sym c.in-Partial.is ∙ c.in_ok-take_response.ensures.found) c.in_ok-take_response.ensures.state)
-    c.if-closed.true (c.new.ensures ∙ c.into_rest.ensures))
+    c.if-closed.true c.in_ok-rest_of-in-Partial.ensures)
 
 pub returns-in-Partial-2-clause-turn : goal.returns-in-Partial-2-clause-turn
 returns-in-Partial-2-clause-turn c =
@@ -35,26 +39,30 @@ returns-in-Partial-2-clause-turn c =
 
 pub returns-in-TooLong-clause-turn : goal.returns-in-TooLong-clause-turn
 returns-in-TooLong-clause-turn c =
-    subst
-    (λ (t : Turn). IsTurn (state_at (at_head (response c.args.asked_head)) c.args.reader.rest c.args.closed) t.part (seen_as t.stage t.rest c.args.closed))
-    (sym c.refuse_response.ensures)
-    (response-too_long c.args.reader c.take_response.new.self c.take_response.new.self.rest c.args.asked_head c.args.closed
+    let rest = c.take_response.new.self.rest in
+    turn-made c.refuse_response.result
+    (record { part = part.Bad BadResponse; stage = stage.Refused BadResponse; rest = rest })
+    (state_at (at_head (response c.args.asked_head)) c.args.reader.rest c.args.closed) c.args.closed
+    (response-too_long c.args.reader c.take_response.new.self rest c.args.asked_head c.args.closed
     (is_too_long kind.Response c.args.reader c.take_response.new.self c.requires
     (sym c.in-TooLong.is ∙ c.in_ok-take_response.ensures.found) c.in_ok-take_response.ensures.state) refl)
+    c.refuse_response.ensures
 
 pub returns-in-BadHead-clause-turn : goal.returns-in-BadHead-clause-turn
 returns-in-BadHead-clause-turn c =
-    subst
-    (λ (t : Turn). IsTurn (state_at (at_head (response c.args.asked_head)) c.args.reader.rest c.args.closed) t.part (seen_as t.stage t.rest c.args.closed))
-    (sym c.refuse_response-in-BadHead.ensures)
-    (response-bad c.args.reader c.take_response.new.self c.take_response.new.self.rest c.args.asked_head c.args.closed
+    let rest = c.take_response.new.self.rest in
+    turn-made c.refuse_response-in-BadHead.result
+    (record { part = part.Bad BadResponse; stage = stage.Refused BadResponse; rest = rest })
+    (state_at (at_head (response c.args.asked_head)) c.args.reader.rest c.args.closed) c.args.closed
+    (response-bad c.args.reader c.take_response.new.self rest c.args.asked_head c.args.closed
     (is_bad kind.Response c.args.reader c.take_response.new.self c.requires
     (sym c.in-BadHead.is ∙ c.in_ok-take_response.ensures.found) c.in_ok-take_response.ensures.state) refl)
+    c.refuse_response-in-BadHead.ensures
 
 pub returns-in_ok-head-in-Head-clause-turn : goal.returns-in_ok-head-in-Head-clause-turn
 returns-in_ok-head-in-Head-clause-turn c =
     let raw = c.in-Head.raw in
-    let rest = c.new-rest.result in
+    let rest = c.in_ok-rest-in-Head.rest in
     let turn = c.give_response.result in
     let gave : (turn.part, seen_as turn.stage turn.rest c.args.closed)
     ≡ answered (response_length (code_of raw) c.args.asked_head raw.pairs) (response_head raw) rest c.args.closed =
@@ -64,4 +72,4 @@ returns-in_ok-head-in-Head-clause-turn c =
     (response-gives c.args.reader c.take_response.new.self raw rest c.args.asked_head c.args.closed
     (finds kind.Response c.args.reader c.take_response.new.self raw c.requires
     (sym c.in-Head.is ∙ c.in_ok-take_response.ensures.found) c.in_ok-take_response.ensures.state)
-    (c.new-rest.ensures ∙ c.into_rest-in-Head.ensures))
+    c.in_ok-rest-in-Head.ensures)

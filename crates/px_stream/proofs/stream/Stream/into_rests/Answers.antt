@@ -1,4 +1,4 @@
-use Rattle.std.proofs.Common.{ℕ, List, sym, ◌∙◌, subst}
+use Rattle.std.proofs.Common.{ℕ, List, sym, subst}
 use Rattle.px_stream.specs.Chain.{look}
 use Rattle.px_stream.specs.Rests.{LeavesRests, phase_rest}
 use Rattle.px_stream.specs.Sequence.{stop_at}
@@ -10,6 +10,6 @@ returns-clause-behind c onward made moves given stands =
     let stop = stop_at onward made moves in
     let P : List ℕ → List ℕ → Type 0 = LeavesRests (look made.terms stop.stage stop.front) stop.stage stop.front in
     let Q : List ℕ → Type 0 = λ client. P client (phase_rest c.args.self.phase) in
-    let R : List ℕ → Type 0 = λ server. P c.new.result server in
-    subst R (sym (c.new-2.ensures ∙ c.rest_of_phase.ensures))
-    (subst Q (sym (c.new.ensures ∙ c.into_rest.ensures)) (leaves_rests _ made.terms _ _ stop.stage stop.front stands.place.phase))
+    let R : List ℕ → Type 0 = λ server. P c.in_ok-client.client server in
+    subst R (sym c.in_ok-server.ensures)
+    (subst Q (sym c.in_ok-client.ensures) (leaves_rests _ made.terms _ _ stop.stage stop.front stands.place.phase))

@@ -1,3 +1,4 @@
+use Rattle.std.proofs.Common.{refl}
 use Rattle.std.proofs.lemmas.Result.{on_ok_weaker}
 use Rattle.px_event.specs.Layer.{Replied}
 use Rattle.px_event.proofs.Steps.{sound_after}
@@ -17,3 +18,6 @@ returns-clause-asks c = c.answer.ensures.asks
 
 pub returns-clause-left : goal.returns-clause-left
 returns-clause-left c = c.answer.ensures.left
+
+pub returns-clause-rate : goal.returns-clause-rate
+returns-clause-rate c = on_ok_weaker c.answer.result (λ less. refl) c.answer.ensures.left

@@ -1,6 +1,0 @@
-//! Worked rows of the calls.
-mod fields;
-mod given;
-mod length;
-mod settle;
-mod values;

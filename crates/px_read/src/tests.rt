@@ -1,2 +1,0 @@
-//! Worked rows of bodies and messages.
-mod chunks;
