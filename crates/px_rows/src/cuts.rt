@@ -1,60 +1,118 @@
-//! Scripts with their pieces cut.
+//! Pieces, cut.
 use crate::RowError;
-use px_event::{Heard, Side};
-use px_text::Bytes;
 use std::alloc::Global;
 
-/// The script with each byte of each piece as a piece of its own.
-pub fn byte_by_byte(alloc: Global, script: &[(u64, Heard)]) -> Result<Vec<(u64, Heard)>, RowError> {
-    let mut cut = Vec::new(alloc);
-    for (moment, heard) in script {
-        match heard {
-            Heard::Piece { conv, side, bytes } => {
-                for byte in bytes.as_slice() {
-                    cut.push((*moment, piece(alloc, *conv, *side, &[*byte])?))?;
-                }
-            }
-            other => cut.push((*moment, other.clone()?))?,
-        }
-    }
-    Ok(cut)
+/// How the rows of a file are cut. Each is played whole in any case.
+#[derive(Clone, Copy, Debug, PartialEq, Eq)]
+pub enum Cuts {
+    /// Nowhere.
+    Nowhere,
+    /// Byte by byte.
+    Bytes,
+    /// Byte by byte, and each piece at every place into two, of which the first may be empty.
+    Everywhere,
+    /// Byte by byte, and each piece into two at the places as near to the end of a line, of 65,536 bytes or of the piece.
+    Near(usize),
 }
 
-/// The script with each piece that has more than `at` bytes cut there into two.
-pub fn cut_in_two(
+/// How a row is played.
+#[derive(Clone, Copy, Debug, PartialEq, Eq)]
+pub enum Cut {
+    /// As it stands.
+    Whole,
+    /// Each byte is a piece of its own.
+    Bytes,
+    /// The piece of this number is cut at this place into two.
+    At(usize, usize),
+}
+
+/// The cuts that need no piece.
+pub fn plain_cuts(alloc: Global, cuts: Cuts) -> Result<Vec<Cut>, RowError> {
+    let mut all = Vec::new(alloc);
+    all.push(Cut::Whole)?;
+    if cuts != Cuts::Nowhere {
+        all.push(Cut::Bytes)?;
+    }
+    Ok(all)
+}
+
+/// Adds the cuts of the piece of this number.
+pub fn add_cuts(
+    all: &mut Vec<Cut>,
+    cuts: Cuts,
+    number: usize,
+    bytes: &[u8],
+) -> Result<(), RowError> {
+    match cuts {
+        Cuts::Nowhere | Cuts::Bytes => Ok(()),
+        Cuts::Everywhere => add_places(all, number, 0, bytes.len()),
+        Cuts::Near(near) => add_near(all, number, bytes, near),
+    }
+}
+
+// The cuts at the places from `first` to below `end`.
+fn add_places(all: &mut Vec<Cut>, number: usize, first: usize, end: usize) -> Result<(), RowError> {
+    for place in first..end {
+        all.push(Cut::At(number, place))?;
+    }
+    Ok(())
+}
+
+fn add_near(all: &mut Vec<Cut>, number: usize, bytes: &[u8], near: usize) -> Result<(), RowError> {
+    let mut next = 1usize;
+    let mut end = 0usize;
+    for byte in bytes {
+        end = end.saturating_add(1);
+        if *byte == b'\n' || end == 65536 || end == bytes.len() {
+            let first = next.max(end.saturating_sub(near));
+            next = end.saturating_add(near).saturating_add(1).min(bytes.len());
+            add_places(all, number, first, next)?;
+        }
+    }
+    Ok(())
+}
+
+/// The parts of the piece of this number.
+pub fn cut_piece(
     alloc: Global,
-    script: &[(u64, Heard)],
-    at: usize,
-) -> Result<Vec<(u64, Heard)>, RowError> {
-    let mut cut = Vec::new(alloc);
-    for (moment, heard) in script {
-        match heard {
-            Heard::Piece { conv, side, bytes } if at < bytes.as_slice().len() => {
-                let (front, back) = bytes.as_slice().split_at(at);
-                cut.push((*moment, piece(alloc, *conv, *side, front)?))?;
-                cut.push((*moment, piece(alloc, *conv, *side, back)?))?;
+    cut: Cut,
+    number: usize,
+    bytes: &[u8],
+) -> Result<Vec<Vec<u8>>, RowError> {
+    match cut {
+        Cut::Whole => one_part(alloc, bytes),
+        Cut::Bytes => each_byte(alloc, bytes),
+        Cut::At(piece, place) => {
+            if piece == number {
+                two_parts(alloc, bytes, place)
+            } else {
+                one_part(alloc, bytes)
             }
-            other => cut.push((*moment, other.clone()?))?,
         }
     }
-    Ok(cut)
 }
 
-/// The number of bytes of the longest piece.
-pub fn longest_piece(script: &[(u64, Heard)]) -> usize {
-    let mut most = 0;
-    for (_, heard) in script {
-        if let Heard::Piece { bytes, .. } = heard {
-            most = most.max(bytes.as_slice().len());
-        }
+fn one_part(alloc: Global, bytes: &[u8]) -> Result<Vec<Vec<u8>>, RowError> {
+    let mut parts = Vec::new(alloc);
+    parts.push(Vec::from_slice(alloc, bytes)?)?;
+    Ok(parts)
+}
+
+fn each_byte(alloc: Global, bytes: &[u8]) -> Result<Vec<Vec<u8>>, RowError> {
+    let mut parts = Vec::new(alloc);
+    for byte in bytes {
+        parts.push(Vec::from_slice(alloc, &[*byte])?)?;
     }
-    most
+    Ok(parts)
 }
 
-fn piece(alloc: Global, conv: u32, side: Side, bytes: &[u8]) -> Result<Heard, RowError> {
-    Ok(Heard::Piece {
-        conv,
-        side,
-        bytes: Bytes::new(Vec::from_slice(alloc, bytes)?),
-    })
+fn two_parts(alloc: Global, bytes: &[u8], place: usize) -> Result<Vec<Vec<u8>>, RowError> {
+    match bytes.split_at_checked(place) {
+        Some((front, back)) => {
+            let mut parts = one_part(alloc, front)?;
+            parts.push(Vec::from_slice(alloc, back)?)?;
+            Ok(parts)
+        }
+        None => one_part(alloc, bytes),
+    }
 }

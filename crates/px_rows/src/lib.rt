@@ -1,34 +1,25 @@
-//! Rows: what is heard and what is said, written so that a person can copy them.
+//! Rows: what is heard and what is said, written so that a person can copy them. docs/rows.md has the notation.
 //!
-//! A script has a line for each thing heard, an expectation a line for each thing said:
+//! `read_sheet` gives the rows of a file, `read_act` what a line of a diagram is; `cuts` has the cuts at which a row is
+//! played, and `show_said` shows what was said in the same notation. Sends to one side that follow each other are shown as
+//! one, since nothing is promised of their cut.
 //!
-//! ```text
-//! accept                        a connection is accepted at the door for clients; `accept control` at the other
-//! C< GET / HTTP/1.1\r\n\r\n     bytes of the client
-//! S0< HTTP/1.1 200 OK\r\n\r\n   bytes of the server of dial 0
-//! D0                            the dial of server 0 succeeded; `D0 fails`: it did not
-//! C closes                      the client closed; `S0 closes`: the server did
-//! S0> text                      bytes sent to the server
-//! C> text                       bytes sent to the client
-//! dial S0 h:80                  the server is dialled
-//! close S0                      a side is closed
-//! ```
-//!
-//! `\r`, `\n`, `\t`, `\\` and `\xHH` stand for bytes; a number and a colon in front (`1:C< ..`) name a conversation other
-//! than 0. Sends to one side that follow each other are shown as one, since nothing is promised of their cut. `cuts` gives
-//! a script again with its pieces cut: whole, byte by byte, and each piece at every place into two.
-//!
-//! This crate serves tests alone: what it does is tested and not proved, beyond that it is safe and ends.
+//! This crate serves the program `rows` alone: what it does is tested by its rows, and not proved, beyond that it is safe
+//! and ends.
 #![tactic(auto)]
 
+mod act;
 mod cuts;
+mod error;
 mod escapes;
-mod script;
+mod sheet;
 mod show;
-#[cfg(test)]
-mod tests;
+mod text;
 
-pub use cuts::{byte_by_byte, cut_in_two, longest_piece};
+pub use act::{Act, piece, read_act};
+pub use cuts::{Cut, Cuts, add_cuts, cut_piece, plain_cuts};
+pub use error::{RowError, Trouble};
 pub use escapes::{unescape, write_escaped};
-pub use script::{RowError, read_script};
-pub use show::show_said;
+pub use sheet::{Line, Row, read_sheet};
+pub use show::{Peer, end_line, show_address, show_close, show_dial, show_said, show_send};
+pub use text::read_u32;

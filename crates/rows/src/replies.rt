@@ -1,0 +1,373 @@
+//! How hooks are answered.
+use crate::diagram::{Diagram, HookLine};
+use px_event::{Hook, Reply};
+use px_message::{
+    Body, Fault, Fields, Flow, Host, Name, Path, Request, Response, Status, Value, Version,
+};
+use px_rows::{RowError, Trouble, unescape};
+use px_write::short_response;
+use std::alloc::Global;
+
+/// A hook, and the reply to it.
+#[derive(Debug, Drop)]
+pub(crate) struct Turn {
+    pub(crate) hook: Hook,
+    pub(crate) reply: String,
+}
+
+/// The replies of the diagram, played at the hook of this name, if any.
+pub(crate) fn hooks_of(alloc: Global, diagram: &Diagram, at: &str) -> Result<Vec<Turn>, Trouble> {
+    let mut turns = Vec::new(alloc);
+    for line in &diagram.hooks {
+        let turn = match turn_of(line) {
+            Ok(turn) => turn,
+            Err(error) => return Err(error.in_line(line.number)),
+        };
+        turns.push(turn)?;
+    }
+    if !at.is_empty() {
+        let turn = match turn_at(at, &diagram.at_reply) {
+            Ok(turn) => turn,
+            Err(error) => return Err(error.in_line(0)),
+        };
+        turns.push(turn)?;
+    }
+    Ok(turns)
+}
+
+fn turn_of(line: &HookLine) -> Result<Turn, RowError> {
+    let hook = hook_of(line.hook.as_str())?;
+    Ok(Turn {
+        hook,
+        reply: line.reply.clone()?,
+    })
+}
+
+fn turn_at(name: &str, reply: &String) -> Result<Turn, RowError> {
+    let hook = hook_of(name)?;
+    Ok(Turn {
+        hook,
+        reply: reply.clone()?,
+    })
+}
+
+fn hook_of(name: &str) -> Result<Hook, RowError> {
+    match name {
+        "RequestHead" => Ok(Hook::RequestHead),
+        "RequestBody" => Ok(Hook::RequestBody),
+        "ResponseHead" => Ok(Hook::ResponseHead),
+        "ResponseBody" => Ok(Hook::ResponseBody),
+        _ => Err(RowError::Bad),
+    }
+}
+
+/// The reply to the hook, where these were answered: the n-th of a hook is the n-th ask of it.
+pub(crate) fn reply_at<'a>(turns: &'a [Turn], asked: &[Hook], hook: Hook) -> &'a str {
+    let mut left = count_of(asked, hook);
+    for turn in turns {
+        if turn.hook == hook {
+            if left == 0 {
+                return turn.reply.as_str();
+            }
+            left = left.saturating_sub(1);
+        }
+    }
+    "go"
+}
+
+fn count_of(asked: &[Hook], hook: Hook) -> usize {
+    let mut count = 0usize;
+    for one in asked {
+        if *one == hook {
+            count = count.saturating_add(1);
+        }
+    }
+    count
+}
+
+pub(crate) fn is_wait(reply: &str) -> bool {
+    reply == "wait"
+}
+
+/// The reply of this text to a hook about this flow.
+pub(crate) fn reply_of(alloc: Global, text: &str, flow: &Flow) -> Result<Reply, RowError> {
+    match text {
+        "kill" => Ok(Reply::Kill),
+        "discard" => Ok(Reply::Discard),
+        "dialled" => Ok(Reply::Dialled),
+        "refused" => Ok(Reply::Refused(Fault::NoConnection)),
+        "go" => go_on(flow),
+        "no response" => without_response(flow),
+        "odd" => oddly(flow),
+        _ => changed(alloc, text, flow),
+    }
+}
+
+fn go_on(flow: &Flow) -> Result<Reply, RowError> {
+    let flow = flow.try_clone()?;
+    Ok(Reply::Go { flow, stream: None })
+}
+
+fn without_response(flow: &Flow) -> Result<Reply, RowError> {
+    let mut flow = flow.try_clone()?;
+    flow.response = None;
+    Ok(Reply::Go { flow, stream: None })
+}
+
+// The flow marked, with another number and another moment, and its body may be streamed.
+fn oddly(flow: &Flow) -> Result<Reply, RowError> {
+    let mut flow = flow.try_clone()?;
+    flow.marked = true;
+    flow.id.index = 7;
+    flow.times.request_start = 7;
+    Ok(Reply::Go {
+        flow,
+        stream: Some(0),
+    })
+}
+
+fn changed(alloc: Global, text: &str, flow: &Flow) -> Result<Reply, RowError> {
+    if let Some(changes) = text.strip_prefix("request ") {
+        let mut flow = flow.try_clone()?;
+        change_request(alloc, &mut flow.request, changes)?;
+        return Ok(Reply::Go { flow, stream: None });
+    }
+    if let Some(changes) = text.strip_prefix("response ") {
+        return with_response(alloc, flow, changes);
+    }
+    match text.strip_prefix("respond ") {
+        Some(text) => respond(alloc, text),
+        None => Err(RowError::Bad),
+    }
+}
+
+// The flow with its response changed. Where it has none, it gets one.
+fn with_response(alloc: Global, flow: &Flow, changes: &str) -> Result<Reply, RowError> {
+    let mut flow = flow.try_clone()?;
+    let response = answer_with(alloc, flow.response, changes)?;
+    flow.response = Some(response);
+    Ok(Reply::Go { flow, stream: None })
+}
+
+// The response, or a short one of 200, changed.
+fn answer_with(
+    alloc: Global,
+    response: Option<Response>,
+    changes: &str,
+) -> Result<Response, RowError> {
+    let response = match response {
+        Some(response) => response,
+        None => short_response(alloc, status_of("200")?)?,
+    };
+    change_response(alloc, response, changes)
+}
+
+// A short response of this status, changed.
+fn respond(alloc: Global, text: &str) -> Result<Reply, RowError> {
+    let (status, changes) = match text.split_once("; ") {
+        Some((status, changes)) => (status, changes),
+        None => (text, ""),
+    };
+    let short = short_response(alloc, status_of(status)?)?;
+    Ok(Reply::Respond(change_response(alloc, short, changes)?))
+}
+
+fn change_request(alloc: Global, request: &mut Request, changes: &str) -> Result<(), RowError> {
+    for change in changes.split("; ") {
+        let (what, text) = word_of(change);
+        change_request_once(alloc, request, what, text)?;
+    }
+    Ok(())
+}
+
+// The first word and the rest.
+fn word_of(change: &str) -> (&str, &str) {
+    match change.split_once(' ') {
+        Some(halves) => halves,
+        None => (change, ""),
+    }
+}
+
+fn change_request_once(
+    alloc: Global,
+    request: &mut Request,
+    what: &str,
+    text: &str,
+) -> Result<(), RowError> {
+    match what {
+        "method" => set_method(alloc, request, text),
+        "host" => {
+            request.host = host_of(alloc, text)?;
+            Ok(())
+        }
+        "port" => set_port(request, text),
+        "path" => {
+            request.path = path_of(alloc, text)?;
+            Ok(())
+        }
+        "version" => {
+            request.version = version_of(text)?;
+            Ok(())
+        }
+        _ => change_content(
+            alloc,
+            what,
+            text,
+            &mut request.fields,
+            &mut request.body,
+            &mut request.trailers,
+            &mut request.streamed,
+        ),
+    }
+}
+
+fn set_method(alloc: Global, request: &mut Request, text: &str) -> Result<(), RowError> {
+    match request.set_method(name_of(alloc, text)?) {
+        Ok(()) => Ok(()),
+        Err(_) => Err(RowError::Bad),
+    }
+}
+
+fn set_port(request: &mut Request, text: &str) -> Result<(), RowError> {
+    let port = match text.parse::<u16>() {
+        Ok(port) => port,
+        Err(_) => return Err(RowError::Bad),
+    };
+    if port == 0 {
+        return Err(RowError::Bad);
+    }
+    request.port = port;
+    Ok(())
+}
+
+fn change_response(alloc: Global, response: Response, changes: &str) -> Result<Response, RowError> {
+    let mut response = response;
+    if changes.is_empty() {
+        return Ok(response);
+    }
+    for change in changes.split("; ") {
+        let (what, text) = word_of(change);
+        change_response_once(alloc, &mut response, what, text)?;
+    }
+    Ok(response)
+}
+
+fn change_response_once(
+    alloc: Global,
+    response: &mut Response,
+    what: &str,
+    text: &str,
+) -> Result<(), RowError> {
+    match what {
+        "version" => {
+            response.version = version_of(text)?;
+            Ok(())
+        }
+        "status" => {
+            response.status = status_of(text)?;
+            Ok(())
+        }
+        "reason" => {
+            response.reason = value_of(alloc, text)?;
+            Ok(())
+        }
+        _ => change_content(
+            alloc,
+            what,
+            text,
+            &mut response.fields,
+            &mut response.body,
+            &mut response.trailers,
+            &mut response.streamed,
+        ),
+    }
+}
+
+// Changes what requests and responses both have.
+fn change_content(
+    alloc: Global,
+    what: &str,
+    text: &str,
+    fields: &mut Fields,
+    body: &mut Body,
+    trailers: &mut Fields,
+    streamed: &mut bool,
+) -> Result<(), RowError> {
+    match what {
+        "add" => add_field(alloc, fields, text),
+        "remove" => {
+            fields.remove(text.as_bytes())?;
+            Ok(())
+        }
+        "trailer" => add_field(alloc, trailers, text),
+        "body" => {
+            *body = body_of(alloc, text)?;
+            Ok(())
+        }
+        "streamed" => {
+            *streamed = true;
+            Ok(())
+        }
+        _ => Err(RowError::Bad),
+    }
+}
+
+/// Adds a field, as `Name: value`.
+pub(crate) fn add_field(alloc: Global, fields: &mut Fields, text: &str) -> Result<(), RowError> {
+    let Some((name, value)) = text.split_once(": ") else {
+        return Err(RowError::Bad);
+    };
+    fields.add(name_of(alloc, name)?, value_of(alloc, value)?)?;
+    Ok(())
+}
+
+pub(crate) fn name_of(alloc: Global, text: &str) -> Result<Name, RowError> {
+    match Name::try_new(unescape(alloc, text)?) {
+        Ok(name) => Ok(name),
+        Err(_) => Err(RowError::Bad),
+    }
+}
+
+pub(crate) fn value_of(alloc: Global, text: &str) -> Result<Value, RowError> {
+    match Value::try_new(unescape(alloc, text)?) {
+        Ok(value) => Ok(value),
+        Err(_) => Err(RowError::Bad),
+    }
+}
+
+pub(crate) fn host_of(alloc: Global, text: &str) -> Result<Host, RowError> {
+    match Host::try_new(alloc, unescape(alloc, text)?) {
+        Ok(host) => Ok(host),
+        Err(_) => Err(RowError::Bad),
+    }
+}
+
+pub(crate) fn path_of(alloc: Global, text: &str) -> Result<Path, RowError> {
+    match Path::try_new(unescape(alloc, text)?) {
+        Ok(path) => Ok(path),
+        Err(_) => Err(RowError::Bad),
+    }
+}
+
+pub(crate) fn status_of(text: &str) -> Result<Status, RowError> {
+    let code = match text.parse::<u16>() {
+        Ok(code) => code,
+        Err(_) => return Err(RowError::Bad),
+    };
+    match Status::try_new(code) {
+        Some(status) => Ok(status),
+        None => Err(RowError::Bad),
+    }
+}
+
+fn version_of(text: &str) -> Result<Version, RowError> {
+    match text {
+        "1.0" => Ok(Version::Http10),
+        "1.1" => Ok(Version::Http11),
+        _ => Err(RowError::Bad),
+    }
+}
+
+pub(crate) fn body_of(alloc: Global, text: &str) -> Result<Body, RowError> {
+    Ok(Body::new(unescape(alloc, text)?)?)
+}

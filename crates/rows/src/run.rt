@@ -1,0 +1,198 @@
+//! Whole runs of the program: its words, what it hears and says, what it prints, and its status.
+use crate::diagram::{Diagram, Heed};
+use px_app::run;
+use px_event::{Heard, Side, Step};
+use px_outside::{MemFiles, ScriptNet, VecSink};
+use px_rows::{Act, Cut, Peer, RowError, cut_piece, end_line, piece, show_said, write_escaped};
+use std::alloc::Global;
+
+/// What is heard, each with the line that it begins, if any.
+#[derive(Drop)]
+struct Script {
+    heard: Vec<(u64, Heard)>,
+    begins: Vec<Option<usize>>,
+}
+
+/// What comes of the diagram.
+pub(crate) fn play_run(alloc: Global, diagram: &Diagram, cut: Cut) -> Result<String, RowError> {
+    let script = make_script(alloc, diagram.script.as_slice(), cut)?;
+    let net_fails = copy_calls(alloc, &diagram.net_fails)?;
+    let sink_fails = copy_calls(alloc, &diagram.sink_fails)?;
+    let mut net = ScriptNet::new(alloc, script.heard, net_fails);
+    let mut files = MemFiles::new(alloc, Vec::new(alloc), Vec::new(alloc));
+    let mut out = VecSink::new(alloc, sink_fails);
+    let status = run(alloc, &diagram.words, &mut net, &mut files, &mut out);
+    let mut came = String::new(alloc);
+    let lines = diagram.script.as_slice();
+    show_trace(&mut came, lines, script.begins.as_slice(), net.trace())?;
+    show_end(&mut came, out.written(), status)?;
+    if diagram.steps {
+        show_steps(&mut came, net.trace())?;
+    }
+    Ok(came)
+}
+
+fn copy_calls(alloc: Global, calls: &[u64]) -> Result<Vec<u64>, RowError> {
+    Ok(Vec::from_slice(alloc, calls)?)
+}
+
+// The script, cut, each line a microsecond behind the one before it.
+fn make_script(alloc: Global, lines: &[Heed], cut: Cut) -> Result<Script, RowError> {
+    let mut script = Script {
+        heard: Vec::new(alloc),
+        begins: Vec::new(alloc),
+    };
+    let mut number = 0usize;
+    for line in lines {
+        number = number.saturating_add(1);
+        add_act(alloc, &mut script, number, &line.act, cut)?;
+    }
+    Ok(script)
+}
+
+fn add_act(
+    alloc: Global,
+    script: &mut Script,
+    number: usize,
+    act: &Act,
+    cut: Cut,
+) -> Result<(), RowError> {
+    match act {
+        Act::Heard(heard) => {
+            let heard = heard.clone()?;
+            add_heard(script, number, Some(number), heard)
+        }
+        Act::Piece(conv, side, bytes) => {
+            let parts = cut_piece(alloc, cut, number, bytes)?;
+            add_parts(alloc, script, number, *conv, *side, parts.as_slice())
+        }
+        _ => Err(RowError::Bad),
+    }
+}
+
+fn add_parts(
+    alloc: Global,
+    script: &mut Script,
+    number: usize,
+    conv: u32,
+    side: Side,
+    parts: &[Vec<u8>],
+) -> Result<(), RowError> {
+    let mut begins = Some(number);
+    for part in parts {
+        let heard = piece(alloc, conv, side, part.as_slice())?;
+        add_heard(script, number, begins, heard)?;
+        begins = None;
+    }
+    Ok(())
+}
+
+fn add_heard(
+    script: &mut Script,
+    number: usize,
+    begins: Option<usize>,
+    heard: Heard,
+) -> Result<(), RowError> {
+    script.heard.push((number as u64, heard))?;
+    script.begins.push(begins)?;
+    Ok(())
+}
+
+// Shows what was said, with each line that was heard in front of what was said behind it.
+fn show_trace(
+    out: &mut String,
+    lines: &[Heed],
+    begins: &[Option<usize>],
+    trace: &[Step],
+) -> Result<(), RowError> {
+    let mut sending: Option<Peer> = None;
+    let mut heard = 0usize;
+    for step in trace {
+        match step {
+            Step::Heard { .. } => {
+                if let Some(text) = line_of(lines, begins, heard) {
+                    end_line(out, sending)?;
+                    sending = None;
+                    push_line(out, text)?;
+                }
+                heard = heard.saturating_add(1);
+            }
+            Step::Said { conv, said } => {
+                sending = show_said(out, sending, *conv, said)?;
+            }
+            _ => {}
+        }
+    }
+    end_line(out, sending)
+}
+
+fn push_line(out: &mut String, text: &str) -> Result<(), RowError> {
+    out.push_str(text)?;
+    out.push('\n')?;
+    Ok(())
+}
+
+// The line that the thing begins which is heard with this number from 0 on.
+fn line_of<'a>(lines: &'a [Heed], begins: &[Option<usize>], heard: usize) -> Option<&'a str> {
+    let number = match begins.get(heard) {
+        Some(Some(number)) => *number,
+        _ => return None,
+    };
+    let line = lines.get(number.saturating_sub(1))?;
+    Some(line.text.as_str())
+}
+
+// The lines that were printed, and the status.
+fn show_end(out: &mut String, printed: &[u8], status: u8) -> Result<(), RowError> {
+    for line in printed.split(|byte| *byte == b'\n') {
+        if !line.is_empty() {
+            out.push_str("prints ")?;
+            write_escaped(out, line)?;
+            out.push('\n')?;
+        }
+    }
+    write!(out, "status {status}\n")?;
+    Ok(())
+}
+
+/// How many steps of each kind a trace has.
+#[derive(Clone, Copy, Debug, PartialEq, Eq)]
+struct Counts {
+    heard: u64,
+    said: u64,
+    asked: u64,
+    answered: u64,
+    done: u64,
+}
+
+fn show_steps(out: &mut String, trace: &[Step]) -> Result<(), RowError> {
+    let mut counts = Counts {
+        heard: 0,
+        said: 0,
+        asked: 0,
+        answered: 0,
+        done: 0,
+    };
+    for step in trace {
+        let kind = match step {
+            Step::Heard { .. } => &mut counts.heard,
+            Step::Said { .. } => &mut counts.said,
+            Step::Asked { .. } => &mut counts.asked,
+            Step::Answered { .. } => &mut counts.answered,
+            Step::Done { .. } => &mut counts.done,
+        };
+        *kind = kind.saturating_add(1);
+    }
+    let Counts {
+        heard,
+        said,
+        asked,
+        answered,
+        done,
+    } = counts;
+    write!(
+        out,
+        "steps {heard} heard, {said} said, {asked} asked, {answered} answered, {done} done\n"
+    )?;
+    Ok(())
+}

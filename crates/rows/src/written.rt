@@ -1,0 +1,199 @@
+//! Messages written out, and what they are made of.
+use crate::lengths::split_at_stroke;
+use crate::replies::{host_of, name_of, path_of, status_of, value_of};
+use px_message::{Body, Fault, Fields, Name, Request, Response, Status, Value, Version};
+use px_rows::{RowError, write_escaped};
+use px_write::{Form, error_text, short_response, write_request, write_response};
+use std::alloc::Global;
+
+/// The fields that stand one a line, as `A: 1`.
+pub(crate) fn read_fields(alloc: Global, text: &[u8]) -> Result<Fields, RowError> {
+    let mut fields = Fields::new(alloc);
+    for line in text.split(|byte| *byte == b'\n') {
+        if !line.is_empty() {
+            add_line(alloc, &mut fields, line)?;
+        }
+    }
+    Ok(fields)
+}
+
+// A field behind whose colon one blank may stand.
+fn add_line(alloc: Global, fields: &mut Fields, line: &[u8]) -> Result<(), RowError> {
+    let mut halves = line.splitn(2, |byte| *byte == b':');
+    let (Some(name), Some(value)) = (halves.next(), halves.next()) else {
+        return Err(RowError::Bad);
+    };
+    let value = match value {
+        [b' ', value @ ..] => value,
+        value => value,
+    };
+    let name = raw_name(alloc, name)?;
+    fields.add(name, raw_value(alloc, value)?)?;
+    Ok(())
+}
+
+fn raw_name(alloc: Global, bytes: &[u8]) -> Result<Name, RowError> {
+    match Name::try_new(Vec::from_slice(alloc, bytes)?) {
+        Ok(name) => Ok(name),
+        Err(_) => Err(RowError::Bad),
+    }
+}
+
+fn raw_value(alloc: Global, bytes: &[u8]) -> Result<Value, RowError> {
+    match Value::try_new(Vec::from_slice(alloc, bytes)?) {
+        Ok(value) => Ok(value),
+        Err(_) => Err(RowError::Bad),
+    }
+}
+
+/// Shows fields in the same form.
+pub(crate) fn show_fields(out: &mut String, fields: &Fields) -> Result<(), RowError> {
+    for i in 0..fields.len() {
+        if i > 0 {
+            out.push_str("\\n")?;
+        }
+        let (name, value) = fields.pair(i);
+        write_escaped(out, name.bytes())?;
+        out.push_str(": ")?;
+        write_escaped(out, value.bytes())?;
+    }
+    Ok(())
+}
+
+/// `POST http://h:81/a?b` without fields.
+pub(crate) fn new_request(alloc: Global) -> Result<Request, RowError> {
+    let method = name_of(alloc, "POST")?;
+    if method.bytes() == b"CONNECT".as_slice() {
+        return Err(RowError::Bad);
+    }
+    let host = host_of(alloc, "h")?;
+    let path = path_of(alloc, "/a?b")?;
+    Ok(Request {
+        method,
+        host,
+        port: 81,
+        path,
+        version: Version::Http11,
+        fields: Fields::new(alloc),
+        body: Body::empty(),
+        trailers: Fields::new(alloc),
+        streamed: false,
+    })
+}
+
+/// A response of this code without reason and fields.
+pub(crate) fn new_response(alloc: Global, code: u16) -> Result<Response, RowError> {
+    let Some(status) = Status::try_new(code) else {
+        return Err(RowError::Bad);
+    };
+    let reason = value_of(alloc, "")?;
+    Ok(Response {
+        version: Version::Http11,
+        status,
+        reason,
+        fields: Fields::new(alloc),
+        body: Body::empty(),
+        trailers: Fields::new(alloc),
+        streamed: false,
+    })
+}
+
+/// What is written of a `request` or a `response`, of a `short` response, or in answer to a fault.
+pub(crate) fn written_answer(alloc: Global, of: &str, bytes: &[u8]) -> Result<String, RowError> {
+    let mut text = Vec::new(alloc);
+    match of {
+        "request" => write_of_request(alloc, bytes, Form::Origin, &mut text)?,
+        "request absolute" => write_of_request(alloc, bytes, Form::Absolute, &mut text)?,
+        "short response" => write_short(alloc, bytes, &mut text)?,
+        "answer" => write_answer(bytes, false, &mut text)?,
+        "answer to HEAD" => write_answer(bytes, true, &mut text)?,
+        _ => write_of_response(alloc, of, bytes, &mut text)?,
+    }
+    let mut out = String::new(alloc);
+    write_escaped(&mut out, text.as_slice())?;
+    Ok(out)
+}
+
+// A request with these fields and this body, and the trailer `T: 1`.
+fn write_of_request(
+    alloc: Global,
+    bytes: &[u8],
+    form: Form,
+    text: &mut Vec<u8>,
+) -> Result<(), RowError> {
+    let (before, content) = split_at_stroke(bytes);
+    let mut request = new_request(alloc)?;
+    request.fields = read_fields(alloc, before)?;
+    request.body = Body::new(Vec::from_slice(alloc, content)?)?;
+    request.trailers = read_fields(alloc, b"T: 1")?;
+    write_request(&request, form, text)?;
+    Ok(())
+}
+
+// A response of this code, with these fields and this body.
+fn write_of_response(
+    alloc: Global,
+    of: &str,
+    bytes: &[u8],
+    text: &mut Vec<u8>,
+) -> Result<(), RowError> {
+    let (of, to_head) = match of.strip_suffix(" to HEAD") {
+        Some(of) => (of, true),
+        None => (of, false),
+    };
+    let Some(code) = of.strip_prefix("response ") else {
+        return Err(RowError::Bad);
+    };
+    let (before, content) = split_at_stroke(bytes);
+    let mut response = new_response(alloc, status_of(code)?.code())?;
+    response.fields = read_fields(alloc, before)?;
+    response.body = Body::new(Vec::from_slice(alloc, content)?)?;
+    write_response(&response, to_head, text)?;
+    Ok(())
+}
+
+fn write_short(alloc: Global, bytes: &[u8], text: &mut Vec<u8>) -> Result<(), RowError> {
+    let Ok(code) = str::from_utf8(bytes) else {
+        return Err(RowError::Bad);
+    };
+    let response = short_response(alloc, status_of(code)?)?;
+    write_response(&response, false, text)?;
+    Ok(())
+}
+
+// The answer to the fault of this name.
+fn write_answer(bytes: &[u8], to_head: bool, text: &mut Vec<u8>) -> Result<(), RowError> {
+    match fault_of(bytes) {
+        Some(fault) => {
+            error_text(fault, to_head, text)?;
+            Ok(())
+        }
+        None => Err(RowError::Bad),
+    }
+}
+
+fn fault_of(name: &[u8]) -> Option<Fault> {
+    let Ok(name) = str::from_utf8(name) else {
+        return None;
+    };
+    match name {
+        "BadHead" => Some(Fault::BadHead),
+        "TooLong" => Some(Fault::TooLong),
+        "BadTarget" => Some(Fault::BadTarget),
+        "BothLengths" => Some(Fault::BothLengths),
+        "BadLength" => Some(Fault::BadLength),
+        "BadCoding" => Some(Fault::BadCoding),
+        _ => later_fault_of(name),
+    }
+}
+
+fn later_fault_of(name: &str) -> Option<Fault> {
+    match name {
+        "BadChunk" => Some(Fault::BadChunk),
+        "NoConnection" => Some(Fault::NoConnection),
+        "ServerClosed" => Some(Fault::ServerClosed),
+        "BadResponse" => Some(Fault::BadResponse),
+        "UpstreamRefused" => Some(Fault::UpstreamRefused),
+        _ => None,
+    }
+}
