@@ -1,0 +1,11 @@
+pub mod DigitLemmas
+pub mod IntLemmas
+pub mod DictLemmas
+pub mod ApartLemmas
+pub mod ItemLemmas
+pub mod TurnLemmas
+pub mod FrameLemmas
+pub mod OneLemmas
+pub mod SpellLemmas
+pub mod ExactLemmas
+pub mod CopyLemmas
