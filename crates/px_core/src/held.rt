@@ -3,7 +3,7 @@
 //! Within a step the trace lags behind the conversation: it gave commands that are not told yet. So `Within` says where it
 //! stands with the commands that are still to be told, and each step that is told takes one of them. An answer stands in
 //! the trace before what it causes; so each front of the steps has no more than is due by the calls in that front.
-ghost use Rattle.std.specs.Prelude.{◌≡◌, ◌==◌, ◌<◌, true, ◌++◌, ℕ, None, Some, OnOk, IfOk, map};
+ghost use Rattle.std.specs.Prelude.{◌≡◌, ◌==◌, ◌<◌, true, ◌++◌, ◌∷◌, [], ℕ, None, Some, OnOk, IfOk, map};
 ghost use Rattle.std.specs.List.{list_any};
 ghost use Rattle.px_event.specs.Layer.{IsSound, IsNews, MayAnswer, Took, Replied};
 ghost use Rattle.px_event.specs.declared.ask.Ask.TheVariants.{Hook as AsksHook, Dial as AsksDial};
@@ -154,6 +154,7 @@ impl<C: Owes> Held<C> {
     fn connect(&mut self, server: u32, ok: bool) -> Result<(), NoMemory>
         ensures connected { OnOk result (self.new.connected.items ≡ connected_by server ok self.old.connected.items) }
         ensures conversation { self.new.conversation ≡ self.old.conversation }
+        ensures draft { self.new.draft ≡ self.old.draft }
     {
         if ok {
             self.connected.push(server)?;
@@ -173,6 +174,7 @@ impl<C: Owes> Held<C> {
         ensures named { IfOk result (λ given. AllNamed call.conv given.items) }
         ensures ready { IfOk result (λ given. IsReady C.awaited self.new given.items) }
         ensures connected { self.new.connected ≡ self.old.connected }
+        ensures draft { self.new.draft ≡ self.old.draft }
     {
         let mut commands = Vec::new(call.alloc);
         self.conversation.take(call.moment, event, &mut commands)?;
@@ -190,6 +192,7 @@ impl<C: Owes> Held<C> {
         ensures named { IfOk result (λ given. AllNamed call.conv given.items) }
         ensures ready { IfOk result (λ given. IsReady C.awaited self.new given.items) }
         ensures connected { self.new.connected ≡ self.old.connected }
+        ensures draft { self.new.draft ≡ self.old.draft }
     {
         let mut commands = Vec::new(call.alloc);
         let ask = Ask::Dial { server };
@@ -305,48 +308,75 @@ fn tell(
 {
     let mut open = None;
     for command in commands {
-        let (step, question) = told(conv, command);
-        open = later(question, open);
-        steps.push(step)?;
+        let question = tell_one(conv, command, steps)?;
+        put_later(&mut open, question);
     }
     Ok(open)
 }
 
-/// The later question, if there is one.
-fn later(question: Option<Question>, earlier: Option<Question>) -> Option<Question>
-    ensures { result ≡ question_by question earlier }
+/// Puts the later question, if there is one, in the place of the earlier.
+fn put_later(earlier: &mut Option<Question>, question: Option<Question>)
+    ensures { earlier.new ≡ question_by question earlier.old }
 {
-    match question {
-        Some(question) => Some(question),
-        None => earlier,
+    if let Some(question) = question {
+        *earlier = Some(question);
     }
 }
 
-/// The step of a command, and the hook that it asks.
-fn told(conv: u32, command: Command) -> (Step, Option<Question>)
-    ensures step { result.0 ≡ step_of conv command }
-    ensures question { result.1 ≡ question_in command }
+/// Adds the step of a command, and gives the hook that it asks, if it asks one. What the command has moves into the step.
+fn tell_one(
+    conv: u32,
+    command: Command,
+    steps: &mut Vec<Step>,
+) -> Result<Option<Question>, NoMemory>
+    ensures told { OnOk result (steps.new.items ≡ steps.old.items ++ step_of conv command ∷ []) }
+    ensures question { IfOk result (λ question. question ≡ question_in command) }
 {
     match command {
-        Command::Send { side, bytes } => {
-            let said = Said::Send { side, bytes };
-            (Step::Said { conv, said }, None)
-        }
-        Command::Close { side } => {
-            let said = Said::Close { side };
-            (Step::Said { conv, said }, None)
-        }
+        Command::Send { side, bytes } => tell_said(conv, Said::Send { side, bytes }, steps),
+        Command::Close { side } => tell_said(conv, Said::Close { side }, steps),
         Command::Dial {
             server,
             address,
             ..
-        } => {
-            let said = Said::Dial { server, address };
-            (Step::Said { conv, said }, None)
-        }
-        Command::Ask { ask, flow } => (Step::Asked { conv, ask }, asking(ask, flow)),
-        Command::Done { flow } => (Step::Done { flow }, None),
+        } => tell_said(conv, Said::Dial { server, address }, steps),
+        Command::Ask { ask, flow } => tell_asked(conv, ask, flow, steps),
+        Command::Done { flow } => tell_done(flow, steps),
     }
+}
+
+fn tell_said(conv: u32, said: Said, steps: &mut Vec<Step>) -> Result<Option<Question>, NoMemory>
+    ensures told { OnOk result (steps.new.items ≡ steps.old.items ++ Step.Said conv said ∷ []) }
+    ensures question { IfOk result (λ question. question ≡ None) }
+{
+    steps.push(Step::Said { conv, said })?;
+    Ok(None)
+}
+
+fn tell_asked(
+    conv: u32,
+    ask: Ask,
+    flow: Flow,
+    steps: &mut Vec<Step>,
+) -> Result<Option<Question>, NoMemory>
+    ensures told { OnOk result (steps.new.items ≡ steps.old.items ++ Step.Asked conv ask ∷ []) }
+    ensures question { IfOk result (λ question. question ≡ question_about ask flow) }
+{
+    match steps.push(Step::Asked { conv, ask }) {
+        Ok(()) => Ok(asking(ask, flow)),
+        Err(_) => {
+            drop(flow);
+            Err(NoMemory)
+        }
+    }
+}
+
+fn tell_done(flow: Flow, steps: &mut Vec<Step>) -> Result<Option<Question>, NoMemory>
+    ensures told { OnOk result (steps.new.items ≡ steps.old.items ++ Step.Done flow ∷ []) }
+    ensures question { IfOk result (λ question. question ≡ None) }
+{
+    steps.push(Step::Done { flow })?;
+    Ok(None)
 }
 
 /// The hook that is asked about this flow.

@@ -1,7 +1,7 @@
 //! Flows: a request with what became of it.
 ghost use Rattle.std.specs.Prelude.{◌≡◌, IfOk};
 
-use crate::{Address, Request, Response};
+use crate::{Address, Request, Response, Shared};
 use px_text::{Bytes, NoMemory};
 use std::alloc::AllocError;
 
@@ -55,8 +55,9 @@ pub struct Flow {
     pub client: Option<Address>,
     /// The address that was dialled, from when the flow begins to use that side.
     pub server: Option<Address>,
-    pub request: Request,
-    pub response: Option<Response>,
+    /// Copies of the flow share it; so with the response.
+    pub request: Shared<Request>,
+    pub response: Option<Shared<Response>>,
     pub error: Option<FlowError>,
     pub times: Times,
     pub replayed: Replayed,

@@ -7,7 +7,7 @@
 //! directions.
 //!
 //! Copies share what they hold: the bytes of names, values, paths and bodies, and a list of fields as a whole until one of
-//! its copies is changed. So a copy of a message costs the same whatever its length, and a change of one copy is seen
+//! its copies is changed. Copies of a flow share its messages whole. So a copy of a message costs the same whatever its length, and a change of one copy is seen
 //! in no other.
 //!
 //! Contracts see a `Name`, a `Value`, a `Host`, a `Path` and a `Body` as the list of their bytes, a `Status` as its
@@ -31,6 +31,7 @@ mod request;
 mod response;
 mod settle;
 pub mod settle_laws;
+mod shared;
 mod stated;
 mod status;
 mod target;
@@ -52,6 +53,7 @@ pub use path::{BadPath, Path};
 pub use request::Request;
 pub use response::Response;
 pub use settle::{settle_request, settle_response};
+pub use shared::Shared;
 pub use status::Status;
 pub use target::{Target, TargetError, read_target};
 pub use url::{UrlError, written_url_is_read};

@@ -13,7 +13,8 @@ use crate::terms::Now;
 use crate::texts::returned_text;
 use px_event::{Command, Side};
 use px_message::{
-    Fault, Fields, Flow, Length, Request, Response, Version, length_of_response, settle_response,
+    Fault, Fields, Flow, Length, Request, Response, Shared, Version, length_of_response,
+    settle_response,
 };
 use px_text::{Bytes, NoMemory};
 use px_write::{error_text, fault_message};
@@ -99,7 +100,7 @@ pub fn end_by_fault(
 ) -> Result<(), NoMemory>
     ensures { OnOk result (out.new.items ≡ out.old.items ++ ends_by_fault flow fault now.moment used now.client_closed) }
 {
-    let text = fault_text(now.alloc, fault, is_head(flow.request.method.bytes()))?;
+    let text = fault_text(now.alloc, fault, is_head(flow.request.get().method.bytes()))?;
     send(Side::Client, text, out)?;
     end_early(now, without_response(flow), fault_message(fault), used, out)
 }
@@ -160,7 +161,7 @@ fn connection_goes_on(index: u32, request: &Request, response: &Response, sent: 
 fn finish_flow(
     now: Now,
     flow: Flow,
-    response: Response,
+    response: Shared<Response>,
     sent: &Response,
     used: Used,
     out: &mut Vec<Command>,
@@ -170,7 +171,7 @@ fn finish_flow(
 {
     send(
         Side::Client,
-        returned_text(now.alloc, &flow.request, sent)?,
+        returned_text(now.alloc, flow.request.get(), sent)?,
         out,
     )?;
     done(with_response(flow, response), out)?;
@@ -183,15 +184,15 @@ pub fn finish(
     now: Now,
     index: u32,
     flow: Flow,
-    response: Response,
+    response: Shared<Response>,
     used: Used,
     out: &mut Vec<Command>,
 ) -> Result<bool, NoMemory>
     ensures stays { IfOk result (λ stays. stays ≡ connection_goes_on index flow.request response) }
     ensures gives { OnOk result (out.new.items ≡ out.old.items ++ finished flow response used ++ shut_unless (connection_goes_on index flow.request response) now.client_closed) }
 {
-    let sent = settled(&flow.request, &response)?;
-    let stays = connection_goes_on(index, &flow.request, &response, &sent);
+    let sent = settled(flow.request.get(), response.get())?;
+    let stays = connection_goes_on(index, flow.request.get(), response.get(), &sent);
     finish_flow(now, flow, response, &sent, used, out)?;
     if stays {
         return Ok(true);

@@ -1,18 +1,28 @@
 //! A flow as it is told so far.
 ghost use Rattle.std.specs.Prelude.{◌≡◌, Some, IfOk};
-ghost use Rattle.px_stream.specs.Chain.{with_answer, with_body, with_end, with_returned, with_start};
+ghost use Rattle.px_stream.specs.Chain.{filled, with_answer, with_body, with_end, with_returned, with_start};
 ghost use Rattle.px_stream.specs.Endings.{with_error, without_response};
 ghost use Rattle.px_stream.specs.Requests.{flow_of};
 
 use crate::content::Content;
 use crate::terms::{Now, Terms};
-use px_message::{Address, Fields, Flow, FlowError, FlowId, Replayed, Request, Response, Times};
+use px_message::{
+    Address, Fields, Flow, FlowError, FlowId, Replayed, Request, Response, Shared, Times,
+};
 use px_text::{Bytes, NoMemory};
+use std::alloc::Global;
 
 /// The flow of a request whose head was read at this moment.
-pub fn begin(terms: &Terms, index: u32, request: Request, moment: u64) -> Result<Flow, NoMemory>
+pub fn begin(
+    alloc: Global,
+    terms: &Terms,
+    index: u32,
+    request: Request,
+    moment: u64,
+) -> Result<Flow, NoMemory>
     ensures { IfOk result (λ flow. flow ≡ flow_of terms.now index request moment) }
 {
+    let request = Shared::new(alloc, request)?;
     Ok(Flow {
         id: FlowId {
             conv: terms.conv,
@@ -37,7 +47,7 @@ pub fn begin(terms: &Terms, index: u32, request: Request, moment: u64) -> Result
 }
 
 /// The flow with this request in place of its own.
-pub fn with_request(flow: Flow, request: Request) -> Flow
+pub fn with_request(flow: Flow, request: Shared<Request>) -> Flow
     ensures { result ≡ record flow { request = request } }
 {
     let mut flow = flow;
@@ -46,7 +56,7 @@ pub fn with_request(flow: Flow, request: Request) -> Flow
 }
 
 /// The flow with this response.
-pub fn with_response(flow: Flow, response: Response) -> Flow
+pub fn with_response(flow: Flow, response: Shared<Response>) -> Flow
     ensures { result ≡ record flow { response = Some response } }
 {
     let mut flow = flow;
@@ -64,37 +74,88 @@ pub fn with_server(flow: Flow, server: Address) -> Flow
 }
 
 /// The flow with its whole request.
-pub fn with_body(flow: Flow, body: Content, trailers: Fields, moment: u64) -> Flow
-    ensures { result ≡ with_body flow body trailers moment }
+pub fn with_body(now: Now, flow: Flow, body: Content, trailers: Fields) -> Result<Flow, NoMemory>
+    ensures { IfOk result (λ whole. whole ≡ with_body flow body trailers now.moment) }
 {
     let mut flow = flow;
-    flow.request.body = body.into_body();
-    flow.request.trailers = trailers;
-    flow.times.request_end = Some(moment);
-    flow
+    flow.request = whole_request(now.alloc, flow.request.get(), body, trailers)?;
+    flow.times.request_end = Some(now.moment);
+    Ok(flow)
+}
+
+// The request with its body and trailers.
+fn filled_request(request: Request, body: Content, trailers: Fields) -> Request
+    ensures { result ≡ record request { body = body; trailers = trailers } }
+{
+    let mut filled = request;
+    filled.body = body.into_body();
+    filled.trailers = trailers;
+    filled
+}
+
+// A copy of it with its body and trailers.
+fn whole_request(
+    alloc: Global,
+    request: &Request,
+    body: Content,
+    trailers: Fields,
+) -> Result<Shared<Request>, NoMemory>
+    ensures { IfOk result (λ whole. whole ≡ record request.now { body = body; trailers = trailers }) }
+{
+    let copy = request.try_clone()?;
+    Shared::new(alloc, filled_request(copy, body, trailers))
 }
 
 /// The flow with the head of its response.
-pub fn with_answer(flow: Flow, response: Response, moment: u64) -> Flow
-    ensures { result ≡ with_answer flow response moment }
+pub fn with_answer(now: Now, flow: Flow, response: Response) -> Result<Flow, NoMemory>
+    ensures { IfOk result (λ answered. answered ≡ with_answer flow response now.moment) }
 {
     let mut flow = flow;
-    flow.response = Some(response);
-    flow.times.response_start = Some(moment);
-    flow
+    flow.response = Some(Shared::new(now.alloc, response)?);
+    flow.times.response_start = Some(now.moment);
+    Ok(flow)
 }
 
 /// The flow with its whole response.
-pub fn with_returned(flow: Flow, body: Content, trailers: Fields, moment: u64) -> Flow
-    ensures { result ≡ with_returned flow body trailers moment }
+pub fn with_returned(
+    now: Now,
+    flow: Flow,
+    body: Content,
+    trailers: Fields,
+) -> Result<Flow, NoMemory>
+    ensures { IfOk result (λ whole. whole ≡ with_returned flow body trailers now.moment) }
 {
     let mut flow = flow;
-    if let Some(response) = &mut flow.response {
-        response.body = body.into_body();
-        response.trailers = trailers;
-    }
-    flow.times.response_end = Some(moment);
-    flow
+    flow.response = whole_response(now.alloc, &flow.response, body, trailers)?;
+    flow.times.response_end = Some(now.moment);
+    Ok(flow)
+}
+
+// The response with its body and trailers.
+fn filled_response(response: Response, body: Content, trailers: Fields) -> Response
+    ensures { result ≡ record response { body = body; trailers = trailers } }
+{
+    let mut filled = response;
+    filled.body = body.into_body();
+    filled.trailers = trailers;
+    filled
+}
+
+// A copy of the response, if there is one, with its body and trailers.
+fn whole_response(
+    alloc: Global,
+    response: &Option<Shared<Response>>,
+    body: Content,
+    trailers: Fields,
+) -> Result<Option<Shared<Response>>, NoMemory>
+    ensures { IfOk result (λ whole. whole ≡ filled response.now body trailers) }
+{
+    let Some(response) = response else {
+        return Ok(None);
+    };
+    let copy = response.get().try_clone()?;
+    let whole = Shared::new(alloc, filled_response(copy, body, trailers))?;
+    Ok(Some(whole))
 }
 
 /// The flow with the start of its response.

@@ -66,9 +66,10 @@ fn dial(server: u32, flow: Flow, out: &mut Vec<Command>) -> Result<Phase, NoMemo
 pub fn address_of(flow: &Flow) -> Result<Address, NoMemory>
     ensures { IfOk result (λ address. address ≡ address_of flow.now.request) }
 {
+    let request = flow.request.get();
     Ok(Address {
-        host: flow.request.host.try_clone()?,
-        port: flow.request.port,
+        host: request.host.try_clone()?,
+        port: request.port,
     })
 }
 

@@ -5,7 +5,7 @@ ghost use Rattle.px_stream.specs.Stands.{asked_of, awaited_in, hook_of};
 use crate::content::Content;
 use crate::link::Link;
 use px_event::{Ask, Hook};
-use px_message::{Flow, Response};
+use px_message::{Flow, Response, Shared};
 
 /// What a flow looks for, while no answer is awaited.
 #[derive(Drop)]
@@ -15,7 +15,7 @@ pub enum Ready {
     /// The request's body; a response may be given already.
     Receiving {
         flow: Flow,
-        given: Option<Response>,
+        given: Option<Shared<Response>>,
         body: Content,
     },
     /// The request is whole: its server is to be dialled.

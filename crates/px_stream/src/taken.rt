@@ -7,7 +7,7 @@ ghost use Rattle.px_stream.specs.Replies.{bad_gateway_reason, in_place, taken_at
 ghost use Rattle.px_stream.specs.Turns.{taken_at_body_of, taken_at_head_of};
 
 use px_event::Reply;
-use px_message::{Flow, Request, Response, Status, Value};
+use px_message::{Flow, Request, Response, Shared, Status, Value};
 use px_text::NoMemory;
 use std::alloc::Global;
 
@@ -17,7 +17,7 @@ pub enum Taken<M> {
     /// It goes on with this message.
     GoesOn(M),
     /// This response is given in place of the server's.
-    Responds(Response),
+    Responds(Shared<Response>),
     /// It ends the flow and its conversation.
     Kills,
 }
@@ -25,13 +25,17 @@ pub enum Taken<M> {
 /// At the hook of the request's head: method, host, port, path, version and fields.
 pub fn take_at_request_head(
     alloc: Global,
-    asked: &Request,
+    asked: &Shared<Request>,
     reply: Reply,
-) -> Result<Taken<Request>, NoMemory>
+) -> Result<Taken<Shared<Request>>, NoMemory>
     ensures { IfOk result (λ taken. taken ≡ taken_at_request_head asked.now reply) }
 {
     match reply {
-        Reply::Go { flow, .. } => Ok(Taken::GoesOn(with_request_head(asked, flow.request)?)),
+        Reply::Go { flow, .. } => Ok(Taken::GoesOn(share_request_head(
+            alloc,
+            asked.get(),
+            flow.request.get(),
+        )?)),
         Reply::Respond(response) => Ok(Taken::Responds(in_place(alloc, response)?)),
         Reply::Kill => Ok(Taken::Kills),
         _ => Ok(Taken::GoesOn(asked.try_clone()?)),
@@ -41,13 +45,17 @@ pub fn take_at_request_head(
 /// At the hook of the whole request: its body and trailers besides.
 pub fn take_at_request_body(
     alloc: Global,
-    asked: &Request,
+    asked: &Shared<Request>,
     reply: Reply,
-) -> Result<Taken<Request>, NoMemory>
+) -> Result<Taken<Shared<Request>>, NoMemory>
     ensures { IfOk result (λ taken. taken ≡ taken_at_request_body asked.now reply) }
 {
     match reply {
-        Reply::Go { flow, .. } => Ok(Taken::GoesOn(with_request(asked, flow.request))),
+        Reply::Go { flow, .. } => Ok(Taken::GoesOn(share_request(
+            alloc,
+            asked.get(),
+            flow.request.get(),
+        )?)),
         Reply::Respond(response) => Ok(Taken::Responds(in_place(alloc, response)?)),
         Reply::Kill => Ok(Taken::Kills),
         _ => Ok(Taken::GoesOn(asked.try_clone()?)),
@@ -57,14 +65,14 @@ pub fn take_at_request_body(
 /// At the hook of the response's head: version, status, reason and fields.
 pub fn take_at_response_head(
     alloc: Global,
-    asked: &Response,
+    asked: &Shared<Response>,
     reply: Reply,
-) -> Result<Taken<Response>, NoMemory>
+) -> Result<Taken<Shared<Response>>, NoMemory>
     ensures { IfOk result (λ taken. taken ≡ taken_at_response_head asked.now reply) }
 {
     match reply {
-        Reply::Go { flow, .. } => match response_in(flow) {
-            Some(given) => Ok(Taken::GoesOn(with_response_head(alloc, asked, given)?)),
+        Reply::Go { flow, .. } => match &flow.response {
+            Some(given) => Ok(Taken::GoesOn(share_response_head(alloc, asked.get(), given.get())?)),
             None => Ok(Taken::GoesOn(asked.try_clone()?)),
         },
         Reply::Kill => Ok(Taken::Kills),
@@ -75,14 +83,14 @@ pub fn take_at_response_head(
 /// At the hook of the whole response: its body and trailers besides.
 pub fn take_at_response_body(
     alloc: Global,
-    asked: &Response,
+    asked: &Shared<Response>,
     reply: Reply,
-) -> Result<Taken<Response>, NoMemory>
+) -> Result<Taken<Shared<Response>>, NoMemory>
     ensures { IfOk result (λ taken. taken ≡ taken_at_response_body asked.now reply) }
 {
     match reply {
-        Reply::Go { flow, .. } => match response_in(flow) {
-            Some(given) => Ok(Taken::GoesOn(with_response(alloc, asked, given)?)),
+        Reply::Go { flow, .. } => match &flow.response {
+            Some(given) => Ok(Taken::GoesOn(share_response(alloc, asked.get(), given.get())?)),
             None => Ok(Taken::GoesOn(asked.try_clone()?)),
         },
         Reply::Kill => Ok(Taken::Kills),
@@ -95,7 +103,7 @@ pub fn take_at_head_of(
     alloc: Global,
     flow: &Flow,
     reply: Reply,
-) -> Result<Option<Taken<Response>>, NoMemory>
+) -> Result<Option<Taken<Shared<Response>>>, NoMemory>
     ensures { IfOk result (λ taken. taken ≡ taken_at_head_of flow.now.response reply) }
 {
     match &flow.response {
@@ -109,20 +117,13 @@ pub fn take_at_body_of(
     alloc: Global,
     flow: &Flow,
     reply: Reply,
-) -> Result<Option<Taken<Response>>, NoMemory>
+) -> Result<Option<Taken<Shared<Response>>>, NoMemory>
     ensures { IfOk result (λ taken. taken ≡ taken_at_body_of flow.now.response reply) }
 {
     match &flow.response {
         Some(asked) => Ok(Some(take_at_response_body(alloc, asked, reply)?)),
         None => Ok(None),
     }
-}
-
-// The response of a flow.
-fn response_in(flow: Flow) -> Option<Response>
-    ensures { result ≡ flow.response }
-{
-    flow.response
 }
 
 fn with_request_head(asked: &Request, given: Request) -> Result<Request, NoMemory>
@@ -165,13 +166,54 @@ fn with_response(alloc: Global, asked: &Response, given: Response) -> Result<Res
     without_upgrade(alloc, taken)
 }
 
+// The same of parts that are shared: a copy is changed, and shared anew.
+fn share_request_head(
+    alloc: Global,
+    asked: &Request,
+    given: &Request,
+) -> Result<Shared<Request>, NoMemory>
+    ensures { IfOk result (λ taken. taken ≡ with_request_head asked.now given.now) }
+{
+    Shared::new(alloc, with_request_head(asked, given.try_clone()?)?)
+}
+
+fn share_request(
+    alloc: Global,
+    asked: &Request,
+    given: &Request,
+) -> Result<Shared<Request>, NoMemory>
+    ensures { IfOk result (λ taken. taken ≡ with_request asked.now given.now) }
+{
+    Shared::new(alloc, with_request(asked, given.try_clone()?))
+}
+
+fn share_response_head(
+    alloc: Global,
+    asked: &Response,
+    given: &Response,
+) -> Result<Shared<Response>, NoMemory>
+    ensures { IfOk result (λ taken. taken ≡ with_response_head asked.now given.now) }
+{
+    Shared::new(alloc, with_response_head(alloc, asked, given.try_clone()?)?)
+}
+
+fn share_response(
+    alloc: Global,
+    asked: &Response,
+    given: &Response,
+) -> Result<Shared<Response>, NoMemory>
+    ensures { IfOk result (λ taken. taken ≡ with_response asked.now given.now) }
+{
+    Shared::new(alloc, with_response(alloc, asked, given.try_clone()?)?)
+}
+
 // A response in place of the server's, which is never streamed.
-fn in_place(alloc: Global, given: Response) -> Result<Response, NoMemory>
+fn in_place(alloc: Global, given: Response) -> Result<Shared<Response>, NoMemory>
     ensures { IfOk result (λ taken. taken ≡ in_place given) }
 {
     let mut taken = given;
     taken.streamed = false;
-    without_upgrade(alloc, taken)
+    Shared::new(alloc, without_upgrade(alloc, taken)?)
 }
 
 // A status 101 that no server sent has nothing behind it: it becomes 502.

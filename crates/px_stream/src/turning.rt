@@ -19,7 +19,7 @@ use crate::taken::{
 use crate::terms::Now;
 use crate::texts::{continue_text, onward_text};
 use px_event::{Command, Reply, Side};
-use px_message::{Flow, Request, Response};
+use px_message::{Flow, Request, Response, Shared};
 use px_text::NoMemory;
 
 /// Takes the answer to what was asked of the flow of this number.
@@ -84,7 +84,7 @@ fn receive(
     now: Now,
     flow: Flow,
     expected: bool,
-    taken: Taken<Request>,
+    taken: Taken<Shared<Request>>,
     out: &mut Vec<Command>,
 ) -> Result<Ready, NoMemory>
     ensures gives { OnOk result (out.new.items ≡ out.old.items ++ (turn_taken_head (numbered 0) flow expected taken now.moment now.client_closed).owed) }
@@ -134,7 +134,7 @@ fn turn_body(now: Now, flow: Flow, reply: Reply, out: &mut Vec<Command>) -> Resu
 fn send_onward(
     now: Now,
     flow: Flow,
-    taken: Taken<Request>,
+    taken: Taken<Shared<Request>>,
     out: &mut Vec<Command>,
 ) -> Result<Ready, NoMemory>
     ensures gives { OnOk result (out.new.items ≡ out.old.items ++ (turn_taken_body (numbered 0) flow taken now.moment now.client_closed).owed) }
@@ -179,11 +179,15 @@ fn connect(now: Now, flow: Flow, server: u32, out: &mut Vec<Command>) -> Result<
 {
     send(
         Side::Server(server),
-        onward_text(now.alloc, &flow.request)?,
+        onward_text(now.alloc, flow.request.get())?,
         out,
     )?;
     let address = address_of(&flow)?;
-    let link = Link::new(now.alloc, server, is_head(flow.request.method.bytes()));
+    let link = Link::new(
+        now.alloc,
+        server,
+        is_head(flow.request.get().method.bytes()),
+    );
     Ok(Ready::Answering {
         flow: flows::with_server(flow, address),
         link,
@@ -212,7 +216,7 @@ fn receive_response(
     now: Now,
     flow: Flow,
     link: Link,
-    taken: Taken<Response>,
+    taken: Taken<Shared<Response>>,
     out: &mut Vec<Command>,
 ) -> Result<Ready, NoMemory>
     ensures gives { OnOk result (out.new.items ≡ out.old.items ++ (turn_taken_answer (numbered 0) flow no_link taken now.moment (Used.ByServer link.server link.closed) now.client_closed).owed) }
@@ -248,7 +252,7 @@ fn turn_given_head(
 fn give_body(
     now: Now,
     flow: Flow,
-    taken: Taken<Response>,
+    taken: Taken<Shared<Response>>,
     out: &mut Vec<Command>,
 ) -> Result<Ready, NoMemory>
     ensures gives { OnOk result (out.new.items ≡ out.old.items ++ (turn_taken_given (numbered 0) flow taken now.moment now.client_closed).owed) }
@@ -285,7 +289,7 @@ fn end_flow(
     now: Now,
     index: u32,
     flow: Flow,
-    taken: Taken<Response>,
+    taken: Taken<Shared<Response>>,
     used: Used,
     out: &mut Vec<Command>,
 ) -> Result<Ready, NoMemory>

@@ -9,7 +9,9 @@ mod runs;
 use crate::LineEcho;
 use px_event::{Ask, Command, Event, Hook, Reply, Side};
 use px_gate::{Gate, GateError, gates_add_nothing};
-use px_message::{Body, Fields, Flow, FlowId, Host, Name, Path, Replayed, Request, Times, Version};
+use px_message::{
+    Body, Fields, Flow, FlowId, Host, Name, Path, Replayed, Request, Shared, Times, Version,
+};
 use px_text::{Bytes, NoMemory, push_decimal};
 use std::alloc::Global;
 use std::rt::HostRuntime;
@@ -40,21 +42,22 @@ fn plain_flow(alloc: Global) -> Result<Option<Flow>, NoMemory> {
     let Ok(path) = Path::try_new(Vec::from_slice(alloc, b"/")?) else {
         return Ok(None);
     };
+    let request = Request {
+        method,
+        host,
+        port: 80,
+        path,
+        version: Version::Http11,
+        fields: Fields::new(alloc),
+        body: Body::empty(),
+        trailers: Fields::new(alloc),
+        streamed: false,
+    };
     Ok(Some(Flow {
         id: FlowId { conv: 0, index: 0 },
         client: None,
         server: None,
-        request: Request {
-            method,
-            host,
-            port: 80,
-            path,
-            version: Version::Http11,
-            fields: Fields::new(alloc),
-            body: Body::empty(),
-            trailers: Fields::new(alloc),
-            streamed: false,
-        },
+        request: Shared::new(alloc, request)?,
         response: None,
         error: None,
         times: Times {

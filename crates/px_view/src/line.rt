@@ -2,7 +2,7 @@
 ghost use Rattle.std.specs.Prelude.{◌≡◌, ◌++◌, Some, OnOk, OnErr};
 ghost use Rattle.px_view.specs.Line.{error_text, flow_line, id_text, request_text, response_text, size_text};
 
-use px_message::{Flow, FlowError, FlowId, Request, Response};
+use px_message::{Flow, FlowError, FlowId, Request, Response, Shared};
 use px_text::{NoMemory, push_decimal};
 use std::alloc::Global;
 
@@ -25,7 +25,7 @@ fn push_line(flow: &Flow, line: &mut Vec<u8>) -> Result<(), NoMemory>
 {
     push_id(flow.id, line)?;
     line.push(b' ')?;
-    push_request(&flow.request, line)?;
+    push_request(flow.request.get(), line)?;
     line.push(b' ')?;
     push_response(&flow.response, line)?;
     push_error(&flow.error, line)?;
@@ -51,12 +51,12 @@ fn push_request(request: &Request, line: &mut Vec<u8>) -> Result<(), NoMemory>
     Ok(())
 }
 
-fn push_response(response: &Option<Response>, line: &mut Vec<u8>) -> Result<(), NoMemory>
+fn push_response(response: &Option<Shared<Response>>, line: &mut Vec<u8>) -> Result<(), NoMemory>
     ensures { OnOk result (line.new.items ≡ line.old.items ++ response_text response.now) }
 {
     match response {
         None => line.extend_from_slice(b"- -")?,
-        Some(response) => push_answer(response, line)?,
+        Some(response) => push_answer(response.get(), line)?,
     }
     Ok(())
 }

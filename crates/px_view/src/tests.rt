@@ -3,8 +3,8 @@ ghost use Rattle.std.specs.Prelude.{◌≡◌, IfOk};
 
 use crate::flow_line;
 use px_message::{
-    Body, Fields, Flow, FlowError, FlowId, Host, Name, Path, Replayed, Request, Response, Status,
-    Times, Value, Version,
+    Body, Fields, Flow, FlowError, FlowId, Host, Name, Path, Replayed, Request, Response, Shared,
+    Status, Times, Value, Version,
 };
 use px_text::Bytes;
 use std::alloc::Global;
@@ -66,8 +66,18 @@ fn response(alloc: Global, text: &[u8], streamed: bool) -> Result<Response, Fail
     })
 }
 
-fn flow(request: Request, response: Option<Response>, error: Option<FlowError>) -> Flow {
-    Flow {
+fn flow(
+    alloc: Global,
+    request: Request,
+    response: Option<Response>,
+    error: Option<FlowError>,
+) -> Result<Flow, Fail> {
+    let request = Shared::new(alloc, request)?;
+    let response = match response {
+        Some(response) => Some(Shared::new(alloc, response)?),
+        None => None,
+    };
+    Ok(Flow {
         id: FlowId { conv: 7, index: 12 },
         client: None,
         server: None,
@@ -84,7 +94,7 @@ fn flow(request: Request, response: Option<Response>, error: Option<FlowError>) 
         marked: false,
         websocket: false,
         message: None,
-    }
+    })
 }
 
 fn is_line(alloc: Global, flow: &Flow, line: &[u8]) -> Result<bool, Fail> {
@@ -97,7 +107,7 @@ fn is_line(alloc: Global, flow: &Flow, line: &[u8]) -> Result<bool, Fail> {
 fn a_whole_flow(rt: HostRuntime) -> Result<(), Fail> {
     let alloc = rt.alloc();
     let response = response(alloc, b"hello", false)?;
-    let flow = flow(request(alloc, b"/a?b")?, Some(response), None);
+    let flow = flow(alloc, request(alloc, b"/a?b")?, Some(response), None)?;
     assert!(rt; is_line(alloc, &flow, b"7.12 GET http://h:81/a?b 200 5\n")?);
     Ok(())
 }
@@ -106,7 +116,7 @@ fn a_whole_flow(rt: HostRuntime) -> Result<(), Fail> {
 fn a_body_that_passed_by(rt: HostRuntime) -> Result<(), Fail> {
     let alloc = rt.alloc();
     let response = response(alloc, b"", true)?;
-    let flow = flow(request(alloc, b"/")?, Some(response), None);
+    let flow = flow(alloc, request(alloc, b"/")?, Some(response), None)?;
     assert!(rt; is_line(alloc, &flow, b"7.12 GET http://h:81/ 200 streamed\n")?);
     Ok(())
 }
@@ -118,7 +128,7 @@ fn a_flow_that_ended_early(rt: HostRuntime) -> Result<(), Fail> {
         msg: Bytes::copied(alloc, b"killed")?,
         moment: 1,
     };
-    let flow = flow(request(alloc, b"*")?, None, Some(error));
+    let flow = flow(alloc, request(alloc, b"*")?, None, Some(error))?;
     assert!(rt; is_line(alloc, &flow, b"7.12 GET http://h:81 - - error: killed\n")?);
     Ok(())
 }

@@ -2,6 +2,7 @@
 ghost use Rattle.std.specs.Prelude.{◌≡◌, ◌++◌, true, false, IfOk, OnOk, MatchOption};
 ghost use Rattle.px_stream.specs.Bodies.{IsReading, ReturnFound};
 ghost use Rattle.px_stream.specs.Chain.{is_relayed, response_of};
+ghost use Rattle.px_stream.specs.Requests.{is_http11};
 ghost use Rattle.px_stream.specs.Responses.{AnswerFound, IsKept};
 ghost use Rattle.px_stream.specs.Looks.{answer_gives, answer_phase, relayed_phase, relays, returned_gives, returned_phase};
 ghost use Rattle.px_stream.specs.declared.link.Link.{Link as KeptLink};
@@ -32,9 +33,16 @@ pub fn look_for_answer(
     ensures looks { IfOk result (λ next. AnswerFound flow link now.moment now.client_closed out.old.items out.new.items next) }
 {
     let mut link = link;
-    let sends = is_http11(flow.request.version);
+    let sends = asks_http11(&flow);
     let answer = read_answer(now.alloc, &mut link, sends, out)?;
     look_at_answer(now, flow, link, answer, out)
+}
+
+// Whether the flow's request is of HTTP/1.1.
+fn asks_http11(flow: &Flow) -> bool
+    ensures { result ≡ is_http11 flow.now.request.version }
+{
+    is_http11(flow.request.get().version)
 }
 
 // What is made of the final response's head, if it has come.
@@ -82,7 +90,7 @@ fn relay_head(
         }
         Some(status) => {
             let response = response_of(now.alloc, head, status);
-            let flow = flows::with_answer(flow, response, now.moment);
+            let flow = flows::with_answer(now, flow, response)?;
             ask(&flow, Hook::ResponseHead, out)?;
             Ok(Phase::Asked(Asked::Answer { flow, link }))
         }
@@ -146,7 +154,7 @@ fn look_at_returned(
 {
     match progress {
         Progress::Whole(trailers) => {
-            let flow = flows::with_returned(flow, body, trailers, now.moment);
+            let flow = flows::with_returned(now, flow, body, trailers)?;
             ask(&flow, Hook::ResponseBody, out)?;
             Ok(Phase::Asked(Asked::Returned { flow, link }))
         }

@@ -24,7 +24,7 @@ use crate::reading::{Progress, read_body};
 use crate::said::ask;
 use crate::terms::{Now, Terms};
 use px_event::{Command, Hook};
-use px_message::{Fault, Flow, Request, Response};
+use px_message::{Fault, Flow, Request, Response, Shared};
 use px_read::{MessageReader, Part, RequestHead};
 use px_text::NoMemory;
 
@@ -120,7 +120,7 @@ fn ask_head(
     ensures gives { OnOk result (out.new.items ≡ out.old.items ++ ask_of (flow_of terms.now index request now.moment) AtHead ∷ []) }
     ensures phase { IfOk result (λ next. next ≡ Phase.Asked (Asked.Head (flow_of terms.now index request now.moment) expected)) }
 {
-    let flow = flows::begin(terms, index, request, now.moment)?;
+    let flow = flows::begin(now.alloc, terms, index, request, now.moment)?;
     ask(&flow, Hook::RequestHead, out)?;
     Ok(Phase::Asked(Asked::Head {
         flow,
@@ -133,7 +133,7 @@ pub fn look_for_body(
     now: Now,
     requests: &mut MessageReader,
     flow: Flow,
-    given: Option<Response>,
+    given: Option<Shared<Response>>,
     body: Content,
     out: &mut Vec<Command>,
 ) -> Result<Phase, NoMemory>
@@ -149,7 +149,7 @@ pub fn look_for_body(
 fn look_at_body(
     now: Now,
     flow: Flow,
-    given: Option<Response>,
+    given: Option<Shared<Response>>,
     progress: Progress,
     body: Content,
     out: &mut Vec<Command>,
@@ -159,7 +159,7 @@ fn look_at_body(
 {
     match progress {
         Progress::Whole(trailers) => {
-            let flow = flows::with_body(flow, body, trailers, now.moment);
+            let flow = flows::with_body(now, flow, body, trailers)?;
             ask_whole(now, flow, given, out)
         }
         Progress::Bad(fault) => {
@@ -182,7 +182,7 @@ fn look_at_body(
 fn ask_whole(
     now: Now,
     flow: Flow,
-    given: Option<Response>,
+    given: Option<Shared<Response>>,
     out: &mut Vec<Command>,
 ) -> Result<Phase, NoMemory>
     ensures gives { OnOk result (out.new.items ≡ out.old.items ++ whole_gives flow given now.moment) }

@@ -8,15 +8,14 @@ mod echo;
 mod others;
 mod show;
 
+use super::plain_flow;
 use crate::LineEcho;
 use echo::EchoMaker;
 use others::{Finished, Turns};
 use px_core::{Gates, Router, Verdict, work_off};
 use px_event::{Door, Heard, Side, Step};
 use px_gate::Gate;
-use px_message::{
-    Address, Body, Fields, Flow, FlowId, Host, Name, Path, Replayed, Request, Times, Version,
-};
+use px_message::{Address, Flow};
 use px_outside::{MemFiles, Net, ScriptNet};
 use px_text::{Bytes, NoMemory};
 use show::write_step;
@@ -51,50 +50,6 @@ struct Row<'a> {
     turns: &'a [Turn],
     want: &'static str,
     kept: (usize, usize),
-}
-
-/// A flow to ask about, and a peer.
-fn plain_flow(alloc: Global) -> Result<Option<Flow>, NoMemory> {
-    let Ok(method) = Name::try_new(Vec::from_slice(alloc, b"GET")?) else {
-        return Ok(None);
-    };
-    if method.bytes() == b"CONNECT".as_slice() {
-        return Ok(None);
-    }
-    let Ok(host) = Host::try_new(alloc, Vec::from_slice(alloc, b"h")?) else {
-        return Ok(None);
-    };
-    let Ok(path) = Path::try_new(Vec::from_slice(alloc, b"/")?) else {
-        return Ok(None);
-    };
-    Ok(Some(Flow {
-        id: FlowId { conv: 0, index: 0 },
-        client: None,
-        server: None,
-        request: Request {
-            method,
-            host,
-            port: 80,
-            path,
-            version: Version::Http11,
-            fields: Fields::new(alloc),
-            body: Body::empty(),
-            trailers: Fields::new(alloc),
-            streamed: false,
-        },
-        response: None,
-        error: None,
-        times: Times {
-            request_start: 0,
-            request_end: None,
-            response_start: None,
-            response_end: None,
-        },
-        replayed: Replayed::No,
-        marked: false,
-        websocket: false,
-        message: None,
-    }))
 }
 
 /// What a run hears, in its words.
@@ -178,7 +133,7 @@ fn run_of(alloc: Global, flow: Flow, row: &Row<'_>) -> Result<Run, NoMemory>
     ensures { IfOk result (λ run. EchoRuns (echo_due run.maker.layers.flow) run.maker.layers.flow run.router run.net.trace) }
 {
     let peer = Address {
-        host: flow.request.host.clone()?,
+        host: flow.request.get().host.clone()?,
         port: 80,
     };
     Ok(Run {

@@ -8,5 +8,5 @@ returns c =
     let P : Bool → Type 0 = λ sends. ReadsAnswer c.in_ok-answer.answer sends c.args.link c.args.out.now.items c.read_answer.new.link c.read_answer.new.out.items in
     record {
       looks = answer_found c.look_at_answer.result c.args.flow c.args.link c.read_answer.new.link c.args.now.moment c.args.now.client_closed
-          c.args.out.now.items c.read_answer.new.out.items c.look_at_answer.new.out.items _ (subst P c.is_http11-sends.ensures c.in_ok-answer.ensures) c.look_at_answer.ensures.gives c.look_at_answer.ensures.phase;
+          c.args.out.now.items c.read_answer.new.out.items c.look_at_answer.new.out.items _ (subst P c.asks_http11-sends.ensures c.in_ok-answer.ensures) c.look_at_answer.ensures.gives c.look_at_answer.ensures.phase;
     }
