@@ -7,7 +7,7 @@ use Rattle.px_event.specs.Trace.{Trace}
 use Rattle.px_outside.specs.declared.net.NetError.{NetError}
 use Rattle.px_outside.specs.declared.net.NetError.TheVariants as net
 use Rattle.px_core.specs.Answers.{Answering}
-use Rattle.px_core.specs.Due.{Due, IsServed, IsAllTold}
+use Rattle.px_core.specs.Due.{Due, IsServed, IsAllTold, OpenOnesWait}
 use Rattle.px_core.specs.Ordered.{IsInOrder}
 use Rattle.px_app.specs.Own.{IsOwn}
 use Rattle.px_app.specs.Run.{IsRun, Told}
@@ -25,6 +25,7 @@ module _ {S : Type 0} (answers : Answering S) (due : Due) (budget : ℕ) (trace 
   memory_run = record {
     served = served;
     whole = λ other. absurd (other refl);
+    waits = λ other. absurd (other refl);
     own = own;
     ordered = ordered;
     is_end = record {
@@ -36,12 +37,13 @@ module _ {S : Type 0} (answers : Answering S) (due : Due) (budget : ℕ) (trace 
     };
   }
 
-  module _ (all : IsAllTold due trace) where
+  module _ (all : IsAllTold due trace) (waiting : OpenOnesWait answers due trace) where
     -- the end was heard
     pub ended_run : ends_heard trace ≡ true → IsRun answers due budget Ended trace
     ended_run last = record {
       served = served;
       whole = λ _. all;
+      waits = λ _. waiting;
       own = own;
       ordered = ordered;
       is_end = record {
@@ -58,6 +60,7 @@ module _ {S : Type 0} (answers : Answering S) (due : Due) (budget : ℕ) (trace 
     fault_run goes_on below = record {
       served = served;
       whole = λ _. all;
+      waits = λ _. waiting;
       own = own;
       ordered = ordered;
       is_end = record {
@@ -74,6 +77,7 @@ module _ {S : Type 0} (answers : Answering S) (due : Due) (budget : ℕ) (trace 
     spent_run goes_on count = record {
       served = served;
       whole = λ _. all;
+      waits = λ _. waiting;
       own = own;
       ordered = ordered;
       is_end = record {

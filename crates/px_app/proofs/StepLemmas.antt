@@ -1,10 +1,10 @@
 -- One thing heard by a run of many conversations, by how it ended.
-use Rattle.std.proofs.Common.{◌≡◌, ℕ, ◌+◌, ◌<◌, true, false, List, [], ◌∷◌, ◌++◌, Option, Some, refl, sym, ap, ◌∙◌, subst}
+use Rattle.std.proofs.Common.{◌≡◌, ℕ, ◌+◌, ◌<◌, true, false, List, [], ◌∷◌, ◌++◌, Option, Some, None, refl, sym, ap, ◌∙◌, subst}
 use Rattle.px_text.specs.Prefix.{IsPrefixOf}
 use Rattle.px_event.specs.declared.ask.Ask.{Ask}
 use Rattle.px_event.specs.declared.command.Command.{Command}
 use Rattle.px_event.specs.declared.heard.Heard.{Heard}
-use Rattle.px_event.specs.declared.reply.Reply.{Reply}
+use Rattle.px_event.specs.declared.step.Step.{Step}
 use Rattle.px_event.specs.declared.step.Step.TheVariants as steps
 use Rattle.px_event.specs.Layer.{Move, Standing}
 use Rattle.px_event.specs.Trace.{Trace}
@@ -12,12 +12,13 @@ use Rattle.px_event.specs.View.{View, seen_of}
 use Rattle.px_outside.specs.declared.net.NetError.{NetError}
 use Rattle.px_core.specs.declared.router.Router.{Router}
 use Rattle.px_core.specs.Answers.{Answering}
-use Rattle.px_core.specs.Due.{Due, due_in, IsServed, IsAllTold, IsWithinDue, EndsMet}
+use Rattle.px_core.specs.Due.{Due, due_in, IsServed, IsAllTold, IsWithinDue, EndsMet, OpenOnesWait}
+use Rattle.px_core.specs.Hooks.{EndsInTurn}
 use Rattle.px_core.specs.Ordered.{IsInOrder}
 use Rattle.px_core.specs.Router.{RouterStands}
 use Rattle.px_core.specs.Run.{Tells, TellsOfHeard}
 use Rattle.px_event.proofs.TraceLemmas.{always_empty, before_empty}
-use Rattle.px_core.proofs.RouteLemmas.{all_told}
+use Rattle.px_core.proofs.RouteLemmas.{all_told, open_ones_wait}
 use Rattle.px_app.specs.declared.status.Status.{Status}
 use Rattle.px_app.specs.declared.status.Status.TheVariants.{Ended, BudgetSpent, NoMemory}
 use Rattle.px_app.specs.Own.{IsOwn}
@@ -48,6 +49,9 @@ module _ {C S : Type 0} (standing : Standing C) (awaited : C → Option Ask) (nu
   all : {A : Type 0} (router : Router C A) (trace : Trace) → RouterStands standing awaited number made_due answers due router trace → IsAllTold due trace
   all router trace stands = all_told standing awaited number made_due gave grows answers due router.table trace stands
 
+  waits : {A : Type 0} (router : Router C A) (trace : Trace) → RouterStands standing awaited number made_due answers due router trace → OpenOnesWait answers due trace
+  waits router trace stands = open_ones_wait standing awaited number made_due gave grows answers due router.table trace stands
+
   -- nothing was heard
   pub tells_error : {A : Type 0} (router : Router C A) (budget : ℕ) (trace : Trace) (error : NetError) (status : Status) (told : Option Trace) →
       Stands standing awaited number made_due answers due router trace → told ≡ Some trace → heard_count trace < budget → status ≡ status_of error →
@@ -56,7 +60,7 @@ module _ {C S : Type 0} (standing : Standing C) (awaited : C → Option Ask) (nu
     trace = trace;
     tells = is;
     holds = let P : Status → Type 0 = λ s. IsRun answers due budget s trace in
-        subst P (sym same) (error_run answers due budget trace stands.stands.served stands.own stands.ordered (all router trace stands.stands) error stands.goes_on below);
+        subst P (sym same) (error_run answers due budget trace stands.stands.served stands.own stands.ordered (all router trace stands.stands) (waits router trace stands.stands) error stands.goes_on below);
   }
 
   -- memory ran out within the step
@@ -81,7 +85,7 @@ module _ {C S : Type 0} (standing : Standing C) (awaited : C → Option Ask) (nu
       record {
         trace = after;
         tells = tells.is;
-        holds = ended_run answers due budget after tells.holds.served (next.own stands.own) (told_of IsInOrder _ after told tells.is ordered) (all new after tells.holds) (next.ends ∙ last);
+        holds = ended_run answers due budget after tells.holds.served (next.own stands.own) (told_of IsInOrder _ after told tells.is ordered) (all new after tells.holds) (waits new after tells.holds) (next.ends ∙ last);
       }
 
   -- the run goes on
@@ -114,7 +118,7 @@ module _ {C S : Type 0} (standing : Standing C) (awaited : C → Option Ask) (nu
   tells_spent router budget count told turn is = record {
     trace = turn.trace;
     tells = turn.tells;
-    holds = spent_run answers due budget turn.trace turn.stands.stands.served turn.stands.own turn.stands.ordered (all router turn.trace turn.stands.stands) turn.stands.goes_on (turn.counts ∙ is);
+    holds = spent_run answers due budget turn.trace turn.stands.stands.served turn.stands.own turn.stands.ordered (all router turn.trace turn.stands.stands) (waits router turn.trace turn.stands.stands) turn.stands.goes_on (turn.counts ∙ is);
   }
 
   -- nothing was heard yet
@@ -122,20 +126,25 @@ module _ {C S : Type 0} (standing : Standing C) (awaited : C → Option Ask) (nu
       ToldTurn standing awaited number made_due answers due router 0 told
   first_turn router told stands is = record { trace = []; tells = is; stands = record { stands = stands; own = tt; ordered = ordered_empty; goes_on = refl }; counts = refl }
 
-no_answer : (front : Trace) (conv : ℕ) (ask : Ask) (reply : Reply) → [] ≡ front ++ steps.Answered conv ask reply ∷ [] → ⊥
-no_answer [] conv ask reply e = cc
-no_answer (x ∷ front) conv ask reply e = cc
+no_step : (front : Trace) (step : Step) → [] ≡ front ++ step ∷ [] → ⊥
+no_step [] step e = cc
+no_step (x ∷ front) step e = cc
 
 -- before anything was heard
 pub empty_served : {S : Type 0} (answers : Answering S) (due : Due) → IsServed answers due []
 empty_served answers due = record {
   within = always_empty (IsWithinDue due) (λ conv view told. (due_in due view conv [], refl));
   told = before_empty (IsAllTold due);
-  met = always_empty (EndsMet answers due) (λ front conv ask reply e. absurd (no_answer front conv ask reply e));
+  met = always_empty (EndsMet answers due) (λ front conv ask reply e. absurd (no_step front (steps.Answered conv ask reply) e));
+  turns = always_empty EndsInTurn (λ front step e. absurd (no_step front step e));
+  waits = before_empty (OpenOnesWait answers due);
 }
 
 pub empty_told : (due : Due) → IsAllTold due []
 empty_told due conv view told = refl
+
+pub empty_waits : {S : Type 0} (answers : Answering S) (due : Due) → OpenOnesWait answers due []
+empty_waits answers due conv ask is = absurd (let no : None ≡ Some ask = is in cc)
 
 -- the network does not listen
 pub error_first : {S : Type 0} (answers : Answering S) (due : Due) (budget : ℕ) (error : NetError) (status : Status) (told : Option Trace) →
@@ -144,7 +153,7 @@ error_first answers due budget error status told is below same = record {
   trace = [];
   tells = is;
   holds = let P : Status → Type 0 = λ s. IsRun answers due budget s [] in
-      subst P (sym same) (error_run answers due budget [] (empty_served answers due) tt ordered_empty (empty_told due) error refl below);
+      subst P (sym same) (error_run answers due budget [] (empty_served answers due) tt ordered_empty (empty_told due) (empty_waits answers due) error refl below);
 }
 
 -- and memory ran out before it was asked

@@ -4,7 +4,7 @@ use Rattle.px_event.specs.Trace.{Trace}
 use Rattle.px_message.specs.declared.address.Address.{Address}
 use Rattle.px_outside.specs.Net.{Listening, at}
 use Rattle.px_core.specs.Answers.{Answering}
-use Rattle.px_core.specs.Due.{Due, IsServed, IsAllTold}
+use Rattle.px_core.specs.Due.{Due, IsServed, IsAllTold, OpenOnesWait}
 use Rattle.px_core.specs.Ordered.{IsInOrder}
 use Rattle.px_app.specs.Own.{IsOwn}
 use Rattle.px_app.specs.Statuses.{heard_count, ends_heard}
@@ -23,6 +23,7 @@ pub record IsEnd (budget : ℕ) (status : Status) (trace : Trace) : Type 0 where
 pub record IsRun {S : Type 0} (answers : Answering S) (due : Due) (budget : ℕ) (status : Status) (trace : Trace) : Type 0 where
   pub served : IsServed answers due trace
   pub whole : status ≢ NoMemory → IsAllTold due trace
+  pub waits : status ≢ NoMemory → OpenOnesWait answers due trace
   pub own : IsOwn trace
   pub ordered : IsInOrder trace
   pub is_end : IsEnd budget status trace

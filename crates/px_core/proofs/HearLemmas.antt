@@ -5,6 +5,8 @@ use Rattle.std.proofs.lemmas.List.{append-nil}
 use Rattle.std.proofs.lemmas.Bool.{ne_eqb}
 use Rattle.px_message.specs.declared.address.Address.{Address}
 use Rattle.px_event.specs.declared.ask.Ask.{Ask}
+use Rattle.px_event.specs.declared.ask.Ask.TheVariants as asks
+use Rattle.px_event.specs.declared.ask.Hook.{Hook}
 use Rattle.px_event.specs.declared.command.Command.{Command}
 use Rattle.px_event.specs.declared.event.Event.{Event}
 use Rattle.px_event.specs.declared.heard.Heard.{Heard}
@@ -13,17 +15,22 @@ use Rattle.px_event.specs.declared.step.Step.{Step}
 use Rattle.px_event.specs.declared.step.Step.TheVariants as steps
 use Rattle.px_event.specs.Layer.{Move, Took, Replied, Standing, Goes, asks_in}
 use Rattle.px_event.specs.Trace.{Trace}
-use Rattle.px_event.specs.View.{View, bytes, closes, questions, finished, course, flows, seen_in, step_atoms}
+use Rattle.px_event.proofs.Seen.{seen_append}
+use Rattle.px_event.specs.View.{View, bytes, closes, questions, finished, course, flows, seen_of, seen_in, step_atoms}
+use Rattle.px_core.specs.declared.answerer.Draft.{Draft}
 use Rattle.px_core.specs.declared.held.Held.{Held}
 use Rattle.px_core.specs.declared.news.News.{News}
 use Rattle.px_core.specs.declared.news.News.TheVariants as news
 use Rattle.px_core.specs.Answers.{Answering}
 use Rattle.px_core.specs.Calls.{Calls, calls, calls_of, hears_by, takes, addressed, is_connected, is_dialling, dial_ends, dial_reply, connected_by, moved}
 use Rattle.px_core.specs.Conversation.{AllNamed, AsksWhile}
-use Rattle.px_core.specs.Due.{Due, IsServed}
-use Rattle.px_core.specs.Held.{dial_from, dial_of, IsSettled, IsReady, IsOneOn, Gives, Within, Stood, Works, Takes, Hears}
+use Rattle.px_core.specs.Due.{Due, due_by, due_in, IsServed}
+use Rattle.px_core.specs.Held.{dial_from, dial_of, IsSettled, IsReady, IsKept, IsDrafted, IsDraftedBehind, IsOneOn, Gives, Within, Stood, Works, Takes, Hears}
+use Rattle.px_core.specs.Hooks.{open_hook, hook_of, AsksInTurn}
 use Rattle.px_core.proofs.AskLemmas.{asks_one, dial_now, quiet}
 use Rattle.px_core.proofs.CallLemmas.{calls_more, seen_more, same_number}
+use Rattle.px_core.proofs.HookLemmas.{hook_heard, hook_is, one_turn, quiet_turn, quiet_same, kept_on}
+use Rattle.px_core.proofs.ServedLemmas.{due_there}
 
 pub heard_seen : (view : View) (conv moment : ℕ) (heard : Heard) → step_atoms view conv (steps.Heard moment heard) ≡ []
 heard_seen (bytes side) conv moment heard = refl
@@ -74,12 +81,20 @@ gives_event standing awaited conv move before after given None is named goes (mo
   dials =
       let asked : flat_map asks_in given ≡ option_to_list (awaited after) = ap (λ l. flat_map asks_in l) grown ∙ one in
       ap (λ a. dial_from (dial_of a) given) is ∙ ((asks_one conv (awaited after) None given named asked).dials ∙ dial_now (awaited after));
+  turn =
+      let asked : flat_map asks_in given ≡ option_to_list (awaited after) = ap (λ l. flat_map asks_in l) grown ∙ one in
+      let P : Option Ask → Type 0 = λ h. AsksInTurn h given (hook_of (awaited after)) in
+      subst P (sym (ap hook_of is)) (one_turn conv (awaited after) given named asked);
 }
 gives_event standing awaited conv move before after given (Some ask) is named goes (still, (more, grown, none)) = record {
   goes = goes;
   dials =
       let asked : flat_map asks_in given ≡ [] = ap (λ l. flat_map asks_in l) grown ∙ none in
       (quiet given asked None (dial_of (awaited before))).dials ∙ ap dial_of (is ∙ sym still);
+  turn =
+      let asked : flat_map asks_in given ≡ [] = ap (λ l. flat_map asks_in l) grown ∙ none in
+      let P : Option Ask → Type 0 = λ h. AsksInTurn (hook_of (awaited before)) given h in
+      subst P (ap hook_of (is ∙ sym still)) (quiet_turn given asked (hook_of (awaited before)));
 }
 
 pub ready_event : {C : Type 0} (awaited : C → Option Ask) (before after : Held C) (given : List Command) (was : Option Ask) →
@@ -89,61 +104,106 @@ ready_event awaited before after given (Some ask) is settled same (still, (more,
     inr (ap (λ l. flat_map asks_in l) grown ∙ none, λ flow hook waits. rw same (settled flow hook (is ∙ (sym still ∙ waits))))
 
 -- what the end of a dial gave
-pub gives_end : {C : Type 0} (standing : Standing C) (awaited : C → Option Ask) (conv : ℕ) (move : Move) (before after : C) (given : List Command) →
-    AllNamed conv given → Goes standing before after move [] given → flat_map asks_in given ≡ option_to_list (awaited after) →
+pub gives_end : {C : Type 0} (standing : Standing C) (awaited : C → Option Ask) (conv : ℕ) (move : Move) (server : ℕ) (before after : C) (given : List Command) →
+    awaited before ≡ Some (asks.Dial server) → AllNamed conv given → Goes standing before after move [] given → flat_map asks_in given ≡ option_to_list (awaited after) →
     Gives standing awaited move None before after given
-gives_end standing awaited conv move before after given named goes one = record {
+gives_end standing awaited conv move server before after given is named goes one = record {
   goes = goes;
   dials = (asks_one conv (awaited after) None given named one).dials ∙ dial_now (awaited after);
+  turn =
+      let P : Option Ask → Type 0 = λ h. AsksInTurn h given (hook_of (awaited after)) in
+      subst P (sym (ap hook_of is)) (one_turn conv (awaited after) given named one);
 }
 
 module _ {C : Type 0} (standing : Standing C) (awaited : C → Option Ask) (number : C → ℕ) (made_due : C → List Move → List Command) where
-  -- a call was taken, and its commands are still to be told
+  -- a call was taken
+  taken_stands : (due : Due) (conv : ℕ) (peer : Address) (moment : ℕ) (move : Move) (dial : Option ℕ) (sides : List ℕ) (before after : Held C) (trace next : Trace) (given : List Command) →
+      (w : Stood standing awaited number made_due due conv peer before.conversation trace) → IsOneOn conv peer moment move dial sides trace next →
+      Gives standing awaited move dial before.conversation after.conversation given → standing w.made after.conversation (calls_of conv next) (w.earlier ++ given)
+  taken_stands due conv peer moment move dial sides before after trace next given w on gives =
+      let P : List Move → Type 0 = λ l. standing w.made after.conversation l (w.earlier ++ given) in
+      let Q : List Command → Type 0 = λ l. standing w.made after.conversation (calls_of conv trace ++ move ∷ []) l in
+      let all : (w.earlier ++ []) ++ gives.goes.more ≡ w.earlier ++ given =
+      ap (λ l. l ++ gives.goes.more) (append-nil w.earlier) ∙ ap (λ l. w.earlier ++ l) (sym gives.goes.grown) in
+      subst P (sym on.moves) (subst Q all (gives.goes.stands w.made (calls_of conv trace) (w.earlier ++ []) w.stands))
+
+  -- and its commands are still to be told
   taken_within : (due : Due) (conv : ℕ) (peer : Address) (moment : ℕ) (move : Move) (dial : Option ℕ) (sides : List ℕ) (before after : Held C) (trace next : Trace) (given : List Command) →
       Stood standing awaited number made_due due conv peer before.conversation trace → IsOneOn conv peer moment move dial sides trace next → number after.conversation ≡ conv →
       Gives standing awaited move dial before.conversation after.conversation given → sides ≡ after.connected.items →
       Within standing awaited number made_due due conv after next given
   taken_within due conv peer moment move dial sides before after trace next given w on named gives same =
-      let P : List Move → Type 0 = λ l. standing w.made after.conversation l (w.earlier ++ given) in
-      let Q : List Command → Type 0 = λ l. standing w.made after.conversation (calls_of conv trace ++ move ∷ []) l in
-      let all : (w.earlier ++ []) ++ gives.goes.more ≡ w.earlier ++ given =
-      ap (λ l. l ++ gives.goes.more) (append-nil w.earlier) ∙ ap (λ l. w.earlier ++ l) (sym gives.goes.grown) in
       record {
         made = w.made;
         peer = peer;
         earlier = w.earlier;
-        stands = subst P (sym on.moves) (subst Q all (gives.goes.stands w.made (calls_of conv trace) (w.earlier ++ []) w.stands));
+        stands = taken_stands due conv peer moment move dial sides before after trace next given w on gives;
         owes = w.owes;
         tells = λ view told. w.tells view told ∙ sym (on.sees view told);
         named = named;
         begun = on.begun;
         sides = on.connected ∙ same;
         dial = ap (λ d. dial_from d given) on.dials ∙ gives.dials;
+        turn =
+            let R : Option Ask → Type 0 = λ h. AsksInTurn h given (hook_of (awaited after.conversation)) in
+            subst R (sym (on.hook ∙ w.hook)) gives.turn;
       }
 
   module _ {S : Type 0} (answers : Answering S) where
-    pub works_taken : (conv moment : ℕ) (move : Move) (dial : Option ℕ) (sides : List ℕ) (before between after : Held C) (given : List Command) (out new_out : List Step) →
+    -- where the call's commands ask nothing, a hook that was awaited goes on to wait with its draft
+    drafted_taken : (gave : (made state : C) (moves : List Move) (given : List Command) → standing made state moves given →
+        (view : View) → seen_of view given ≡ seen_of view (made_due made moves)) (due : Due) (conv : ℕ) (peer : Address) (moment : ℕ) (move : Move)
+        (dial : Option ℕ) (sides : List ℕ) (before after : Held C) (trace next : Trace) (given : List Command) →
+        Stood standing awaited number made_due due conv peer before.conversation trace → IsOneOn conv peer moment move dial sides trace next →
+        Gives standing awaited move dial before.conversation after.conversation given → after.draft ≡ before.draft →
+        IsDrafted awaited answers due conv before trace → IsDraftedBehind awaited answers due conv after next given
+    drafted_taken gave due conv peer moment move dial sides before after trace next given w on gives kept drafted none flow hook waits =
+        let ask : Ask = asks.Hook flow hook in
+        let was_open : hook_of (awaited before.conversation) ≡ Some ask =
+        quiet_same given none (hook_of (awaited before.conversation)) (hook_of (awaited after.conversation)) gives.turn ∙ ap hook_of waits in
+        let was : awaited before.conversation ≡ Some ask = hook_is (awaited before.conversation) ask was_open in
+        let earlier : due_in due flows conv trace ≡ seen_of flows w.earlier =
+        due_there due conv trace peer (w.there ask was_open) flows
+        ∙ (ap (seen_of flows) (sym (w.owes (calls_of conv trace)))
+        ∙ (sym (gave w.made before.conversation (calls_of conv trace) (w.earlier ++ []) w.stands flows) ∙ ap (seen_of flows) (append-nil w.earlier))) in
+        let later : due_in due flows conv next ≡ seen_of flows w.earlier =
+        due_there due conv next peer on.begun flows
+        ∙ (ap (seen_of flows) (sym (w.owes (calls_of conv next)))
+        ∙ (sym (gave w.made after.conversation (calls_of conv next) (w.earlier ++ given) (taken_stands due conv peer moment move dial sides before after trace next given w on gives) flows)
+        ∙ (seen_append flows w.earlier given
+        ∙ (ap (λ l. seen_of flows w.earlier ++ l) (quiet given none None None).sees ∙ append-nil (seen_of flows w.earlier))))) in
+        let P : Option Draft → Type 0 = λ d. IsKept answers due next conv ask d in
+        subst P (sym kept) (kept_on answers due conv trace next ask before.draft (later ∙ sym earlier) (drafted flow hook was))
+
+    pub works_taken : (gave : (made state : C) (moves : List Move) (given : List Command) → standing made state moves given →
+        (view : View) → seen_of view given ≡ seen_of view (made_due made moves))
+        (conv moment : ℕ) (move : Move) (dial : Option ℕ) (sides : List ℕ) (before between after : Held C) (given : List Command) (out new_out : List Step) →
         number between.conversation ≡ conv → Gives standing awaited move dial before.conversation between.conversation given → sides ≡ between.connected.items →
+        between.draft ≡ before.draft →
         Works standing awaited number made_due answers conv moment given between after None out new_out →
         Takes standing awaited number made_due answers conv moment move dial sides before after out new_out
-    works_taken conv moment move dial sides before between after given out new_out named gives same works = record {
+    works_taken gave conv moment move dial sides before between after given out new_out named gives same kept works = record {
       more = works.more;
       grown = works.grown;
       own = works.own;
-      takes = λ due peer trace next w on served.
-          let to = works.works due next (taken_within due conv peer moment move dial sides before between trace next given w on named gives same) on.now served in
-          (to.within, to.served);
+      takes = λ due peer trace next w drafted on served.
+          let to = works.works due next (taken_within due conv peer moment move dial sides before between trace next given w on named gives same) on.now served
+          (drafted_taken gave due conv peer moment move dial sides before between trace next given w on gives kept drafted) in
+          (to.within, to.served, to.drafted);
       settled = works.next;
     }
 
     -- the same where a side was noted before the call
-    pub works_end : (conv moment : ℕ) (move : Move) (dial : Option ℕ) (sides : List ℕ) (before noted between after : Held C) (given : List Command) (out new_out : List Step) →
+    pub works_end : (gave : (made state : C) (moves : List Move) (given : List Command) → standing made state moves given →
+        (view : View) → seen_of view given ≡ seen_of view (made_due made moves))
+        (conv moment : ℕ) (move : Move) (dial : Option ℕ) (sides : List ℕ) (before noted between after : Held C) (given : List Command) (out new_out : List Step) →
         noted.conversation ≡ before.conversation → number between.conversation ≡ conv → Gives standing awaited move dial noted.conversation between.conversation given → sides ≡ between.connected.items →
+        between.draft ≡ before.draft →
         Works standing awaited number made_due answers conv moment given between after None out new_out →
         Takes standing awaited number made_due answers conv moment move dial sides before after out new_out
-    works_end conv moment move dial sides before noted between after given out new_out same named gives sides_are works =
+    works_end gave conv moment move dial sides before noted between after given out new_out same named gives sides_are kept works =
         let P : C → Type 0 = λ s. Gives standing awaited move dial s between.conversation given in
-        works_taken conv moment move dial sides before between after given out new_out named (subst P same gives) sides_are works
+        works_taken gave conv moment move dial sides before between after given out new_out named (subst P same gives) sides_are kept works
 
     -- news that are no call
     pub ignored : (conv moment : ℕ) (what : News) (held : Held C) (out : List Step) →
@@ -153,11 +213,12 @@ module _ {C : Type 0} (standing : Standing C) (awaited : C → Option Ask) (numb
       more = [];
       grown = sym (append-nil out);
       own = tt;
-      hears = λ due trace heard is w served.
+      hears = λ due trace heard is w drafted served.
           let on : calls conv (trace ++ steps.Heard moment heard ∷ []) ≡ record (calls conv trace) { moment = moment } =
           calls_heard conv trace moment heard what is ∙ ap (λ (c : Calls). record c { moment = moment }) (nothing (calls conv trace) w.peer w.begun w.sides w.dial) in
           let P : List Move → Type 0 = λ l. standing w.made held.conversation l (w.earlier ++ []) in
-          let Q : Trace → Type 0 = λ t. Within standing awaited number made_due due conv held t [] × IsServed answers due t in
+          let Q : Trace → Type 0 = λ t. Within standing awaited number made_due due conv held t [] × IsServed answers due t × IsDrafted awaited answers due conv held t in
+          let there : Trace = trace ++ steps.Heard moment heard ∷ [] in
           subst Q (sym (append-nil (trace ++ steps.Heard moment heard ∷ []))) (
             record {
               made = w.made;
@@ -170,8 +231,10 @@ module _ {C : Type 0} (standing : Standing C) (awaited : C → Option Ask) (numb
               begun = ap (λ (c : Calls). c.peer) on ∙ w.begun;
               sides = ap (λ (c : Calls). c.connected) on ∙ w.sides;
               dial = ap (λ (c : Calls). c.dial) on ∙ w.dial;
+              turn = hook_heard conv trace moment heard ∙ w.turn;
             },
             served,
+            (λ flow hook waits. kept_on answers due conv trace there (asks.Hook flow hook) held.draft (ap (λ (c : Calls). seen_of flows (due_by due conv c)) on) (drafted flow hook waits)),
           );
       settled = settled;
     }
@@ -186,16 +249,17 @@ module _ {C : Type 0} (standing : Standing C) (awaited : C → Option Ask) (numb
       more = t.more;
       grown = t.grown;
       own = t.own;
-      hears = λ due trace heard is w served.
+      hears = λ due trace heard is w drafted served.
           let on = calls_heard conv trace moment heard what is in
           let facts = one (calls conv trace) w.peer w.begun w.sides w.dial in
-          t.takes due w.peer trace (trace ++ steps.Heard moment heard ∷ []) (record { made = w.made; earlier = w.earlier; stands = w.stands; owes = w.owes; tells = w.tells }) (record {
+          t.takes due w.peer trace (trace ++ steps.Heard moment heard ∷ []) (record { made = w.made; earlier = w.earlier; stands = w.stands; owes = w.owes; tells = w.tells; hook = w.turn; there = λ _ _. w.begun }) drafted (record {
             moves = ap (λ (c : Calls). c.moves) on ∙ facts.0;
             begun = ap (λ (c : Calls). c.peer) on ∙ facts.1;
             dials = ap (λ (c : Calls). c.dial) on ∙ facts.2;
             connected = ap (λ (c : Calls). c.connected) on ∙ facts.3;
             now = ap (λ (c : Calls). c.moment) on;
             sees = λ view told. seen_heard view conv trace moment heard;
+            hook = hook_heard conv trace moment heard;
           }) served;
       settled = t.settled;
     }

@@ -2,6 +2,7 @@ pub mod AnswerLemmas
 pub mod AskLemmas
 pub mod CallLemmas
 pub mod HearLemmas
+pub mod HookLemmas
 pub mod NamedLemmas
 pub mod OrderedLemmas
 pub mod ResultLemmas

@@ -11,6 +11,7 @@ use Rattle.px_text.specs.Prefix.{IsPrefixOf}
 use Rattle.px_event.proofs.Growth.{prefix_self}
 use Rattle.px_message.specs.declared.address.Address.{Address}
 use Rattle.px_event.specs.declared.ask.Ask.{Ask}
+use Rattle.px_event.specs.declared.ask.Ask.TheVariants as asks
 use Rattle.px_event.specs.declared.reply.Reply.{Reply}
 use Rattle.px_event.specs.declared.command.Command.{Command}
 use Rattle.px_event.specs.declared.event.Event.TheVariants as events
@@ -19,8 +20,9 @@ use Rattle.px_event.specs.declared.step.Step.{Step}
 use Rattle.px_event.specs.declared.step.Step.TheVariants as steps
 use Rattle.px_event.specs.Layer.{Move, Took, Standing}
 use Rattle.px_event.specs.Trace.{Trace}
-use Rattle.px_event.specs.View.{View, Atom, IsTold, seen_of, seen_in}
+use Rattle.px_event.specs.View.{View, Atom, flows, IsTold, seen_of, seen_in}
 use Rattle.px_event.proofs.TraceLemmas.{always_empty, always_more, before_empty, before_heard}
+use Rattle.px_core.specs.declared.answerer.Draft.{Draft}
 use Rattle.px_core.specs.declared.held.Held.{Held}
 use Rattle.px_core.specs.declared.news.News.{News}
 use Rattle.px_core.specs.declared.news.News.TheVariants as news
@@ -29,12 +31,14 @@ use Rattle.px_core.specs.declared.table.Place.TheVariants as place
 use Rattle.px_core.specs.declared.table.Table.{Table}
 use Rattle.px_core.specs.Answers.{Answering}
 use Rattle.px_core.specs.Calls.{Calls, calls, calls_of, takes, moved, addressed, is_connected, is_dialling, dial_ends}
-use Rattle.px_core.specs.Due.{Due, due_at, due_by, due_in, IsWithinDue, IsAllTold, EndsMet, IsServed}
+use Rattle.px_core.specs.Due.{Due, due_at, due_by, due_in, IsWithinDue, IsAllTold, EndsMet, Waits, OpenOnesWait, IsServed}
 use Rattle.px_core.specs.Held.{AllOf, dial_of, Hears, Takes}
+use Rattle.px_core.specs.Hooks.{open_hook, hook_of, EndsInTurn}
 use Rattle.px_core.specs.Router.{Found, unknown, over, lost, live, found_at, found_by, place_of, found, IsUnknown, IsOver, IsLive, StandsIn, TableStands, HearsAt, Hands, Admits, Routes, IsAtKey}
 use Rattle.px_core.proofs.CallLemmas.{others_calls, others_seen}
 use Rattle.px_core.proofs.HearLemmas.{seen_heard, calls_heard, calls_heard_other, calls_heard_none}
-use Rattle.px_core.proofs.ServedLemmas.{due_is, due_same, due_there, last_step}
+use Rattle.px_core.proofs.HookLemmas.{hook_heard, others_hook, hook_is, hook_named, kept_on}
+use Rattle.px_core.proofs.ServedLemmas.{due_is, due_same, due_there, last_step, ends_in_turn}
 
 -- nothing of the conversation is new
 record Same (conv : ℕ) (trace next : Trace) : Type 0 where
@@ -43,15 +47,17 @@ record Same (conv : ℕ) (trace next : Trace) : Type 0 where
   dial : (calls conv next).dial ≡ (calls conv trace).dial
   connected : (calls conv next).connected ≡ (calls conv trace).connected
   sees : (view : View) → IsTold view → seen_in view conv next ≡ seen_in view conv trace
+  hook : open_hook conv next ≡ open_hook conv trace
 
 same_by : (conv moment : ℕ) (trace next : Trace) → calls conv next ≡ record (calls conv trace) { moment = moment } →
-    ((view : View) → IsTold view → seen_in view conv next ≡ seen_in view conv trace) → Same conv trace next
-same_by conv moment trace next on sees = record {
+    ((view : View) → IsTold view → seen_in view conv next ≡ seen_in view conv trace) → open_hook conv next ≡ open_hook conv trace → Same conv trace next
+same_by conv moment trace next on sees hook = record {
   moves = ap (λ (c : Calls). c.moves) on;
   peer = ap (λ (c : Calls). c.peer) on;
   dial = ap (λ (c : Calls). c.dial) on;
   connected = ap (λ (c : Calls). c.connected) on;
   sees = sees;
+  hook = hook;
 }
 
 other_same : (conv other moment : ℕ) (trace more : Trace) (heard : Heard) (what : News) → addressed heard ≡ Some (conv, what) → AllOf conv more → conv ≢ other →
@@ -60,10 +66,12 @@ other_same conv other moment trace more heard what is all apart =
     same_by other moment trace ((trace ++ steps.Heard moment heard ∷ []) ++ more)
     (others_calls conv other (trace ++ steps.Heard moment heard ∷ []) more all apart ∙ calls_heard_other other conv trace moment heard what is apart)
     (λ view told. others_seen view conv other (trace ++ steps.Heard moment heard ∷ []) more all apart ∙ seen_heard view other trace moment heard)
+    (others_hook conv other (trace ++ steps.Heard moment heard ∷ []) more all apart ∙ hook_heard other trace moment heard)
 
 none_same : (conv moment : ℕ) (trace : Trace) (heard : Heard) → addressed heard ≡ None → Same conv trace (trace ++ steps.Heard moment heard ∷ [])
 none_same conv moment trace heard is =
     same_by conv moment trace (trace ++ steps.Heard moment heard ∷ []) (calls_heard_none conv trace moment heard is) (λ view told. seen_heard view conv trace moment heard)
+    (hook_heard conv trace moment heard)
 
 -- at most one call is new, and its client stays where it is
 abbrev IsGrown : Calls → Calls → Type 0
@@ -124,12 +132,13 @@ over_stays due conv trace next w (inr (move, is), stays) view more =
     ap (λ l. seen_of view (due conv w.peer (l ++ more))) is ∙ (ap (λ l. seen_of view (due conv w.peer l)) (append_assoc (calls_of conv trace) (move ∷ []) more) ∙ w.stays view (move ∷ more))
 
 pub over_next : (due : Due) (conv : ℕ) (trace next : Trace) → IsOver due conv trace → IsGrown (calls conv trace) (calls conv next) →
-    ((view : View) → IsTold view → seen_in view conv next ≡ seen_in view conv trace) → IsOver due conv next
-over_next due conv trace next w grown sees = record {
+    ((view : View) → IsTold view → seen_in view conv next ≡ seen_in view conv trace) → open_hook conv next ≡ open_hook conv trace → IsOver due conv next
+over_next due conv trace next w grown sees hook = record {
   peer = w.peer;
   begun = grown.1 w.peer w.begun;
   told = λ view told. sees view told ∙ (w.told view told ∙ sym (over_grown due conv trace next w grown view));
   stays = λ view more. over_stays due conv trace next w grown view more ∙ sym (over_grown due conv trace next w grown view);
+  hook = hook ∙ w.hook;
 }
 
 -- a number that is not under the key that changed
@@ -148,18 +157,19 @@ unplaced None is = refl
 unplaced (Some a) is = absurd (let no : true ≡ false = is in cc)
 
 module _ {C : Type 0} (standing : Standing C) (awaited : C → Option Ask) (number : C → ℕ) (made_due : C → List Move → List Command) where
-  stands_same : (due : Due) (conv : ℕ) (trace next : Trace) → Same conv trace next → (x : Found (Held C)) → StandsIn standing awaited number made_due due conv trace x →
-      StandsIn standing awaited number made_due due conv next x
-  stands_same due conv trace next s unknown w = record {
+  stands_same : {S : Type 0} (answers : Answering S) (due : Due) (conv : ℕ) (trace next : Trace) → Same conv trace next → (x : Found (Held C)) →
+      StandsIn standing awaited number made_due answers due conv trace x → StandsIn standing awaited number made_due answers due conv next x
+  stands_same answers due conv trace next s unknown w = record {
     begun = s.peer ∙ w.begun;
     dial = s.dial ∙ w.dial;
     connected = s.connected ∙ w.connected;
     moves = s.moves ∙ w.moves;
     sees = λ view told. s.sees view told ∙ w.sees view told;
+    hook = s.hook ∙ w.hook;
   }
-  stands_same due conv trace next s over w = over_next due conv trace next w (inl s.moves, λ peer is. s.peer ∙ is) s.sees
-  stands_same due conv trace next s lost w = w
-  stands_same due conv trace next s (live held) w =
+  stands_same answers due conv trace next s over w = over_next due conv trace next w (inl s.moves, λ peer is. s.peer ∙ is) s.sees s.hook
+  stands_same answers due conv trace next s lost w = w
+  stands_same answers due conv trace next s (live held) w =
       let v = w.within in
       let P : List Move → Type 0 = λ l. standing v.made held.conversation l (v.earlier ++ []) in
       record {
@@ -174,8 +184,12 @@ module _ {C : Type 0} (standing : Standing C) (awaited : C → Option Ask) (numb
           begun = s.peer ∙ v.begun;
           sides = s.connected ∙ v.sides;
           dial = s.dial ∙ v.dial;
+          turn = s.hook ∙ v.turn;
         };
         settled = w.settled;
+        drafted = λ flow hook waits.
+            kept_on answers due conv trace next (asks.Hook flow hook) held.draft
+            (ap (seen_of flows) (due_same due conv (calls conv next) (calls conv trace) s.peer s.moves)) (w.drafted flow hook waits);
       }
 
   -- a table in which nothing was admitted
@@ -183,13 +197,15 @@ module _ {C : Type 0} (standing : Standing C) (awaited : C → Option Ask) (numb
       TableStands standing awaited number made_due answers due table []
   new_stands answers due table empty = record {
     at = λ conv.
-        let P : Found (Held C) → Type 0 = StandsIn standing awaited number made_due due conv [] in
-        let u : IsUnknown conv [] = record { begun = refl; dial = refl; connected = refl; moves = refl; sees = λ view told. refl } in
+        let P : Found (Held C) → Type 0 = StandsIn standing awaited number made_due answers due conv [] in
+        let u : IsUnknown conv [] = record { begun = refl; dial = refl; connected = refl; moves = refl; sees = λ view told. refl; hook = refl } in
         subst P (sym (ap (found_by table.live) (empty conv))) u;
     served = record {
       within = always_empty (IsWithinDue due) (λ conv view told. (due_in due view conv [], refl));
       told = before_empty (IsAllTold due);
       met = always_empty (EndsMet answers due) (λ front conv ask reply e. absurd (no_end front (steps.Answered conv ask reply) e));
+      turns = always_empty EndsInTurn (λ front step e. absurd (no_end front step e));
+      waits = before_empty (OpenOnesWait answers due);
     };
   }
     where
@@ -201,7 +217,7 @@ module _ {C : Type 0} (standing : Standing C) (awaited : C → Option Ask) (numb
       (view : View) → seen_of view given ≡ seen_of view (made_due made moves))
       (grows : (made : C) (moves : List Move) (move : Move) (view : View) → IsPrefixOf (seen_of view (made_due made moves)) (seen_of view (made_due made (moves ++ move ∷ []))))
       {S : Type 0} (answers : Answering S) where
-    told_in : (due : Due) (conv : ℕ) (trace : Trace) (x : Found (Held C)) → StandsIn standing awaited number made_due due conv trace x → (view : View) → IsTold view →
+    told_in : (due : Due) (conv : ℕ) (trace : Trace) (x : Found (Held C)) → StandsIn standing awaited number made_due answers due conv trace x → (view : View) → IsTold view →
         seen_in view conv trace ≡ due_in due view conv trace
     told_in due conv trace unknown w view told = w.sees view told ∙ sym (ap (λ at. seen_of view (due_at due conv at (calls_of conv trace))) w.begun)
     told_in due conv trace over w view told = w.told view told
@@ -212,8 +228,24 @@ module _ {C : Type 0} (standing : Standing C) (awaited : C → Option Ask) (numb
     pub all_told : (due : Due) (table : Table C) (trace : Trace) → TableStands standing awaited number made_due answers due table trace → IsAllTold due trace
     all_told due table trace stands conv view told = told_in due conv trace (found table conv) (stands.at conv) view told
 
+    -- a hook that is open waits
+    waits_in : (due : Due) (conv : ℕ) (trace : Trace) (x : Found (Held C)) → StandsIn standing awaited number made_due answers due conv trace x → (ask : Ask) → open_hook conv trace ≡ Some ask →
+        (draft : Draft) × Waits answers due trace conv ask draft
+    waits_in due conv trace unknown w ask is = absurd (let no : None ≡ Some ask = sym w.hook ∙ is in cc)
+    waits_in due conv trace over w ask is = absurd (let no : None ≡ Some ask = sym w.hook ∙ is in cc)
+    waits_in due conv trace lost w ask is = absurd w
+    waits_in due conv trace (live held) w ask is =
+        let waits : hook_of (awaited held.conversation) ≡ Some ask = sym w.within.turn ∙ is in
+        let named = hook_named (awaited held.conversation) ask waits in
+        let P : Ask → Type 0 = λ a. (draft : Draft) × Waits answers due trace conv a draft in
+        let kept = w.drafted named.0 named.1 (hook_is (awaited held.conversation) ask waits ∙ ap Some named.2) in
+        subst P (sym named.2) (kept.draft, kept.waits)
+
+    pub open_ones_wait : (due : Due) (table : Table C) (trace : Trace) → TableStands standing awaited number made_due answers due table trace → OpenOnesWait answers due trace
+    open_ones_wait due table trace stands conv ask is = waits_in due conv trace (found table conv) (stands.at conv) ask is
+
     -- what is due to one that is live by one call more
-    live_within : (due : Due) (conv : ℕ) (trace next : Trace) (move : Move) (held : Held C) (w : IsLive standing awaited number made_due due conv held trace) →
+    live_within : (due : Due) (conv : ℕ) (trace next : Trace) (move : Move) (held : Held C) (w : IsLive standing awaited number made_due answers due conv held trace) →
         calls_of conv next ≡ calls_of conv trace ++ move ∷ [] → (calls conv next).peer ≡ Some w.within.peer → (view : View) → IsTold view →
         IsPrefixOf (seen_in view conv trace) (due_in due view conv next)
     live_within due conv trace next move held w is there view told =
@@ -226,7 +258,7 @@ module _ {C : Type 0} (standing : Standing C) (awaited : C → Option Ask) (numb
         ap (seen_of view) (v.owes (calls_of conv trace ++ move ∷ [])) ∙ (ap (λ l. seen_of view (due conv v.peer l)) (sym is) ∙ sym (due_there due conv next v.peer there view)) in
         subst Q after (subst P before (grows v.made (calls_of conv trace) move view))
 
-    live_next : (due : Due) (conv : ℕ) (trace next : Trace) (held : Held C) → IsLive standing awaited number made_due due conv held trace →
+    live_next : (due : Due) (conv : ℕ) (trace next : Trace) (held : Held C) → IsLive standing awaited number made_due answers due conv held trace →
         IsGrown (calls conv trace) (calls conv next) → (view : View) → IsTold view → seen_in view conv next ≡ seen_in view conv trace →
         IsPrefixOf (seen_in view conv next) (due_in due view conv next)
     live_next due conv trace next held w (inl same, stays) view told sees =
@@ -238,7 +270,7 @@ module _ {C : Type 0} (standing : Standing C) (awaited : C → Option Ask) (numb
         let P : List Atom → Type 0 = λ l. IsPrefixOf l (due_in due view conv next) in
         subst P (sym sees) (live_within due conv trace next move held w is (stays w.within.peer w.within.begun) view told)
 
-    next_within : (due : Due) (conv : ℕ) (trace next : Trace) (x : Found (Held C)) → StandsIn standing awaited number made_due due conv trace x →
+    next_within : (due : Due) (conv : ℕ) (trace next : Trace) (x : Found (Held C)) → StandsIn standing awaited number made_due answers due conv trace x →
         IsGrown (calls conv trace) (calls conv next) → (view : View) → IsTold view → seen_in view conv next ≡ seen_in view conv trace →
         IsPrefixOf (seen_in view conv next) (due_in due view conv next)
     next_within due conv trace next unknown w grown view told sees =
@@ -258,12 +290,14 @@ module _ {C : Type 0} (standing : Standing C) (awaited : C → Option Ask) (numb
       told = before_heard (IsAllTold due) trace moment heard stands.served.told (all_told due table trace stands);
       met = always_more (EndsMet answers due) trace (steps.Heard moment heard) stands.served.met
           (λ front conv ask reply e. absurd (no_answer_heard moment conv heard ask reply (last_step trace front (steps.Heard moment heard) (steps.Answered conv ask reply) e).1));
+      turns = always_more EndsInTurn trace (steps.Heard moment heard) stands.served.turns (ends_in_turn trace (steps.Heard moment heard) tt);
+      waits = before_heard (OpenOnesWait answers due) trace moment heard stands.served.waits (open_ones_wait due table trace stands);
     }
 
     -- the others stay, and this one stands
     next_stands : (due : Due) (conv moment : ℕ) (what : News) (before after : Table C) (trace more : Trace) (heard : Heard) → addressed heard ≡ Some (conv, what) →
         AllOf conv more → ((other : ℕ) → conv ≢ other → found after other ≡ found before other) → TableStands standing awaited number made_due answers due before trace →
-        StandsIn standing awaited number made_due due conv ((trace ++ steps.Heard moment heard ∷ []) ++ more) (found after conv) →
+        StandsIn standing awaited number made_due answers due conv ((trace ++ steps.Heard moment heard ∷ []) ++ more) (found after conv) →
         IsServed answers due ((trace ++ steps.Heard moment heard ∷ []) ++ more) →
         TableStands standing awaited number made_due answers due after ((trace ++ steps.Heard moment heard ∷ []) ++ more)
     next_stands due conv moment what before after trace more heard is own others stands here served = record {
@@ -275,17 +309,18 @@ module _ {C : Type 0} (standing : Standing C) (awaited : C → Option Ask) (numb
         next = (trace ++ steps.Heard moment heard ∷ []) ++ more
 
         by : (other : ℕ) → ((conv == other) ≡ true) × (conv ≡ other) ⊎ ((conv == other) ≡ false) × (conv ≢ other) →
-            StandsIn standing awaited number made_due due other ((trace ++ steps.Heard moment heard ∷ []) ++ more) (found after other)
+            StandsIn standing awaited number made_due answers due other ((trace ++ steps.Heard moment heard ∷ []) ++ more) (found after other)
         by other (inl same) =
-            let P : ℕ → Type 0 = λ k. StandsIn standing awaited number made_due due k ((trace ++ steps.Heard moment heard ∷ []) ++ more) (found after k) in subst P same.1 here
+            let P : ℕ → Type 0 = λ k. StandsIn standing awaited number made_due answers due k ((trace ++ steps.Heard moment heard ∷ []) ++ more) (found after k) in subst P same.1 here
         by other (inr apart) =
-            let P : Found (Held C) → Type 0 = λ x. StandsIn standing awaited number made_due due other ((trace ++ steps.Heard moment heard ∷ []) ++ more) x in
-            subst P (sym (others other apart.1)) (stands_same due other trace ((trace ++ steps.Heard moment heard ∷ []) ++ more) (other_same conv other moment trace more heard what is own apart.1) (found before other) (stands.at other))
+            let P : Found (Held C) → Type 0 = λ x. StandsIn standing awaited number made_due answers due other ((trace ++ steps.Heard moment heard ∷ []) ++ more) x in
+            subst P (sym (others other apart.1)) (stands_same answers due other trace ((trace ++ steps.Heard moment heard ∷ []) ++ more) (other_same conv other moment trace more heard what is own apart.1) (found before other) (stands.at other))
 
     module _ (ended : C → Bool) (ends : (made state : C) (moves : List Move) (given : List Command) → standing made state moves given → ended state ≡ true →
-        (more : List Move) (view : View) → seen_of view (made_due made (moves ++ more)) ≡ seen_of view (made_due made moves)) where
+        (more : List Move) (view : View) → seen_of view (made_due made (moves ++ more)) ≡ seen_of view (made_due made moves))
+        (rests : (made state : C) (moves : List Move) (given : List Command) → standing made state moves given → ended state ≡ true → awaited state ≡ None) where
       -- a conversation that has ended
-      over_of : (due : Due) (conv : ℕ) (held : Held C) (trace : Trace) → IsLive standing awaited number made_due due conv held trace → ended held.conversation ≡ true → IsOver due conv trace
+      over_of : (due : Due) (conv : ℕ) (held : Held C) (trace : Trace) → IsLive standing awaited number made_due answers due conv held trace → ended held.conversation ≡ true → IsOver due conv trace
       over_of due conv held trace w is = record {
         peer = w.within.peer;
         begun = w.within.begun;
@@ -294,21 +329,22 @@ module _ {C : Type 0} (standing : Standing C) (awaited : C → Option Ask) (numb
             ap (seen_of view) (sym (w.within.owes (calls_of conv trace ++ more)))
             ∙ (ends w.within.made held.conversation (calls_of conv trace) (w.within.earlier ++ []) w.within.stands is more view
             ∙ (ap (seen_of view) (w.within.owes (calls_of conv trace)) ∙ sym (due_there due conv trace w.within.peer w.within.begun view)));
+        hook = w.within.turn ∙ ap hook_of (rests w.within.made held.conversation (calls_of conv trace) (w.within.earlier ++ []) w.within.stands is);
       }
 
       -- what became of the conversation is held, or it has ended
       abbrev pub IsHeldOr : Held C → Found (Held C) → Type 0
       IsHeldOr held x = (x ≡ live held) ⊎ ((x ≡ over) × (ended held.conversation ≡ true))
 
-      here_stands : (due : Due) (conv : ℕ) (held : Held C) (trace : Trace) (x : Found (Held C)) → IsLive standing awaited number made_due due conv held trace → IsHeldOr held x →
-          StandsIn standing awaited number made_due due conv trace x
-      here_stands due conv held trace x w (inl is) = let P : Found (Held C) → Type 0 = StandsIn standing awaited number made_due due conv trace in subst P (sym is) w
+      here_stands : (due : Due) (conv : ℕ) (held : Held C) (trace : Trace) (x : Found (Held C)) → IsLive standing awaited number made_due answers due conv held trace → IsHeldOr held x →
+          StandsIn standing awaited number made_due answers due conv trace x
+      here_stands due conv held trace x w (inl is) = let P : Found (Held C) → Type 0 = StandsIn standing awaited number made_due answers due conv trace in subst P (sym is) w
       here_stands due conv held trace x w (inr (is, end)) =
-          let P : Found (Held C) → Type 0 = StandsIn standing awaited number made_due due conv trace in subst P (sym is) (over_of due conv held trace w end)
+          let P : Found (Held C) → Type 0 = StandsIn standing awaited number made_due answers due conv trace in subst P (sym is) (over_of due conv held trace w end)
 
-      live_in : (due : Due) (conv : ℕ) (held : Held C) (trace : Trace) (x : Found (Held C)) → x ≡ live held → StandsIn standing awaited number made_due due conv trace x →
-          IsLive standing awaited number made_due due conv held trace
-      live_in due conv held trace x is w = let P : Found (Held C) → Type 0 = StandsIn standing awaited number made_due due conv trace in subst P is w
+      live_in : (due : Due) (conv : ℕ) (held : Held C) (trace : Trace) (x : Found (Held C)) → x ≡ live held → StandsIn standing awaited number made_due answers due conv trace x →
+          IsLive standing awaited number made_due answers due conv held trace
+      live_in due conv held trace x is w = let P : Found (Held C) → Type 0 = StandsIn standing awaited number made_due answers due conv trace in subst P is w
 
       pub hands_of : (conv moment : ℕ) (what : News) (before after : Table C) (held new_held : Held C) (out new_out : List Step) → found before conv ≡ live held →
           Hears standing awaited number made_due answers conv moment what held new_held out new_out → IsHeldOr new_held (found after conv) →
@@ -320,29 +356,39 @@ module _ {C : Type 0} (standing : Standing C) (awaited : C → Option Ask) (numb
         others = others;
         stands = λ due trace heard is stands.
             let w = live_in due conv held trace (found before conv) was (stands.at conv) in
-            let next = hears.hears due trace heard is w.within (heard_served due before trace moment heard stands) in
+            let next = hears.hears due trace heard is w.within w.drafted (heard_served due before trace moment heard stands) in
             next_stands due conv moment what before after trace hears.more heard is hears.own others stands
-            (here_stands due conv new_held ((trace ++ steps.Heard moment heard ∷ []) ++ hears.more) (found after conv) (record { within = next.0; settled = hears.settled }) there) next.1;
+            (here_stands due conv new_held ((trace ++ steps.Heard moment heard ∷ []) ++ hears.more) (found after conv) (record { within = next.0; settled = hears.settled; drafted = next.2 }) there) next.1;
       }
 
       pub admits_of : (conv moment : ℕ) (conversation : C) (before after : Table C) (held new_held : Held C) (out new_out : List Step) → found before conv ≡ unknown →
-          held.conversation ≡ conversation → standing conversation conversation [] [] →
+          held.conversation ≡ conversation → awaited conversation ≡ None → standing conversation conversation [] [] →
           Takes standing awaited number made_due answers conv moment (Took moment events.Begun) None [] held new_held out new_out → IsHeldOr new_held (found after conv) →
           ((other : ℕ) → conv ≢ other → found after other ≡ found before other) → Admits standing awaited number made_due answers conv moment conversation before after out new_out
-      admits_of conv moment conversation before after held new_held out new_out was same fresh t there others = record {
+      admits_of conv moment conversation before after held new_held out new_out was same free fresh t there others = record {
         more = t.more;
         grown = t.grown;
         own = t.own;
         others = others;
         stands = λ due trace heard peer is owes stands.
-            let P : Found (Held C) → Type 0 = StandsIn standing awaited number made_due due conv trace in
+            let P : Found (Held C) → Type 0 = StandsIn standing awaited number made_due answers due conv trace in
             let w : IsUnknown conv trace = subst P was (stands.at conv) in
             let on = calls_heard conv trace moment heard (news.Begun peer) is in
             let took : takes moment (calls conv trace) (news.Begun peer) ≡ record (calls conv trace) { peer = Some peer; moves = calls_of conv trace ++ Took moment events.Begun ∷ [] } = rw w.begun refl in
             let Q : C → Type 0 = λ s. standing conversation s (calls_of conv trace) [] in
             let R : List Move → Type 0 = λ l. standing conversation conversation l [] in
+            let none : awaited held.conversation ≡ None = ap awaited same ∙ free in
             let next = t.takes due peer trace (trace ++ steps.Heard moment heard ∷ [])
-            (record { made = conversation; earlier = []; stands = subst Q (sym same) (subst R (sym w.moves) fresh); owes = owes; tells = λ view told. sym (w.sees view told) })
+            (record {
+              made = conversation;
+              earlier = [];
+              stands = subst Q (sym same) (subst R (sym w.moves) fresh);
+              owes = owes;
+              tells = λ view told. sym (w.sees view told);
+              hook = w.hook ∙ sym (ap hook_of none);
+              there = λ ask waits. absurd (let no : None ≡ Some ask = sym (ap hook_of none) ∙ waits in cc);
+            })
+            (λ flow hook waits. absurd (let no : None ≡ Some (asks.Hook flow hook) = sym none ∙ waits in cc))
             (record {
               moves = ap (λ (c : Calls). c.moves) on ∙ ap (λ (c : Calls). c.moves) took;
               begun = ap (λ (c : Calls). c.peer) on ∙ ap (λ (c : Calls). c.peer) took;
@@ -350,16 +396,17 @@ module _ {C : Type 0} (standing : Standing C) (awaited : C → Option Ask) (numb
               connected = ap (λ (c : Calls). c.connected) on ∙ (ap (λ (c : Calls). c.connected) took ∙ w.connected);
               now = ap (λ (c : Calls). c.moment) on;
               sees = λ view told. seen_heard view conv trace moment heard;
+              hook = hook_heard conv trace moment heard;
             })
             (heard_served due before trace moment heard stands) in
             next_stands due conv moment (news.Begun peer) before after trace t.more heard is t.own others stands
-            (here_stands due conv new_held ((trace ++ steps.Heard moment heard ∷ []) ++ t.more) (found after conv) (record { within = next.0; settled = t.settled }) there) next.1;
+            (here_stands due conv new_held ((trace ++ steps.Heard moment heard ∷ []) ++ t.more) (found after conv) (record { within = next.0; settled = t.settled; drafted = next.2 }) there) next.1;
       }
 
     -- news that the table ignores
     ignored_hands : (conv moment : ℕ) (what : News) (table : Table C) (out : List Step) →
-        ((due : Due) (trace : Trace) (heard : Heard) → addressed heard ≡ Some (conv, what) → StandsIn standing awaited number made_due due conv trace (found table conv) →
-        StandsIn standing awaited number made_due due conv (trace ++ steps.Heard moment heard ∷ []) (found table conv)) →
+        ((due : Due) (trace : Trace) (heard : Heard) → addressed heard ≡ Some (conv, what) → StandsIn standing awaited number made_due answers due conv trace (found table conv) →
+        StandsIn standing awaited number made_due answers due conv (trace ++ steps.Heard moment heard ∷ []) (found table conv)) →
         Hands standing awaited number made_due answers conv moment what table table out out
     ignored_hands conv moment what table out here = record {
       more = [];
@@ -367,7 +414,7 @@ module _ {C : Type 0} (standing : Standing C) (awaited : C → Option Ask) (numb
       own = tt;
       others = λ other apart. refl;
       stands = λ due trace heard is stands.
-          let P : Trace → Type 0 = λ t. StandsIn standing awaited number made_due due conv t (found table conv) in
+          let P : Trace → Type 0 = λ t. StandsIn standing awaited number made_due answers due conv t (found table conv) in
           let Q : Trace → Type 0 = IsServed answers due in
           let same = sym (append-nil (trace ++ steps.Heard moment heard ∷ [])) in
           next_stands due conv moment what table table trace [] heard is tt (λ other apart. refl) stands
@@ -376,9 +423,10 @@ module _ {C : Type 0} (standing : Standing C) (awaited : C → Option Ask) (numb
 
     pub over_hands : (conv moment : ℕ) (what : News) (table : Table C) (out : List Step) → found table conv ≡ over → Hands standing awaited number made_due answers conv moment what table table out out
     over_hands conv moment what table out was = ignored_hands conv moment what table out (λ due trace heard is w.
-        let P : Found (Held C) → Type 0 = StandsIn standing awaited number made_due due conv trace in
-        let Q : Found (Held C) → Type 0 = StandsIn standing awaited number made_due due conv (trace ++ steps.Heard moment heard ∷ []) in
-        subst Q (sym was) (over_next due conv trace (trace ++ steps.Heard moment heard ∷ []) (subst P was w) (heard_grown conv trace moment heard) (λ view told. seen_heard view conv trace moment heard)))
+        let P : Found (Held C) → Type 0 = StandsIn standing awaited number made_due answers due conv trace in
+        let Q : Found (Held C) → Type 0 = StandsIn standing awaited number made_due answers due conv (trace ++ steps.Heard moment heard ∷ []) in
+        subst Q (sym was) (over_next due conv trace (trace ++ steps.Heard moment heard ∷ []) (subst P was w) (heard_grown conv trace moment heard) (λ view told. seen_heard view conv trace moment heard)
+        (hook_heard conv trace moment heard)))
 
     takes_nothing : (moment : ℕ) (c : Calls) (what : News) → ((peer : Address) → what ≡ news.Begun peer → ⊥) → c.peer ≡ None → c.dial ≡ None → takes moment c what ≡ c
     takes_nothing moment c (news.Begun peer) not begun dial = absurd (not peer refl)
@@ -388,13 +436,13 @@ module _ {C : Type 0} (standing : Standing C) (awaited : C → Option Ask) (numb
     pub unknown_hands : (conv moment : ℕ) (what : News) (table : Table C) (out : List Step) → found table conv ≡ unknown → ((peer : Address) → what ≡ news.Begun peer → ⊥) →
         Hands standing awaited number made_due answers conv moment what table table out out
     unknown_hands conv moment what table out was not = ignored_hands conv moment what table out (λ due trace heard is w.
-        let P : Found (Held C) → Type 0 = StandsIn standing awaited number made_due due conv trace in
-        let Q : Found (Held C) → Type 0 = StandsIn standing awaited number made_due due conv (trace ++ steps.Heard moment heard ∷ []) in
+        let P : Found (Held C) → Type 0 = StandsIn standing awaited number made_due answers due conv trace in
+        let Q : Found (Held C) → Type 0 = StandsIn standing awaited number made_due answers due conv (trace ++ steps.Heard moment heard ∷ []) in
         let u : IsUnknown conv trace = subst P was w in
         let same = same_by conv moment trace (trace ++ steps.Heard moment heard ∷ [])
         (calls_heard conv trace moment heard what is ∙ ap (λ (c : Calls). record c { moment = moment }) (takes_nothing moment (calls conv trace) what not u.begun u.dial))
-        (λ view told. seen_heard view conv trace moment heard) in
-        subst Q (sym was) (stands_same due conv trace (trace ++ steps.Heard moment heard ∷ []) same unknown u))
+        (λ view told. seen_heard view conv trace moment heard) (hook_heard conv trace moment heard) in
+        subst Q (sym was) (stands_same answers due conv trace (trace ++ steps.Heard moment heard ∷ []) same unknown u))
 
     -- what was heard of no conversation
     pub routes_none : (moment : ℕ) (heard : Heard) (table : Table C) (out : List Step) → addressed heard ≡ None → Routes standing awaited number made_due answers moment heard table table out out
@@ -407,7 +455,7 @@ module _ {C : Type 0} (standing : Standing C) (awaited : C → Option Ask) (numb
       stands = λ due trace stands.
           let P : Trace → Type 0 = TableStands standing awaited number made_due answers due table in
           subst P (sym (append-nil (trace ++ steps.Heard moment heard ∷ []))) (record {
-            at = λ conv. stands_same due conv trace (trace ++ steps.Heard moment heard ∷ []) (none_same conv moment trace heard is) (found table conv) (stands.at conv);
+            at = λ conv. stands_same answers due conv trace (trace ++ steps.Heard moment heard ∷ []) (none_same conv moment trace heard is) (found table conv) (stands.at conv);
             served = heard_served due table trace moment heard stands;
           });
     }
@@ -452,15 +500,15 @@ module _ {C : Type 0} (standing : Standing C) (awaited : C → Option Ask) (numb
         slab.get table.live key ≡ Some held → number held.conversation ≡ conv → conv ≢ other → place_of table other ≡ Some (place.Live key) → ⊥
     apart_keys due table trace conv other key held stands is named apart at =
         let there : found table other ≡ live held = ap (found_by table.live) at ∙ ap found_at is in
-        let P : Found (Held C) → Type 0 = StandsIn standing awaited number made_due due other trace in
-        let w : IsLive standing awaited number made_due due other held trace = subst P there (stands.at other) in
+        let P : Found (Held C) → Type 0 = StandsIn standing awaited number made_due answers due other trace in
+        let w : IsLive standing awaited number made_due answers due other held trace = subst P there (stands.at other) in
         apart (sym named ∙ w.within.named)
 
     pub no_vacant_key : (due : Due) (table : Table C) (trace : Trace) (other key : ℕ) → TableStands standing awaited number made_due answers due table trace →
         slab.get table.live key ≡ None → place_of table other ≡ Some (place.Live key) → ⊥
     no_vacant_key due table trace other key stands is at =
         let there : found table other ≡ lost = ap (found_by table.live) at ∙ ap found_at is in
-        let P : Found (Held C) → Type 0 = StandsIn standing awaited number made_due due other trace in subst P there (stands.at other)
+        let P : Found (Held C) → Type 0 = StandsIn standing awaited number made_due answers due other trace in subst P there (stands.at other)
 
     first_takes : (conv moment : ℕ) (conversation : C) (held new_held : Held C) (out new_out : List Step) → held.conversation ≡ conversation → held.connected.items ≡ [] →
         awaited conversation ≡ None →
@@ -479,8 +527,8 @@ module _ {C : Type 0} (standing : Standing C) (awaited : C → Option Ask) (numb
         by None is = absurd (no_vacant_key due table trace conv key stands is at)
         by (Some held) is =
             let there : found table conv ≡ live held = ap (found_by table.live) at ∙ ap found_at is in
-            let P : Found (Held C) → Type 0 = StandsIn standing awaited number made_due due conv trace in
-            let w : IsLive standing awaited number made_due due conv held trace = subst P there (stands.at conv) in
+            let P : Found (Held C) → Type 0 = StandsIn standing awaited number made_due answers due conv trace in
+            let w : IsLive standing awaited number made_due answers due conv held trace = subst P there (stands.at conv) in
             record {
               held = held;
               is = is;
@@ -490,12 +538,13 @@ module _ {C : Type 0} (standing : Standing C) (awaited : C → Option Ask) (numb
             }
 
     module _ (ended : C → Bool) (ends : (made state : C) (moves : List Move) (given : List Command) → standing made state moves given → ended state ≡ true →
-        (more : List Move) (view : View) → seen_of view (made_due made (moves ++ more)) ≡ seen_of view (made_due made moves)) where
+        (more : List Move) (view : View) → seen_of view (made_due made (moves ++ more)) ≡ seen_of view (made_due made moves))
+        (rests : (made state : C) (moves : List Move) (given : List Command) → standing made state moves given → ended state ≡ true → awaited state ≡ None) where
       named_at : (due : Due) (table : Table C) (trace : Trace) (conv key : ℕ) (held : Held C) → TableStands standing awaited number made_due answers due table trace →
           place_of table conv ≡ Some (place.Live key) → slab.get table.live key ≡ Some held → number held.conversation ≡ conv
       named_at due table trace conv key held stands at is =
-          let P : Found (Held C) → Type 0 = StandsIn standing awaited number made_due due conv trace in
-          let w : IsLive standing awaited number made_due due conv held trace = subst P (ap (found_by table.live) at ∙ ap found_at is) (stands.at conv) in
+          let P : Found (Held C) → Type 0 = StandsIn standing awaited number made_due answers due conv trace in
+          let w : IsLive standing awaited number made_due answers due conv held trace = subst P (ap (found_by table.live) at ∙ ap found_at is) (stands.at conv) in
           w.within.named
 
       pub hands_live : (conv moment key : ℕ) (what : News) (before after : Table C) (over_now : Bool) (out new_out : List Step) →
@@ -503,7 +552,7 @@ module _ {C : Type 0} (standing : Standing C) (awaited : C → Option Ask) (numb
           HearsAt standing awaited number made_due answers ended conv moment what key before after over_now out new_out →
           Hands standing awaited number made_due answers conv moment what before after out new_out
       hands_live conv moment key what before after over_now out new_out (due, trace, stands) at h =
-          hands_of ended ends conv moment what before after h.held h.new_held out new_out (ap (found_by before.live) at ∙ ap found_at h.was) h.hears
+          hands_of ended ends rests conv moment what before after h.held h.new_held out new_out (ap (found_by before.live) at ∙ ap found_at h.was) h.hears
           (inl (ap (found_by after.live) (ap (λ m. tree.get nat_cmp m conv) h.places ∙ at) ∙ ap found_at h.live_now.changed))
           (λ other apart. same_found before.live after.live (place_of before other) (place_of after other) key (ap (λ m. tree.get nat_cmp m other) h.places) h.live_now.others
           (apart_keys due before trace conv other key h.held stands h.was (named_at due before trace conv key h.held stands at h.was) apart))
@@ -514,7 +563,7 @@ module _ {C : Type 0} (standing : Standing C) (awaited : C → Option Ask) (numb
           slab.Updates between.live after.live key None → tree.Updates nat_cmp between.places after.places conv (Some place.Ended) →
           Hands standing awaited number made_due answers conv moment what before after out new_out
       hands_ended conv moment key what before between after over_now out new_out (due, trace, stands) at h is_over_now removed noted =
-          hands_of ended ends conv moment what before after h.held h.new_held out new_out (ap (found_by before.live) at ∙ ap found_at h.was) h.hears
+          hands_of ended ends rests conv moment what before after h.held h.new_held out new_out (ap (found_by before.live) at ∙ ap found_at h.was) h.hears
           (inr (ap (found_by after.live) noted.1, sym h.ends ∙ is_over_now))
           (λ other apart. same_found before.live after.live (place_of before other) (place_of after other) key
           (noted.2 other (not_at conv other apart) ∙ ap (λ m. tree.get nat_cmp m other) h.places)
@@ -528,7 +577,7 @@ module _ {C : Type 0} (standing : Standing C) (awaited : C → Option Ask) (numb
           slab.Updates before.live after.live key (Some new_held) → slab.get before.live key ≡ None → tree.Updates nat_cmp before.places after.places conv (Some (place.Live key)) →
           Admits standing awaited number made_due answers conv moment conversation before after out new_out
       admits_added conv moment key conversation before after held new_held out new_out (due, trace, stands) fresh same sides free new t added vacant noted =
-          admits_of ended ends conv moment conversation before after held new_held out new_out (ap (found_by before.live) (unplaced (place_of before conv) fresh)) same new
+          admits_of ended ends rests conv moment conversation before after held new_held out new_out (ap (found_by before.live) (unplaced (place_of before conv) fresh)) same free new
           (first_takes conv moment conversation held new_held out new_out same sides free t)
           (inl (ap (found_by after.live) noted.1 ∙ ap found_at added.changed))
           (λ other apart. same_found before.live after.live (place_of before other) (place_of after other) key (noted.2 other (not_at conv other apart)) added.others
@@ -540,7 +589,7 @@ module _ {C : Type 0} (standing : Standing C) (awaited : C → Option Ask) (numb
           ended new_held.conversation ≡ true → after.live ≡ before.live → tree.Updates nat_cmp before.places after.places conv (Some place.Ended) →
           Admits standing awaited number made_due answers conv moment conversation before after out new_out
       admits_ended conv moment conversation before after held new_held out new_out fresh same sides free new t is_over_now kept noted =
-          admits_of ended ends conv moment conversation before after held new_held out new_out (ap (found_by before.live) (unplaced (place_of before conv) fresh)) same new
+          admits_of ended ends rests conv moment conversation before after held new_held out new_out (ap (found_by before.live) (unplaced (place_of before conv) fresh)) same free new
           (first_takes conv moment conversation held new_held out new_out same sides free t)
           (inr (ap (found_by after.live) noted.1, is_over_now))
           (λ other apart. ap (λ l. found_by l (place_of after other)) kept ∙ ap (found_by before.live) (noted.2 other (not_at conv other apart)))

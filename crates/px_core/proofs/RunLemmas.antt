@@ -46,6 +46,8 @@ served_front answers due trace rest served = record {
   within = record { at = λ front back e. served.within.at front (back ++ rest) (ap (λ l. l ++ rest) e ∙ append_assoc front back rest) };
   told = record { at = λ front back moment what e. served.told.at front (back ++ rest) moment what (ap (λ l. l ++ rest) e ∙ append_assoc front (steps.Heard moment what ∷ back) rest) };
   met = record { at = λ front back e. served.met.at front (back ++ rest) (ap (λ l. l ++ rest) e ∙ append_assoc front back rest) };
+  turns = record { at = λ front back e. served.turns.at front (back ++ rest) (ap (λ l. l ++ rest) e ∙ append_assoc front back rest) };
+  waits = record { at = λ front back moment what e. served.waits.at front (back ++ rest) moment what (ap (λ l. l ++ rest) e ∙ append_assoc front (steps.Heard moment what ∷ back) rest) };
 }
 
 module _ {C : Type 0} (standing : Standing C) (awaited : C → Option Ask) (number : C → ℕ) (made_due : C → List Move → List Command) {S : Type 0} (answers : Answering S) where

@@ -20,9 +20,11 @@ use Rattle.px_core.specs.declared.held.Held.{Held}
 use Rattle.px_core.specs.Answers.{Answering}
 use Rattle.px_core.specs.Calls.{Calls, calls, calls_of}
 use Rattle.px_core.specs.Conversation.{IsNamed, AllNamed}
-use Rattle.px_core.specs.Due.{Due, due_at, due_by, due_in, IsWithinDue, IsAllTold, IsMet, EndsMet, IsServed}
+use Rattle.px_core.specs.Due.{Due, due_at, due_by, due_in, IsWithinDue, IsAllTold, IsMet, EndsMet, OpenOnesWait, IsServed}
 use Rattle.px_core.specs.Held.{step_of, IsOf, AllOf, dial_by, dial_from, Within}
+use Rattle.px_core.specs.Hooks.{IsInTurn, EndsInTurn, hook_of}
 use Rattle.px_core.proofs.CallLemmas.{calls_more, seen_more, others_calls, others_seen, told_calls, told_seen, told_own}
+use Rattle.px_core.proofs.HookLemmas.{turn_is, turn_on}
 
 -- the last elements of two equal lists
 last_in : (x y : Step) (trace front : Trace) → IsFrontOfMore trace x front (y ∷ []) → (front ≡ trace) × (y ≡ x)
@@ -39,6 +41,14 @@ last_in x y trace front (inr h) = by h.0 h.1 h.2
 
 pub last_step : (trace front : Trace) (x y : Step) → trace ++ x ∷ [] ≡ front ++ y ∷ [] → (front ≡ trace) × (y ≡ x)
 last_step trace front x y e = last_in x y trace front (front_of_more trace x front (y ∷ []) e)
+
+-- a trace that ends with a step in its turn
+pub ends_in_turn : (trace : Trace) (step : Step) → IsInTurn trace step → EndsInTurn (trace ++ step ∷ [])
+ends_in_turn trace step turn front other e =
+    let last = last_step trace front step other e in
+    let P : Trace → Type 0 = λ t. IsInTurn t other in
+    let Q : Step → Type 0 = IsInTurn trace in
+    subst P (sym last.0) (subst Q (sym last.1) turn)
 
 no_answer : (conv number : ℕ) (ask : Ask) (reply : Reply) (command : Command) → steps.Answered number ask reply ≡ step_of conv command → ⊥
 no_answer conv number ask reply (commands.Send side text) e = cc
@@ -81,11 +91,13 @@ module _ {S : Type 0} (answers : Answering S) (due : Due) where
 
   pub served_step : (conv : ℕ) (trace : Trace) (step : Step) → IsOf conv step → IsServed answers due trace →
       ((view : View) → IsTold view → IsPrefixOf (seen_in view conv (trace ++ step ∷ [])) (due_in due view conv (trace ++ step ∷ []))) →
-      EndsMet answers due (trace ++ step ∷ []) → IsServed answers due (trace ++ step ∷ [])
-  served_step conv trace step of served own met = record {
+      EndsMet answers due (trace ++ step ∷ []) → IsInTurn trace step → IsServed answers due (trace ++ step ∷ [])
+  served_step conv trace step of served own met turn = record {
     within = always_more (IsWithinDue due) trace step served.within (step_within conv trace step of (now_of (IsWithinDue due) trace served.within) own);
     told = before_other (IsAllTold due) trace step (no_heard conv step of) served.told;
     met = always_more (EndsMet answers due) trace step served.met met;
+    turns = always_more EndsInTurn trace step served.turns (ends_in_turn trace step turn);
+    waits = before_other (OpenOnesWait answers due) trace step (no_heard conv step of) served.waits;
   }
 
   -- a trace that ends with an answer that is met
@@ -146,6 +158,7 @@ module _ {S : Type 0} (answers : Answering S) (due : Due) where
           begun = ap (λ (c : Calls). c.peer) on ∙ w.begun;
           sides = ap (λ (c : Calls). c.connected) on ∙ w.sides;
           dial = ap (λ (c : Calls). dial_from c.dial rest) on ∙ w.dial;
+          turn = turn_on conv trace command rest (hook_of (awaited held.conversation)) w.turn;
         }
 
     -- where all are told
@@ -166,7 +179,7 @@ module _ {S : Type 0} (answers : Answering S) (due : Due) where
         let P : Trace → Type 0 = Told conv moment held in
         subst P (append_assoc trace (step ∷ []) (map (step_of conv) given))
         (told_all conv moment held given (trace ++ step ∷ []) next same
-        (served_step conv trace step (told_own conv command named.0) served (within_due conv held (trace ++ step ∷ []) given next) (ends_told conv trace command))
+        (served_step conv trace step (told_own conv command named.0) served (within_due conv held (trace ++ step ∷ []) given next) (ends_told conv trace command) (turn_is conv trace command given (hook_of (awaited held.conversation)) w.turn))
         named.1)
 
 pub all_own : (conv : ℕ) (given : List Command) → AllNamed conv given → AllOf conv (map (step_of conv) given)

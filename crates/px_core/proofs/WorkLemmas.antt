@@ -14,15 +14,18 @@ use Rattle.px_event.specs.Trace.{Trace}
 use Rattle.px_event.specs.View.{View, bytes, closes, questions, finished, course, flows, about, seen_of, seen_in, step_atoms}
 use Rattle.px_core.specs.declared.answerer.Answer.{Answer}
 use Rattle.px_core.specs.declared.answerer.Answer.TheVariants as answer
+use Rattle.px_core.specs.declared.answerer.Draft.{Draft}
 use Rattle.px_core.specs.declared.held.Held.{Held}
 use Rattle.px_core.specs.declared.held.Question.{Question}
 use Rattle.px_core.specs.Answers.{Answering, FilesMeaning}
 use Rattle.px_core.specs.Calls.{Calls, calls, calls_of, calls_on, moved}
 use Rattle.px_core.specs.Conversation.{AllNamed}
-use Rattle.px_core.specs.Due.{Due, due_by, IsMet}
-use Rattle.px_core.specs.Held.{step_of, AllOf, asked_from, dial_from, dial_of, IsSettled, IsNext, IsReady, IsAbout, Replies, Within, WorkedTo, Asks, Works, turns_left}
+use Rattle.px_core.specs.Due.{Due, due_by, due_in, IsMet, Waits}
+use Rattle.px_core.specs.Held.{step_of, AllOf, asked_from, dial_from, dial_of, IsSettled, IsNext, IsReady, IsAbout, IsDrafted, IsDraftedBut, IsDraftedBehind, Replies, Within, WorkedTo, Asks, Works, turns_left}
+use Rattle.px_core.specs.Hooks.{open_hook, hook_of, AsksInTurn}
 use Rattle.px_core.proofs.AskLemmas.{asks_one, dial_now, quiet, IsTheQuestion}
 use Rattle.px_core.proofs.CallLemmas.{calls_more, seen_more, same_number, told_calls}
+use Rattle.px_core.proofs.HookLemmas.{hook_answered, one_turn, kept_on}
 use Rattle.px_core.proofs.ServedLemmas.{due_is, within_due, told_all, served_step, ends_met, all_own}
 
 own_append : (conv : ℕ) (xs ys : List Step) → AllOf conv xs → AllOf conv ys → AllOf conv (xs ++ ys)
@@ -79,6 +82,16 @@ module _ {C : Type 0} (standing : Standing C) (awaited : C → Option Ask) (numb
   next_of conv held given (Some question) named is (inr (none, settled)) =
       absurd (let no : Some question ≡ None = is ∙ (quiet given none None None).asked in cc)
 
+  -- behind the commands of a call, where no question is left, the draft of a hook that is awaited is the one that was kept
+  drafted_of : (due : Due) (conv : ℕ) (held : Held C) (trace after : Trace) (given : List Command) (question : Option Question) → AllNamed conv given →
+      question ≡ asked_from None given → IsReady awaited held given → due_in due flows conv after ≡ due_in due flows conv trace →
+      IsDraftedBehind awaited answers due conv held trace given → IsDraftedBut awaited answers due conv held after question
+  drafted_of due conv held trace after given None named is (inl one) same kept = λ flow hook waits.
+      absurd ((asks_one conv (awaited held.conversation) None given named one).no_question (sym is) flow hook waits)
+  drafted_of due conv held trace after given None named is (inr (none, settled)) same kept = λ flow hook waits.
+      kept_on answers due conv trace after (asks.Hook flow hook) held.draft same (kept none flow hook waits)
+  drafted_of due conv held trace after given (Some question) named is ready same kept = tt
+
   -- the commands of a call are told
   pub tell_works : (conv moment : ℕ) (held : Held C) (given : List Command) (question : Option Question) (out new_out : List Step) → AllNamed conv given →
       IsReady awaited held given → question ≡ asked_from None given → new_out ≡ out ++ map (step_of conv) given →
@@ -89,22 +102,28 @@ module _ {C : Type 0} (standing : Standing C) (awaited : C → Option Ask) (numb
         more = map (step_of conv) given;
         grown = grown;
         own = all_own conv given named;
-        works = λ due trace w now served.
+        works = λ due trace w now served kept.
             let told = told_all answers due standing awaited number made_due gave conv moment held given trace w now served named in
             record {
               within = told.within;
               now = told.now;
               served = told.served;
               last = about_last due conv held trace (trace ++ map (step_of conv) given) given (awaited held.conversation) question w (same_due due conv given trace) next.1;
+              drafted = drafted_of due conv held trace (trace ++ map (step_of conv) given) given question named asked ready (ap (seen_of flows) (same_due due conv given trace)) kept;
             };
         next = next.0;
       }
 
+  some_ask : (a b : Ask) → Some a ≡ Some b → a ≡ b
+  some_ask a b e = cc
+
   -- a hook that waits
-  pub wait_works : (conv moment : ℕ) (question : Question) (before after : Held C) (out new_out : List Step) → after.conversation ≡ before.conversation →
-      after.connected ≡ before.connected → new_out ≡ out → IsSettled awaited after →
+  pub wait_works : (conv moment : ℕ) (question : Question) (draft : Draft) (before after : Held C) (out new_out : List Step)
+      (old : S) (old_files : FilesMeaning) (new : S) (new_files : FilesMeaning) → IsNext awaited before (Some question) →
+      (given_answer : Answer) → answers question.hook question.flow old old_files new new_files given_answer → given_answer ≡ answer.Wait draft →
+      after.conversation ≡ before.conversation → after.connected ≡ before.connected → after.draft ≡ Some draft → new_out ≡ out → IsSettled awaited after →
       Asks standing awaited number made_due answers conv moment question before after None out new_out
-  wait_works conv moment question before after out new_out same sides grown settled = record {
+  wait_works conv moment question draft before after out new_out old old_files new new_files next_before given_answer met is same sides kept grown settled = record {
     more = [];
     grown = grown ∙ sym (append-nil out);
     own = tt;
@@ -124,10 +143,32 @@ module _ {C : Type 0} (standing : Standing C) (awaited : C → Option Ask) (numb
             begun = w.begun;
             sides = w.sides ∙ ap (λ s. s.items) (sym sides);
             dial = w.dial ∙ ap (λ s. dial_of (awaited s)) (sym same);
+            turn = w.turn ∙ ap (λ s. hook_of (awaited s)) (sym same);
           };
           now = at.now;
           served = at.served;
           last = tt;
+          drafted = λ flow hook waits.
+              let ask : Ask = asks.Hook flow hook in
+              let is_asked : question.ask ≡ ask = some_ask question.ask ask (sym next_before.0 ∙ (ap awaited (sym same) ∙ waits)) in
+              let R : Ask → Type 0 = λ a. Waits answers due trace conv a draft in
+              let answered_so : Answer → Type 0 = λ a. answers question.hook question.flow old old_files new new_files a in
+              record {
+                draft = draft;
+                is = kept;
+                waits = subst R is_asked (record {
+                  hook = question.hook;
+                  flow = question.flow;
+                  asked = next_before.1;
+                  earlier = at.last.0;
+                  last = at.last.1;
+                  old = old;
+                  old_files = old_files;
+                  new = new;
+                  new_files = new_files;
+                  answers_so = subst answered_so is met;
+                });
+              };
         });
     next = settled;
   }
@@ -161,10 +202,19 @@ module _ {C : Type 0} (standing : Standing C) (awaited : C → Option Ask) (numb
         sides = ap (λ (c : Calls). c.connected) on ∙ (w.sides ∙ ap (λ s. s.items) (sym sides));
         dial = ap (λ (c : Calls). dial_from c.dial given) on
             ∙ (ap (λ d. dial_from d given) was ∙ ((asks_one conv (awaited after.conversation) None given named one).dials ∙ dial_now (awaited after.conversation)));
+        turn = let T : Option Ask → Type 0 = λ h. AsksInTurn h given (hook_of (awaited after.conversation)) in
+            subst T (sym (hook_answered conv trace ask reply)) (one_turn conv (awaited after.conversation) given named one);
       }
 
   no_dial_of : (awaits : Option Ask) (ask : Ask) (flow : ℕ) (hook : Hook) → awaits ≡ Some ask → ask ≡ asks.Hook flow hook → dial_of awaits ≡ None
   no_dial_of awaits ask flow hook is hooked = ap dial_of (is ∙ ap Some hooked)
+
+  -- nor does a hook wait where a reply led on
+  drafted_replied : (due : Due) (conv : ℕ) (held : Held C) (trace : Trace) (given : List Command) (question : Option Question) → AllNamed conv given →
+      question ≡ asked_from None given → flat_map asks_in given ≡ option_to_list (awaited held.conversation) → IsDraftedBut awaited answers due conv held trace question
+  drafted_replied due conv held trace given None named is one = λ flow hook waits.
+      absurd ((asks_one conv (awaited held.conversation) None given named one).no_question (sym is) flow hook waits)
+  drafted_replied due conv held trace given (Some question) named is one = tt
 
   -- a reply
   pub reply_works : (conv moment : ℕ) (question : Question) (reply : Reply) (before after : Held C) (open_now : Option Question) (out new_out : List Step)
@@ -198,7 +248,8 @@ module _ {C : Type 0} (standing : Standing C) (awaited : C → Option Ask) (numb
             let now : (calls conv (trace ++ answered ∷ [])).moment ≡ moment =
             ap (λ (c : Calls). c.moment) (calls_more conv trace answered ∙ answered_calls conv (calls conv trace) ask reply) ∙ at.now in
             let served = served_step answers due conv trace answered refl at.served
-            (within_due answers due standing awaited number made_due gave conv after (trace ++ answered ∷ []) r.given w) (ends_met answers due conv trace ask reply here) in
+            (within_due answers due standing awaited number made_due gave conv after (trace ++ answered ∷ []) r.given w) (ends_met answers due conv trace ask reply here)
+            (at.within.turn ∙ (ap hook_of (next_before.0 ∙ ap Some next_before.1) ∙ ap Some (sym next_before.1))) in
             let told = told_all answers due standing awaited number made_due gave conv moment after r.given (trace ++ answered ∷ []) w now served r.named in
             let P : Trace → Type 0 = WorkedTo standing awaited number made_due answers due conv moment after open_now in
             subst P (append_assoc trace (answered ∷ []) (map (step_of conv) r.given)) (record {
@@ -207,6 +258,7 @@ module _ {C : Type 0} (standing : Standing C) (awaited : C → Option Ask) (numb
               served = told.served;
               last = about_last due conv after (trace ++ answered ∷ []) ((trace ++ answered ∷ []) ++ map (step_of conv) r.given) r.given (awaited after.conversation) open_now w
                   (same_due due conv r.given (trace ++ answered ∷ [])) next.1;
+              drafted = drafted_replied due conv after ((trace ++ answered ∷ []) ++ map (step_of conv) r.given) r.given open_now r.named r.asked r.asks_one;
             });
         next = next.0;
       }
@@ -220,10 +272,10 @@ module _ {C : Type 0} (standing : Standing C) (awaited : C → Option Ask) (numb
     more = works.more ++ asks.more;
     grown = asks.grown ∙ (ap (λ l. l ++ asks.more) works.grown ∙ append_assoc out works.more asks.more);
     own = own_append conv works.more asks.more works.own asks.own;
-    works = λ due trace w now served.
+    works = λ due trace w now served kept.
         let P : Trace → Type 0 = WorkedTo standing awaited number made_due answers due conv moment after open_now in
         let Q : Option Question → Type 0 = λ q. WorkedTo standing awaited number made_due answers due conv moment before q (trace ++ works.more) in
-        subst P (append_assoc trace works.more asks.more) (asks.works due (trace ++ works.more) (subst Q is (works.works due trace w now served)));
+        subst P (append_assoc trace works.more asks.more) (asks.works due (trace ++ works.more) (subst Q is (works.works due trace w now served kept)));
     next = asks.next;
   }
 

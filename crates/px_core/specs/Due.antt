@@ -13,8 +13,10 @@ use Rattle.px_event.specs.Layer.{Move}
 use Rattle.px_event.specs.Trace.{Trace, Always, BeforeEachHeard}
 use Rattle.px_event.specs.View.{View, Atom, about, flows, IsTold, seen_of, seen_in}
 use Rattle.px_core.specs.declared.answerer.Answer.TheVariants as answer
+use Rattle.px_core.specs.declared.answerer.Draft.{Draft}
 use Rattle.px_core.specs.Answers.{Answering, FilesMeaning}
 use Rattle.px_core.specs.Calls.{Calls, calls}
+use Rattle.px_core.specs.Hooks.{open_hook, EndsInTurn}
 
 -- what is due in the conversation of each number, by where its client is and by its calls
 abbrev pub Due : Type 0
@@ -59,9 +61,30 @@ abbrev pub EndsMet : {S : Type 0} → Answering S → Due → Trace → Type 0
 EndsMet answers due trace = (front : Trace) (conv : ℕ) (ask : Ask) (reply : Reply) →
     trace ≡ front ++ steps.Answered conv ask reply ∷ [] → IsMet answers due front conv ask reply
 
+-- A hook that is not answered in this trace waits: with this draft the answerer may let it wait, about the flow with which it
+-- was asked last.
+pub record Waits {S : Type 0} (answers : Answering S) (due : Due) (trace : Trace) (conv : ℕ) (ask : Ask) (draft : Draft) : Type 0 where
+  pub hook : Hook
+  pub flow : Flow
+  pub asked : ask ≡ asks.Hook flow.id.index hook
+  pub earlier : List Atom
+  pub last : due_in due flows conv trace ≡ earlier ++ about ask flow ∷ []
+  pub old : S
+  pub old_files : FilesMeaning
+  pub new : S
+  pub new_files : FilesMeaning
+  pub answers_so : answers hook flow old old_files new new_files (answer.Wait draft)
+
+-- each hook that is open waits
+abbrev pub OpenOnesWait : {S : Type 0} → Answering S → Due → Trace → Type 0
+OpenOnesWait answers due trace = (conv : ℕ) (ask : Ask) → open_hook conv trace ≡ Some ask → (draft : Draft) × Waits answers due trace conv ask draft
+
 -- At every moment what the trace has begins what is due, and directly before each thing heard it has all of it; each answer
--- is one that the answerer may give.
+-- is one that the answerer may give. At every moment a hook is asked only where none is open in its conversation, and an
+-- answer is to the hook that is open; directly before each thing heard none is open but those that the answerer lets wait.
 pub record IsServed {S : Type 0} (answers : Answering S) (due : Due) (trace : Trace) : Type 0 where
   pub within : Always (IsWithinDue due) trace
   pub told : BeforeEachHeard (IsAllTold due) trace
   pub met : Always (EndsMet answers due) trace
+  pub turns : Always EndsInTurn trace
+  pub waits : BeforeEachHeard (OpenOnesWait answers due) trace

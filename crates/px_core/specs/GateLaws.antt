@@ -1,13 +1,13 @@
 -- What a gate before a layer whose due is a chain owes: it is a function of the gate's calls that only grows, and ends
 -- where the layer ends.
-use Rattle.std.proofs.Common.{◌≡◌, ◌+◌, Bool, true, List, [], ◌∷◌, ◌++◌, length, Option, ap, sym, ◌∙◌, subst}
+use Rattle.std.proofs.Common.{◌≡◌, ◌+◌, Bool, true, List, [], ◌∷◌, ◌++◌, length, Option, Some, None, refl, ap, sym, ◌∙◌, subst}
 use Rattle.std.proofs.lemmas.List.{append-nil}
 use Rattle.px_text.specs.Prefix.{IsPrefixOf}
 use Rattle.px_event.specs.declared.ask.Ask.{Ask}
 use Rattle.px_event.specs.declared.event.Event.{Event}
 use Rattle.px_event.specs.declared.reply.Reply.{Reply}
 use Rattle.px_event.specs.declared.command.Command.{Command}
-use Rattle.px_event.specs.Chain.{Stamped, Timed, never, Chain, Ends, due}
+use Rattle.px_event.specs.Chain.{Stamped, Timed, never, Chain, Asks, Ends, due}
 use Rattle.px_event.specs.Laws.{Settles, SoFarGrows}
 use Rattle.px_event.specs.Layer.{Move, Took, Replied, Standing}
 use Rattle.px_event.specs.Stands.{events_in, replies_in, stop_of, due_by, StandsAt, AwaitsWhatItAsks, EndsWhereItEnds}
@@ -79,3 +79,18 @@ module _ {S : Type 0} (chain : Chain S Event Reply Command) (law : Settles chain
         ap (λ l. seen_of view l)
         (ap (λ es. due chain start es (replies_in 1 (calls ++ more))) (events_in-append 1 calls more)
         ∙ (ap (λ rs. due chain start (events_in 1 calls ++ events) rs) (replies_in-append 1 calls more) ∙ same))
+
+    -- where its layer has ended it awaits nothing
+    pub calls_rest : (ended : M → Bool) → EndsWhereItEnds chain is_at ended → (first gate : Gate M) (calls : List Move) (given : List Command) →
+        first.layer ≡ made → GateStands standing awaited first gate calls given → ended gate.layer ≡ true → awaited gate.layer ≡ None
+    calls_rest ended ends first gate calls given is stands over =
+        let Q : M → Type 0 = λ m. standing m gate.layer stands.moves given in
+        let place = (stands_at gate.layer stands.moves given (subst Q is stands.stands)).place in
+        rests (awaited gate.layer) (stop_of chain start stands.moves).stage (stop_of chain start stands.moves).front refl place
+      where
+        rests : (awaits : Option Ask) (stage : S) (front : List (Timed Event)) → awaited gate.layer ≡ awaits → is_at gate.layer stage front → awaits ≡ None
+        rests None stage front same place = refl
+        rests (Some ask) stage front same place =
+            let asked = ties.asks gate.layer stage front ask place same in
+            let end = ends.ends gate.layer stage front place over in
+            absurd (let no : Asks asked.0 ≡ Ends end.0 = sym asked.1 ∙ end.1 in cc)

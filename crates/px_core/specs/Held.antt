@@ -16,6 +16,7 @@ use Rattle.px_event.specs.declared.heard.Heard.{Heard}
 use Rattle.px_event.specs.Layer.{Move, Replied, Standing, Goes, IsNews, asks_in}
 use Rattle.px_event.specs.Trace.{Trace}
 use Rattle.px_event.specs.View.{View, Atom, about, flows, IsTold, seen_of, seen_in}
+use Rattle.px_core.specs.declared.answerer.Draft.{Draft}
 use Rattle.px_core.specs.declared.held.Held.{Held}
 use Rattle.px_core.specs.declared.held.Question.{Question}
 use Rattle.px_core.specs.Answers.{Answering}
@@ -23,7 +24,8 @@ use Rattle.px_core.specs.declared.news.News.{News}
 use Rattle.px_core.specs.declared.news.News.TheVariants as news
 use Rattle.px_core.specs.Calls.{calls, calls_of, addressed}
 use Rattle.px_core.specs.Conversation.{AllNamed}
-use Rattle.px_core.specs.Due.{Due, due_in, IsServed}
+use Rattle.px_core.specs.Due.{Due, due_in, Waits, IsServed}
+use Rattle.px_core.specs.Hooks.{open_hook, hook_of, AsksInTurn}
 
 -- the step by which a command is carried out
 abbrev pub step_of : ℕ → Command → Step
@@ -99,6 +101,26 @@ IsAbout due conv trace None = Unit {0}
 IsAbout due conv trace (Some question) =
     (earlier : List Atom) × (due_in due flows conv trace ≡ earlier ++ about question.ask question.flow ∷ [])
 
+-- the draft that is kept of a hook that waits is the one that the answerer gave
+pub record IsKept {S : Type 0} (answers : Answering S) (due : Due) (trace : Trace) (conv : ℕ) (ask : Ask) (kept : Option Draft) : Type 0 where
+  pub draft : Draft
+  pub is : kept ≡ Some draft
+  pub waits : Waits answers due trace conv ask draft
+
+-- of a hook that is awaited the answerer's draft is kept
+abbrev pub IsDrafted : {C S : Type 0} → (C → Option Ask) → Answering S → Due → ℕ → Held C → Trace → Type 0
+IsDrafted awaited answers due conv held trace =
+    (flow : ℕ) (hook : Hook) → awaited held.conversation ≡ Some (asks.Hook flow hook) → IsKept answers due trace conv (asks.Hook flow hook) held.draft
+
+-- so it is where no question is to be answered
+abbrev pub IsDraftedBut : {C S : Type 0} → (C → Option Ask) → Answering S → Due → ℕ → Held C → Trace → Option Question → Type 0
+IsDraftedBut awaited answers due conv held trace None = IsDrafted awaited answers due conv held trace
+IsDraftedBut awaited answers due conv held trace (Some question) = Unit {0}
+
+-- so it is where these commands ask nothing
+abbrev pub IsDraftedBehind : {C S : Type 0} → (C → Option Ask) → Answering S → Due → ℕ → Held C → Trace → List Command → Type 0
+IsDraftedBehind awaited answers due conv held trace rest = flat_map asks_in rest ≡ [] → IsDrafted awaited answers due conv held trace
+
 -- how often the loop that answers can still turn
 abbrev pub turns_left : ℕ → Option Question → ℕ
 turns_left left None = left
@@ -116,13 +138,15 @@ pub record Replies {C : Type 0} (standing : Standing C) (awaited : C → Option 
   pub same_sides : after.connected ≡ before.connected
   pub same_draft : after.draft ≡ before.draft
 
--- A call gave these commands; with what was dialled before, they dial what is awaited.
+-- A call gave these commands; with what was dialled before, they dial what is awaited, and with the hook that was awaited
+-- before, they ask the one that is.
 pub record Gives {C : Type 0} (standing : Standing C) (awaited : C → Option Ask) (move : Move) (dial : Option ℕ) (before after : C) (given : List Command) : Type 0 where
   pub goes : Goes standing before after move [] given
   pub dials : dial_from dial given ≡ dial_of (awaited after)
+  pub turn : AsksInTurn (hook_of (awaited before)) given (hook_of (awaited after))
 
 -- The trace goes on by one call of the conversation, whose client is there, at this moment; then this dial awaits its end,
--- and these sides are connected. No view has more of it.
+-- and these sides are connected. No view has more of it, and no hook is asked or answered.
 pub record IsOneOn (conv : ℕ) (peer : Address) (moment : ℕ) (move : Move) (dial : Option ℕ) (sides : List ℕ) (trace next : Trace) : Type 0 where
   pub moves : calls_of conv next ≡ calls_of conv trace ++ move ∷ []
   pub begun : (calls conv next).peer ≡ Some peer
@@ -130,6 +154,7 @@ pub record IsOneOn (conv : ℕ) (peer : Address) (moment : ℕ) (move : Move) (d
   pub connected : (calls conv next).connected ≡ sides
   pub now : (calls conv next).moment ≡ moment
   pub sees : (view : View) → IsTold view → seen_in view conv next ≡ seen_in view conv trace
+  pub hook : open_hook conv next ≡ open_hook conv trace
 
 -- the news is no answer
 abbrev pub IsHeardNews : News → Type 0
@@ -150,14 +175,18 @@ module _ {C : Type 0} (standing : Standing C) (awaited : C → Option Ask) (numb
     pub begun : (calls conv trace).peer ≡ Some peer
     pub sides : (calls conv trace).connected ≡ held.connected.items
     pub dial : dial_from (calls conv trace).dial rest ≡ dial_of (awaited held.conversation)
+    pub turn : AsksInTurn (open_hook conv trace) rest (hook_of (awaited held.conversation))
 
-  -- The conversation, whose client is there, stands for its calls in the trace, and gave what the trace has of it.
+  -- The conversation, whose client is there, stands for its calls in the trace, and gave what the trace has of it. The hook
+  -- that it awaits is open, and only one that has begun awaits one.
   pub record Stood (due : Due) (conv : ℕ) (peer : Address) (state : C) (trace : Trace) : Type 0 where
     pub made : C
     pub earlier : List Command
     pub stands : standing made state (calls_of conv trace) (earlier ++ [])
     pub owes : (moves : List Move) → made_due made moves ≡ due conv peer moves
     pub tells : (view : View) → IsTold view → seen_of view earlier ≡ seen_in view conv trace
+    pub hook : open_hook conv trace ≡ hook_of (awaited state)
+    pub there : (ask : Ask) → hook_of (awaited state) ≡ Some ask → (calls conv trace).peer ≡ Some peer
 
   module _ {S : Type 0} (answers : Answering S) where
     -- where a conversation is worked off to, with this question open
@@ -166,6 +195,7 @@ module _ {C : Type 0} (standing : Standing C) (awaited : C → Option Ask) (numb
       pub now : (calls conv trace).moment ≡ moment
       pub served : IsServed answers due trace
       pub last : IsAbout due conv trace question
+      pub drafted : IsDraftedBut awaited answers due conv held trace question
 
     -- Answering its open hook, or letting it wait, does so too.
     pub record Asks (conv moment : ℕ) (question : Question) (before after : Held C) (open_now : Option Question) (out new_out : List Step) : Type 0 where
@@ -182,7 +212,7 @@ module _ {C : Type 0} (standing : Standing C) (awaited : C → Option Ask) (numb
       pub grown : new_out ≡ out ++ more
       pub own : AllOf conv more
       pub works : (due : Due) (trace : Trace) → Within due conv before trace rest → (calls conv trace).moment ≡ moment → IsServed answers due trace →
-          WorkedTo due conv moment after question (trace ++ more)
+          IsDraftedBehind awaited answers due conv before trace rest → WorkedTo due conv moment after question (trace ++ more)
       pub next : IsNext awaited after question
 
     -- A call that was taken and worked off adds steps of the conversation's; wherever it stood in a trace that goes on by
@@ -191,8 +221,9 @@ module _ {C : Type 0} (standing : Standing C) (awaited : C → Option Ask) (numb
       pub more : List Step
       pub grown : new_out ≡ out ++ more
       pub own : AllOf conv more
-      pub takes : (due : Due) (peer : Address) (trace next : Trace) → Stood due conv peer before.conversation trace → IsOneOn conv peer moment move dial sides trace next → IsServed answers due next →
-          Within due conv after (next ++ more) [] × IsServed answers due (next ++ more)
+      pub takes : (due : Due) (peer : Address) (trace next : Trace) → Stood due conv peer before.conversation trace → IsDrafted awaited answers due conv before trace →
+          IsOneOn conv peer moment move dial sides trace next → IsServed answers due next →
+          Within due conv after (next ++ more) [] × IsServed answers due (next ++ more) × IsDrafted awaited answers due conv after (next ++ more)
       pub settled : IsSettled awaited after
 
     -- News that a conversation took add steps of its own; wherever it stood in a trace, it stands in that trace with what
@@ -202,7 +233,8 @@ module _ {C : Type 0} (standing : Standing C) (awaited : C → Option Ask) (numb
       pub grown : new_out ≡ out ++ more
       pub own : AllOf conv more
       pub hears : (due : Due) (trace : Trace) (heard : Heard) → addressed heard ≡ Some (conv, what) →
-          Within due conv before trace [] → IsServed answers due (trace ++ steps.Heard moment heard ∷ []) →
+          Within due conv before trace [] → IsDrafted awaited answers due conv before trace → IsServed answers due (trace ++ steps.Heard moment heard ∷ []) →
           Within due conv after ((trace ++ steps.Heard moment heard ∷ []) ++ more) []
           × IsServed answers due ((trace ++ steps.Heard moment heard ∷ []) ++ more)
+          × IsDrafted awaited answers due conv after ((trace ++ steps.Heard moment heard ∷ []) ++ more)
       pub settled : IsSettled awaited after

@@ -4,6 +4,7 @@ pub mod Conversation
 pub mod Due
 pub mod GateLaws
 pub mod Held
+pub mod Hooks
 pub mod Leaving
 pub mod Named
 pub mod Ordered

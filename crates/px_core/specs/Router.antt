@@ -22,7 +22,8 @@ use Rattle.px_core.specs.declared.table.Table.{Table}
 use Rattle.px_core.specs.Answers.{Answering}
 use Rattle.px_core.specs.Calls.{calls, calls_of, addressed}
 use Rattle.px_core.specs.Due.{Due, due_in, IsServed}
-use Rattle.px_core.specs.Held.{AllOf, IsSettled, Within, Hears}
+use Rattle.px_core.specs.Held.{AllOf, IsSettled, IsDrafted, Within, Hears}
+use Rattle.px_core.specs.Hooks.{open_hook}
 
 -- what a router has under a number: nothing was admitted, the conversation has ended, or it is live. A number whose
 -- conversation is nowhere is lost; no router has one.
@@ -63,27 +64,17 @@ pub record IsUnknown (conv : ℕ) (trace : Trace) : Type 0 where
   pub connected : (calls conv trace).connected ≡ []
   pub moves : calls_of conv trace ≡ []
   pub sees : (view : View) → IsTold view → seen_in view conv trace ≡ []
+  pub hook : open_hook conv trace ≡ None
 
--- It has ended: the trace has what is due, and no call changes that.
+-- It has ended: the trace has what is due, no call changes that, and no hook is open.
 pub record IsOver (due : Due) (conv : ℕ) (trace : Trace) : Type 0 where
   pub peer : Address
   pub begun : (calls conv trace).peer ≡ Some peer
   pub told : (view : View) → IsTold view → seen_in view conv trace ≡ due_in due view conv trace
   pub stays : (view : View) (more : List Move) → seen_of view (due conv peer (calls_of conv trace ++ more)) ≡ due_in due view conv trace
+  pub hook : open_hook conv trace ≡ None
 
 module _ {C : Type 0} (standing : Standing C) (awaited : C → Option Ask) (number : C → ℕ) (made_due : C → List Move → List Command) where
-  -- It is live: it stands for its calls, gave what the trace has, and a hook that it awaits waits with its draft.
-  pub record IsLive (due : Due) (conv : ℕ) (held : Held C) (trace : Trace) : Type 0 where
-    pub within : Within standing awaited number made_due due conv held trace []
-    pub settled : IsSettled awaited held
-
-  -- what is under a number stands for the trace
-  abbrev pub StandsIn : Due → ℕ → Trace → Found (Held C) → Type 0
-  StandsIn due conv trace unknown = IsUnknown conv trace
-  StandsIn due conv trace over = IsOver due conv trace
-  StandsIn due conv trace lost = ⊥
-  StandsIn due conv trace (live held) = IsLive due conv held trace
-
   -- under this key the table has the conversation of this number
   pub record IsAtKey (conv key : ℕ) (table : Table C) : Type 0 where
     pub held : Held C
@@ -93,6 +84,19 @@ module _ {C : Type 0} (standing : Standing C) (awaited : C → Option Ask) (numb
     pub settled : IsSettled awaited held
 
   module _ {S : Type 0} (answers : Answering S) where
+    -- It is live: it stands for its calls, gave what the trace has, and of a hook that it awaits the answerer's draft is kept.
+    pub record IsLive (due : Due) (conv : ℕ) (held : Held C) (trace : Trace) : Type 0 where
+      pub within : Within standing awaited number made_due due conv held trace []
+      pub settled : IsSettled awaited held
+      pub drafted : IsDrafted awaited answers due conv held trace
+
+    -- what is under a number stands for the trace
+    abbrev pub StandsIn : Due → ℕ → Trace → Found (Held C) → Type 0
+    StandsIn due conv trace unknown = IsUnknown conv trace
+    StandsIn due conv trace over = IsOver due conv trace
+    StandsIn due conv trace lost = ⊥
+    StandsIn due conv trace (live held) = IsLive due conv held trace
+
     -- At a step's end: under each number the table has what the trace says, and the trace is served.
     pub record TableStands (due : Due) (table : Table C) (trace : Trace) : Type 0 where
       pub at : (conv : ℕ) → StandsIn due conv trace (found table conv)

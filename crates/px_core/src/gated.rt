@@ -54,7 +54,7 @@ impl<L: Numbered> Conversation for Gate<L> {
 impl<L: Numbered> Owes for Gate<L> {
     ghost use Rattle.std.specs.Prelude.{refl};
     ghost use Rattle.px_event.specs.Stands.{due_by};
-    ghost use Rattle.px_core.specs.GateLaws.{calls_gave, calls_grow, calls_over};
+    ghost use Rattle.px_core.specs.GateLaws.{calls_gave, calls_grow, calls_over, calls_rest};
 
     ghost due = { λ made moves. due_by (L.chain made.layer) (L.start made.layer) moves };
 
@@ -65,6 +65,9 @@ impl<L: Numbered> Owes for Gate<L> {
 
     ghost over = { λ made state moves given stands ended more view.
         calls_over (L.chain made.layer) (L.settles made.layer) (L.start made.layer) (L.is_at made.layer) L.awaited (L.asks made.layer) L.stands made.layer (L.stands_at made.layer) L.ended (L.ends made.layer) made state moves given refl stands ended more view };
+
+    ghost rests = { λ made state moves given stands ended.
+        calls_rest (L.chain made.layer) (L.settles made.layer) (L.start made.layer) (L.is_at made.layer) L.awaited (L.asks made.layer) L.stands made.layer (L.stands_at made.layer) L.ended (L.ends made.layer) made state moves given refl stands ended };
 }
 
 /// Takes an event that is no answer.

@@ -3,7 +3,8 @@
 //! What is due in a conversation is a function of its calls, and its calls are a function of the trace
 //! (`specs/Calls.antt`). So the promise on a trace names no program: at every moment, in each conversation and each view,
 //! the trace has a beginning of what is due by the calls so far; directly before each thing heard it has all of it; and
-//! each answer to a hook is one that the answerer may give about the flow with which the hook was asked
+//! each answer to a hook is one that the answerer may give about the flow with which the hook was asked; and hooks are
+//! answered once and in order (`specs/Hooks.antt`): at each step's end none is open but those that the answerer lets wait
 //! (`specs/Due.antt`, `IsServed`). `work_off` keeps it in every exit, for any conversation whose due only grows (`Owes`).
 #![tactic(auto)]
 

@@ -1,8 +1,8 @@
 //! What is due of a conversation, as a function of how it was made and of its calls.
 //!
-//! Three laws carry every theorem on runs: in each view a state gave what is due by its calls; one call more takes nothing
-//! back; and where a state has ended, no call changes what is due.
-ghost use Rattle.std.specs.Prelude.{◌≡◌, true, List, [], ◌∷◌, ◌++◌};
+//! Four laws carry every theorem on runs: in each view a state gave what is due by its calls; one call more takes nothing
+//! back; and where a state has ended, no call changes what is due, and it awaits nothing.
+ghost use Rattle.std.specs.Prelude.{◌≡◌, true, List, [], ◌∷◌, ◌++◌, None};
 ghost use Rattle.px_text.specs.Prefix.{IsPrefixOf};
 ghost use Rattle.px_event.specs.Layer.{Move};
 ghost use Rattle.px_event.specs.View.{View, seen_of};
@@ -26,4 +26,8 @@ pub trait Owes: Conversation {
     /// Where a state has ended no call changes what is due.
     ghost over: { (made state : Self) (moves : List Move) (given : List GivenCommand) → Self.stands made state moves given → Self.ended state ≡ true →
         (more : List Move) (view : View) → seen_of view (due made (moves ++ more)) ≡ seen_of view (due made moves) };
+
+    /// Where a state has ended it awaits nothing.
+    ghost rests: { (made state : Self) (moves : List Move) (given : List GivenCommand) → Self.stands made state moves given → Self.ended state ≡ true →
+        Self.awaited state ≡ None };
 }

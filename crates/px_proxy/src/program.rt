@@ -1,12 +1,13 @@
 //! The program with lines over a wire as its network.
 ghost use Rattle.std.specs.Prelude.{◌≡◌, ◌≢◌, ◌⊎◌, ◌+◌, ◌++◌, ◌≤◌, ℕ, List, [], Option, Some, None, codes, map, true, false};
 ghost use Rattle.std.specs.String.{string_bytes};
-ghost use Rattle.px_event.specs.Trace.{Trace, Always};
+ghost use Rattle.px_event.specs.Trace.{Trace, Always, BeforeEachHeard};
 ghost use Rattle.px_message.specs.declared.address.Address.{Address as Place};
 ghost use Rattle.px_outside.specs.Count.{Rose};
 ghost use Rattle.px_outside.specs.Net.{idle};
 ghost use Rattle.px_outside.specs.Sink.{Writes, WritesPart};
 ghost use Rattle.px_core.specs.Due.{IsServed, IsAllTold};
+ghost use Rattle.px_core.specs.Hooks.{EndsInTurn, IsAllAnswered};
 ghost use Rattle.px_core.specs.Ordered.{IsInOrder};
 ghost use Rattle.px_http.specs.Fixed.{fixed_due};
 ghost use Rattle.px_app.specs.Files.{IsUntouched};
@@ -49,6 +50,12 @@ pub fn run<W: Wire, F: Files, S: Sink>(
     ensures served { (address : Place) (trace : Trace) → W.steps lines.old.wire ≡ Some [] → W.steps lines.new.wire ≡ Some trace → served_at (map string_bytes words.now) ≡ Some (address.host, address.port) → IsServed goes_on (fixed_due address) trace }
     ensures whole { (address : Place) (trace : Trace) → W.steps lines.old.wire ≡ Some [] → W.steps lines.new.wire ≡ Some trace → served_at (map string_bytes words.now) ≡ Some (address.host, address.port) → result ≢ 8 → IsAllTold (fixed_due address) trace }
     ensures answered { (address : Place) (trace : Trace) → W.steps lines.old.wire ≡ Some [] → W.steps lines.new.wire ≡ Some trace → served_at (map string_bytes words.now) ≡ Some (address.host, address.port) → Always (EndsGoing (fixed_due address)) trace }
+
+    // At every moment a hook is asked only where none is open in its conversation, and an answer is to the hook that is open.
+    // Before each thing heard no hook is open, and but for want of memory none at the end.
+    ensures turns { (address : Place) (trace : Trace) → W.steps lines.old.wire ≡ Some [] → W.steps lines.new.wire ≡ Some trace → served_at (map string_bytes words.now) ≡ Some (address.host, address.port) → Always EndsInTurn trace }
+    ensures hooks { (address : Place) (trace : Trace) → W.steps lines.old.wire ≡ Some [] → W.steps lines.new.wire ≡ Some trace → served_at (map string_bytes words.now) ≡ Some (address.host, address.port) → BeforeEachHeard IsAllAnswered trace }
+    ensures hooks_whole { (address : Place) (trace : Trace) → W.steps lines.old.wire ≡ Some [] → W.steps lines.new.wire ≡ Some trace → served_at (map string_bytes words.now) ≡ Some (address.host, address.port) → result ≢ 8 → IsAllAnswered trace }
 
     // The n-th dial of each conversation names its server n.
     ensures servers { (address : Place) (trace : Trace) → W.steps lines.old.wire ≡ Some [] → W.steps lines.new.wire ≡ Some trace → served_at (map string_bytes words.now) ≡ Some (address.host, address.port) → Always CountsServers trace }

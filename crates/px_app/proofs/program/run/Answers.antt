@@ -8,7 +8,7 @@ use Rattle.px_app.specs.Printed.{Has}
 use Rattle.px_app.specs.declared.printing.Printing.{Printing}
 use Rattle.px_app.proofs.CodeLemmas.{code_by, one_says, five_says, six_says, seven_says, ended_either, ended_gives, usage_gives, spent_gives, memory_gives, other_says, all_codes, complete_by, not_eight, ended_or}
 use Rattle.px_app.proofs.EndLemmas.{rose_later, printed_part, printed_whole, printed_line, writes_none}
-use Rattle.px_app.proofs.GoingLemmas.{answered_going}
+use Rattle.px_app.proofs.GoingLemmas.{answered_going, none_waits, none_waits_within}
 use Rattle.px_app.proofs.HttpServers.{fixed_counts}
 use Rattle.px_app.proofs.OwnLemmas.{isolated}
 use Rattle.px_app.proofs.RunLemmas.{told_trace, listens_where_heard}
@@ -27,6 +27,19 @@ returns-clause-whole g c = λ address trace empty tells wants other.
 pub returns-clause-answered : goal.returns-clause-answered
 returns-clause-answered g c = λ address trace empty tells wants.
     answered_going (fixed_due address) trace (told_trace _ _ trace (c.serve_words-ending.ensures.run address wants empty) tells).served
+
+pub returns-clause-turns : goal.returns-clause-turns
+returns-clause-turns g c = λ address trace empty tells wants. (told_trace _ _ trace (c.serve_words-ending.ensures.run address wants empty) tells).served.turns
+
+pub returns-clause-hooks : goal.returns-clause-hooks
+returns-clause-hooks g c = λ address trace empty tells wants.
+    none_waits_within (fixed_due address) trace (told_trace _ _ trace (c.serve_words-ending.ensures.run address wants empty) tells).served
+
+pub returns-clause-hooks_whole : goal.returns-clause-hooks_whole
+returns-clause-hooks_whole g c = λ address trace empty tells wants other.
+    none_waits (fixed_due address) trace ((told_trace _ _ trace (c.serve_words-ending.ensures.run address wants empty) tells).waits
+    (other_says c.serve_words-ending.result.printing c.serve_words-ending.result.status c.code.result
+    (code_by c.serve_words-ending.result.printing c.serve_words-ending.result.status c.end.result c.code.result c.end.ensures.status c.code.ensures.code) other))
 
 pub returns-clause-servers : goal.returns-clause-servers
 returns-clause-servers g c = λ address trace empty tells wants.

@@ -8,7 +8,7 @@ use Rattle.px_core.proofs.held.Held.ask.Goals as goal
 pub returns-in-Wait-clause-asks : goal.returns-in-Wait-clause-asks
 returns-in-Wait-clause-asks g c =
     wait_works g.C.Conversation.stands g.C.Conversation.awaited g.C.Conversation.number g.C.Owes.due g.met.C.Owes.gave g.A.Answerer.answers
-    c.args.call.conv c.args.call.moment c.args.question c.args.self.now _ c.args.steps.now.items _ refl refl refl (λ flow hook is. refl)
+    c.args.call.conv c.args.call.moment c.args.question c.in-Wait.draft c.args.self.now _ c.args.steps.now.items _ _ _ _ _ c.requires.next _ c.in_ok-draft.ensures.answers c.in-Wait.is refl refl refl refl (λ flow hook is. refl)
 
 pub returns-in-Reply-clause-asks : goal.returns-in-Reply-clause-asks
 returns-in-Reply-clause-asks g c =

@@ -8,7 +8,7 @@ returns-clause-named g c = named_from_empty _ _ _ _ c.new-commands.ensures.items
 
 pub returns-clause-gives : goal.returns-clause-gives
 returns-clause-gives g c =
-    gives_end g.C.Conversation.stands g.C.Conversation.awaited c.args.call.conv _ c.args.self.now.conversation _ _ (returns-clause-named g c)
+    gives_end g.C.Conversation.stands g.C.Conversation.awaited c.args.call.conv _ c.args.server c.args.self.now.conversation _ _ c.requires.awaited (returns-clause-named g c)
     (goes_moved g.C.Conversation.stands _ _ _ _ _ _ c.end_of_dial-reply.ensures.reply
     (goes_from_empty g.C.Conversation.stands _ _ _ _ _ c.new-commands.ensures.items (c.in_ok-take.ensures.answered _ _ refl c.requires.awaited)))
     (asks_from_empty _ _ _ c.new-commands.ensures.items (c.in_ok-take.ensures.answer_asks _ _ refl c.requires.awaited))
