@@ -1,4 +1,6 @@
 //! A wire of real sockets against sockets of std, on loopback.
+mod lines;
+
 use crate::MioWire;
 use px_event::{Said, Side, Step};
 use px_message::{Address, Host};

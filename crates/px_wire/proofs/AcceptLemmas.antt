@@ -25,7 +25,8 @@ use Rattle.px_wire.proofs.LedgerLemmas.{ledger_more, slots_more, obeys_more, cha
 use Rattle.px_wire.proofs.ChangeLemmas.{added, used_still, stays_used}
 use Rattle.px_wire.proofs.HearLemmas.{reowed}
 use Rattle.px_wire.proofs.PlaceLemmas.{side_self}
-use Rattle.px_wire.proofs.ReadyLemmas.{may_ask, missing_slot, missing_side, neither}
+use Rattle.px_wire.proofs.ReadyLemmas.{may_ask, missing_slot, missing_side}
+use Rattle.px_wire.proofs.ServeLemmas.{neither}
 
 -- a free slot is none of those in use
 pub other_than_free : (slot : ℕ) (slots : List ℕ) (accepted : ℕ) (other : Name) → list_any (λ s. s == slot) slots ≡ false → IsUsed slots accepted other → slot ≢ other.slot

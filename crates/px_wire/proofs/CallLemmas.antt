@@ -10,7 +10,8 @@ use Rattle.px_wire.specs.declared.wire.Got.TheVariants as gots
 use Rattle.px_wire.specs.declared.call.WireCall.{WireCall}
 use Rattle.px_wire.specs.declared.call.WireCall.TheVariants as calls
 use Rattle.px_wire.specs.Calls.{Calls, Tells, put_call, got_call}
-use Rattle.px_wire.specs.Links.{is_done, is_open_to_read, after_put, after_get}
+use Rattle.px_wire.specs.Found.{HasTurn}
+use Rattle.px_wire.specs.Links.{is_done, after_put, after_get}
 use Rattle.px_wire.specs.Ledger.{ledger}
 use Rattle.px_wire.specs.Rules.{MayShut}
 use Rattle.px_wire.specs.Stands.{idle, putting, flushed, ending, Stands, StandsFor, EndsFor, owed_by, name_of, Name}
@@ -99,24 +100,29 @@ shut_one owed front back link accepted moment old now tells ends =
     told_more (λ list. Stands (ending link.slot) owed (front ++ link ∷ back) accepted moment list × MayShut (ledger list) link.slot) (Stands idle owed (front ++ back) accepted moment) (calls.Shut link.slot) old now
     tells ends (λ list s. shut owed front back link accepted moment list s.0 s.1)
 
-module _ (front back : List Link) (link new : Link) (accepted moment : ℕ) (room : List ℕ) (old now : Option Calls) (readable : is_open_to_read (front ++ link ∷ back) link ≡ true) (live : link.is_over ≡ false)
+-- the slots once one of them was read: one that gave bytes goes behind all others
+abbrev pub read_links : List Link → Link → List Link → Got → List Link
+read_links front new back (gots.Gave count) = (front ++ back) ++ new ∷ []
+read_links front new back _ = front ++ new ∷ back
+
+module _ (front back : List Link) (link new : Link) (accepted moment : ℕ) (room : List ℕ) (old now : Option Calls) (turn : HasTurn front link back)
     (stands : StandsFor idle None (front ++ link ∷ back) accepted moment old) where
   -- a slot was read
   pub read_one : (got : Got) → new ≡ after_get link got → Tells (got_call link.slot room got) old now
-      → StandsFor idle (owed_by link.conv link.side room got) (front ++ new ∷ back) accepted moment now
+      → StandsFor idle (owed_by link.conv link.side room got) (read_links front new back got) accepted moment now
   read_one (gots.Gave count) made tells =
-      let Q : Link → Type 0 = λ l. StandsFor idle (Some (heard.Piece link.conv link.side (take count room))) (front ++ l ∷ back) accepted moment now in
-      subst Q (sym made) (told_more (Stands idle None (front ++ link ∷ back) accepted moment) (Stands idle (Some (heard.Piece link.conv link.side (take count room))) (front ++ link ∷ back) accepted moment)
-      (calls.Gave link.slot (take count room)) old now tells stands (λ list s. gave front back link accepted moment list readable live s (take count room)))
+      let Q : Link → Type 0 = λ l. StandsFor idle (Some (heard.Piece link.conv link.side (take count room))) ((front ++ back) ++ l ∷ []) accepted moment now in
+      subst Q (sym made) (told_more (Stands idle None (front ++ link ∷ back) accepted moment) (Stands idle (Some (heard.Piece link.conv link.side (take count room))) ((front ++ back) ++ link ∷ []) accepted moment)
+      (calls.Gave link.slot (take count room)) old now tells stands (λ list s. gave front back link accepted moment list turn s (take count room)))
   read_one gots.Blocked made tells =
       let Q : Link → Type 0 = λ l. StandsFor idle None (front ++ l ∷ back) accepted moment now in
       subst Q (sym made) (told_more (Stands idle None (front ++ link ∷ back) accepted moment) (Stands idle None (front ++ record link { is_readable = false } ∷ back) accepted moment)
-      (calls.GetBlocked link.slot) old now tells stands (λ list s. get_blocked front back link accepted moment list readable live s))
+      (calls.GetBlocked link.slot) old now tells stands (λ list s. get_blocked front back link accepted moment list turn s))
   read_one gots.Ended made tells =
       let Q : Link → Type 0 = λ l. StandsFor idle None (front ++ l ∷ back) accepted moment now in
       subst Q (sym made) (told_more (Stands idle None (front ++ link ∷ back) accepted moment) (Stands idle None (front ++ record link { queue = []; is_over = true } ∷ back) accepted moment)
-      (calls.GetEnded link.slot) old now tells stands (λ list s. get_over front back link accepted moment list readable live s (calls.GetEnded link.slot) (inl refl)))
+      (calls.GetEnded link.slot) old now tells stands (λ list s. get_over front back link accepted moment list turn s (calls.GetEnded link.slot) (inl refl)))
   read_one gots.Broken made tells =
       let Q : Link → Type 0 = λ l. StandsFor idle None (front ++ l ∷ back) accepted moment now in
       subst Q (sym made) (told_more (Stands idle None (front ++ link ∷ back) accepted moment) (Stands idle None (front ++ record link { queue = []; is_over = true } ∷ back) accepted moment)
-      (calls.GetBroke link.slot) old now tells stands (λ list s. get_over front back link accepted moment list readable live s (calls.GetBroke link.slot) (inr refl)))
+      (calls.GetBroke link.slot) old now tells stands (λ list s. get_over front back link accepted moment list turn s (calls.GetBroke link.slot) (inr refl)))

@@ -9,10 +9,10 @@ use Rattle.px_event.specs.declared.heard.Heard.{Heard}
 use Rattle.px_wire.specs.declared.link.Link.{Link}
 use Rattle.px_wire.specs.declared.call.WireCall.{WireCall}
 use Rattle.px_wire.specs.Calls.{Calls, slots_of, slots_after, without_slot}
-use Rattle.px_wire.specs.Ledger.{Life, Ledger, ledger, after, change_first, drop_first, is_life_at, is_life_of, number_end}
+use Rattle.px_wire.specs.Ledger.{Life, Ledger, ledger, after, change_first, move_first, drop_first, is_life_at, is_life_of, number_end}
 use Rattle.px_wire.specs.Rules.{FirstIs, Allowed}
 use Rattle.px_wire.specs.Stands.{Busy, Fits, AllFit, Name, name_of, Apart, ApartFrom, Distinct, IsUsed, AllUsed, Stands}
-use Rattle.px_wire.proofs.LedgerLemmas.{ledger_more, slots_more, obeys_more, change_here, drop_here, first_here}
+use Rattle.px_wire.proofs.LedgerLemmas.{ledger_more, slots_more, obeys_more, change_here, move_here, drop_here, first_here}
 use Rattle.px_wire.proofs.PlaceLemmas.{Split, split, joined, refit, refit_all, Around, around, Misses, misses, own_slot, own_side, distinct_more}
 
 pub names_around : (front back : List Link) (link : Link) → map name_of (front ++ link ∷ back) ≡ map name_of front ++ name_of link ∷ map name_of back
@@ -71,6 +71,19 @@ used_more slot slots accepted accepted' more (other ∷ names) name used last = 
   record { used = used_still slot other.slot slots used.0.used; numbered = λ is. (let below : other.conv < accepted = used.0.numbered is in omega arith) },
   used_more slot slots accepted accepted' more names name used.1 last,
 )
+
+-- what is in use, but for one
+pub used_rest : (slots : List ℕ) (accepted : ℕ) (xs ys : List Name) (name : Name) → AllUsed slots accepted (xs ++ name ∷ ys) → IsUsed slots accepted name × AllUsed slots accepted (xs ++ ys)
+used_rest slots accepted [] ys name used = used
+used_rest slots accepted (x ∷ xs) ys name used = let rest = used_rest slots accepted xs ys name used.1 in (rest.0, (used.0, rest.1))
+
+pub apart_join : (name : Name) (xs ys : List Name) → ApartFrom name xs → ApartFrom name ys → ApartFrom name (xs ++ ys)
+apart_join name [] ys a b = b
+apart_join name (x ∷ xs) ys a b = (a.0, apart_join name xs ys a.1 b)
+
+used_behind : (slots : List ℕ) (accepted : ℕ) (names : List Name) (last : Name) → AllUsed slots accepted names → IsUsed slots accepted last → AllUsed slots accepted (names ++ last ∷ [])
+used_behind slots accepted [] last used is = (is, tt)
+used_behind slots accepted (name ∷ names) last used is = (used.0, used_behind slots accepted names last used.1 is)
 
 -- what a call makes of all but the lives
 pub record Rest (l : Ledger) (call : WireCall) (accepted moment : ℕ) (owed : Option Heard) : Type 0 where
@@ -165,6 +178,43 @@ module _ (busy : Busy) (owed : Option Heard) (front back : List Link) (link : Li
         → Stands busy' owed' (front ++ link' ∷ back) accepted moment' (list ++ call ∷ [])
     changed_side f link' lives change rest slots =
         changed_by (is_life_of link.conv link.side) f link' before_misses.side (own_side link here.life here.fits.conv here.fits.side) lives change rest slots
+
+    -- the slot's life is changed, which stands here, and both go behind all others
+    pub moved : (f : Life → Life) (link' : Link) → (after (ledger list) call).lives ≡ move_first (is_life_at link.slot) f (ledger list).lives
+        → Change busy busy' owed owed' link link' f → Rest (ledger list) call accepted moment' owed' → slots_after (slots_of list) call ≡ slots_of list
+        → Stands busy' owed' ((front ++ back) ++ link' ∷ []) accepted moment' (list ++ call ∷ [])
+    moved f link' lives change rest slots =
+        let now : ledger (list ++ call ∷ []) ≡ after (ledger list) call = ledger_more list call in
+        let lives_are : (ledger (list ++ call ∷ [])).lives ≡ (here.before ++ here.behind) ++ f here.life ∷ [] =
+        ap (λ (l : Ledger). l.lives) now ∙ (lives ∙ (ap (move_first (is_life_at link.slot) f) here.lives_are
+        ∙ move_here (is_life_at link.slot) f here.before here.life here.behind before_misses.slot (own_slot link here.life here.fits.slot))) in
+        let R : Link → Life → Type 0 = Fits busy owed in
+        let R' : Link → Life → Type 0 = Fits busy' owed' in
+        let others : AllFit R' (front ++ back) (here.before ++ here.behind) =
+        joined R' front back here.before here.behind (refit R R' (name_of link) change.others front here.before apart.front here.front_fits)
+        (refit R R' (name_of link) change.others back here.behind apart.back here.back_fits) in
+        let all : AllFit R' ((front ++ back) ++ link' ∷ []) ((here.before ++ here.behind) ++ f here.life ∷ []) =
+        joined R' (front ++ back) (link' ∷ []) (here.before ++ here.behind) (f here.life ∷ []) others (change.fits here.life here.fits, tt) in
+        let some : List Name = map name_of front ++ map name_of back in
+        let names : some ++ name_of link ∷ [] ≡ map name_of ((front ++ back) ++ link' ∷ []) =
+        sym (names_around (front ++ back) [] link' ∙ (ap (λ (ns : List Name). ns ++ name_of link' ∷ []) (names_joined front back) ∙ ap (λ (n : Name). some ++ n ∷ []) change.name)) in
+        let P : List Life → Type 0 = λ ls. AllFit R' ((front ++ back) ++ link' ∷ []) ls in
+        let D : List Name → Type 0 = Distinct in
+        let U : List ℕ → Type 0 = λ ss. AllUsed ss accepted (map name_of ((front ++ back) ++ link' ∷ [])) in
+        let V : List Name → Type 0 = λ ns. AllUsed (slots_of list) accepted ns in
+        let used : IsUsed (slots_of list) accepted (name_of link) × AllUsed (slots_of list) accepted some =
+        used_rest (slots_of list) accepted (map name_of front) (map name_of back) (name_of link) (subst V (names_around front back link) stands.used) in
+        record {
+          fits = subst P (sym lives_are) all;
+          distinct = subst D names (distinct_more (name_of link) some apart.rest (apart_join (name_of link) (map name_of front) (map name_of back) apart.front apart.back));
+          used = subst U (sym (slots_more list call ∙ slots)) (subst V names (used_behind (slots_of list) accepted some (name_of link) used.1 used.0));
+          accepted_is = rest.accepted_is ∙ ap (λ (l : Ledger). l.accepted) (sym now);
+          most = stands.most;
+          moment_is = rest.moment_is ∙ ap (λ (l : Ledger). l.moment) (sym now);
+          owed_is = ap (λ (l : Ledger). l.owed) now ∙ rest.owed_is;
+          refused_is = ap (λ (l : Ledger). l.refused) now ∙ rest.refused_is;
+          obeys = obeys_more list call stands.obeys allowed;
+        }
 
     -- the slot is shut: its first life, which stands here, is dropped
     pub removed : (after (ledger list) call).lives ≡ drop_first (is_life_at link.slot) (ledger list).lives

@@ -1,10 +1,10 @@
 -- Places among the slots.
-use Rattle.std.proofs.Common.{◌≡◌, ◌≢◌, ◌∙◌, ℕ, zero, suc, ◌+◌, ◌<◌, ◌≤◌, Bool, true, false, refl, ap, sym, arith, subst, List, [], ◌∷◌, ◌++◌, ◌==◌, length, get_or, Some, None, position}
+use Rattle.std.proofs.Common.{◌≡◌, ℕ, zero, suc, ◌<◌, Bool, true, false, refl, ap, sym, arith, subst, List, [], ◌∷◌, ◌++◌, ◌==◌, length, get_or, Some, None, position}
 use Rattle.std.specs.Prelude.{slice_set}
 use Rattle.std.specs.List.{list_any, remove}
 use Rattle.std.proofs.lemmas.List.Quantifiers.{position-Some}
 use Rattle.std.proofs.lemmas.List.Folds.{list_any_none}
-use Rattle.std.proofs.lemmas.Bool.{eq-eqb, eqb-true}
+use Rattle.std.proofs.lemmas.Bool.{eqb-true}
 use Rattle.px_outside.proofs.StoredLemmas.{all_fail}
 use Rattle.px_event.specs.Trace.{is_same_side}
 use Rattle.px_event.specs.declared.side.Side.{Side}
@@ -13,7 +13,7 @@ use Rattle.px_wire.specs.Found.{IsAt, Found, Missing, readable_count}
 use Rattle.px_wire.specs.Links.{has_slot, is_link_of, is_over, is_open_to_read}
 use Rattle.px_wire.specs.Stands.{AllCalm}
 use Rattle.px_wire.proofs.PlaceLemmas.{side_same}
-use Rattle.px_wire.proofs.ReadyLemmas.{neither}
+use Rattle.px_wire.proofs.ServeLemmas.{neither}
 
 -- what stands at a place
 pub record Here (links : List Link) (place : ℕ) : Type 0 where
@@ -64,6 +64,14 @@ module _ (links : List Link) (place : ℕ) (front : List Link) (link : Link) (ba
       let Q : ℕ → Type 0 = λ n. remove (front ++ link ∷ back) n ≡ front ++ back in
       subst P (sym at.are) (subst Q at.place_is (remove_around front back link))
 
+-- none of those that were passed
+none_before : (test : Link → Bool) (front back : List Link) (link d : Link) → ((k : ℕ) → k < length front → test (get_or (front ++ link ∷ back) k d) ≡ false) → list_any test front ≡ false
+none_before test [] back link d none = refl
+none_before test (first ∷ front) back link d none =
+    let head : test first ≡ false = none 0 (omega arith) in
+    let rest : list_any test front ≡ false = none_before test front back link d (λ k below. none (suc k) (omega arith)) in
+    rw (head, rest) refl
+
 -- the search found a place
 pub found_by : (test : Link → Bool) (links : List Link) (place : ℕ) → Some place ≡ position test links → Found test links place
 found_by test links place is =
@@ -76,6 +84,8 @@ found_by test links place is =
       back = h.back;
       is_at = h.is_at;
       passes = (let P : Link → Type 0 = λ l. test l ≡ true in subst P (at_is links place h.front h.link h.back h.is_at d) parts.1);
+      before = none_before test h.front h.back h.link d
+          (λ k below. (let P : List Link → Type 0 = λ ls. test (get_or ls k d) ≡ false in let e = h.is_at.place_is in subst P h.is_at.are (parts.2 k (omega arith))));
     }
   where
     default : (links : List Link) (place : ℕ) → Some place ≡ position test links → Link
@@ -101,42 +111,18 @@ below_in test links seen place same is = let P : List Link → Type 0 = λ ls. S
 pub missing_in : (test : Link → Bool) (links seen : List Link) → seen ≡ links → None ≡ position test seen → Missing test links
 missing_in test links seen same is = let P : List Link → Type 0 = λ ls. None ≡ position test ls in missing_by test links (subst P same is)
 
-pub open_in : (links seen : List Link) (place : ℕ) → seen ≡ links → Found (is_open_to_read seen) seen place → Found (is_open_to_read links) links place
-open_in links seen place same found = let P : List Link → Type 0 = λ ls. Found (is_open_to_read ls) ls place in subst P same found
+-- the first that may be read was found, or none may
+pub found_open : (links seen : List Link) (place : ℕ) → seen ≡ links → Some place ≡ position (is_open_to_read seen) seen → Found (is_open_to_read links) links place
+found_open links seen place same is =
+    let P : List Link → Type 0 = λ ls. Some place ≡ position (is_open_to_read ls) ls in found_by (is_open_to_read links) links place (subst P same is)
 
-pub closed_in : (links seen : List Link) → seen ≡ links → Missing (is_open_to_read seen) seen → Missing (is_open_to_read links) links
-closed_in links seen same none = let P : List Link → Type 0 = λ ls. Missing (is_open_to_read ls) ls in subst P same none
+pub below_open : (links seen : List Link) (place : ℕ) → seen ≡ links → Some place ≡ position (is_open_to_read seen) seen → place < length links
+below_open links seen place same is =
+    let P : List Link → Type 0 = λ ls. Some place ≡ position (is_open_to_read ls) ls in found_below (is_open_to_read links) links place (subst P same is)
 
--- a place was looked at, and passes
-pub found_here : (test : Link → Bool) (links : List Link) (place : ℕ) (got : Link) → place < length links → got ≡ get_or links place got → test got ≡ true → Found test links place
-found_here test links place got below is passes =
-    let h = here_at links place below in
-    let P : Link → Type 0 = λ l. test l ≡ true in
-    record { front = h.front; link = h.link; back = h.back; is_at = h.is_at; passes = subst P (is ∙ at_is links place h.front h.link h.back h.is_at got) passes }
-
--- none before the first was looked at, and one more is
-pub none_before : (test : Link → Bool) (start : ℕ) (links : List Link) (i : ℕ) → start ≤ i → i < start → (d : Link) → test (get_or links i d) ≡ false
-none_before test start links i above below d = absurd (omega arith)
-
-pub none_more : (test : Link → Bool) (start place : ℕ) (links : List Link) (got : Link) → got ≡ get_or links place got → test got ≡ false → place < length links
-    → ((i : ℕ) (d : Link) → start ≤ i → i < place → test (get_or links i d) ≡ false) → (i : ℕ) (d : Link) → start ≤ i → i < place + 1 → test (get_or links i d) ≡ false
-none_more test start place links got is fails inside before i d above below = by (i == place) refl
-  where
-    by : (b : Bool) → (i == place) ≡ b → test (get_or links i d) ≡ false
-    by true same =
-        let h = here_at links place inside in
-        let e : get_or links place d ≡ got = at_is links place h.front h.link h.back h.is_at d ∙ sym (is ∙ at_is links place h.front h.link h.back h.is_at got) in
-        let P : ℕ → Type 0 = λ n. test (get_or links n d) ≡ false in
-        subst P (sym (eqb-true i place same)) (ap test e ∙ fails)
-    by false other = before i d above (let differs : i ≢ place = (λ e. (let yes : (i == place) ≡ true = eq-eqb i place e in let wrong : true ≡ false = sym yes ∙ other in cc)) in omega (arith, differs))
-
--- none at all
-pub none_at_all : (test : Link → Bool) (links : List Link) → ((i : ℕ) (d : Link) → 0 ≤ i → i < length links → test (get_or links i d) ≡ false) → Missing test links
-none_at_all test [] none = refl
-none_at_all test (link ∷ links) none =
-    let first : test link ≡ false = none 0 link (omega arith) (omega arith) in
-    let rest : list_any test links ≡ false = none_at_all test links (λ i d above below. none (suc i) d (omega arith) (omega arith)) in
-    rw (first, rest) refl
+pub missing_open : (links seen : List Link) → seen ≡ links → None ≡ position (is_open_to_read seen) seen → Missing (is_open_to_read links) links
+missing_open links seen same is =
+    let P : List Link → Type 0 = λ ls. None ≡ position (is_open_to_read ls) ls in missing_by (is_open_to_read links) links (subst P same is)
 
 -- none is over, and none may be read
 pub calm_of : (all links : List Link) → Missing is_over links → Missing (is_open_to_read all) links → AllCalm all links

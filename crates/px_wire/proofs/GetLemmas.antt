@@ -1,6 +1,6 @@
 -- Reading a slot.
 use Rattle.std.proofs.Common.{◌≡◌, ◌∙◌, ◌⊎◌, inl, inr, ℕ, ◌+◌, Bool, true, false, refl, ap, sym, arith, subst, List, [], ◌∷◌, ◌++◌, length, Option, Some, None}
-use Rattle.std.specs.List.{find}
+use Rattle.std.specs.List.{list_any, find}
 use Rattle.std.proofs.lemmas.List.{append-nil, length-append}
 use Rattle.px_event.specs.declared.heard.Heard.{Heard}
 use Rattle.px_event.specs.declared.heard.Heard.TheVariants as heard
@@ -8,13 +8,15 @@ use Rattle.px_wire.specs.declared.link.Link.{Link}
 use Rattle.px_wire.specs.declared.call.WireCall.{WireCall}
 use Rattle.px_wire.specs.declared.call.WireCall.TheVariants as calls
 use Rattle.px_wire.specs.Calls.{Calls}
+use Rattle.px_wire.specs.Found.{HasTurn}
 use Rattle.px_wire.specs.Links.{is_done, is_held, holds, is_open_to_read}
 use Rattle.px_wire.specs.Ledger.{Life, ledger, is_life_at, is_life_of, piece_of}
-use Rattle.px_wire.specs.Rules.{FirstIs, MayGet, waiting, holds_life, is_life_held}
+use Rattle.px_wire.specs.Rules.{FirstIs, MayGet, MayRead, may_be_read, waiting, holds_life, is_life_held}
 use Rattle.px_wire.specs.Stands.{Busy, idle, Fits, AllFit, name_of, Apart, Stands}
-use Rattle.px_wire.proofs.LedgerLemmas.{find_here}
+use Rattle.px_wire.proofs.LedgerLemmas.{find_here, first_here}
 use Rattle.px_wire.proofs.PlaceLemmas.{own_slot, own_side, other_side}
-use Rattle.px_wire.proofs.ChangeLemmas.{here, before_misses, first_at_slot, changed_slot}
+use Rattle.px_wire.proofs.ChangeLemmas.{here, before_misses, first_at_slot, changed_slot, moved}
+use Rattle.px_wire.proofs.ServeLemmas.{neither, served_each, alive_in}
 
 -- how many bytes wait, by the calls and as they are kept
 waiting_same : (busy : Busy) (owed : Option Heard) (link : Link) (life : Life) → Fits busy owed link life → waiting life ≡ length link.queue
@@ -42,6 +44,24 @@ held_same busy owed link life fits (other ∷ links) (o ∷ lives) all =
     let rest : is_life_held lives life ≡ is_held links link = held_same busy owed link life fits links lives all.1 in
     rw (e, rest) refl
 
+-- which sides may be read, by the calls and as they are kept
+open_same : (busy : Busy) (owed : Option Heard) (link : Link) (life : Life) → Fits busy owed link life → (links : List Link) (lives : List Life) → AllFit (Fits busy owed) links lives
+    → may_be_read lives life ≡ is_open_to_read links link
+open_same busy owed link life fits links lives all =
+    let e : is_life_held lives life ≡ is_held links link = held_same busy owed link life fits links lives all in
+    rw (sym fits.readable, e) refl
+
+none_open : (busy : Busy) (owed : Option Heard) (links : List Link) (lives : List Life) → AllFit (Fits busy owed) links lives → (some : List Link) (others : List Life) → AllFit (Fits busy owed) some others
+    → list_any (is_open_to_read links) some ≡ false → list_any (may_be_read lives) others ≡ false
+none_open busy owed links lives all [] [] fits none = refl
+none_open busy owed links lives all [] (life ∷ others) fits none = absurd fits
+none_open busy owed links lives all (link ∷ some) [] fits none = absurd fits
+none_open busy owed links lives all (link ∷ some) (life ∷ others) fits none =
+    let parts = neither (is_open_to_read links link) (list_any (is_open_to_read links) some) none in
+    let first : may_be_read lives life ≡ false = open_same busy owed link life fits.0 links lives all ∙ parts.0 in
+    let rest : list_any (may_be_read lives) others ≡ false = none_open busy owed links lives all some others fits.1 parts.1 in
+    rw (first, rest) refl
+
 -- what it is that may be read
 pub open_parts : (links : List Link) (link : Link) → is_open_to_read links link ≡ true → (link.is_readable ≡ true) × (is_held links link ≡ false)
 open_parts links link is = by link.is_readable refl (is_held links link) refl
@@ -59,18 +79,34 @@ over_goes_on link = by link.is_closing refl
     by true is = rw is refl
     by false is = rw is refl
 
-module _ (front back : List Link) (link : Link) (accepted moment : ℕ) (list : Calls) (readable : is_open_to_read (front ++ link ∷ back) link ≡ true) (live : link.is_over ≡ false)
+module _ (front back : List Link) (link : Link) (accepted moment : ℕ) (list : Calls) (turn : HasTurn front link back)
     (stands : Stands idle None (front ++ link ∷ back) accepted moment list) where
-  may_get : FirstIs (is_life_at link.slot) (MayGet (ledger list).lives) (ledger list).lives
-  may_get =
-      first_at_slot idle None front back link accepted moment list stands (MayGet (ledger list).lives) (λ life fits. record {
-        alive = sym fits.over ∙ live;
-        readable = sym fits.readable ∙ (open_parts (front ++ link ∷ back) link readable).0;
-        held = held_same idle None link life fits (front ++ link ∷ back) (ledger list).lives stands.fits ∙ (open_parts (front ++ link ∷ back) link readable).1;
-      })
+  live : link.is_over ≡ false
+  live = alive_in front back link turn.alive
 
-  -- it gives bytes, which are to be heard
-  pub gave : (bytes : List ℕ) → Stands idle (Some (heard.Piece link.conv link.side bytes)) (front ++ link ∷ back) accepted moment (list ++ calls.Gave link.slot bytes ∷ [])
+  may_get : MayRead (ledger list) link.slot
+  may_get =
+      let h = here idle None front back link accepted moment list stands in
+      let all : List Link = front ++ link ∷ back in
+      let lives : List Life = (ledger list).lives in
+      let own : may_be_read lives h.life ≡ true = open_same idle None link h.life h.fits all lives stands.fits ∙ turn.opens in
+      let others : list_any (may_be_read lives) h.before ≡ false = none_open idle None all lives stands.fits front h.before h.front_fits turn.first in
+      let P : Life → Type 0 = λ life. life.slot ≡ link.slot in
+      let Q : List Life → Type 0 = λ ls. FirstIs (may_be_read lives) P ls in
+      record {
+        side = first_at_slot idle None front back link accepted moment list stands (MayGet lives) (λ life fits. record {
+          alive = sym fits.over ∙ live;
+          readable = sym fits.readable ∙ (open_parts all link turn.opens).0;
+          held = held_same idle None link life fits all lives stands.fits ∙ (open_parts all link turn.opens).1;
+        });
+        turn = subst Q (sym h.lives_are) (first_here (may_be_read lives) P h.before h.life h.behind others own (sym h.fits.slot));
+        lives = served_each all lives stands.fits turn.alive;
+        owed = stands.owed_is;
+        refused = stands.refused_is;
+      }
+
+  -- it gives bytes, which are to be heard, and goes behind all others
+  pub gave : (bytes : List ℕ) → Stands idle (Some (heard.Piece link.conv link.side bytes)) ((front ++ back) ++ link ∷ []) accepted moment (list ++ calls.Gave link.slot bytes ∷ [])
   gave bytes =
       let h = here idle None front back link accepted moment list stands in
       let m = before_misses idle None front back link accepted moment list stands in
@@ -78,7 +114,7 @@ module _ (front back : List Link) (link : Link) (accepted moment : ℕ) (list : 
       ap (find (is_life_at link.slot)) h.lives_are ∙ find_here (is_life_at link.slot) h.before h.life h.behind m.slot (own_slot link h.life h.fits.slot) in
       let owed : piece_of bytes (find (is_life_at link.slot) (ledger list).lives) ≡ Some (heard.Piece link.conv link.side bytes) =
       ap (piece_of bytes) first ∙ rw (sym h.fits.conv, sym h.fits.side) refl in
-      changed_slot idle None front back link accepted moment list stands (calls.Gave link.slot bytes) idle (Some (heard.Piece link.conv link.side bytes)) accepted moment may_get
+      moved idle None front back link accepted moment list stands (calls.Gave link.slot bytes) idle (Some (heard.Piece link.conv link.side bytes)) accepted moment may_get
       (λ life. record life { given = life.given ++ bytes }) link refl
       (record { name = refl; fits = own; others = others })
       (record { accepted_is = stands.accepted_is; moment_is = stands.moment_is; owed_is = owed; refused_is = stands.refused_is }) refl

@@ -4,7 +4,7 @@ use Rattle.std.specs.List.{list_any, find, fold}
 use Rattle.std.proofs.lemmas.List.Sums.{fold-append}
 use Rattle.px_wire.specs.declared.call.WireCall.{WireCall}
 use Rattle.px_wire.specs.Calls.{Calls, Tells, IfTold, slots_of, slots_after}
-use Rattle.px_wire.specs.Ledger.{Life, Ledger, ledger, no_ledger, after, change_first, drop_first}
+use Rattle.px_wire.specs.Ledger.{Life, Ledger, ledger, no_ledger, after, change_first, move_first, drop_first}
 use Rattle.px_wire.specs.Rules.{FirstIs, Allowed, Obeys, ObeysFrom}
 
 -- one call more
@@ -46,6 +46,16 @@ module _ {A : Type 0} (test : A → Bool) (change : A → A) where
     where
       by : (b : Bool) → test first ≡ b → (list_any test front ≡ false → change_first test change (front ++ item ∷ back) ≡ front ++ change item ∷ back)
           → change_first test change ((first ∷ front) ++ item ∷ back) ≡ (first ∷ front) ++ change item ∷ back
+      by true is rest = let e : true ≡ false = rw is at misses in cc
+      by false is rest = let others : list_any test front ≡ false = rw is at misses in rw is (ap (λ (xs : List A). first ∷ xs) (rest others))
+
+  pub move_here : (front : List A) (item : A) (back : List A) → list_any test front ≡ false → test item ≡ true
+      → move_first test change (front ++ item ∷ back) ≡ (front ++ back) ++ change item ∷ []
+  move_here [] item back misses hits = rw hits refl
+  move_here (first ∷ front) item back misses hits = by (test first) refl (λ rest. move_here front item back rest hits)
+    where
+      by : (b : Bool) → test first ≡ b → (list_any test front ≡ false → move_first test change (front ++ item ∷ back) ≡ (front ++ back) ++ change item ∷ [])
+          → move_first test change ((first ∷ front) ++ item ∷ back) ≡ ((first ∷ front) ++ back) ++ change item ∷ []
       by true is rest = let e : true ≡ false = rw is at misses in cc
       by false is rest = let others : list_any test front ≡ false = rw is at misses in rw is (ap (λ (xs : List A). first ∷ xs) (rest others))
 

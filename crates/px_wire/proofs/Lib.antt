@@ -14,6 +14,7 @@ pub mod PutsLemmas
 pub mod QueueLemmas
 pub mod ReadyLemmas
 pub mod SayLemmas
+pub mod ServeLemmas
 pub mod StepLemmas
 pub mod TableLemmas
 pub mod TakenLemmas

@@ -3,7 +3,7 @@ use Rattle.std.proofs.Common.{◌≡◌, ◌⊎◌, inl, inr, ◌∙◌, ℕ, Bo
 use Rattle.std.specs.List.{list_any, find, flat_map}
 use Rattle.std.proofs.lemmas.List.{append-nil}
 use Rattle.px_event.specs.declared.side.Side.{Side}
-use Rattle.px_wire.specs.Ledger.{Life, change_first, drop_first, is_life_of}
+use Rattle.px_wire.specs.Ledger.{Life, change_first, move_first, drop_first, is_life_of}
 use Rattle.px_wire.specs.Rules.{Either, FirstIs}
 use Rattle.px_wire.specs.Taken.{listed, taken_by}
 
@@ -106,6 +106,33 @@ module _ (own : Life → Bool) where
   new_added P (life ∷ lives) new none mine p =
       let other : own life ≡ false = head_of life lives none in
       rw other (new_added P lives new (tail_of life lives none) mine p)
+
+  -- ---- the first that passes is changed, and goes behind all others
+
+  module _ (test : Life → Bool) (f : Life → Life) (same : (life : Life) → own (f life) ≡ own life) where
+    pub none_moved : (lives : List Life) → NoneOwn own lives → NoneOwn own (move_first test f lives)
+    none_moved [] none = none
+    none_moved (life ∷ lives) none = by (test life) refl (none_moved lives (tail_of life lives none))
+      where
+        by : (b : Bool) → test life ≡ b → NoneOwn own (move_first test f lives) → NoneOwn own (move_first test f (life ∷ lives))
+        by true hit rest = rw hit (none_added lives (f life) (tail_of life lives none) (same life ∙ head_of life lives none))
+        by false hit rest = rw hit (none_of life (move_first test f lives) (head_of life lives none) rest)
+
+    pub one_moved : (P : Life → Type 0) → ((life : Life) → own life ≡ true → test life ≡ true → P life → P (f life)) → (lives : List Life) → OneOwn own P lives → OneOwn own P (move_first test f lives)
+    one_moved P keeps [] one = absurd one
+    one_moved P keeps (life ∷ lives) one = by (test life) refl (own life) refl (λ there. one_moved P keeps lives there)
+      where
+        by : (b : Bool) → test life ≡ b → (o : Bool) → own life ≡ o → (OneOwn own P lives → OneOwn own P (move_first test f lives)) → OneOwn own P (move_first test f (life ∷ lives))
+        by true hit true mine rest =
+            let here : P life × NoneOwn own lives = rw mine at one in
+            rw hit (new_added P lives (f life) here.1 (same life ∙ mine) (keeps life mine hit here.0))
+        by true hit false mine rest =
+            let there : OneOwn own P lives = rw mine at one in
+            rw hit (one_added P lives (f life) there (same life ∙ mine))
+        by false hit true mine rest =
+            let here : P life × NoneOwn own lives = rw mine at one in
+            rw (hit, mine) (here.0, none_moved lives here.1)
+        by false hit false mine rest = let there : OneOwn own P lives = rw mine at one in rw (hit, mine) (rest there)
 
 -- ---- what was taken, and the first that passes is dropped
 

@@ -1,8 +1,7 @@
 -- Waiting for the wire, and what it tells.
-use Rattle.std.proofs.Common.{◌≡◌, ◌∙◌, ◌⊎◌, inl, inr, ℕ, ◌+◌, Bool, true, false, refl, ap, sym, arith, subst, List, [], ◌∷◌, ◌++◌, ◌==◌, ◌||◌, length, Option, Some, None}
+use Rattle.std.proofs.Common.{◌≡◌, ◌∙◌, ◌⊎◌, inl, inr, ℕ, Bool, true, false, refl, ap, sym, subst, List, [], ◌∷◌, ◌++◌, ◌==◌, Option, Some, None}
 use Rattle.std.specs.List.{list_any, find}
 use Rattle.std.proofs.lemmas.Bool.{eq-eqb}
-use Rattle.std.proofs.lemmas.List.{append-nil, length-append}
 use Rattle.px_event.specs.declared.side.Side.{Side}
 use Rattle.px_event.specs.declared.side.Side.TheVariants.{Client, Server}
 use Rattle.px_event.specs.declared.heard.Heard.{Heard}
@@ -11,22 +10,17 @@ use Rattle.px_wire.specs.declared.link.Link.{Link}
 use Rattle.px_wire.specs.declared.call.WireCall.TheVariants as calls
 use Rattle.px_wire.specs.declared.wire.Ready.TheVariants as ready
 use Rattle.px_wire.specs.Calls.{Calls}
-use Rattle.px_wire.specs.Links.{is_done, is_held, has_slot, is_link_of, is_open_to_read}
+use Rattle.px_wire.specs.Links.{is_held, has_slot, is_link_of, is_open_to_read}
 use Rattle.px_wire.specs.Ledger.{Life, ledger, is_life_at, is_life_of, dial_of, dial_heard}
 use Rattle.px_wire.specs.Rules.{Each, IsAtRest, MayAsk, is_life_held}
 use Rattle.px_wire.specs.Stands.{Busy, idle, putting, Fits, AllFit, Stands, AllCalm}
 use Rattle.px_wire.proofs.LedgerLemmas.{change_none, find_here, find_none}
 use Rattle.px_wire.proofs.PlaceLemmas.{own_slot}
 use Rattle.px_wire.proofs.ChangeLemmas.{here, before_misses, changed_slot, kept}
-use Rattle.px_wire.proofs.PutLemmas.{refits, no_items}
+use Rattle.px_wire.proofs.PutLemmas.{refits}
 use Rattle.px_wire.proofs.HearLemmas.{reowed}
 use Rattle.px_wire.proofs.GetLemmas.{held_same}
-
--- neither of them
-pub neither : (a b : Bool) → (a || b) ≡ false → (a ≡ false) × (b ≡ false)
-neither false false is = (refl, refl)
-neither true b is = let e : true ≡ false = is in cc
-neither false true is = let e : true ≡ false = is in cc
+use Rattle.px_wire.proofs.ServeLemmas.{neither, served}
 
 module _ (busy : Busy) (owed : Option Heard) where
   -- no life is of a slot that none is
@@ -55,36 +49,14 @@ module _ (busy : Busy) (owed : Option Heard) where
 at_rest : (all : List Link) (lives : List Life) → AllFit (Fits idle None) all lives → (link : Link) (life : Life) → Fits idle None link life
     → link.is_over ≡ false → is_open_to_read all link ≡ false → IsAtRest lives life
 at_rest all lives fit link life fits live closed = record {
-  put = put_of (fits.blocked refl);
+  served = served link life fits live;
   read = read_of link.is_readable refl (is_held all link) refl;
-  heard = sym fits.over ∙ live;
-  shut = fits.unfinished refl;
-  open_still = λ closing same. goes_on (sym (fits.closing) ∙ refl) closing (no_rest same);
 }
   where
-    alive : life.is_over ≡ false
-    alive = sym fits.over ∙ live
-
-    put_of : (link.queue ≡ []) ⊎ (life.is_blocked ≡ true) → (life.taken ≡ life.said) ⊎ (life.is_blocked ≡ true)
-    put_of (inl none) = inl (sym (fits.queued alive ∙ (ap (λ (q : List ℕ). life.taken ++ q) none ∙ append-nil life.taken)))
-    put_of (inr is) = inr is
-
     read_of : (a : Bool) → link.is_readable ≡ a → (b : Bool) → is_held all link ≡ b → (is_life_held lives life ≡ true) ⊎ (life.is_readable ≡ false)
     read_of false x b y = inr (sym fits.readable ∙ x)
     read_of true x true y = inl (held_same idle None link life fits all lives fit ∙ y)
     read_of true x false y = let e : true ≡ false = rw (x, y) at closed in cc
-
-    no_rest : life.taken ≡ life.said → link.queue ≡ []
-    no_rest same =
-        let e : length life.taken ≡ length (life.taken ++ link.queue) = ap length (same ∙ fits.queued alive) in
-        let f : length (life.taken ++ link.queue) ≡ length life.taken + length link.queue = length-append life.taken link.queue in
-        no_items link.queue (omega arith)
-
-    goes_on : life.is_closing ≡ link.is_closing → life.is_closing ≡ true → link.queue ≡ [] → ⊥
-    goes_on is closing none =
-        let c : link.is_closing ≡ true = sym is ∙ closing in
-        let e : is_done link ≡ true = rw (c, none, live) refl in
-        let wrong : true ≡ false = sym e ∙ fits.still refl in cc
 
 rest_each : (all : List Link) (lives : List Life) → AllFit (Fits idle None) all lives → (some : List Link) (others : List Life) → AllFit (Fits idle None) some others → AllCalm all some
     → Each (IsAtRest lives) others

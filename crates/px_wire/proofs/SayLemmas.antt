@@ -20,7 +20,7 @@ use Rattle.px_wire.specs.Rules.{FirstIs, MayEnd, Allowed}
 use Rattle.px_wire.specs.Stands.{Busy, idle, putting, flushed, Fits, AllFit, Name, name_of, ApartFrom, Distinct, IsUsed, AllUsed, Stands}
 use Rattle.px_wire.proofs.LedgerLemmas.{ledger_more, slots_more, obeys_more, change_none, change_here, drop_here, first_here}
 use Rattle.px_wire.proofs.PlaceLemmas.{own_slot, own_side, joined, distinct_more}
-use Rattle.px_wire.proofs.ChangeLemmas.{here, apart, before_misses, changed_side, kept, names_around, names_joined, stays_used, used_more, used_last}
+use Rattle.px_wire.proofs.ChangeLemmas.{here, apart, before_misses, changed_side, kept, names_around, names_joined, stays_used, used_more, used_last, used_rest, apart_join}
 use Rattle.px_wire.proofs.PutLemmas.{refits, unheard_same}
 use Rattle.px_wire.proofs.ReadyLemmas.{missing_side}
 use Rattle.px_wire.proofs.AcceptLemmas.{other_than_free, new_fits, dial_call}
@@ -147,15 +147,6 @@ module _ (owed : Option Heard) (front back : List Link) (link : Link) (accepted 
         still = λ free. (let wrong : true ≡ false = sym (eq-eqb link.slot link.slot refl) ∙ free in cc);
         unfinished = λ free. fits.unfinished refl;
       }
-
--- what is in use, but for one
-used_rest : (slots : List ℕ) (accepted : ℕ) (xs ys : List Name) (name : Name) → AllUsed slots accepted (xs ++ name ∷ ys) → IsUsed slots accepted name × AllUsed slots accepted (xs ++ ys)
-used_rest slots accepted [] ys name used = used
-used_rest slots accepted (x ∷ xs) ys name used = let rest = used_rest slots accepted xs ys name used.1 in (rest.0, (used.0, rest.1))
-
-apart_join : (name : Name) (xs ys : List Name) → ApartFrom name xs → ApartFrom name ys → ApartFrom name (xs ++ ys)
-apart_join name [] ys a b = b
-apart_join name (x ∷ xs) ys a b = (a.0, apart_join name xs ys a.1 b)
 
 -- a new slot of the same side is apart from all that the old one was apart from
 apart_too : (old new : Name) (slots : List ℕ) (accepted : ℕ) → list_any (λ s. s == new.slot) slots ≡ false → old.conv ≡ new.conv → old.side ≡ new.side

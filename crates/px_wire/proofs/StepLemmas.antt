@@ -24,7 +24,7 @@ use Rattle.px_wire.specs.declared.wire.Ready.TheVariants as ready
 use Rattle.px_outside.specs.declared.net.NetError.{NetError}
 use Rattle.px_outside.specs.declared.net.NetError.TheVariants as net
 use Rattle.px_wire.specs.Calls.{Calls, Tells, IfTold, IsFree, GivesFree, got_call}
-use Rattle.px_wire.specs.Found.{IsAt, Found, Missing, Loose, readable_count}
+use Rattle.px_wire.specs.Found.{IsAt, Found, Missing, HasTurn, Loose, readable_count}
 use Rattle.px_event.specs.Trace.{Trace}
 use Rattle.px_wire.specs.Hears.{AddsHeard}
 use Rattle.px_wire.specs.Links.{is_done, is_open_to_read, is_over, has_slot, is_link_of, new_link, after_get}
@@ -37,7 +37,7 @@ use Rattle.px_wire.proofs.AcceptLemmas.{accepted_as, refused_one, dialled_as, di
 use Rattle.px_wire.proofs.SayLemmas.{redialled}
 use Rattle.px_wire.proofs.FindLemmas.{at_is, set_at, remove_at, here_at, slot_is, side_is, still_alive, fewer}
 use Rattle.px_wire.proofs.GetLemmas.{open_parts}
-use Rattle.px_wire.proofs.CallLemmas.{read_one, goes_on, ends, same_slot}
+use Rattle.px_wire.proofs.CallLemmas.{read_links, read_one, goes_on, ends, same_slot}
 use Rattle.px_wire.proofs.PutsLemmas.{flushed_shut}
 use Rattle.px_wire.proofs.TableLemmas.{sends, sends_over, closes}
 
@@ -110,6 +110,12 @@ pub same_calls : (busy : Busy) (owed : Option Heard) (links : List Link) (accept
 same_calls busy owed links accepted moment old now same stands =
     let P : Option Calls → Type 0 = λ told. StandsFor busy owed links accepted moment told in subst P (sym same) stands
 
+-- the same slots
+pub kept_links : (busy : Busy) (owed : Option Heard) (links new : List Link) (accepted moment : ℕ) (told : Option Calls) → new ≡ links
+    → StandsFor busy owed links accepted moment told → StandsFor busy owed new accepted moment told
+kept_links busy owed links new accepted moment told same stands =
+    let P : List Link → Type 0 = λ ls. StandsFor busy owed ls accepted moment told in subst P (sym same) stands
+
 -- the slot that stands at a place
 pub at_place : (links : List Link) (place : ℕ) (front : List Link) (link : Link) (back : List Link) (got : Link) → IsAt links place front link back → got ≡ get_or links place got → got ≡ link
 at_place links place front link back got at is = is ∙ at_is links place front link back at got
@@ -138,88 +144,75 @@ closed_is links place front link back a b what at a_is b_is is =
 -- a slot was read at its place
 module _ (links : List Link) (place : ℕ) (front : List Link) (link : Link) (back : List Link) (old new : Link) (accepted moment : ℕ) (room : List ℕ) (got : Got) (before now : Option Calls)
     (at : IsAt links place front link back) (old_is : old ≡ get_or links place old) (made : new ≡ after_get old got) (tells : Tells (got_call old.slot room got) before now)
-    (readable : is_open_to_read (front ++ link ∷ back) link ≡ true) (live : link.is_over ≡ false) (stands : StandsFor idle None links accepted moment before) where
+    (turn : HasTurn front link back) (stands : StandsFor idle None links accepted moment before) where
   same : old ≡ link
   same = at_place links place front link back old at old_is
 
   made_so : new ≡ after_get link got
   made_so = made ∙ ap (λ (l : Link). after_get l got) same
 
-  pub read_place : StandsFor idle (owed_by link.conv link.side room got) (front ++ new ∷ back) accepted moment now
+  pub read_place : StandsFor idle (owed_by link.conv link.side room got) (read_links front new back got) accepted moment now
   read_place =
       let T : Link → Type 0 = λ l. Tells (got_call l.slot room got) before now in
-      read_one front back link new accepted moment room before now readable live (apart_at idle None links place front link back accepted moment before at stands) got made_so (subst T same tells)
+      read_one front back link new accepted moment room before now turn (apart_at idle None links place front link back accepted moment before at stands) got made_so (subst T same tells)
 
   pub read_at_new : IsAt (slice_set links place new) place front new back
   read_at_new = record { are = set_at links place front link back at new; place_is = at.place_is }
 
   -- it gave bytes, and they are to be heard
-  pub gave_place : (count : ℕ) → got ≡ gots.Gave count → StandsFor idle (Some (heard.Piece new.conv new.side (take count room))) (front ++ new ∷ back) accepted moment now
+  pub gave_place : (count : ℕ) → got ≡ gots.Gave count → StandsFor idle (Some (heard.Piece new.conv new.side (take count room))) ((front ++ back) ++ new ∷ []) accepted moment now
   gave_place count is =
       let G : Got → Type 0 = λ g. new ≡ after_get link g in
-      let S : Got → Type 0 = λ g. StandsFor idle (owed_by link.conv link.side room g) (front ++ new ∷ back) accepted moment now in
+      let S : Got → Type 0 = λ g. StandsFor idle (owed_by link.conv link.side room g) (read_links front new back g) accepted moment now in
       let plain : new ≡ link = subst G is made_so in
-      let L : Link → Type 0 = λ l. StandsFor idle (Some (heard.Piece l.conv l.side (take count room))) (front ++ new ∷ back) accepted moment now in
+      let L : Link → Type 0 = λ l. StandsFor idle (Some (heard.Piece l.conv l.side (take count room))) ((front ++ back) ++ new ∷ []) accepted moment now in
       subst L (sym plain) (subst S is read_place)
-
-  -- the same slot, looked at again
-  pub gave_seen : (count : ℕ) → got ≡ gots.Gave count → (seen : Link) → seen ≡ get_or (slice_set links place new) place seen
-      → StandsFor idle (Some (heard.Piece seen.conv seen.side (take count room))) (front ++ seen ∷ back) accepted moment now
-  gave_seen count is seen seen_is =
-      let e : seen ≡ new = at_place (slice_set links place new) place front new back seen read_at_new seen_is in
-      let S : Link → Type 0 = λ l. StandsFor idle (Some (heard.Piece l.conv l.side (take count room))) (front ++ l ∷ back) accepted moment now in
-      subst S (sym e) (gave_place count is)
-
-  pub seen_whole : (seen : Link) → seen ≡ get_or (slice_set links place new) place seen → (owed : Option Heard) (told : Option Calls)
-      → StandsFor idle owed (front ++ seen ∷ back) accepted moment told → StandsFor idle owed (slice_set links place new) accepted moment told
-  seen_whole seen seen_is owed told after =
-      let e : seen ≡ new = at_place (slice_set links place new) place front new back seen read_at_new seen_is in
-      let S : Link → Type 0 = λ l. StandsFor idle owed (front ++ l ∷ back) accepted moment told in
-      whole_at idle owed (slice_set links place new) place front new back accepted moment told read_at_new (subst S e after)
-
-  pub gave_loose : (count : ℕ) → got ≡ gots.Gave count → (told : Option Calls) → told ≡ now
-      → (owed : Option Heard) × StandsFor idle owed (slice_set links place new) accepted moment told
-  gave_loose count is told unchanged =
-      let owed : Option Heard = Some (heard.Piece new.conv new.side (take count room)) in (
-        owed,
-        same_calls idle owed (slice_set links place new) accepted moment now told unchanged
-            (whole_at idle owed (slice_set links place new) place front new back accepted moment now read_at_new (gave_place count is)),
-      )
-
-  -- what it gave is heard
-  pub gave_on : (count : ℕ) → got ≡ gots.Gave count → (seen : Link) → seen ≡ get_or (slice_set links place new) place seen → {T E : Type 0} (r : Result T E) (last : Option Calls)
-      → ((a : ℕ) → StandsFor idle (Some (heard.Piece seen.conv seen.side (take count room))) (front ++ seen ∷ back) a moment now → OnOk r (StandsFor idle None (front ++ seen ∷ back) a moment last))
-      → OnOk r (StandsFor idle None (slice_set links place new) accepted moment last)
-  gave_on count is seen seen_is r last hears =
-      on_ok r (StandsFor idle None (front ++ seen ∷ back) accepted moment last) (StandsFor idle None (slice_set links place new) accepted moment last)
-      (hears accepted (gave_seen count is seen seen_is)) (seen_whole seen seen_is None last)
-
-  -- what it gave was not heard
-  pub gave_lost : (count : ℕ) → got ≡ gots.Gave count → {T E : Type 0} (r : Result T E) (last : Option Calls) → OnErr r (last ≡ now)
-      → OnErr r ((owed : Option Heard) × StandsFor idle owed (slice_set links place new) accepted moment last)
-  gave_lost count is r last unchanged =
-      on_err r (last ≡ now) ((owed : Option Heard) × StandsFor idle owed (slice_set links place new) accepted moment last) unchanged (gave_loose count is last)
 
   -- it has nothing at present
   pub blocked_place : got ≡ gots.Blocked → StandsFor idle None (slice_set links place new) accepted moment now
   blocked_place is =
-      let S : Got → Type 0 = λ g. StandsFor idle (owed_by link.conv link.side room g) (front ++ new ∷ back) accepted moment now in
+      let S : Got → Type 0 = λ g. StandsFor idle (owed_by link.conv link.side room g) (read_links front new back g) accepted moment now in
       whole_at idle None (slice_set links place new) place front new back accepted moment now read_at_new (subst S is read_place)
 
   -- its bytes have ended, or its socket failed
   pub over_place : (got ≡ gots.Ended) ⊎ (got ≡ gots.Broken) → StandsFor idle None (slice_set links place new) accepted moment now × (new.is_over ≡ true)
   over_place (inl is) =
       let G : Got → Type 0 = λ g. new ≡ after_get link g in
-      let S : Got → Type 0 = λ g. StandsFor idle (owed_by link.conv link.side room g) (front ++ new ∷ back) accepted moment now in (
+      let S : Got → Type 0 = λ g. StandsFor idle (owed_by link.conv link.side room g) (read_links front new back g) accepted moment now in (
         whole_at idle None (slice_set links place new) place front new back accepted moment now read_at_new (subst S is read_place),
         ap (λ (l : Link). l.is_over) (subst G is made_so),
       )
   over_place (inr is) =
       let G : Got → Type 0 = λ g. new ≡ after_get link g in
-      let S : Got → Type 0 = λ g. StandsFor idle (owed_by link.conv link.side room g) (front ++ new ∷ back) accepted moment now in (
+      let S : Got → Type 0 = λ g. StandsFor idle (owed_by link.conv link.side room g) (read_links front new back g) accepted moment now in (
         whole_at idle None (slice_set links place new) place front new back accepted moment now read_at_new (subst S is read_place),
         ap (λ (l : Link). l.is_over) (subst G is made_so),
       )
+
+-- what a slot gave is heard or not, and the slot goes behind all others
+module _ (links : List Link) (place : ℕ) (front : List Link) (link : Link) (back : List Link) (taken : Link) (mid new : List Link) (accepted moment : ℕ) (bytes : List ℕ) (before : Option Calls)
+    (at : IsAt links place front link back) (taken_is : taken ≡ get_or links place taken) (gone : mid ≡ remove links place) (grown : new ≡ mid ++ taken ∷ [])
+    (stands : StandsFor idle (Some (heard.Piece link.conv link.side bytes)) ((front ++ back) ++ link ∷ []) accepted moment before) where
+  links_so : new ≡ (front ++ back) ++ taken ∷ []
+  links_so = grown ∙ ap (λ (ls : List Link). ls ++ taken ∷ []) (gone ∙ remove_at links place front link back at)
+
+  given_so : StandsFor idle (Some (heard.Piece taken.conv taken.side bytes)) ((front ++ back) ++ taken ∷ []) accepted moment before
+  given_so =
+      let P : Link → Type 0 = λ l. StandsFor idle (Some (heard.Piece l.conv l.side bytes)) ((front ++ back) ++ l ∷ []) accepted moment before in
+      subst P (sym (at_place links place front link back taken at taken_is)) stands
+
+  pub given_on : {T E : Type 0} (r : Result T E) (last : Option Calls)
+      → ((f b : List Link) (a : ℕ) → StandsFor idle (Some (heard.Piece taken.conv taken.side bytes)) (f ++ taken ∷ b) a moment before → OnOk r (StandsFor idle None (f ++ taken ∷ b) a moment last))
+      → OnOk r (StandsFor idle None new accepted moment last)
+  given_on r last hears =
+      on_ok r (StandsFor idle None ((front ++ back) ++ taken ∷ []) accepted moment last) (StandsFor idle None new accepted moment last)
+      (hears (front ++ back) [] accepted given_so) (kept_links idle None ((front ++ back) ++ taken ∷ []) new accepted moment last links_so)
+
+  pub given_lost : {T E : Type 0} (r : Result T E) (last : Option Calls) → OnErr r (last ≡ before) → OnErr r ((owed : Option Heard) × StandsFor idle owed new accepted moment last)
+  given_lost r last unchanged =
+      let owed : Option Heard = Some (heard.Piece taken.conv taken.side bytes) in
+      on_err r (last ≡ before) ((owed : Option Heard) × StandsFor idle owed new accepted moment last) unchanged
+      (λ same. (owed, same_calls idle owed new accepted moment before last same (kept_links idle owed ((front ++ back) ++ taken ∷ []) new accepted moment before links_so given_so)))
 
 -- a slot that the wire told readable
 module _ (links : List Link) (accepted moment now : ℕ) (slot : ℕ) (before after : Option Calls) (calm : AllCalm links links) (stands : StandsFor idle None links accepted moment before) where
@@ -340,17 +333,14 @@ module _ (links : List Link) (accepted moment slot conv server : ℕ) (address :
       (dial_call link.conv server address slot) (calls.Shut link.slot) before after last (subst C (sym whose.0) dial_tells) (subst S (at_is links place front link back at made) shuts) parted
       (λ list s. redialled front back link accepted moment list s.0 slot server address s.1 whose.1))))
 
--- a slot that was found to be read
-pub open_here : (links : List Link) (place : ℕ) (f : Found (is_open_to_read links) links place) → is_open_to_read (f.front ++ f.link ∷ f.back) f.link ≡ true
-open_here links place f = let P : List Link → Type 0 = λ ls. is_open_to_read ls f.link ≡ true in subst P f.is_at.are f.passes
-
-alive_in : (front back : List Link) (link : Link) → Missing is_over (front ++ link ∷ back) → link.is_over ≡ false
-alive_in [] back link live = (ready_laws.neither link.is_over (list_any is_over back) live).0
-alive_in (first ∷ front) back link live = alive_in front back link (ready_laws.neither first.is_over (list_any is_over (front ++ link ∷ back)) live).1
-
 module _ (links : List Link) (place : ℕ) (f : Found (is_open_to_read links) links place) where
-  pub alive_here : Missing is_over links → f.link.is_over ≡ false
-  alive_here live = let P : List Link → Type 0 = λ ls. Missing is_over ls in alive_in f.front f.back f.link (subst P f.is_at.are live)
+  -- the slot that was found is read next
+  pub turn_here : Missing is_over links → HasTurn f.front f.link f.back
+  turn_here live =
+      let P : List Link → Type 0 = λ ls. is_open_to_read ls f.link ≡ true in
+      let Q : List Link → Type 0 = λ ls. list_any (is_open_to_read ls) f.front ≡ false in
+      let R : List Link → Type 0 = λ ls. Missing is_over ls in
+      record { opens = subst P f.is_at.are f.passes; first = subst Q f.is_at.are f.before; alive = subst R f.is_at.are live }
 
   -- it has nothing at present: none is over still, and one less is readable
   pub alive_still : (new : List Link) → new ≡ f.front ++ record f.link { is_readable = false } ∷ f.back → Missing is_over links → Missing is_over new
@@ -360,7 +350,8 @@ module _ (links : List Link) (place : ℕ) (f : Found (is_open_to_read links) li
 
   pub fewer_still : (new : List Link) → new ≡ f.front ++ record f.link { is_readable = false } ∷ f.back → readable_count new < readable_count links
   fewer_still new is =
-      let readable : f.link.is_readable ≡ true = (open_parts (f.front ++ f.link ∷ f.back) f.link (open_here links place f)).0 in
+      let O : List Link → Type 0 = λ ls. is_open_to_read ls f.link ≡ true in
+      let readable : f.link.is_readable ≡ true = (open_parts (f.front ++ f.link ∷ f.back) f.link (subst O f.is_at.are f.passes)).0 in
       let P : List Link → Type 0 = λ ls. readable_count ls < readable_count links in
       let Q : List Link → Type 0 = λ ls. readable_count (f.front ++ record f.link { is_readable = false } ∷ f.back) < readable_count ls in
       subst P (sym is) (subst Q (sym f.is_at.are) (fewer f.front f.back f.link readable))
@@ -450,12 +441,6 @@ close_is links conv place side f step before now is tells =
     let whose = said_here links conv place side f in
     let T : Step → Type 0 = λ s. Tells (calls.Noted s) before now in
     subst T (is ∙ (ap (λ (n : ℕ). steps.Said n (said.Close side)) (sym whose.0) ∙ ap (λ (s : Side). steps.Said f.link.conv (said.Close s)) (sym whose.1))) tells
-
--- the same slots
-pub kept_links : (busy : Busy) (owed : Option Heard) (links new : List Link) (accepted moment : ℕ) (told : Option Calls) → new ≡ links
-    → StandsFor busy owed links accepted moment told → StandsFor busy owed new accepted moment told
-kept_links busy owed links new accepted moment told same stands =
-    let P : List Link → Type 0 = λ ls. StandsFor busy owed ls accepted moment told in subst P (sym same) stands
 
 -- and one more behind them
 pub pushed : (busy : Busy) (owed : Option Heard) (links new : List Link) (last made : Link) (accepted moment : ℕ) (told : Option Calls) → new ≡ links ++ last ∷ [] → last ≡ made

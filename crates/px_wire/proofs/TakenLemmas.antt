@@ -24,11 +24,11 @@ use Rattle.px_wire.specs.declared.call.WireCall.TheVariants as calls
 use Rattle.px_wire.specs.declared.wire.Ready.{Ready}
 use Rattle.px_wire.specs.declared.wire.Ready.TheVariants as ready
 use Rattle.px_wire.specs.Calls.{Calls, step_in, steps_of}
-use Rattle.px_wire.specs.Ledger.{Life, Ledger, no_ledger, new_life, number_end, after, tells, says, dials, dial_of, dial_heard, piece_of, change_first, drop_first, is_life_at, is_life_of}
+use Rattle.px_wire.specs.Ledger.{Life, Ledger, no_ledger, new_life, number_end, after, tells, says, dials, dial_of, dial_heard, piece_of, change_first, move_first, drop_first, is_life_at, is_life_of}
 use Rattle.px_wire.specs.Rules.{FirstIs, MayTake, Allowed, Obeys, ObeysFrom}
 use Rattle.px_wire.specs.Taken.{ended_by, lives_from, taken_by, opens, is_opened, SendsToOpened, DialsOnce, TakesWhatWasSent}
 use Rattle.px_wire.proofs.PlaceLemmas.{side_same, side_self}
-use Rattle.px_wire.proofs.OwnLives.{NoneOwn, OneOwn, own_changed, one_changed, first_changed, own_one_changed, none_added, one_added, new_added, none_taken, one_taken, none_dropped, OneDropped, one_dropped, dropped}
+use Rattle.px_wire.proofs.OwnLives.{NoneOwn, OneOwn, own_changed, one_changed, first_changed, own_one_changed, none_added, one_added, new_added, none_moved, one_moved, none_taken, one_taken, none_dropped, OneDropped, one_dropped, dropped}
 
 -- ---- a front of the calls
 
@@ -141,6 +141,12 @@ module _ (own : Life → Bool) (ended text : List ℕ) (begun : Type 0) (lives :
       → Stage own ended text begun lives → Stage own ended text begun (change_first test f lives)
   stage_changed test f same keeps (inl none) = inl (own_changed own test f same lives ∙ none.0, none.1)
   stage_changed test f same keeps (inr one) = inr (one.0, one_changed own (Kept text) test f same keeps lives one.1, one.2)
+
+  -- and goes behind all others
+  stage_moved : (test : Life → Bool) (f : Life → Life) → ((life : Life) → own (f life) ≡ own life) → ((life : Life) → own life ≡ true → test life ≡ true → Kept text life → Kept text (f life))
+      → Stage own ended text begun lives → Stage own ended text begun (move_first test f lives)
+  stage_moved test f same keeps (inl none) = inl (none_moved own test f same lives none.0, none.1)
+  stage_moved test f same keeps (inr one) = inr (one.0, one_moved own test f same (Kept text) keeps lives one.1, one.2)
 
   -- bytes are taken
   stage_took : (test : Life → Bool) (bytes : List ℕ) → ((life : Life) → own (record life { taken = life.taken ++ bytes }) ≡ own life) → FirstIs test (MayTake bytes) lives
@@ -505,8 +511,12 @@ module _ (conv : ℕ) (side : Side) (ended : List ℕ) (trace : Trace) (l : Ledg
   step_more (calls.PutBlocked slot) allowed sends_so news h = slot_changed l.moment l.owed slot (λ life. record life { is_blocked = true }) (λ life. refl) (λ life text kept. kept) h.owed h
   step_more (calls.PutBroke slot) allowed sends_so news h = slot_changed l.moment l.owed slot (λ life. record life { is_over = true }) (λ life. refl) (λ life text kept. kept) h.owed h
   step_more (calls.Gave slot bytes) allowed sends_so news h =
-      slot_changed l.moment (piece_of bytes (find (is_life_at slot) l.lives)) slot (λ life. record life { given = life.given ++ bytes }) (λ life. refl) (λ life text kept. kept)
-      (piece_below bytes (find (is_life_at slot) l.lives) l.accepted) h
+      silent conv side ended trace (after l (calls.Gave slot bytes)) (record {
+        stage = stage_moved (is_life_of conv side) ended (sent trace conv side) (Begun conv side trace l.accepted) l.lives (is_life_at slot) (λ life. record life { given = life.given ++ bytes }) (λ life. refl)
+            (λ life mine its kept. kept) h.stage;
+        numbers = h.numbers;
+        owed = piece_below bytes (find (is_life_at slot) l.lives) l.accepted;
+      })
   step_more (calls.GetBlocked slot) allowed sends_so news h = slot_changed l.moment l.owed slot (λ life. record life { is_readable = false }) (λ life. refl) (λ life text kept. kept) h.owed h
   step_more (calls.GetEnded slot) allowed sends_so news h = slot_changed l.moment l.owed slot (λ life. record life { is_over = true }) (λ life. refl) (λ life text kept. kept) h.owed h
   step_more (calls.GetBroke slot) allowed sends_so news h = slot_changed l.moment l.owed slot (λ life. record life { is_over = true }) (λ life. refl) (λ life text kept. kept) h.owed h

@@ -1,10 +1,11 @@
 -- Places among the slots.
-use Rattle.std.specs.Prelude.{◌≡◌, ◌<◌, ◌≤◌, get_or, ◌+◌, ℕ, Bool, true, false, if◌then◌else◌, List, [], ◌∷◌, ◌++◌, length, Option}
+use Rattle.std.specs.Prelude.{◌≡◌, ◌+◌, ℕ, Bool, true, false, if◌then◌else◌, List, [], ◌∷◌, ◌++◌, length, Option}
 use Rattle.std.specs.List.{list_any}
 use Rattle.px_event.specs.declared.heard.Heard.{Heard}
 use Rattle.px_wire.specs.declared.link.Link.{Link}
 use Rattle.px_wire.specs.declared.table.Table.{Table}
 use Rattle.px_wire.specs.Calls.{Calls}
+use Rattle.px_wire.specs.Links.{is_open_to_read, is_over}
 use Rattle.px_wire.specs.Stands.{Rests}
 
 -- a slot stands at this place, between these others
@@ -12,21 +13,24 @@ pub record IsAt (links : List Link) (place : ℕ) (front : List Link) (link : Li
   pub are : links ≡ front ++ link ∷ back
   pub place_is : length front ≡ place
 
--- one that passes stands at this place
+-- the first that passes stands at this place
 pub record Found (test : Link → Bool) (links : List Link) (place : ℕ) : Type 0 where
   pub front : List Link
   pub link : Link
   pub back : List Link
   pub is_at : IsAt links place front link back
   pub passes : test link ≡ true
+  pub before : list_any test front ≡ false
 
 -- none passes
 abbrev pub Missing : (Link → Bool) → List Link → Type 0
 Missing test links = list_any test links ≡ false
 
--- none passes at this place or behind it
-abbrev pub NoneFrom : (Link → Bool) → ℕ → List Link → Type 0
-NoneFrom test start links = (i : ℕ) (d : Link) → start ≤ i → i < length links → test (get_or links i d) ≡ false
+-- It is this slot's turn, among these others: it may be read, none before it may, and no close is to be heard.
+pub record HasTurn (front : List Link) (link : Link) (back : List Link) : Type 0 where
+  pub opens : is_open_to_read (front ++ link ∷ back) link ≡ true
+  pub first : list_any (is_open_to_read (front ++ link ∷ back)) front ≡ false
+  pub alive : list_any is_over (front ++ link ∷ back) ≡ false
 
 -- how many are readable
 abbrev pub readable_count : List Link → ℕ

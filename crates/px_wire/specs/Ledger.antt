@@ -65,7 +65,7 @@ new_life slot conv side = record {
 
 -- what all calls so far tell
 pub record Ledger : Type 0 where
-  -- the slots in use that have a side, in the order in which they were given
+  -- the slots in use that have a side: one that is given stands behind all others, and so does one that gives bytes
   pub lives : List Life
   -- how many connections were accepted and have a number
   pub accepted : ℕ
@@ -88,6 +88,11 @@ number_end = 2 ^ 31
 abbrev pub change_first : {A : Type 0} → (A → Bool) → (A → A) → List A → List A
 change_first test change [] = []
 change_first test change (x ∷ xs) = if test x then change x ∷ xs else x ∷ change_first test change xs
+
+-- the first item that passes is changed so, and goes behind all others
+abbrev pub move_first : {A : Type 0} → (A → Bool) → (A → A) → List A → List A
+move_first test change [] = []
+move_first test change (x ∷ xs) = if test x then xs ++ change x ∷ [] else x ∷ move_first test change xs
 
 -- the list without the first item that passes
 abbrev pub drop_first : {A : Type 0} → (A → Bool) → List A → List A
@@ -175,7 +180,10 @@ after l (calls.Noted step) = notes step l
 after l (calls.Took slot bytes) = at_slot slot (λ life. record life { taken = life.taken ++ bytes }) l
 after l (calls.PutBlocked slot) = at_slot slot (λ life. record life { is_blocked = true }) l
 after l (calls.PutBroke slot) = at_slot slot (λ life. record life { is_over = true }) l
-after l (calls.Gave slot bytes) = record (at_slot slot (λ life. record life { given = life.given ++ bytes }) l) { owed = piece_of bytes (find (is_life_at slot) l.lives) }
+after l (calls.Gave slot bytes) = record l {
+  lives = move_first (is_life_at slot) (λ life. record life { given = life.given ++ bytes }) l.lives;
+  owed = piece_of bytes (find (is_life_at slot) l.lives);
+}
 after l (calls.GetBlocked slot) = at_slot slot (λ life. record life { is_readable = false }) l
 after l (calls.GetEnded slot) = at_slot slot (λ life. record life { is_over = true }) l
 after l (calls.GetBroke slot) = at_slot slot (λ life. record life { is_over = true }) l

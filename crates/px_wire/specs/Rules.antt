@@ -1,6 +1,6 @@
 -- Which calls lines may make of their wire, by what the calls so far tell. So what a socket took, what was heard of it, and
 -- when it was shut, can be read off the calls alone.
-use Rattle.std.specs.Prelude.{◌&&◌, ◌≡◌, ◌≢◌, ◌⊎◌, ℕ, ◌-◌, Bool, true, false, ◌==◌, nat_lt, if◌then◌else◌, List, [], ◌∷◌, ◌++◌, length, Some, None}
+use Rattle.std.specs.Prelude.{◌&&◌, ◌≡◌, ◌≢◌, ◌⊎◌, ℕ, ◌-◌, Bool, true, false, ◌==◌, nat_lt, not, if◌then◌else◌, List, [], ◌∷◌, ◌++◌, length, Some, None}
 use Rattle.std.specs.List.{list_any}
 use Rattle.px_text.specs.Prefix.{IsPrefixOf}
 use Rattle.px_message.specs.declared.address.Address.{Address}
@@ -42,14 +42,18 @@ holds_life other life = (other.conv == life.conv) && (faces other.side life.side
 abbrev pub is_life_held : List Life → Life → Bool
 is_life_held lives life = list_any (λ other. holds_life other life) lives
 
--- Before the wire is asked again: what was said is taken or blocked; what is readable was read until it was blocked, or is
--- held back; nothing is left to be heard or shut.
-pub record IsAtRest (lives : List Life) (life : Life) : Type 0 where
+-- All that comes before reading is done for the side: what was said is taken or blocked, and it is neither to be heard to end
+-- nor to be shut.
+pub record IsServed (life : Life) : Type 0 where
   pub put : (life.taken ≡ life.said) ⊎ (life.is_blocked ≡ true)
-  pub read : (is_life_held lives life ≡ true) ⊎ (life.is_readable ≡ false)
   pub heard : life.is_over ≡ false
   pub shut : life.is_finished ≡ false
   pub open_still : life.is_closing ≡ true → life.taken ≢ life.said
+
+-- Before the wire is asked again, the side is served, and was read until it was blocked, or is held back.
+pub record IsAtRest (lives : List Life) (life : Life) : Type 0 where
+  pub served : IsServed life
+  pub read : (is_life_held lives life ≡ true) ⊎ (life.is_readable ≡ false)
 
 -- `ready` may be called
 pub record MayAsk (l : Ledger) : Type 0 where
@@ -72,6 +76,19 @@ pub record MayGet (lives : List Life) (life : Life) : Type 0 where
   pub alive : life.is_over ≡ false
   pub readable : life.is_readable ≡ true
   pub held : is_life_held lives life ≡ false
+
+-- it is readable, and not held back
+abbrev pub may_be_read : List Life → Life → Bool
+may_be_read lives life = life.is_readable && not (is_life_held lives life)
+
+-- A slot is read: nothing that was told or given is still to be heard, all sides are served, and it is this side's turn. Of
+-- the sides that may be read the first gave bytes longest ago; so one that can be read is, before another gives twice.
+pub record MayRead (l : Ledger) (slot : ℕ) : Type 0 where
+  pub side : FirstIs (is_life_at slot) (MayGet l.lives) l.lives
+  pub turn : FirstIs (may_be_read l.lives) (λ life. life.slot ≡ slot) l.lives
+  pub lives : Each IsServed l.lives
+  pub owed : l.owed ≡ None
+  pub refused : l.refused ≡ None
 
 -- a Close was said to the side and all that was said is taken
 pub record IsTaken (life : Life) : Type 0 where
@@ -117,10 +134,10 @@ Allowed l (calls.Noted step) = MayNote l step
 Allowed l (calls.Took slot bytes) = FirstIs (is_life_at slot) (MayTake bytes) l.lives
 Allowed l (calls.PutBlocked slot) = FirstIs (is_life_at slot) MayPut l.lives
 Allowed l (calls.PutBroke slot) = FirstIs (is_life_at slot) MayPut l.lives
-Allowed l (calls.Gave slot bytes) = FirstIs (is_life_at slot) (MayGet l.lives) l.lives
-Allowed l (calls.GetBlocked slot) = FirstIs (is_life_at slot) (MayGet l.lives) l.lives
-Allowed l (calls.GetEnded slot) = FirstIs (is_life_at slot) (MayGet l.lives) l.lives
-Allowed l (calls.GetBroke slot) = FirstIs (is_life_at slot) (MayGet l.lives) l.lives
+Allowed l (calls.Gave slot bytes) = MayRead l slot
+Allowed l (calls.GetBlocked slot) = MayRead l slot
+Allowed l (calls.GetEnded slot) = MayRead l slot
+Allowed l (calls.GetBroke slot) = MayRead l slot
 Allowed l (calls.Shut slot) = MayShut l slot
 
 -- each call was allowed when it was made

@@ -1,7 +1,6 @@
 //! Places among the slots in use.
-ghost use Rattle.std.specs.Prelude.{◌≡◌, None, IfSome};
+ghost use Rattle.std.specs.Prelude.{◌≡◌};
 ghost use Rattle.std.specs.List.{position};
-ghost use Rattle.px_wire.specs.Found.{Found, Missing, NoneFrom};
 ghost use Rattle.px_wire.specs.Links.{has_slot, is_link_of, is_over, is_held, holds, faces, is_open_to_read};
 
 use crate::link::{Link, READ_MARK};
@@ -30,28 +29,11 @@ pub fn find_over(links: &[Link]) -> Option<usize>
     links.iter().position(|link| link.is_over)
 }
 
-/// The place of a slot that may be read now, from the cursor on and then from the first.
-pub fn find_readable(links: &[Link], cursor: usize) -> Option<usize>
-    ensures some { IfSome result (λ place. Found (is_open_to_read links.now) links.now place) }
-    ensures none { result ≡ None → Missing (is_open_to_read links.now) links.now }
+/// The place of the slot that is read next: the first of those that may be read now.
+pub fn find_readable(links: &[Link]) -> Option<usize>
+    ensures position { result ≡ position (is_open_to_read links.now) links.now }
 {
-    match readable_from(links, cursor) {
-        Some(place) => Some(place),
-        None => readable_from(links, 0),
-    }
-}
-
-// The place of one that may be read now, at this place or behind it.
-fn readable_from(links: &[Link], start: usize) -> Option<usize>
-    ensures some { IfSome result (λ place. Found (is_open_to_read links.now) links.now place) }
-    ensures none { result ≡ None → NoneFrom (is_open_to_read links.now) start links.now }
-{
-    for place in start..links.len() {
-        if may_be_read(links, &links[place]) {
-            return Some(place);
-        }
-    }
-    None
+    links.iter().position(|link| may_be_read(links, link))
 }
 
 fn may_be_read(links: &[Link], link: &Link) -> bool

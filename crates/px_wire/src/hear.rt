@@ -6,10 +6,10 @@ ghost use Rattle.px_event.specs.declared.side.Side.TheVariants.{Server as Server
 ghost use Rattle.px_event.specs.declared.step.Step.TheVariants.{Heard as WasHeard};
 ghost use Rattle.px_outside.specs.Net.{Adds};
 ghost use Rattle.px_wire.specs.declared.link.Link.{Link as LinkState};
-ghost use Rattle.px_wire.specs.Links.{is_open_to_read, is_over, after_get};
+ghost use Rattle.px_wire.specs.Links.{is_over, after_get};
 ghost use Rattle.px_wire.specs.Hears.{IsPlain, AddsHeard};
 ghost use Rattle.px_wire.specs.Calls.{GotWithin, Tells, got_call};
-ghost use Rattle.px_wire.specs.Found.{IsAt, Missing, Loose, readable_count};
+ghost use Rattle.px_wire.specs.Found.{IsAt, Missing, HasTurn, Loose, readable_count};
 ghost use Rattle.px_wire.specs.Stands.{StandsFor, EndsFor, Rests, AllCalm, idle, name_of, owed_by};
 
 use crate::find::{find_over, find_readable};
@@ -123,9 +123,9 @@ fn read_at<W: Wire>(
     requires place { place < length table.old.links.items }
     requires some { 0 < length room.old }
     ensures steps { IfOk result (λ told. AddsHeard told (W.steps wire.old) (W.steps wire.new)) }
-    ensures stands { (front back : List LinkState) (link : LinkState) → IsAt table.old.links.items place front link back → is_open_to_read (front ++ link ∷ back) link ≡ true → link.is_over ≡ false →
+    ensures stands { (front back : List LinkState) (link : LinkState) → IsAt table.old.links.items place front link back → HasTurn front link back →
         Rests None table.old (W.calls wire.old) → OnOk result (Rests None table.new (W.calls wire.new)) }
-    ensures err { (front back : List LinkState) (link : LinkState) → IsAt table.old.links.items place front link back → is_open_to_read (front ++ link ∷ back) link ≡ true → link.is_over ≡ false →
+    ensures err { (front back : List LinkState) (link : LinkState) → IsAt table.old.links.items place front link back → HasTurn front link back →
         Rests None table.old (W.calls wire.old) → OnErr result (Loose table.new (W.calls wire.new)) }
     ensures none { (front back : List LinkState) (link : LinkState) → IsAt table.old.links.items place front link back →
         result ≡ Ok None → table.new.links.items ≡ front ++ record link { is_readable = false } ∷ back }
@@ -136,15 +136,39 @@ fn read_at<W: Wire>(
     ensures asks { W.asks wire.new ≡ W.asks wire.old }
 {
     match read_link(wire, &mut table.links[place], room) {
-        Got::Gave(count) => {
-            table.cursor = place + 1;
-            let link = &table.links[place];
-            hear_piece(alloc, wire, table.moment, link, &room[..count])
-        }
+        Got::Gave(count) => hear_given(alloc, wire, table, place, &room[..count]),
         Got::Blocked => Ok(None),
         Got::Ended => hear_close(wire, table, place),
         Got::Broken => hear_close(wire, table, place),
     }
+}
+
+// Hears the bytes, which the slot at this place has just given, and puts the slot behind all others.
+fn hear_given<W: Wire>(
+    alloc: Global,
+    wire: &mut W,
+    table: &mut Table,
+    place: usize,
+    bytes: &[u8],
+) -> Result<Option<(u64, Heard)>, NoMemory>
+    requires place { place < length table.old.links.items }
+    ensures some { result ≢ Ok None }
+    ensures steps { IfOk result (λ told. AddsHeard told (W.steps wire.old) (W.steps wire.new)) }
+    ensures stands { (front back : List LinkState) (link : LinkState) → IsAt table.old.links.items place front link back →
+        StandsFor idle (Some (HeardPiece link.conv link.side bytes.now)) ((front ++ back) ++ link ∷ []) table.old.accepted table.old.moment (W.calls wire.old) →
+        OnOk result (Rests None table.new (W.calls wire.new)) }
+    ensures err { (front back : List LinkState) (link : LinkState) → IsAt table.old.links.items place front link back →
+        StandsFor idle (Some (HeardPiece link.conv link.side bytes.now)) ((front ++ back) ++ link ∷ []) table.old.accepted table.old.moment (W.calls wire.old) →
+        OnErr result (Loose table.new (W.calls wire.new)) }
+    ensures steps_err { OnErr result (W.steps wire.new ≡ W.steps wire.old) }
+    ensures listening { W.listening wire.new ≡ W.listening wire.old }
+    ensures faults { W.faults wire.new ≡ W.faults wire.old }
+    ensures asks { W.asks wire.new ≡ W.asks wire.old }
+{
+    let link = table.links.remove(place);
+    let told = hear_piece(alloc, wire, table.moment, &link, bytes);
+    table.links.push_reserved(link);
+    told
 }
 
 // Hears the bytes, which the slot gave.
@@ -214,7 +238,7 @@ fn read_on<W: Wire>(
     ensures faults { W.faults wire.new ≡ W.faults wire.old }
     ensures asks { W.asks wire.new ≡ W.asks wire.old }
 {
-    while let Some(place) = find_readable(&table.links, table.cursor) {
+    while let Some(place) = find_readable(&table.links) {
         if let Some(told) = read_at(alloc, wire, table, room, place)? {
             return Ok(Some(told));
         }

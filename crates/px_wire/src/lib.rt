@@ -17,8 +17,6 @@ mod queue;
 mod ready;
 mod say;
 mod table;
-#[cfg(test)]
-mod tests;
 mod wire;
 
 pub use call::WireCall;

@@ -7,13 +7,12 @@ use std::alloc::Global;
 /// What lines know of their wire.
 #[derive(Debug, Drop)]
 pub struct Table {
+    /// The first gave bytes longest ago, or was given longest ago.
     pub links: Vec<Link>,
     /// How many connections were accepted and have a number.
     pub accepted: u32,
     /// The moment of the last `ready`, and 0 before.
     pub moment: u64,
-    /// Where the search for a slot to read begins.
-    pub cursor: usize,
 }
 
 impl Table {
@@ -27,7 +26,6 @@ impl Table {
             links: Vec::new(alloc),
             accepted: 0,
             moment: 0,
-            cursor: 0,
         }
     }
 }

@@ -1,9 +1,9 @@
 use Rattle.std.proofs.Common.{inl, inr}
-use Rattle.px_wire.proofs.StepLemmas.{gave_on, gave_lost, blocked_place, over_place, read_at_again, read_blocked, close_lost}
+use Rattle.px_wire.proofs.StepLemmas.{gave_place, blocked_place, over_place, read_at_again, read_blocked, close_lost}
 use Rattle.px_wire.proofs.hear.read_at.Goals as goal
 
 pub returns-in-Gave-clause-stands : goal.returns-in-Gave-clause-stands
-returns-in-Gave-clause-stands g c = λ front back link at may live rests.
+returns-in-Gave-clause-stands g c = λ front back link at turn rests.
     let links = c.args.table.now.links.items in
     let place = c.args.place in
     let old = c.index_mut.result.now in
@@ -11,12 +11,12 @@ returns-in-Gave-clause-stands g c = λ front back link at may live rests.
     let room = c.read_link.new.room in
     let accepted = c.args.table.now.accepted in
     let moment = c.args.table.now.moment in
-    let seen = c.index-link.result.now in
-    gave_on links place front link back old new accepted moment room c.read_link.result _ _ at c.index_mut.ensures.value
-    c.read_link.ensures.link c.read_link.ensures.told may live rests c.in-Gave.count c.in-Gave.is seen c.index-link.ensures c.hear_piece.result _ (c.hear_piece.ensures.stands front back)
+    c.hear_given.ensures.stands front back new (read_at_again links place front link back new at)
+    (gave_place links place front link back old new accepted moment room c.read_link.result _ _ at c.index_mut.ensures.value
+    c.read_link.ensures.link c.read_link.ensures.told turn rests c.in-Gave.count c.in-Gave.is)
 
 pub returns-in-Gave-clause-err : goal.returns-in-Gave-clause-err
-returns-in-Gave-clause-err g c = λ front back link at may live rests.
+returns-in-Gave-clause-err g c = λ front back link at turn rests.
     let links = c.args.table.now.links.items in
     let place = c.args.place in
     let old = c.index_mut.result.now in
@@ -24,14 +24,15 @@ returns-in-Gave-clause-err g c = λ front back link at may live rests.
     let room = c.read_link.new.room in
     let accepted = c.args.table.now.accepted in
     let moment = c.args.table.now.moment in
-    gave_lost links place front link back old new accepted moment room c.read_link.result _ _ at c.index_mut.ensures.value
-    c.read_link.ensures.link c.read_link.ensures.told may live rests c.in-Gave.count c.in-Gave.is c.hear_piece.result _ c.hear_piece.ensures.calls_err
+    c.hear_given.ensures.err front back new (read_at_again links place front link back new at)
+    (gave_place links place front link back old new accepted moment room c.read_link.result _ _ at c.index_mut.ensures.value
+    c.read_link.ensures.link c.read_link.ensures.told turn rests c.in-Gave.count c.in-Gave.is)
 
 pub returns-in-Gave-clause-none : goal.returns-in-Gave-clause-none
-returns-in-Gave-clause-none g c = λ front back link at is. absurd (c.hear_piece.ensures.some is)
+returns-in-Gave-clause-none g c = λ front back link at is. absurd (c.hear_given.ensures.some is)
 
 pub returns-in-Blocked-clause-stands : goal.returns-in-Blocked-clause-stands
-returns-in-Blocked-clause-stands g c = λ front back link at may live rests.
+returns-in-Blocked-clause-stands g c = λ front back link at turn rests.
     let links = c.args.table.now.links.items in
     let place = c.args.place in
     let old = c.index_mut.result.now in
@@ -40,7 +41,7 @@ returns-in-Blocked-clause-stands g c = λ front back link at may live rests.
     let accepted = c.args.table.now.accepted in
     let moment = c.args.table.now.moment in
     blocked_place links place front link back old new accepted moment room c.read_link.result _ _ at c.index_mut.ensures.value
-    c.read_link.ensures.link c.read_link.ensures.told may live rests c.in-Blocked.is
+    c.read_link.ensures.link c.read_link.ensures.told turn rests c.in-Blocked.is
 
 pub returns-in-Blocked-clause-none : goal.returns-in-Blocked-clause-none
 returns-in-Blocked-clause-none g c = λ front back link at is.
@@ -48,7 +49,7 @@ returns-in-Blocked-clause-none g c = λ front back link at is.
     c.read_link.ensures.link c.in-Blocked.is
 
 pub returns-in-Ended-clause-stands : goal.returns-in-Ended-clause-stands
-returns-in-Ended-clause-stands g c = λ front back link at may live rests.
+returns-in-Ended-clause-stands g c = λ front back link at turn rests.
     let links = c.args.table.now.links.items in
     let place = c.args.place in
     let old = c.index_mut.result.now in
@@ -57,12 +58,12 @@ returns-in-Ended-clause-stands g c = λ front back link at may live rests.
     let accepted = c.args.table.now.accepted in
     let moment = c.args.table.now.moment in
     let over = over_place links place front link back old new accepted moment room c.read_link.result _ _ at c.index_mut.ensures.value
-    c.read_link.ensures.link c.read_link.ensures.told may live rests (inl c.in-Ended.is) in
+    c.read_link.ensures.link c.read_link.ensures.told turn rests (inl c.in-Ended.is) in
     c.hear_close.ensures.stands front back new
     (read_at_again links place front link back new at) over.1 over.0
 
 pub returns-in-Ended-clause-err : goal.returns-in-Ended-clause-err
-returns-in-Ended-clause-err g c = λ front back link at may live rests.
+returns-in-Ended-clause-err g c = λ front back link at turn rests.
     let links = c.args.table.now.links.items in
     let place = c.args.place in
     let old = c.index_mut.result.now in
@@ -71,14 +72,14 @@ returns-in-Ended-clause-err g c = λ front back link at may live rests.
     let accepted = c.args.table.now.accepted in
     let moment = c.args.table.now.moment in
     let over = over_place links place front link back old new accepted moment room c.read_link.result _ _ at c.index_mut.ensures.value
-    c.read_link.ensures.link c.read_link.ensures.told may live rests (inl c.in-Ended.is) in
+    c.read_link.ensures.link c.read_link.ensures.told turn rests (inl c.in-Ended.is) in
     close_lost c.hear_close.result _ _ _ _ c.hear_close.ensures.table_err c.hear_close.ensures.calls_err over.0
 
 pub returns-in-Ended-clause-none : goal.returns-in-Ended-clause-none
 returns-in-Ended-clause-none g c = λ front back link at is. absurd (c.hear_close.ensures.some is)
 
 pub returns-in-Broken-clause-stands : goal.returns-in-Broken-clause-stands
-returns-in-Broken-clause-stands g c = λ front back link at may live rests.
+returns-in-Broken-clause-stands g c = λ front back link at turn rests.
     let links = c.args.table.now.links.items in
     let place = c.args.place in
     let old = c.index_mut.result.now in
@@ -87,12 +88,12 @@ returns-in-Broken-clause-stands g c = λ front back link at may live rests.
     let accepted = c.args.table.now.accepted in
     let moment = c.args.table.now.moment in
     let over = over_place links place front link back old new accepted moment room c.read_link.result _ _ at c.index_mut.ensures.value
-    c.read_link.ensures.link c.read_link.ensures.told may live rests (inr c.in-Broken.is) in
+    c.read_link.ensures.link c.read_link.ensures.told turn rests (inr c.in-Broken.is) in
     c.hear_close-in-Broken.ensures.stands front back new
     (read_at_again links place front link back new at) over.1 over.0
 
 pub returns-in-Broken-clause-err : goal.returns-in-Broken-clause-err
-returns-in-Broken-clause-err g c = λ front back link at may live rests.
+returns-in-Broken-clause-err g c = λ front back link at turn rests.
     let links = c.args.table.now.links.items in
     let place = c.args.place in
     let old = c.index_mut.result.now in
@@ -101,7 +102,7 @@ returns-in-Broken-clause-err g c = λ front back link at may live rests.
     let accepted = c.args.table.now.accepted in
     let moment = c.args.table.now.moment in
     let over = over_place links place front link back old new accepted moment room c.read_link.result _ _ at c.index_mut.ensures.value
-    c.read_link.ensures.link c.read_link.ensures.told may live rests (inr c.in-Broken.is) in
+    c.read_link.ensures.link c.read_link.ensures.told turn rests (inr c.in-Broken.is) in
     close_lost c.hear_close-in-Broken.result _ _ _ _ c.hear_close-in-Broken.ensures.table_err c.hear_close-in-Broken.ensures.calls_err over.0
 
 pub returns-in-Broken-clause-none : goal.returns-in-Broken-clause-none

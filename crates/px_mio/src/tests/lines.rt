@@ -1,11 +1,11 @@
 //! Runs of lines over the wire in memory: partial writes, read marks, and what is passed over.
 ghost use Rattle.std.specs.Prelude.{◌≢◌};
 
-use crate::{Flushed, Lines, MemWire, Ready};
 use px_event::{Door, Heard, Said, Side};
 use px_message::{Address, Host};
 use px_outside::{Net, NetError};
 use px_text::Bytes;
+use px_wire::{Flushed, Lines, MemWire, Ready};
 use std::alloc::Global;
 use std::rt::HostRuntime;
 use std::test::Fail;
