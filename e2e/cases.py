@@ -377,6 +377,41 @@ def let_go(mitm, before):
         return False
 
 
+def unescaped(text):
+    """The bytes of a text of a row (docs/rows.md)."""
+    marks = {"r": b"\r", "n": b"\n", "t": b"\t", "\\": b"\\"}
+    out, place = b"", 0
+    while place < len(text):
+        if text[place] != "\\":
+            out, place = out + text[place].encode(), place + 1
+        elif text[place + 1] == "x":
+            out, place = out + bytes.fromhex(text[place + 2:place + 4]), place + 4
+        else:
+            out, place = out + marks[text[place + 1]], place + 2
+    return out
+
+
+def flow_files():
+    """Whether flow files go both ways: Python reads what a row proves to be written, and a row reads what Python writes."""
+    top = os.path.join(os.path.dirname(os.path.abspath(__file__)), "..")
+    with open(os.path.join(top, "crates", "rows", "data", "flow_files.rows"), encoding="utf-8") as rows:
+        halves = [row.rstrip("\n").split("=> ", 1) for row in rows if "=> " in row]
+    stored = os.path.join(top, "examples", "written.flows")
+    with open(stored, "rb") as file:
+        told = file.read()
+    by_python = subprocess.run([sys.executable, os.path.join(top, "examples", "write_flows.py")], stdout=subprocess.PIPE, check=True).stdout
+    read = subprocess.run([sys.executable, os.path.join(top, "examples", "read_flows.py"), stored], stdout=subprocess.PIPE, check=True).stdout
+    try:
+        assert any(half[0] == "" and unescaped(half[1]) == told for half in halves), "no row writes examples/written.flows"
+        assert any(unescaped(half[0]).rstrip(b" ") == by_python for half in halves), "no row reads what examples/write_flows.py writes"
+        same(read.decode().splitlines(), ["POST http://h/a?b 200 256 -"])
+        print("e2e: flow files, both ways: passed", flush=True)
+        return True
+    except AssertionError as error:
+        print(f"e2e: flow files, both ways: failed: {error}", flush=True)
+        return False
+
+
 def main():
     for number in (signal.SIGTERM, signal.SIGHUP, signal.SIGALRM):
         signal.signal(number, lambda number, _: sys.exit(f"e2e: ended by signal {number}"))
@@ -390,6 +425,8 @@ def main():
         passed, failed = try_cases(mitm, origin)
         closes = let_go(mitm, before)
         passed, failed = passed + closes, failed + (not closes)
+        both_ways = flow_files()
+        passed, failed = passed + both_ways, failed + (not both_ways)
     finally:
         mitm.stop()
         origin.stop()

@@ -24,8 +24,6 @@ mod laws;
 mod length;
 mod reading;
 mod scalar;
-#[cfg(test)]
-mod tests;
 mod tree;
 mod writing;
 

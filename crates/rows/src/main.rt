@@ -7,6 +7,9 @@
 
 mod conversation;
 mod diagram;
+mod filters;
+mod flow_files;
+mod flows;
 mod heads;
 mod lengths;
 mod messages;
@@ -14,6 +17,7 @@ mod play;
 mod replies;
 mod run;
 mod told;
+mod trees;
 mod values;
 mod written;
 

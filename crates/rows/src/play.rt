@@ -1,11 +1,14 @@
 //! A row of any kind, played at its cuts and compared.
 use crate::conversation::play_conversation;
 use crate::diagram::{Diagram, read_diagram};
+use crate::filters::{asked_plainly, filter_answer, parts_answer, rules_answer, shown_refusal};
+use crate::flow_files::{changed_file, flow_text, flows_in};
 use crate::heads::take_heads;
 use crate::lengths::{length_answer, settle_answer};
 use crate::messages::{read_chunks, read_message};
 use crate::replies::hooks_of;
 use crate::run::play_run;
+use crate::trees::tree_answer;
 use crate::values::value_answer;
 use crate::written::written_answer;
 use px_rows::{Cut, Cuts, Row, RowError, Trouble, add_cuts, plain_cuts, unescape};
@@ -181,5 +184,36 @@ fn answer(alloc: Global, kind: &str, bytes: &[u8], cut: Cut) -> Result<String, R
     if let Some(of) = kind.strip_prefix("written ") {
         return written_answer(alloc, of, bytes);
     }
-    value_answer(alloc, kind, bytes)
+    rule_answer(alloc, kind, bytes)
+}
+
+// Of filters, of rules and of trees.
+fn rule_answer(alloc: Global, kind: &str, bytes: &[u8]) -> Result<String, RowError> {
+    if let Some(on) = kind.strip_prefix("filters") {
+        return filter_answer(alloc, on, bytes);
+    }
+    if let Some(what) = kind.strip_prefix("rules ") {
+        return rules_answer(alloc, what, bytes);
+    }
+    if let Some(most) = kind.strip_prefix("parts of at most ") {
+        return parts_answer(alloc, most, bytes);
+    }
+    if let Some(what) = kind.strip_prefix("requests ") {
+        return asked_plainly(alloc, what, bytes);
+    }
+    if let Some(flow) = kind.strip_prefix("flow files of ") {
+        return match str::from_utf8(bytes) {
+            Ok(changes) => changed_file(alloc, flow, changes),
+            Err(_) => Err(RowError::Bad),
+        };
+    }
+    if let Some(flow) = kind.strip_prefix("flow texts of ") {
+        return flow_text(alloc, flow);
+    }
+    match kind {
+        "flow files" => flows_in(alloc, bytes),
+        "shown refusals" => shown_refusal(alloc, bytes),
+        "trees" => tree_answer(alloc, bytes),
+        _ => value_answer(alloc, kind, bytes),
+    }
 }

@@ -2,7 +2,7 @@
 use crate::diagram::{Diagram, HookLine};
 use px_event::{Hook, Reply};
 use px_message::{
-    Body, Fault, Fields, Flow, Host, Name, Path, Request, Response, Status, Value, Version,
+    Body, Fault, Fields, Flow, Host, Name, Path, Request, Response, Shared, Status, Value, Version,
 };
 use px_rows::{RowError, Trouble, unescape};
 use px_write::short_response;
@@ -129,7 +129,9 @@ fn oddly(flow: &Flow) -> Result<Reply, RowError> {
 fn changed(alloc: Global, text: &str, flow: &Flow) -> Result<Reply, RowError> {
     if let Some(changes) = text.strip_prefix("request ") {
         let mut flow = flow.try_clone()?;
-        change_request(alloc, &mut flow.request, changes)?;
+        let mut request = flow.request.get().try_clone()?;
+        change_request(alloc, &mut request, changes)?;
+        flow.request = Shared::new(alloc, request)?;
         return Ok(Reply::Go { flow, stream: None });
     }
     if let Some(changes) = text.strip_prefix("response ") {
@@ -144,19 +146,19 @@ fn changed(alloc: Global, text: &str, flow: &Flow) -> Result<Reply, RowError> {
 // The flow with its response changed. Where it has none, it gets one.
 fn with_response(alloc: Global, flow: &Flow, changes: &str) -> Result<Reply, RowError> {
     let mut flow = flow.try_clone()?;
-    let response = answer_with(alloc, flow.response, changes)?;
-    flow.response = Some(response);
+    let response = answer_with(alloc, &flow.response, changes)?;
+    flow.response = Some(Shared::new(alloc, response)?);
     Ok(Reply::Go { flow, stream: None })
 }
 
 // The response, or a short one of 200, changed.
 fn answer_with(
     alloc: Global,
-    response: Option<Response>,
+    response: &Option<Shared<Response>>,
     changes: &str,
 ) -> Result<Response, RowError> {
     let response = match response {
-        Some(response) => response,
+        Some(response) => response.get().try_clone()?,
         None => short_response(alloc, status_of("200")?)?,
     };
     change_response(alloc, response, changes)
@@ -172,7 +174,11 @@ fn respond(alloc: Global, text: &str) -> Result<Reply, RowError> {
     Ok(Reply::Respond(change_response(alloc, short, changes)?))
 }
 
-fn change_request(alloc: Global, request: &mut Request, changes: &str) -> Result<(), RowError> {
+pub(crate) fn change_request(
+    alloc: Global,
+    request: &mut Request,
+    changes: &str,
+) -> Result<(), RowError> {
     for change in changes.split("; ") {
         let (what, text) = word_of(change);
         change_request_once(alloc, request, what, text)?;
@@ -240,7 +246,11 @@ fn set_port(request: &mut Request, text: &str) -> Result<(), RowError> {
     Ok(())
 }
 
-fn change_response(alloc: Global, response: Response, changes: &str) -> Result<Response, RowError> {
+pub(crate) fn change_response(
+    alloc: Global,
+    response: Response,
+    changes: &str,
+) -> Result<Response, RowError> {
     let mut response = response;
     if changes.is_empty() {
         return Ok(response);

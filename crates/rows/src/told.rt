@@ -1,6 +1,6 @@
 //! Commands, as lines.
 use px_event::{Ask, Command};
-use px_message::{Flow, Request, Response};
+use px_message::{Flow, Request, Response, Shared};
 use px_rows::{
     Peer, RowError, end_line, show_address, show_close, show_dial, show_send, write_escaped,
 };
@@ -108,9 +108,9 @@ fn show_ask(out: &mut String, ask: Ask) -> Result<(), RowError> {
 fn show_flow(out: &mut String, flow: &Flow) -> Result<(), RowError> {
     let index = flow.id.index;
     write!(out, "done {index} ")?;
-    write_escaped(out, flow.request.method.bytes())?;
+    write_escaped(out, flow.request.get().method.bytes())?;
     out.push(' ')?;
-    show_url(out, &flow.request)?;
+    show_url(out, flow.request.get())?;
     show_size(out, &flow.response)?;
     show_error(out, flow)
 }
@@ -120,9 +120,10 @@ fn show_url(out: &mut String, request: &Request) -> Result<(), RowError> {
     write_escaped(out, &url)
 }
 
-fn show_size(out: &mut String, response: &Option<Response>) -> Result<(), RowError> {
+fn show_size(out: &mut String, response: &Option<Shared<Response>>) -> Result<(), RowError> {
     match response {
         Some(response) => {
+            let response = response.get();
             let code = response.status.code();
             let size = response.body.bytes().len();
             write!(out, " {code} {size}")?;
@@ -145,7 +146,7 @@ fn show_whole(alloc: Global, told: Told, out: &mut String, flow: &Flow) -> Resul
     if told == Told::Line {
         return Ok(());
     }
-    show_request(alloc, out, &flow.request)?;
+    show_request(alloc, out, flow.request.get())?;
     show_response(alloc, out, &flow.response)?;
     show_moments(out, flow)?;
     show_rest(out, flow)
@@ -199,7 +200,7 @@ fn show_request(alloc: Global, out: &mut String, request: &Request) -> Result<()
 fn show_response(
     alloc: Global,
     out: &mut String,
-    response: &Option<Response>,
+    response: &Option<Shared<Response>>,
 ) -> Result<(), RowError> {
     out.push_str(" | ")?;
     let Some(response) = response else {
@@ -207,6 +208,7 @@ fn show_response(
         return Ok(());
     };
     let mut text = Vec::new(alloc);
+    let response = response.get();
     write_response(response, false, &mut text)?;
     write_escaped(out, &text)?;
     if response.streamed {

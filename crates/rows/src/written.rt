@@ -3,7 +3,10 @@ use crate::lengths::split_at_stroke;
 use crate::replies::{host_of, name_of, path_of, status_of, value_of};
 use px_message::{Body, Fault, Fields, Name, Request, Response, Status, Value, Version};
 use px_rows::{RowError, write_escaped};
-use px_write::{Form, error_text, short_response, write_request, write_response};
+use px_write::{
+    Form, error_text, short_response, write_chunk_end, write_chunk_start, write_interim,
+    write_last_chunk, write_request, write_response,
+};
 use std::alloc::Global;
 
 /// The fields that stand one a line, as `A: 1`.
@@ -98,13 +101,16 @@ pub(crate) fn new_response(alloc: Global, code: u16) -> Result<Response, RowErro
     })
 }
 
-/// What is written of a `request` or a `response`, of a `short` response, or in answer to a fault.
+/// What is written of a `request` or a `response`, of an `interim` or a `short` response, in answer to a fault, or of a
+/// streamed body.
 pub(crate) fn written_answer(alloc: Global, of: &str, bytes: &[u8]) -> Result<String, RowError> {
     let mut text = Vec::new(alloc);
     match of {
         "request" => write_of_request(alloc, bytes, Form::Origin, &mut text)?,
         "request absolute" => write_of_request(alloc, bytes, Form::Absolute, &mut text)?,
         "short response" => write_short(alloc, bytes, &mut text)?,
+        "interim" => write_hints(alloc, bytes, &mut text)?,
+        "streamed body" => write_streamed(alloc, bytes, &mut text)?,
         "answer" => write_answer(bytes, false, &mut text)?,
         "answer to HEAD" => write_answer(bytes, true, &mut text)?,
         _ => write_of_response(alloc, of, bytes, &mut text)?,
@@ -149,6 +155,26 @@ fn write_of_response(
     response.fields = read_fields(alloc, before)?;
     response.body = Body::new(Vec::from_slice(alloc, content)?)?;
     write_response(&response, to_head, text)?;
+    Ok(())
+}
+
+// An interim response of the code 103 and this reason, with these fields.
+fn write_hints(alloc: Global, bytes: &[u8], text: &mut Vec<u8>) -> Result<(), RowError> {
+    let (reason, before) = split_at_stroke(bytes);
+    let reason = raw_value(alloc, reason)?;
+    let fields = read_fields(alloc, before)?;
+    write_interim(Version::Http11, 103, &reason, &fields, text)?;
+    Ok(())
+}
+
+// A body that passes by in one chunk, with these trailers.
+fn write_streamed(alloc: Global, bytes: &[u8], text: &mut Vec<u8>) -> Result<(), RowError> {
+    let (content, before) = split_at_stroke(bytes);
+    let trailers = read_fields(alloc, before)?;
+    write_chunk_start(content.len() as u64, text)?;
+    text.extend_from_slice(content)?;
+    write_chunk_end(text)?;
+    write_last_chunk(&trailers, text)?;
     Ok(())
 }
 

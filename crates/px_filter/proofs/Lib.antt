@@ -1,0 +1,12 @@
+pub mod BlankLemmas
+pub mod GrammarLemmas
+pub mod HoldLemmas
+pub mod ListLemmas
+pub mod MovedLemmas
+pub mod ParenthesisLemmas
+pub mod PatternLemmas
+pub mod PlaceLemmas
+pub mod PutLemmas
+pub mod SoundLemmas
+pub mod TokenLemmas
+pub mod WrittenLemmas

@@ -1,0 +1,15 @@
+pub mod Blanks
+pub mod Expression
+pub mod Grammar
+pub mod Holds
+pub mod Named
+pub mod Operators
+pub mod Parsing
+pub mod Pattern
+pub mod Quoting
+pub mod Reading
+pub mod Shown
+pub mod Stands
+pub mod Tokens
+pub mod View
+pub mod Written

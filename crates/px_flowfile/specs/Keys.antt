@@ -1,0 +1,35 @@
+-- The names of the keys.
+use Rattle.std.specs.Prelude.{ℕ, List, codes}
+use Rattle.px_flowfile.specs.declared.key.Key.{Key}
+use Rattle.px_flowfile.specs.declared.key.Key.TheVariants as key
+
+abbrev pub name_of : Key → List ℕ
+name_of key.Flow = codes "flow"
+name_of key.Version = codes "version"
+name_of key.Type = codes "type"
+name_of key.Id = codes "id"
+name_of key.ClientConn = codes "client_conn"
+name_of key.ServerConn = codes "server_conn"
+name_of key.Request = codes "request"
+name_of key.Response = codes "response"
+name_of key.Error = codes "error"
+name_of key.IsReplay = codes "is_replay"
+name_of key.Marked = codes "marked"
+name_of key.Websocket = codes "websocket"
+name_of key.Address = codes "address"
+name_of key.Msg = codes "msg"
+name_of key.Timestamp = codes "timestamp"
+name_of key.HttpVersion = codes "http_version"
+name_of key.StatusCode = codes "status_code"
+name_of key.Reason = codes "reason"
+name_of key.Headers = codes "headers"
+name_of key.Content = codes "content"
+name_of key.Trailers = codes "trailers"
+name_of key.TimestampStart = codes "timestamp_start"
+name_of key.TimestampEnd = codes "timestamp_end"
+name_of key.Host = codes "host"
+name_of key.Port = codes "port"
+name_of key.Method = codes "method"
+name_of key.Scheme = codes "scheme"
+name_of key.Authority = codes "authority"
+name_of key.Path = codes "path"

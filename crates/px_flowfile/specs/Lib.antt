@@ -1,0 +1,15 @@
+pub mod Keys
+pub mod Kind
+pub mod Table
+pub mod Simple
+pub mod Message
+pub mod Ends
+pub mod Asked
+pub mod Answered
+pub mod FlowTable
+pub mod Plain
+pub mod Both
+pub mod Unknown
+pub mod Reader
+pub mod OthersView
+pub mod Props

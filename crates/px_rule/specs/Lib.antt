@@ -1,0 +1,11 @@
+pub mod Spec
+pub mod Parts
+pub mod Pattern
+pub mod Refused
+pub mod Rule
+pub mod Header
+pub mod Body
+pub mod View
+pub mod Causes
+pub mod Laws
+pub mod Requests

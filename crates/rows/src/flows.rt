@@ -1,0 +1,184 @@
+//! Flows that a row is about.
+use crate::replies::{change_request, change_response, host_of, status_of};
+use crate::written::new_request;
+use px_message::{Address, Flow, FlowError, FlowId, Replayed, Request, Shared, Times, WsMessage};
+use px_rows::{RowError, unescape};
+use px_text::Bytes;
+use px_write::short_response;
+use std::alloc::Global;
+
+/// The flow of `GET http://h/`, changed by each of these parts, which have strokes between them; `-` changes nothing.
+pub(crate) fn flow_of(alloc: Global, text: &str) -> Result<Flow, RowError> {
+    let mut flow = plain_flow(alloc)?;
+    for part in text.split(" | ") {
+        change_flow(alloc, &mut flow, part)?;
+    }
+    Ok(flow)
+}
+
+fn plain_request(alloc: Global) -> Result<Request, RowError> {
+    let mut request = new_request(alloc)?;
+    change_request(alloc, &mut request, "method GET; port 80; path /")?;
+    Ok(request)
+}
+
+fn plain_flow(alloc: Global) -> Result<Flow, RowError> {
+    let request = Shared::new(alloc, plain_request(alloc)?)?;
+    Ok(Flow {
+        id: FlowId { conv: 0, index: 0 },
+        client: None,
+        server: None,
+        request,
+        response: None,
+        error: None,
+        times: Times {
+            request_start: 0,
+            request_end: None,
+            response_start: None,
+            response_end: None,
+        },
+        replayed: Replayed::No,
+        marked: false,
+        websocket: false,
+        message: None,
+    })
+}
+
+fn change_flow(alloc: Global, flow: &mut Flow, part: &str) -> Result<(), RowError> {
+    let (what, text) = match part.split_once(' ') {
+        Some(halves) => halves,
+        None => (part, ""),
+    };
+    match what {
+        "-" => Ok(()),
+        "request" => put_request(alloc, flow, text),
+        "response" => put_response(alloc, flow, text),
+        "error" => put_error(alloc, flow, text),
+        "client" => put_client(alloc, flow, text),
+        "server" => put_server(alloc, flow, text),
+        "message" => put_message(alloc, flow, text),
+        _ => change_plainly(flow, what, text),
+    }
+}
+
+fn put_request(alloc: Global, flow: &mut Flow, changes: &str) -> Result<(), RowError> {
+    let mut request = flow.request.get().try_clone()?;
+    change_request(alloc, &mut request, changes)?;
+    flow.request = Shared::new(alloc, request)?;
+    Ok(())
+}
+
+// The short response of a status, changed, as `404` or `200; body hi`.
+fn put_response(alloc: Global, flow: &mut Flow, text: &str) -> Result<(), RowError> {
+    let (status, changes) = match text.split_once("; ") {
+        Some(halves) => halves,
+        None => (text, ""),
+    };
+    let short = short_response(alloc, status_of(status)?)?;
+    let response = change_response(alloc, short, changes)?;
+    flow.response = Some(Shared::new(alloc, response)?);
+    Ok(())
+}
+
+fn put_error(alloc: Global, flow: &mut Flow, text: &str) -> Result<(), RowError> {
+    let msg = Bytes::new(unescape(alloc, text)?)?;
+    flow.error = Some(FlowError { msg, moment: 0 });
+    Ok(())
+}
+
+fn put_client(alloc: Global, flow: &mut Flow, text: &str) -> Result<(), RowError> {
+    flow.client = Some(address_of(alloc, text)?);
+    Ok(())
+}
+
+fn put_server(alloc: Global, flow: &mut Flow, text: &str) -> Result<(), RowError> {
+    flow.server = Some(address_of(alloc, text)?);
+    Ok(())
+}
+
+// `h:80`
+fn address_of(alloc: Global, text: &str) -> Result<Address, RowError> {
+    let Some((host, port)) = text.rsplit_once(':') else {
+        return Err(RowError::Bad);
+    };
+    let Ok(port) = port.parse::<u16>() else {
+        return Err(RowError::Bad);
+    };
+    let host = host_of(alloc, host)?;
+    Ok(Address { host, port })
+}
+
+// `client TEXT` or `server TEXT`: whose message it is.
+fn put_message(alloc: Global, flow: &mut Flow, text: &str) -> Result<(), RowError> {
+    let (from_client, text) = match text.split_once(' ') {
+        Some(("client", text)) => (true, text),
+        Some(("server", text)) => (false, text),
+        _ => return Err(RowError::Bad),
+    };
+    let payload = Bytes::new(unescape(alloc, text)?)?;
+    flow.message = Some(WsMessage {
+        from_client,
+        text: false,
+        payload,
+    });
+    Ok(())
+}
+
+fn change_plainly(flow: &mut Flow, what: &str, text: &str) -> Result<(), RowError> {
+    match (what, text) {
+        ("marked", "") => flow.marked = true,
+        ("websocket", "") => flow.websocket = true,
+        ("replayed", "request") => flow.replayed = Replayed::Request,
+        ("replayed", "response") => flow.replayed = Replayed::Response,
+        ("id", text) => flow.id = id_of(text)?,
+        ("moments", text) => flow.times = times_of(text)?,
+        ("error-moment", text) => put_error_moment(flow, number_of(text)?),
+        _ => return Err(RowError::Bad),
+    }
+    Ok(())
+}
+
+fn put_error_moment(flow: &mut Flow, moment: u64) {
+    if let Some(error) = &mut flow.error {
+        error.moment = moment;
+    }
+}
+
+// `7.12`
+fn id_of(text: &str) -> Result<FlowId, RowError> {
+    let Some((conv, index)) = text.split_once('.') else {
+        return Err(RowError::Bad);
+    };
+    match (conv.parse::<u32>(), index.parse::<u32>()) {
+        (Ok(conv), Ok(index)) => Ok(FlowId { conv, index }),
+        _ => Err(RowError::Bad),
+    }
+}
+
+fn number_of(text: &str) -> Result<u64, RowError> {
+    match text.parse::<u64>() {
+        Ok(number) => Ok(number),
+        Err(_) => Err(RowError::Bad),
+    }
+}
+
+fn moment_of(text: Option<&str>) -> Result<Option<u64>, RowError> {
+    match text {
+        None | Some("-") => Ok(None),
+        Some(text) => Ok(Some(number_of(text)?)),
+    }
+}
+
+// When the request began and ended, and the response, as `1 2 3 -`.
+fn times_of(text: &str) -> Result<Times, RowError> {
+    let mut words = text.split(' ');
+    let Some(request_start) = moment_of(words.next())? else {
+        return Err(RowError::Bad);
+    };
+    Ok(Times {
+        request_start,
+        request_end: moment_of(words.next())?,
+        response_start: moment_of(words.next())?,
+        response_end: moment_of(words.next())?,
+    })
+}
