@@ -104,6 +104,9 @@ fn address_of(alloc: Global, text: &str) -> Result<Address, RowError> {
     let Ok(port) = port.parse::<u16>() else {
         return Err(RowError::Bad);
     };
+    if port == 0 {
+        return Err(RowError::Bad);
+    }
     let host = host_of(alloc, host)?;
     Ok(Address { host, port })
 }

@@ -1,7 +1,7 @@
 //! Tnetstrings: trees and their texts.
 use px_rows::{RowError, write_escaped};
 use px_text::Bytes;
-use px_tnet::{Tnet, TnetDict, TnetError, TnetKey, WriteError, read, write};
+use px_tnet::{Tnet, TnetError, WriteError, read, write};
 use std::alloc::Global;
 
 /// The tree that the text begins with and what stands behind it, or its refusal; and that the tree has the text that was
@@ -47,14 +47,14 @@ pub(crate) fn text_of(alloc: Global, tree: &Tnet) -> Result<Vec<u8>, RowError> {
     }
 }
 
-// A blob in `'`, a text in `"`, a float behind `^`, a list in brackets, a dictionary in braces.
+// A blob in `'`, a text in `"`, a float behind `^`, and of a list or a dictionary how many items or pairs it has.
 fn show_tree(out: &mut String, tree: &Tnet) -> Result<(), RowError> {
     match tree {
         Tnet::Blob(bytes) => show_quoted(out, '\'', bytes.as_slice()),
         Tnet::Text(bytes) => show_quoted(out, '"', bytes.as_slice()),
         Tnet::Float(bytes) => show_float(out, bytes.as_slice()),
-        Tnet::List(list) => show_items(out, list.as_slice()),
-        Tnet::Dict(dict) => show_pairs(out, dict),
+        Tnet::List(list) => show_count(out, "list of", list.as_slice().len()),
+        Tnet::Dict(dict) => show_count(out, "dictionary of", dict.as_slice().len()),
         _ => show_plain(out, tree),
     }
 }
@@ -80,36 +80,7 @@ fn show_float(out: &mut String, bytes: &[u8]) -> Result<(), RowError> {
     write_escaped(out, bytes)
 }
 
-fn show_items(out: &mut String, items: &[Tnet]) -> Result<(), RowError> {
-    out.push('[')?;
-    let mut first = true;
-    for item in items {
-        if !first {
-            out.push_str(", ")?;
-        }
-        first = false;
-        show_tree(out, item)?;
-    }
-    out.push(']')?;
+fn show_count(out: &mut String, what: &str, count: usize) -> Result<(), RowError> {
+    write!(out, "{what} {count}")?;
     Ok(())
-}
-
-fn show_pairs(out: &mut String, dict: &TnetDict) -> Result<(), RowError> {
-    out.push('{')?;
-    let mut first = true;
-    for (key, item) in dict.as_slice() {
-        if !first {
-            out.push_str(", ")?;
-        }
-        first = false;
-        show_key(out, key)?;
-        out.push_str(": ")?;
-        show_tree(out, item)?;
-    }
-    out.push('}')?;
-    Ok(())
-}
-
-fn show_key(out: &mut String, key: &TnetKey) -> Result<(), RowError> {
-    show_quoted(out, if key.text { '"' } else { '\'' }, key.bytes.as_slice())
 }
