@@ -1,0 +1,9 @@
+pub mod Endings
+pub mod Frames
+pub mod Fronts
+pub mod Head
+pub mod HeadFits
+pub mod Laws
+pub mod Mask
+pub mod Reader
+pub mod Text

@@ -1,0 +1,4 @@
+pub mod KeyLemmas
+pub mod PlaceLemmas
+pub mod RunLemmas
+pub mod ParameterLemmas

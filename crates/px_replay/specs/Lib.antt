@@ -1,0 +1,5 @@
+pub mod Key
+pub mod Same
+pub mod Replaying
+pub mod Replayed
+pub mod Agree
