@@ -6,9 +6,9 @@ use Rattle.px_message.proofs.AddressLemmas.{address_eq}
 use Rattle.px_event.specs.Trace.{Trace}
 use Rattle.px_outside.specs.declared.net.NetError.{NetError}
 use Rattle.px_outside.specs.declared.net.NetError.TheVariants as net
-use Rattle.px_core.specs.Answers.{Answering}
+use Rattle.px_core.specs.Answered.{IsAnswered}
+use Rattle.px_core.specs.Answers.{Answering, AnswererState}
 use Rattle.px_core.specs.Due.{Due, IsServed, IsAllTold, OpenOnesWait}
-use Rattle.px_core.specs.Ordered.{IsInOrder}
 use Rattle.px_app.specs.Own.{IsOwn}
 use Rattle.px_app.specs.Run.{IsRun, Told}
 use Rattle.px_app.specs.Statuses.{status_of, heard_count, ends_heard}
@@ -19,15 +19,16 @@ not_both : (b : Bool) → b ≡ true → b ≡ false → ⊥
 not_both true is other = absurd (cc)
 not_both false is other = absurd (cc)
 
-module _ {S : Type 0} (answers : Answering S) (due : Due) (budget : ℕ) (trace : Trace) (served : IsServed answers due trace) (own : IsOwn trace) (ordered : IsInOrder trace) where
+module _ {S : Type 0} (answers : Answering S) (due : Due) (first : AnswererState S) (budget : ℕ) (trace : Trace) (served : IsServed answers due trace)
+    (follows : IsAnswered answers due first trace) (own : IsOwn trace) where
   -- want of memory, at any moment
-  pub memory_run : IsRun answers due budget NoMemory trace
+  pub memory_run : IsRun answers due first budget NoMemory trace
   memory_run = record {
     served = served;
+    follows = follows;
     whole = λ other. absurd (other refl);
     waits = λ other. absurd (other refl);
     own = own;
-    ordered = ordered;
     is_end = record {
       ended = λ (e : NoMemory ≡ Ended). absurd (cc);
       ends = λ is. inr refl;
@@ -39,13 +40,13 @@ module _ {S : Type 0} (answers : Answering S) (due : Due) (budget : ℕ) (trace 
 
   module _ (all : IsAllTold due trace) (waiting : OpenOnesWait answers due trace) where
     -- the end was heard
-    pub ended_run : ends_heard trace ≡ true → IsRun answers due budget Ended trace
+    pub ended_run : ends_heard trace ≡ true → IsRun answers due first budget Ended trace
     ended_run last = record {
       served = served;
+      follows = follows;
       whole = λ _. all;
       waits = λ _. waiting;
       own = own;
-      ordered = ordered;
       is_end = record {
         ended = λ _. last;
         ends = λ is. inl refl;
@@ -56,13 +57,13 @@ module _ {S : Type 0} (answers : Answering S) (due : Due) (budget : ℕ) (trace 
     }
 
     -- the net failed, where more might be heard
-    pub fault_run : ends_heard trace ≡ false → heard_count trace < budget → IsRun answers due budget NetFault trace
+    pub fault_run : ends_heard trace ≡ false → heard_count trace < budget → IsRun answers due first budget NetFault trace
     fault_run goes_on below = record {
       served = served;
+      follows = follows;
       whole = λ _. all;
       waits = λ _. waiting;
       own = own;
-      ordered = ordered;
       is_end = record {
         ended = λ (e : NetFault ≡ Ended). absurd (cc);
         ends = λ is. absurd (not_both (ends_heard trace) is goes_on);
@@ -73,13 +74,13 @@ module _ {S : Type 0} (answers : Answering S) (due : Due) (budget : ℕ) (trace 
     }
 
     -- all that may be heard was heard
-    pub spent_run : ends_heard trace ≡ false → heard_count trace ≡ budget → IsRun answers due budget BudgetSpent trace
+    pub spent_run : ends_heard trace ≡ false → heard_count trace ≡ budget → IsRun answers due first budget BudgetSpent trace
     spent_run goes_on count = record {
       served = served;
+      follows = follows;
       whole = λ _. all;
       waits = λ _. waiting;
       own = own;
-      ordered = ordered;
       is_end = record {
         ended = λ (e : BudgetSpent ≡ Ended). absurd (cc);
         ends = λ is. absurd (not_both (ends_heard trace) is goes_on);
@@ -90,7 +91,7 @@ module _ {S : Type 0} (answers : Answering S) (due : Due) (budget : ℕ) (trace 
     }
 
     -- nothing was heard, for this error
-    pub error_run : (error : NetError) → ends_heard trace ≡ false → heard_count trace < budget → IsRun answers due budget (status_of error) trace
+    pub error_run : (error : NetError) → ends_heard trace ≡ false → heard_count trace < budget → IsRun answers due first budget (status_of error) trace
     error_run net.Fault goes_on below = fault_run goes_on below
     error_run net.NoMemory goes_on below = memory_run
 

@@ -11,11 +11,12 @@ use Rattle.px_event.specs.Trace.{Trace}
 use Rattle.px_event.specs.View.{View, seen_of}
 use Rattle.px_outside.specs.declared.net.NetError.{NetError}
 use Rattle.px_core.specs.declared.router.Router.{Router}
-use Rattle.px_core.specs.Answers.{Answering}
+use Rattle.px_core.specs.Answered.{IsAnswered, nothing_pending, at_first}
+use Rattle.px_core.specs.Answers.{Answering, AnswererState, FilesMeaning}
 use Rattle.px_core.specs.Due.{Due, due_in, IsServed, IsAllTold, IsWithinDue, EndsMet, OpenOnesWait}
 use Rattle.px_core.specs.Hooks.{EndsInTurn}
-use Rattle.px_core.specs.Ordered.{IsInOrder}
-use Rattle.px_core.specs.Router.{RouterStands}
+use Rattle.px_core.specs.declared.table.Table.{Table}
+use Rattle.px_core.specs.Router.{RouterStands, TableStands}
 use Rattle.px_core.specs.Run.{Tells, TellsOfHeard}
 use Rattle.px_event.proofs.TraceLemmas.{always_empty, before_empty}
 use Rattle.px_core.proofs.RouteLemmas.{all_told, open_ones_wait}
@@ -32,9 +33,6 @@ use Rattle.px_app.proofs.RunLemmas.{memory_run, ended_run, spent_run, error_run}
 pub own_empty : IsOwn []
 own_empty = tt
 
-pub ordered_empty : IsInOrder []
-ordered_empty = λ conv. tt
-
 one_trace : (a b : Trace) → Some a ≡ Some b → a ≡ b
 one_trace a b e = cc
 
@@ -45,86 +43,97 @@ told_of P before after told is tells = subst P (one_trace (before ++ tells.more)
 module _ {C S : Type 0} (standing : Standing C) (awaited : C → Option Ask) (number : C → ℕ) (made_due : C → List Move → List Command)
     (gave : (made state : C) (moves : List Move) (given : List Command) → standing made state moves given → (view : View) → seen_of view given ≡ seen_of view (made_due made moves))
     (grows : (made : C) (moves : List Move) (move : Move) (view : View) → IsPrefixOf (seen_of view (made_due made moves)) (seen_of view (made_due made (moves ++ move ∷ []))))
-    (answers : Answering S) (due : Due) where
-  all : {A : Type 0} (router : Router C A) (trace : Trace) → RouterStands standing awaited number made_due answers due router trace → IsAllTold due trace
-  all router trace stands = all_told standing awaited number made_due gave grows answers due router.table trace stands
+    (answers : Answering S) (due : Due) {first : AnswererState S} where
+  all : {now : AnswererState S} (table : Table C) (trace : Trace) → TableStands standing awaited number made_due answers due first now table trace → IsAllTold due trace
+  all table trace stands = all_told standing awaited number made_due gave grows answers due table trace stands
 
-  waits : {A : Type 0} (router : Router C A) (trace : Trace) → RouterStands standing awaited number made_due answers due router trace → OpenOnesWait answers due trace
-  waits router trace stands = open_ones_wait standing awaited number made_due gave grows answers due router.table trace stands
+  waits : {now : AnswererState S} (table : Table C) (trace : Trace) → TableStands standing awaited number made_due answers due first now table trace → OpenOnesWait answers due trace
+  waits table trace stands = open_ones_wait standing awaited number made_due gave grows answers due table trace stands
 
-  -- nothing was heard
-  pub tells_error : {A : Type 0} (router : Router C A) (budget : ℕ) (trace : Trace) (error : NetError) (status : Status) (told : Option Trace) →
-      Stands standing awaited number made_due answers due router trace → told ≡ Some trace → heard_count trace < budget → status ≡ status_of error →
-      Told (IsRun answers due budget status) told
-  tells_error router budget trace error status told stands is below same = record {
-    trace = trace;
-    tells = is;
-    holds = let P : Status → Type 0 = λ s. IsRun answers due budget s trace in
-        subst P (sym same) (error_run answers due budget trace stands.stands.served stands.own stands.ordered (all router trace stands.stands) (waits router trace stands.stands) error stands.goes_on below);
-  }
+  over : {now : AnswererState S} {table : Table C} {trace : Trace} → TableStands standing awaited number made_due answers due first now table trace → IsAnswered answers due first trace
+  over {now} stands = record { last = now; pending = stands.pending; answered = stands.answered }
 
-  -- memory ran out within the step
-  pub tells_memory : {A : Type 0} (router : Router C A) (budget : ℕ) (trace : Trace) (moment : ℕ) (what : Heard) (told : Option Trace) →
-      Stands standing awaited number made_due answers due router trace → Tells (IsServed answers due) (trace ++ steps.Heard moment what ∷ []) told →
-      TellsOfHeard what (trace ++ steps.Heard moment what ∷ []) told → Tells IsInOrder (trace ++ steps.Heard moment what ∷ []) told →
-      Told (IsRun answers due budget NoMemory) told
-  tells_memory router budget trace moment what told stands tells of ordered =
-      let after = (trace ++ steps.Heard moment what ∷ []) ++ tells.more in
-      let next = next_told trace moment what told after tells.is of in
-      record { trace = after; tells = tells.is; holds = memory_run answers due budget after tells.holds (next.own stands.own) (told_of IsInOrder _ after told tells.is ordered) }
+  module _ {A : Type 0} {state : A → S} where
+    -- nothing was heard
+    pub tells_error : {files : FilesMeaning} (router : Router C A) (budget : ℕ) (trace : Trace) (error : NetError) (status : Status) (told : Option Trace) →
+        Stands standing awaited number made_due answers state due first files router trace → told ≡ Some trace → heard_count trace < budget → status ≡ status_of error →
+        Told (IsRun answers due first budget status) told
+    tells_error router budget trace error status told stands is below same = record {
+      trace = trace;
+      tells = is;
+      holds = let P : Status → Type 0 = λ s. IsRun answers due first budget s trace in
+          subst P (sym same) (error_run answers due first budget trace stands.stands.served (over stands.stands) stands.own (all router.table trace stands.stands) (waits router.table trace stands.stands) error stands.goes_on below);
+    }
 
-  -- the end was heard
-  pub tells_ended : {A : Type 0} (router new : Router C A) (budget : ℕ) (trace : Trace) (moment : ℕ) (what : Heard) (told : Option Trace) →
-      Stands standing awaited number made_due answers due router trace → is_end what ≡ true →
-      Tells (RouterStands standing awaited number made_due answers due new) (trace ++ steps.Heard moment what ∷ []) told →
-      TellsOfHeard what (trace ++ steps.Heard moment what ∷ []) told → Tells IsInOrder (trace ++ steps.Heard moment what ∷ []) told →
-      Told (IsRun answers due budget Ended) told
-  tells_ended router new budget trace moment what told stands last tells of ordered =
-      let after = (trace ++ steps.Heard moment what ∷ []) ++ tells.more in
-      let next = next_told trace moment what told after tells.is of in
-      record {
-        trace = after;
-        tells = tells.is;
-        holds = ended_run answers due budget after tells.holds.served (next.own stands.own) (told_of IsInOrder _ after told tells.is ordered) (all new after tells.holds) (waits new after tells.holds) (next.ends ∙ last);
-      }
+    -- memory ran out within the step
+    pub tells_memory : {files : FilesMeaning} (router : Router C A) (budget : ℕ) (trace : Trace) (moment : ℕ) (what : Heard) (told : Option Trace) →
+        Stands standing awaited number made_due answers state due first files router trace → Tells (IsServed answers due) (trace ++ steps.Heard moment what ∷ []) told →
+        TellsOfHeard what (trace ++ steps.Heard moment what ∷ []) told →
+        Tells (IsAnswered answers due first) (trace ++ steps.Heard moment what ∷ []) told →
+        Told (IsRun answers due first budget NoMemory) told
+    tells_memory router budget trace moment what told stands tells of follows =
+        let after = (trace ++ steps.Heard moment what ∷ []) ++ tells.more in
+        let next = next_told trace moment what told after tells.is of in
+        record { trace = after; tells = tells.is; holds = memory_run answers due first budget after tells.holds (told_of (IsAnswered answers due first) _ after told tells.is follows) (next.own stands.own) }
 
-  -- the run goes on
-  pub goes_next : {A : Type 0} (router new : Router C A) (trace : Trace) (moment : ℕ) (what : Heard) (told : Option Trace) →
-      Stands standing awaited number made_due answers due router trace → is_end what ≡ false →
-      Tells (RouterStands standing awaited number made_due answers due new) (trace ++ steps.Heard moment what ∷ []) told →
-      TellsOfHeard what (trace ++ steps.Heard moment what ∷ []) told → Tells IsInOrder (trace ++ steps.Heard moment what ∷ []) told →
-      ToldNext (Stands standing awaited number made_due answers due new) trace told
-  goes_next router new trace moment what told stands other tells of ordered =
-      let after = (trace ++ steps.Heard moment what ∷ []) ++ tells.more in
-      let next = next_told trace moment what told after tells.is of in
-      record {
-        after = after;
-        tells = tells.is;
-        count = next.count;
-        holds = record { stands = tells.holds; own = next.own stands.own; ordered = told_of IsInOrder _ after told tells.is ordered; goes_on = next.ends ∙ other };
-      }
+    -- the end was heard
+    pub tells_ended : {files new_files : FilesMeaning} (router new : Router C A) (budget : ℕ) (trace : Trace) (moment : ℕ) (what : Heard) (told : Option Trace) →
+        Stands standing awaited number made_due answers state due first files router trace → is_end what ≡ true →
+        Tells (RouterStands standing awaited number made_due answers state due first new_files new) (trace ++ steps.Heard moment what ∷ []) told →
+        TellsOfHeard what (trace ++ steps.Heard moment what ∷ []) told →
+        Told (IsRun answers due first budget Ended) told
+    tells_ended router new budget trace moment what told stands last tells of =
+        let after = (trace ++ steps.Heard moment what ∷ []) ++ tells.more in
+        let next = next_told trace moment what told after tells.is of in
+        record {
+          trace = after;
+          tells = tells.is;
+          holds = ended_run answers due first budget after tells.holds.served (over tells.holds) (next.own stands.own) (all new.table after tells.holds) (waits new.table after tells.holds) (next.ends ∙ last);
+        }
 
-  -- one turn more
-  pub next_turn : {A : Type 0} (router new : Router C A) (count : ℕ) (before after : Option Trace) → ToldTurn standing awaited number made_due answers due router count before →
-      ((trace : Trace) → Stands standing awaited number made_due answers due router trace → before ≡ Some trace → ToldNext (Stands standing awaited number made_due answers due new) trace after) →
-      ToldTurn standing awaited number made_due answers due new (count + 1) after
-  next_turn router new count before after turn step =
-      let next = step turn.trace turn.stands turn.tells in
-      record { trace = next.after; tells = next.tells; stands = next.holds; counts = next.count ∙ ap (λ (n : ℕ). n + 1) turn.counts }
+    -- the run goes on
+    pub goes_next : {files new_files : FilesMeaning} (router new : Router C A) (trace : Trace) (moment : ℕ) (what : Heard) (told : Option Trace) →
+        Stands standing awaited number made_due answers state due first files router trace → is_end what ≡ false →
+        Tells (RouterStands standing awaited number made_due answers state due first new_files new) (trace ++ steps.Heard moment what ∷ []) told →
+        TellsOfHeard what (trace ++ steps.Heard moment what ∷ []) told →
+        ToldNext (Stands standing awaited number made_due answers state due first new_files new) trace told
+    goes_next router new trace moment what told stands other tells of =
+        let after = (trace ++ steps.Heard moment what ∷ []) ++ tells.more in
+        let next = next_told trace moment what told after tells.is of in
+        record {
+          after = after;
+          tells = tells.is;
+          count = next.count;
+          holds = record { stands = tells.holds; own = next.own stands.own; goes_on = next.ends ∙ other };
+        }
 
-  -- all that may be heard was heard
-  pub tells_spent : {A : Type 0} (router : Router C A) (budget count : ℕ) (told : Option Trace) → ToldTurn standing awaited number made_due answers due router count told → count ≡ budget →
-      Told (IsRun answers due budget BudgetSpent) told
-  tells_spent router budget count told turn is = record {
-    trace = turn.trace;
-    tells = turn.tells;
-    holds = spent_run answers due budget turn.trace turn.stands.stands.served turn.stands.own turn.stands.ordered (all router turn.trace turn.stands.stands) (waits router turn.trace turn.stands.stands) turn.stands.goes_on (turn.counts ∙ is);
-  }
+    -- one turn more
+    pub next_turn : {files new_files : FilesMeaning} (router new : Router C A) (count : ℕ) (before after : Option Trace) → ToldTurn standing awaited number made_due answers state due first files router count before →
+        ((trace : Trace) → Stands standing awaited number made_due answers state due first files router trace → before ≡ Some trace → ToldNext (Stands standing awaited number made_due answers state due first new_files new) trace after) →
+        ToldTurn standing awaited number made_due answers state due first new_files new (count + 1) after
+    next_turn router new count before after turn step =
+        let next = step turn.trace turn.stands turn.tells in
+        record { trace = next.after; tells = next.tells; stands = next.holds; counts = next.count ∙ ap (λ (n : ℕ). n + 1) turn.counts }
 
-  -- nothing was heard yet
-  pub first_turn : {A : Type 0} (router : Router C A) (told : Option Trace) → RouterStands standing awaited number made_due answers due router [] → told ≡ Some [] →
-      ToldTurn standing awaited number made_due answers due router 0 told
-  first_turn router told stands is = record { trace = []; tells = is; stands = record { stands = stands; own = tt; ordered = ordered_empty; goes_on = refl }; counts = refl }
+    -- all that may be heard was heard
+    pub tells_spent : {files : FilesMeaning} (router : Router C A) (budget count : ℕ) (told : Option Trace) → ToldTurn standing awaited number made_due answers state due first files router count told → count ≡ budget →
+        Told (IsRun answers due first budget BudgetSpent) told
+    tells_spent router budget count told turn is = record {
+      trace = turn.trace;
+      tells = turn.tells;
+      holds = spent_run answers due first budget turn.trace turn.stands.stands.served (over turn.stands.stands) turn.stands.own (all router.table turn.trace turn.stands.stands) (waits router.table turn.trace turn.stands.stands) turn.stands.goes_on (turn.counts ∙ is);
+    }
+
+    -- nothing was heard yet
+    pub first_turn : {files : FilesMeaning} (router : Router C A) (told : Option Trace) → RouterStands standing awaited number made_due answers state due first files router [] → told ≡ Some [] →
+        ToldTurn standing awaited number made_due answers state due first files router 0 told
+    first_turn router told stands is = record { trace = []; tells = is; stands = record { stands = stands; own = tt; goes_on = refl }; counts = refl }
+
+-- what stands for a trace is served
+pub tells_served : {C : Type 0} (standing : Standing C) (awaited : C → Option Ask) (number : C → ℕ) (made_due : C → List Move → List Command) {S : Type 0} (answers : Answering S)
+    (due : Due) {first now : AnswererState S} (table : Table C) (trace : Trace) (told : Option Trace) → Tells (TableStands standing awaited number made_due answers due first now table) trace told →
+    Tells (IsServed answers due) trace told
+tells_served standing awaited number made_due answers due table trace told t = record { more = t.more; is = t.is; holds = t.holds.served }
 
 no_step : (front : Trace) (step : Step) → [] ≡ front ++ step ∷ [] → ⊥
 no_step [] step e = cc
@@ -140,6 +149,9 @@ empty_served answers due = record {
   waits = before_empty (OpenOnesWait answers due);
 }
 
+pub empty_answered : {S : Type 0} (answers : Answering S) (due : Due) (first : AnswererState S) → IsAnswered answers due first []
+empty_answered answers due first = record { last = first; pending = nothing_pending; answered = at_first }
+
 pub empty_told : (due : Due) → IsAllTold due []
 empty_told due conv view told = refl
 
@@ -147,15 +159,15 @@ pub empty_waits : {S : Type 0} (answers : Answering S) (due : Due) → OpenOnesW
 empty_waits answers due conv ask is = absurd (let no : None ≡ Some ask = is in cc)
 
 -- the network does not listen
-pub error_first : {S : Type 0} (answers : Answering S) (due : Due) (budget : ℕ) (error : NetError) (status : Status) (told : Option Trace) →
-    told ≡ Some [] → 0 < budget → status ≡ status_of error → Told (IsRun answers due budget status) told
-error_first answers due budget error status told is below same = record {
+pub error_first : {S : Type 0} (answers : Answering S) (due : Due) (first : AnswererState S) (budget : ℕ) (error : NetError) (status : Status) (told : Option Trace) →
+    told ≡ Some [] → 0 < budget → status ≡ status_of error → Told (IsRun answers due first budget status) told
+error_first answers due first budget error status told is below same = record {
   trace = [];
   tells = is;
-  holds = let P : Status → Type 0 = λ s. IsRun answers due budget s [] in
-      subst P (sym same) (error_run answers due budget [] (empty_served answers due) tt ordered_empty (empty_told due) (empty_waits answers due) error refl below);
+  holds = let P : Status → Type 0 = λ s. IsRun answers due first budget s [] in
+      subst P (sym same) (error_run answers due first budget [] (empty_served answers due) (empty_answered answers due first) tt (empty_told due) (empty_waits answers due) error refl below);
 }
 
 -- and memory ran out before it was asked
-pub memory_first : {S : Type 0} (answers : Answering S) (due : Due) (budget : ℕ) (told : Option Trace) → told ≡ Some [] → Told (IsRun answers due budget NoMemory) told
-memory_first answers due budget told is = record { trace = []; tells = is; holds = memory_run answers due budget [] (empty_served answers due) tt ordered_empty }
+pub memory_first : {S : Type 0} (answers : Answering S) (due : Due) (first : AnswererState S) (budget : ℕ) (told : Option Trace) → told ≡ Some [] → Told (IsRun answers due first budget NoMemory) told
+memory_first answers due first budget told is = record { trace = []; tells = is; holds = memory_run answers due first budget [] (empty_served answers due) (empty_answered answers due first) tt }

@@ -2,13 +2,8 @@
 use Rattle.std.specs.Prelude.{◌≡◌, ℕ, List, Option}
 use Rattle.px_outside.specs.Files.{Contents}
 use Rattle.px_outside.specs.declared.files.FileCall.{FileCall}
-use Rattle.px_core.specs.Answers.{FilesMeaning}
-
--- all that files mean, by its parts
-abbrev pub meaning : {F : Type 0} → (F → Option Contents) → (F → Option (List FileCall)) → (F → ℕ) → (F → ℕ) → (F → ℕ) → F → FilesMeaning
-meaning contents calls misses faults losses files =
-    record { contents = contents files; calls = calls files; misses = misses files; faults = faults files; losses = losses files }
+use Rattle.px_core.specs.Answers.{files_meaning}
 
 -- the files have the contents, the calls and the counts that they had
 abbrev pub IsUntouched : {F : Type 0} → (F → Option Contents) → (F → Option (List FileCall)) → (F → ℕ) → (F → ℕ) → (F → ℕ) → F → F → Type 0
-IsUntouched contents calls misses faults losses old new = meaning contents calls misses faults losses new ≡ meaning contents calls misses faults losses old
+IsUntouched contents calls misses faults losses old new = files_meaning contents calls misses faults losses new ≡ files_meaning contents calls misses faults losses old

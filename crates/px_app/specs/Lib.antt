@@ -8,4 +8,5 @@ pub mod Printed
 pub mod Own
 pub mod Servers
 pub mod Run
+pub mod Promises
 pub mod Serving

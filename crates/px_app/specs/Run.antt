@@ -3,9 +3,9 @@ use Rattle.std.specs.Prelude.{◌≡◌, ◌≢◌, ◌⊎◌, ℕ, ◌+◌, tru
 use Rattle.px_event.specs.Trace.{Trace}
 use Rattle.px_message.specs.declared.address.Address.{Address}
 use Rattle.px_outside.specs.Net.{Listening, at}
-use Rattle.px_core.specs.Answers.{Answering}
+use Rattle.px_core.specs.Answered.{IsAnswered}
+use Rattle.px_core.specs.Answers.{Answering, AnswererState}
 use Rattle.px_core.specs.Due.{Due, IsServed, IsAllTold, OpenOnesWait}
-use Rattle.px_core.specs.Ordered.{IsInOrder}
 use Rattle.px_app.specs.Own.{IsOwn}
 use Rattle.px_app.specs.Statuses.{heard_count, ends_heard}
 use Rattle.px_app.specs.declared.status.Status.{Status}
@@ -19,13 +19,13 @@ pub record IsEnd (budget : ℕ) (status : Status) (trace : Trace) : Type 0 where
   pub goes_on : status ≡ BudgetSpent → ends_heard trace ≡ false
   pub spent : heard_count trace ≡ budget → ends_heard trace ≡ false → (status ≡ BudgetSpent) ⊎ (status ≡ NoMemory)
 
--- the trace of a run that ended with this status, where so many things may be heard
-pub record IsRun {S : Type 0} (answers : Answering S) (due : Due) (budget : ℕ) (status : Status) (trace : Trace) : Type 0 where
+-- the trace of a run that ended with this status, where so many things may be heard and the answerer was this at first
+pub record IsRun {S : Type 0} (answers : Answering S) (due : Due) (first : AnswererState S) (budget : ℕ) (status : Status) (trace : Trace) : Type 0 where
   pub served : IsServed answers due trace
+  pub follows : IsAnswered answers due first trace
   pub whole : status ≢ NoMemory → IsAllTold due trace
   pub waits : status ≢ NoMemory → OpenOnesWait answers due trace
   pub own : IsOwn trace
-  pub ordered : IsInOrder trace
   pub is_end : IsEnd budget status trace
 
 -- the fact holds of the trace, which is told

@@ -6,6 +6,7 @@
 
 mod finished;
 mod going;
+pub mod laws;
 mod local;
 mod printing;
 mod program;

@@ -4,6 +4,7 @@ ghost use Rattle.px_outside.specs.Count.{Rose};
 ghost use Rattle.px_outside.specs.Net.{idle};
 ghost use Rattle.px_outside.specs.Sink.{WritesPart};
 ghost use Rattle.px_http.specs.Fixed.{fixed_due};
+ghost use Rattle.px_core.specs.Answers.{files_meaning};
 ghost use Rattle.px_app.specs.Files.{IsUntouched};
 ghost use Rattle.px_app.specs.Going.{goes_on};
 ghost use Rattle.px_app.specs.Listed.{listed};
@@ -43,7 +44,7 @@ pub(crate) fn serve<N: Net, F: Files, S: Sink>(
 ) -> Ending
     requires idle { N.listening net.old ≡ idle }
     requires budget { 0 < budget }
-    ensures run { N.trace net.old ≡ Some [] → Told (IsRun goes_on (fixed_due address) budget result.status) (N.trace net.new) }
+    ensures run { N.trace net.old ≡ Some [] → Told (IsRun goes_on (fixed_due address) (record { own = tt; files = files_meaning F.contents F.calls F.misses F.faults F.losses files.old }) budget result.status) (N.trace net.new) }
     ensures prints { N.trace net.old ≡ Some [] → result.status ≢ Status.NoMemory → Told (λ told. Has result.printing (listed told) (S.written out.old) (S.written out.new)) (N.trace net.new) }
     ensures part { N.trace net.old ≡ Some [] → Told (λ told. WritesPart (listed told) (S.written out.old) (S.written out.new)) (N.trace net.new) }
     ensures failed { result.printing ≡ Printing.Failed → Rose (S.faults out.old) (S.faults out.new) }

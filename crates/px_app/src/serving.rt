@@ -8,13 +8,12 @@ ghost use Rattle.std.specs.List.{flat_map};
 ghost use Rattle.px_message.specs.declared.address.Address.{Address as PeerAddress};
 ghost use Rattle.px_event.specs.Layer.{Move};
 ghost use Rattle.px_event.specs.Trace.{Trace};
-ghost use Rattle.px_event.specs.declared.heard.Heard.{Heard as WhatIsHeard};
 ghost use Rattle.px_event.specs.declared.step.Step.TheVariants.{Heard as WasHeard};
 ghost use Rattle.px_outside.specs.Count.{Rose};
 ghost use Rattle.px_outside.specs.Sink.{WritesPart};
-ghost use Rattle.px_core.specs.Answers.{ChangedByAnswers};
+ghost use Rattle.px_core.specs.Answered.{IsAnswered};
+ghost use Rattle.px_core.specs.Answers.{AnswererState, ChangedByAnswers, FilesMeaning, files_meaning};
 ghost use Rattle.px_core.specs.Due.{Due, IsServed};
-ghost use Rattle.px_core.specs.Ordered.{IsInOrder};
 ghost use Rattle.px_core.specs.Router.{RouterStands};
 ghost use Rattle.px_core.specs.Run.{IsDueOf, Tells, TellsOfHeard, done_of};
 ghost use Rattle.px_app.specs.Listed.{listed};
@@ -45,7 +44,7 @@ pub(crate) struct Serving<C, A, M> {
 impl<C: Owes, A: Answerer, M: Maker<C>> Serving<C, A, M> {
     /// Nothing was heard yet.
     pub(crate) fn new(alloc: Global, answerer: A, maker: M) -> Serving<C, A, M>
-        ensures stands { (due : Due) → RouterStands C.stands C.awaited C.number C.due A.answers due result.router [] }
+        ensures stands { (due : Due) (files : FilesMeaning) → RouterStands C.stands C.awaited C.number C.due A.answers A.state due (record { own = A.state answerer; files = files }) files result.router [] }
         ensures maker { result.maker ≡ maker }
         ensures printing { result.printing ≡ Printing.Whole }
     {
@@ -65,19 +64,19 @@ impl<C: Owes, A: Answerer, M: Maker<C>> Serving<C, A, M> {
         moment: u64,
         heard: Heard,
     ) -> Result<Vec<Flow>, NoMemory>
-        requires sound { IsSound C.stands C.awaited C.number C.due A.answers (M.due self.old.maker) self.old.router }
-        ensures ok { (due : Due) (trace : Trace) → IsDueOf (M.due self.old.maker) due → RouterStands C.stands C.awaited C.number C.due A.answers due self.old.router trace →
+        requires sound { IsSound C.stands C.awaited C.number C.due A.answers A.state (M.due self.old.maker) (files_meaning F.contents F.calls F.misses F.faults F.losses files.old) self.old.router }
+        ensures ok { (due : Due) (first : AnswererState A.State) (trace : Trace) → IsDueOf (M.due self.old.maker) due → RouterStands C.stands C.awaited C.number C.due A.answers A.state due first (files_meaning F.contents F.calls F.misses F.faults F.losses files.old) self.old.router trace →
             N.trace net.old ≡ Some (trace ++ WasHeard moment heard ∷ []) →
-            OnOk result (Tells (RouterStands C.stands C.awaited C.number C.due A.answers due self.new.router) (trace ++ WasHeard moment heard ∷ []) (N.trace net.new)) }
-        ensures err { (due : Due) (trace : Trace) → IsDueOf (M.due self.old.maker) due → RouterStands C.stands C.awaited C.number C.due A.answers due self.old.router trace →
+            OnOk result (Tells (RouterStands C.stands C.awaited C.number C.due A.answers A.state due first (files_meaning F.contents F.calls F.misses F.faults F.losses files.new) self.new.router) (trace ++ WasHeard moment heard ∷ []) (N.trace net.new)) }
+        ensures err { (due : Due) (first : AnswererState A.State) (trace : Trace) → IsDueOf (M.due self.old.maker) due → RouterStands C.stands C.awaited C.number C.due A.answers A.state due first (files_meaning F.contents F.calls F.misses F.faults F.losses files.old) self.old.router trace →
             N.trace net.old ≡ Some (trace ++ WasHeard moment heard ∷ []) →
             OnErr result (Tells (IsServed A.answers due) (trace ++ WasHeard moment heard ∷ []) (N.trace net.new)) }
-        ensures sound { OnOk result (IsSound C.stands C.awaited C.number C.due A.answers (M.due self.new.maker) self.new.router) }
+        ensures sound { OnOk result (IsSound C.stands C.awaited C.number C.due A.answers A.state (M.due self.new.maker) (files_meaning F.contents F.calls F.misses F.faults F.losses files.new) self.new.router) }
         ensures finished { (trace : Trace) → N.trace net.old ≡ Some (trace ++ WasHeard moment heard ∷ []) → K.before ≡ flat_map done_of trace →
             IfOk result (λ flows. Tells (λ told. K.before ++ flows.items ≡ flat_map done_of told) (trace ++ WasHeard moment heard ∷ []) (N.trace net.new)) }
         ensures own { (trace : Trace) → N.trace net.old ≡ Some trace → TellsOfHeard heard trace (N.trace net.new) }
-        ensures ordered { (due : Due) (trace : Trace) → IsDueOf (M.due self.old.maker) due → RouterStands C.stands C.awaited C.number C.due A.answers due self.old.router trace →
-            N.trace net.old ≡ Some (trace ++ WasHeard moment heard ∷ []) → Tells IsInOrder (trace ++ WasHeard moment heard ∷ []) (N.trace net.new) }
+        ensures follows { (due : Due) (first : AnswererState A.State) (trace : Trace) → IsDueOf (M.due self.old.maker) due → RouterStands C.stands C.awaited C.number C.due A.answers A.state due first (files_meaning F.contents F.calls F.misses F.faults F.losses files.old) self.old.router trace →
+            N.trace net.old ≡ Some (trace ++ WasHeard moment heard ∷ []) → Tells (IsAnswered A.answers due first) (trace ++ WasHeard moment heard ∷ []) (N.trace net.new) }
         ensures due { (number : ℕ) (at : PeerAddress) (moves : List Move) → M.due self.new.maker number at moves ≡ M.due self.old.maker number at moves }
         ensures printing { self.new.printing ≡ self.old.printing }
         ensures files { ChangedByAnswers A.answers A.fails F.contents F.calls F.misses F.faults F.losses files.old files.new }
@@ -109,17 +108,17 @@ impl<C: Owes, A: Answerer, M: Maker<C>> Serving<C, A, M> {
         moment: u64,
         heard: Heard,
     ) -> Result<(), NoMemory>
-        requires sound { IsSound C.stands C.awaited C.number C.due A.answers (M.due self.old.maker) self.old.router }
-        ensures ok { (due : Due) (trace : Trace) → IsDueOf (M.due self.old.maker) due → RouterStands C.stands C.awaited C.number C.due A.answers due self.old.router trace →
+        requires sound { IsSound C.stands C.awaited C.number C.due A.answers A.state (M.due self.old.maker) (files_meaning F.contents F.calls F.misses F.faults F.losses files.old) self.old.router }
+        ensures ok { (due : Due) (first : AnswererState A.State) (trace : Trace) → IsDueOf (M.due self.old.maker) due → RouterStands C.stands C.awaited C.number C.due A.answers A.state due first (files_meaning F.contents F.calls F.misses F.faults F.losses files.old) self.old.router trace →
             N.trace net.old ≡ Some (trace ++ WasHeard moment heard ∷ []) →
-            OnOk result (Tells (RouterStands C.stands C.awaited C.number C.due A.answers due self.new.router) (trace ++ WasHeard moment heard ∷ []) (N.trace net.new)) }
-        ensures err { (due : Due) (trace : Trace) → IsDueOf (M.due self.old.maker) due → RouterStands C.stands C.awaited C.number C.due A.answers due self.old.router trace →
+            OnOk result (Tells (RouterStands C.stands C.awaited C.number C.due A.answers A.state due first (files_meaning F.contents F.calls F.misses F.faults F.losses files.new) self.new.router) (trace ++ WasHeard moment heard ∷ []) (N.trace net.new)) }
+        ensures err { (due : Due) (first : AnswererState A.State) (trace : Trace) → IsDueOf (M.due self.old.maker) due → RouterStands C.stands C.awaited C.number C.due A.answers A.state due first (files_meaning F.contents F.calls F.misses F.faults F.losses files.old) self.old.router trace →
             N.trace net.old ≡ Some (trace ++ WasHeard moment heard ∷ []) →
             OnErr result (Tells (IsServed A.answers due) (trace ++ WasHeard moment heard ∷ []) (N.trace net.new)) }
-        ensures sound { OnOk result (IsSound C.stands C.awaited C.number C.due A.answers (M.due self.new.maker) self.new.router) }
+        ensures sound { OnOk result (IsSound C.stands C.awaited C.number C.due A.answers A.state (M.due self.new.maker) (files_meaning F.contents F.calls F.misses F.faults F.losses files.new) self.new.router) }
         ensures own { (trace : Trace) → N.trace net.old ≡ Some trace → TellsOfHeard heard trace (N.trace net.new) }
-        ensures ordered { (due : Due) (trace : Trace) → IsDueOf (M.due self.old.maker) due → RouterStands C.stands C.awaited C.number C.due A.answers due self.old.router trace →
-            N.trace net.old ≡ Some (trace ++ WasHeard moment heard ∷ []) → Tells IsInOrder (trace ++ WasHeard moment heard ∷ []) (N.trace net.new) }
+        ensures follows { (due : Due) (first : AnswererState A.State) (trace : Trace) → IsDueOf (M.due self.old.maker) due → RouterStands C.stands C.awaited C.number C.due A.answers A.state due first (files_meaning F.contents F.calls F.misses F.faults F.losses files.old) self.old.router trace →
+            N.trace net.old ≡ Some (trace ++ WasHeard moment heard ∷ []) → Tells (IsAnswered A.answers due first) (trace ++ WasHeard moment heard ∷ []) (N.trace net.new) }
         ensures due { (number : ℕ) (at : PeerAddress) (moves : List Move) → M.due self.new.maker number at moves ≡ M.due self.old.maker number at moves }
         ensures prints { (start : Option (List ℕ)) (trace : Trace) → N.trace net.old ≡ Some (trace ++ WasHeard moment heard ∷ []) → Has self.old.printing (listed trace) start (S.written out.old) →
             OnOk result (Told (λ told. Has self.new.printing (listed told) start (S.written out.new)) (N.trace net.new)) }
@@ -145,12 +144,12 @@ impl<C: Owes, A: Answerer, M: Maker<C>> Serving<C, A, M> {
         files: &mut F,
         out: &mut S,
     ) -> Result<(), Status>
-        requires sound { IsSound C.stands C.awaited C.number C.due A.answers (M.due self.old.maker) self.old.router }
-        ensures ok { (due : Due) (trace : Trace) → IsDueOf (M.due self.old.maker) due → Stands C.stands C.awaited C.number C.due A.answers due self.old.router trace → N.trace net.old ≡ Some trace →
-            OnOk result (ToldNext (Stands C.stands C.awaited C.number C.due A.answers due self.new.router) trace (N.trace net.new)) }
-        ensures err { (due : Due) (trace : Trace) (budget : ℕ) → IsDueOf (M.due self.old.maker) due → Stands C.stands C.awaited C.number C.due A.answers due self.old.router trace → N.trace net.old ≡ Some trace →
-            heard_count trace < budget → IfErr result (λ status. Told (IsRun A.answers due budget status) (N.trace net.new)) }
-        ensures sound { OnOk result (IsSound C.stands C.awaited C.number C.due A.answers (M.due self.new.maker) self.new.router) }
+        requires sound { IsSound C.stands C.awaited C.number C.due A.answers A.state (M.due self.old.maker) (files_meaning F.contents F.calls F.misses F.faults F.losses files.old) self.old.router }
+        ensures ok { (due : Due) (first : AnswererState A.State) (trace : Trace) → IsDueOf (M.due self.old.maker) due → Stands C.stands C.awaited C.number C.due A.answers A.state due first (files_meaning F.contents F.calls F.misses F.faults F.losses files.old) self.old.router trace → N.trace net.old ≡ Some trace →
+            OnOk result (ToldNext (Stands C.stands C.awaited C.number C.due A.answers A.state due first (files_meaning F.contents F.calls F.misses F.faults F.losses files.new) self.new.router) trace (N.trace net.new)) }
+        ensures err { (due : Due) (first : AnswererState A.State) (trace : Trace) (budget : ℕ) → IsDueOf (M.due self.old.maker) due → Stands C.stands C.awaited C.number C.due A.answers A.state due first (files_meaning F.contents F.calls F.misses F.faults F.losses files.old) self.old.router trace → N.trace net.old ≡ Some trace →
+            heard_count trace < budget → IfErr result (λ status. Told (IsRun A.answers due first budget status) (N.trace net.new)) }
+        ensures sound { OnOk result (IsSound C.stands C.awaited C.number C.due A.answers A.state (M.due self.new.maker) (files_meaning F.contents F.calls F.misses F.faults F.losses files.new) self.new.router) }
         ensures due { (number : ℕ) (at : PeerAddress) (moves : List Move) → M.due self.new.maker number at moves ≡ M.due self.old.maker number at moves }
         ensures prints { (start : Option (List ℕ)) (trace : Trace) → N.trace net.old ≡ Some trace → Has self.old.printing (listed trace) start (S.written out.old) → result ≢ Err Status.NoMemory →
             Told (λ told. Has self.new.printing (listed told) start (S.written out.new)) (N.trace net.new) }
@@ -195,9 +194,9 @@ pub(crate) fn serve_all<C: Owes, A: Answerer, M: Maker<C>, N: Net, F: Files, S: 
     out: &mut S,
     budget: u64,
 ) -> Status
-    requires sound { IsSound C.stands C.awaited C.number C.due A.answers (M.due serving.old.maker) serving.old.router }
-    ensures run { (due : Due) → IsDueOf (M.due serving.old.maker) due → RouterStands C.stands C.awaited C.number C.due A.answers due serving.old.router [] → N.trace net.old ≡ Some [] →
-        Told (IsRun A.answers due budget result) (N.trace net.new) }
+    requires sound { IsSound C.stands C.awaited C.number C.due A.answers A.state (M.due serving.old.maker) (files_meaning F.contents F.calls F.misses F.faults F.losses files.old) serving.old.router }
+    ensures run { (due : Due) (first : AnswererState A.State) → IsDueOf (M.due serving.old.maker) due → RouterStands C.stands C.awaited C.number C.due A.answers A.state due first (files_meaning F.contents F.calls F.misses F.faults F.losses files.old) serving.old.router [] → N.trace net.old ≡ Some [] →
+        Told (IsRun A.answers due first budget result) (N.trace net.new) }
     ensures prints { (start : Option (List ℕ)) → N.trace net.old ≡ Some [] → Has serving.old.printing [] start (S.written out.old) → result ≢ Status.NoMemory →
         Told (λ told. Has serving.new.printing (listed told) start (S.written out.new)) (N.trace net.new) }
     ensures part { (start : Option (List ℕ)) → N.trace net.old ≡ Some [] → Has serving.old.printing [] start (S.written out.old) →

@@ -12,7 +12,7 @@ use Rattle.px_event.specs.declared.said.Said.TheVariants as said
 use Rattle.px_event.specs.declared.step.Step.{Step}
 use Rattle.px_event.specs.declared.step.Step.TheVariants as steps
 use Rattle.px_event.specs.Trace.{Trace}
-use Rattle.px_event.specs.View.{View, bytes, closes, questions, finished, course, flows, IsTold, said_atoms, command_atoms, step_atoms, seen_in}
+use Rattle.px_event.specs.View.{View, line, questions, course, flows, IsTold, said_atoms, command_atoms, step_atoms, seen_in}
 use Rattle.px_core.specs.Calls.{Calls, calls_on, calls_from, calls, no_calls}
 use Rattle.px_core.specs.Conversation.{IsNamed}
 use Rattle.px_core.specs.Held.{step_of, IsOf, AllOf, dial_by}
@@ -50,18 +50,14 @@ other_seen view conv other (steps.Asked number ask) is apart = by view
 
     by : (view : View) → step_atoms view other (steps.Asked number ask) ≡ []
     by questions = rw no refl
-    by (bytes side) = refl
-    by (closes side) = refl
-    by finished = refl
+    by (line side) = refl
     by course = rw no refl
     by flows = refl
 other_seen view conv other (steps.Answered number ask reply) is apart = by view
   where
     by : (view : View) → step_atoms view other (steps.Answered number ask reply) ≡ []
     by questions = refl
-    by (bytes side) = refl
-    by (closes side) = refl
-    by finished = refl
+    by (line side) = refl
     by course = refl
     by flows = refl
 other_seen view conv other (steps.Said number what) is apart =
@@ -73,9 +69,7 @@ other_seen view conv other (steps.Done flow) is apart = by view
 
     by : (view : View) → step_atoms view other (steps.Done flow) ≡ []
     by questions = refl
-    by (bytes side) = refl
-    by (closes side) = refl
-    by finished = rw no refl
+    by (line side) = rw no refl
     by course = rw no refl
     by flows = refl
 
@@ -106,42 +100,32 @@ said_seen : (view : View) (conv : ℕ) (what : Said) → step_atoms view conv (s
 said_seen view conv what = rw (same_number conv) refl
 
 send_seen : (view : View) (side : _) (text : List ℕ) → said_atoms view (said.Send side text) ≡ command_atoms view (commands.Send side text)
-send_seen (bytes to) side text = refl
-send_seen (closes to) side text = refl
+send_seen (line to) side text = refl
 send_seen questions side text = refl
-send_seen finished side text = refl
 send_seen course side text = refl
 send_seen flows side text = refl
 
 close_seen : (view : View) (side : _) → said_atoms view (said.Close side) ≡ command_atoms view (commands.Close side)
-close_seen (bytes to) side = refl
-close_seen (closes to) side = refl
+close_seen (line to) side = refl
 close_seen questions side = refl
-close_seen finished side = refl
 close_seen course side = refl
 close_seen flows side = refl
 
 dial_seen : (view : View) (server : ℕ) (address : _) (inside : _) → said_atoms view (said.Dial server address) ≡ command_atoms view (commands.Dial server address inside)
-dial_seen (bytes to) server address inside = refl
-dial_seen (closes to) server address inside = refl
+dial_seen (line to) server address inside = refl
 dial_seen questions server address inside = refl
-dial_seen finished server address inside = refl
 dial_seen course server address inside = refl
 dial_seen flows server address inside = refl
 
 ask_seen : (view : View) (conv : ℕ) (ask : Ask) (flow : Flow) → IsTold view → step_atoms view conv (steps.Asked conv ask) ≡ command_atoms view (commands.Ask ask flow)
-ask_seen (bytes to) conv ask flow told = refl
-ask_seen (closes to) conv ask flow told = refl
+ask_seen (line to) conv ask flow told = refl
 ask_seen questions conv ask flow told = rw (same_number conv) refl
-ask_seen finished conv ask flow told = refl
 ask_seen course conv ask flow told = rw (same_number conv) refl
 ask_seen flows conv ask flow told = absurd told
 
 done_seen : (view : View) (conv : ℕ) (flow : Flow) → (flow.id.conv == conv) ≡ true → step_atoms view conv (steps.Done flow) ≡ command_atoms view (commands.Done flow)
-done_seen (bytes to) conv flow is = refl
-done_seen (closes to) conv flow is = refl
+done_seen (line to) conv flow is = rw is refl
 done_seen questions conv flow is = refl
-done_seen finished conv flow is = rw is refl
 done_seen course conv flow is = rw is refl
 done_seen flows conv flow is = refl
 

@@ -6,7 +6,6 @@ use Rattle.std.proofs.lemmas.Bool.{ne_eqb}
 use Rattle.px_message.specs.declared.address.Address.{Address}
 use Rattle.px_event.specs.declared.ask.Ask.{Ask}
 use Rattle.px_event.specs.declared.ask.Ask.TheVariants as asks
-use Rattle.px_event.specs.declared.ask.Hook.{Hook}
 use Rattle.px_event.specs.declared.command.Command.{Command}
 use Rattle.px_event.specs.declared.event.Event.{Event}
 use Rattle.px_event.specs.declared.heard.Heard.{Heard}
@@ -16,27 +15,25 @@ use Rattle.px_event.specs.declared.step.Step.TheVariants as steps
 use Rattle.px_event.specs.Layer.{Move, Took, Replied, Standing, Goes, asks_in}
 use Rattle.px_event.specs.Trace.{Trace}
 use Rattle.px_event.proofs.Seen.{seen_append}
-use Rattle.px_event.specs.View.{View, bytes, closes, questions, finished, course, flows, seen_of, seen_in, step_atoms}
+use Rattle.px_event.specs.View.{View, line, questions, course, flows, seen_of, seen_in, step_atoms}
 use Rattle.px_core.specs.declared.answerer.Draft.{Draft}
 use Rattle.px_core.specs.declared.held.Held.{Held}
 use Rattle.px_core.specs.declared.news.News.{News}
 use Rattle.px_core.specs.declared.news.News.TheVariants as news
-use Rattle.px_core.specs.Answers.{Answering}
+use Rattle.px_core.specs.Answers.{Answering, AnswererState}
 use Rattle.px_core.specs.Calls.{Calls, calls, calls_of, hears_by, takes, addressed, is_connected, is_dialling, dial_ends, dial_reply, connected_by, moved}
 use Rattle.px_core.specs.Conversation.{AllNamed, AsksWhile}
 use Rattle.px_core.specs.Due.{Due, due_by, due_in, IsServed}
-use Rattle.px_core.specs.Held.{dial_from, dial_of, IsSettled, IsReady, IsKept, IsDrafted, IsDraftedBehind, IsOneOn, Gives, Within, Stood, Works, Takes, Hears}
-use Rattle.px_core.specs.Hooks.{open_hook, hook_of, AsksInTurn}
+use Rattle.px_core.specs.Held.{dial_from, dial_of, IsSettled, IsReady, IsKept, IsDrafted, IsDraftedBehind, IsOneOn, Follows, Gives, Within, Stood, Works, Takes, Hears}
+use Rattle.px_core.specs.Hooks.{hook_of, AsksInTurn}
 use Rattle.px_core.proofs.AskLemmas.{asks_one, dial_now, quiet}
 use Rattle.px_core.proofs.CallLemmas.{calls_more, seen_more, same_number}
 use Rattle.px_core.proofs.HookLemmas.{hook_heard, hook_is, one_turn, quiet_turn, quiet_same, kept_on}
 use Rattle.px_core.proofs.ServedLemmas.{due_there}
 
 pub heard_seen : (view : View) (conv moment : ℕ) (heard : Heard) → step_atoms view conv (steps.Heard moment heard) ≡ []
-heard_seen (bytes side) conv moment heard = refl
-heard_seen (closes side) conv moment heard = refl
+heard_seen (line side) conv moment heard = refl
 heard_seen questions conv moment heard = refl
-heard_seen finished conv moment heard = refl
 heard_seen course conv moment heard = refl
 heard_seen flows conv moment heard = refl
 
@@ -177,47 +174,48 @@ module _ {C : Type 0} (standing : Standing C) (awaited : C → Option Ask) (numb
 
     pub works_taken : (gave : (made state : C) (moves : List Move) (given : List Command) → standing made state moves given →
         (view : View) → seen_of view given ≡ seen_of view (made_due made moves))
-        (conv moment : ℕ) (move : Move) (dial : Option ℕ) (sides : List ℕ) (before between after : Held C) (given : List Command) (out new_out : List Step) →
+        (conv moment : ℕ) (move : Move) (dial : Option ℕ) (sides : List ℕ) (before between after : Held C) {old new : AnswererState S} (given : List Command) (out new_out : List Step) →
         number between.conversation ≡ conv → Gives standing awaited move dial before.conversation between.conversation given → sides ≡ between.connected.items →
         between.draft ≡ before.draft →
-        Works standing awaited number made_due answers conv moment given between after None out new_out →
-        Takes standing awaited number made_due answers conv moment move dial sides before after out new_out
-    works_taken gave conv moment move dial sides before between after given out new_out named gives same kept works = record {
+        Works standing awaited number made_due answers conv moment given between after old new None out new_out →
+        Takes standing awaited number made_due answers conv moment move dial sides before after old new out new_out
+    works_taken gave conv moment move dial sides before between after {old} {new} given out new_out named gives same kept works = record {
       more = works.more;
       grown = works.grown;
       own = works.own;
-      takes = λ due peer trace next w drafted on served.
-          let to = works.works due next (taken_within due conv peer moment move dial sides before between trace next given w on named gives same) on.now served
-          (drafted_taken gave due conv peer moment move dial sides before between trace next given w on gives kept drafted) in
-          (to.within, to.served, to.drafted);
+      takes = λ due first pending peer trace next w drafted on served follows.
+          let P : Option Draft → Type 0 = λ d. Follows answers due first pending conv d old next in
+          let to = works.works due first pending next (taken_within due conv peer moment move dial sides before between trace next given w on named gives same) on.now served
+          (drafted_taken gave due conv peer moment move dial sides before between trace next given w on gives kept drafted) (subst P (sym kept) follows) in
+          (to.within, to.served, to.drafted, to.follows);
       settled = works.next;
     }
 
     -- the same where a side was noted before the call
     pub works_end : (gave : (made state : C) (moves : List Move) (given : List Command) → standing made state moves given →
         (view : View) → seen_of view given ≡ seen_of view (made_due made moves))
-        (conv moment : ℕ) (move : Move) (dial : Option ℕ) (sides : List ℕ) (before noted between after : Held C) (given : List Command) (out new_out : List Step) →
+        (conv moment : ℕ) (move : Move) (dial : Option ℕ) (sides : List ℕ) (before noted between after : Held C) {old new : AnswererState S} (given : List Command) (out new_out : List Step) →
         noted.conversation ≡ before.conversation → number between.conversation ≡ conv → Gives standing awaited move dial noted.conversation between.conversation given → sides ≡ between.connected.items →
         between.draft ≡ before.draft →
-        Works standing awaited number made_due answers conv moment given between after None out new_out →
-        Takes standing awaited number made_due answers conv moment move dial sides before after out new_out
+        Works standing awaited number made_due answers conv moment given between after old new None out new_out →
+        Takes standing awaited number made_due answers conv moment move dial sides before after old new out new_out
     works_end gave conv moment move dial sides before noted between after given out new_out same named gives sides_are kept works =
         let P : C → Type 0 = λ s. Gives standing awaited move dial s between.conversation given in
         works_taken gave conv moment move dial sides before between after given out new_out named (subst P same gives) sides_are kept works
 
     -- news that are no call
-    pub ignored : (conv moment : ℕ) (what : News) (held : Held C) (out : List Step) →
+    pub ignored : (conv moment : ℕ) (what : News) (held : Held C) {state : AnswererState S} (out : List Step) →
         ((c : Calls) (peer : Address) → c.peer ≡ Some peer → c.connected ≡ held.connected.items → c.dial ≡ dial_of (awaited held.conversation) → takes moment c what ≡ c) → IsSettled awaited held →
-        Hears standing awaited number made_due answers conv moment what held held out out
-    ignored conv moment what held out nothing settled = record {
+        Hears standing awaited number made_due answers conv moment what held held state state out out
+    ignored conv moment what held {state} out nothing settled = record {
       more = [];
       grown = sym (append-nil out);
       own = tt;
-      hears = λ due trace heard is w drafted served.
+      hears = λ due first pending trace heard is w drafted served follows.
           let on : calls conv (trace ++ steps.Heard moment heard ∷ []) ≡ record (calls conv trace) { moment = moment } =
           calls_heard conv trace moment heard what is ∙ ap (λ (c : Calls). record c { moment = moment }) (nothing (calls conv trace) w.peer w.begun w.sides w.dial) in
           let P : List Move → Type 0 = λ l. standing w.made held.conversation l (w.earlier ++ []) in
-          let Q : Trace → Type 0 = λ t. Within standing awaited number made_due due conv held t [] × IsServed answers due t × IsDrafted awaited answers due conv held t in
+          let Q : Trace → Type 0 = λ t. Within standing awaited number made_due due conv held t [] × IsServed answers due t × IsDrafted awaited answers due conv held t × Follows answers due first pending conv held.draft state t in
           let there : Trace = trace ++ steps.Heard moment heard ∷ [] in
           subst Q (sym (append-nil (trace ++ steps.Heard moment heard ∷ []))) (
             record {
@@ -235,24 +233,25 @@ module _ {C : Type 0} (standing : Standing C) (awaited : C → Option Ask) (numb
             },
             served,
             (λ flow hook waits. kept_on answers due conv trace there (asks.Hook flow hook) held.draft (ap (λ (c : Calls). seen_of flows (due_by due conv c)) on) (drafted flow hook waits)),
+            follows,
           );
       settled = settled;
     }
 
     -- news that are a call
-    pub taken : (conv moment : ℕ) (what : News) (move : Move) (dial : Option ℕ) (sides : List ℕ) (before after : Held C) (out new_out : List Step) →
+    pub taken : (conv moment : ℕ) (what : News) (move : Move) (dial : Option ℕ) (sides : List ℕ) (before after : Held C) {old new : AnswererState S} (out new_out : List Step) →
         ((c : Calls) (peer : Address) → c.peer ≡ Some peer → c.connected ≡ before.connected.items → c.dial ≡ dial_of (awaited before.conversation) →
         (takes moment c what).moves ≡ c.moves ++ move ∷ [] × ((takes moment c what).peer ≡ Some peer) × ((takes moment c what).dial ≡ dial) × ((takes moment c what).connected ≡ sides)) →
-        Takes standing awaited number made_due answers conv moment move dial sides before after out new_out →
-        Hears standing awaited number made_due answers conv moment what before after out new_out
-    taken conv moment what move dial sides before after out new_out one t = record {
+        Takes standing awaited number made_due answers conv moment move dial sides before after old new out new_out →
+        Hears standing awaited number made_due answers conv moment what before after old new out new_out
+    taken conv moment what move dial sides before after {old} {new} out new_out one t = record {
       more = t.more;
       grown = t.grown;
       own = t.own;
-      hears = λ due trace heard is w drafted served.
+      hears = λ due first pending trace heard is w drafted served follows.
           let on = calls_heard conv trace moment heard what is in
           let facts = one (calls conv trace) w.peer w.begun w.sides w.dial in
-          t.takes due w.peer trace (trace ++ steps.Heard moment heard ∷ []) (record { made = w.made; earlier = w.earlier; stands = w.stands; owes = w.owes; tells = w.tells; hook = w.turn; there = λ _ _. w.begun }) drafted (record {
+          t.takes due first pending w.peer trace (trace ++ steps.Heard moment heard ∷ []) (record { made = w.made; earlier = w.earlier; stands = w.stands; owes = w.owes; tells = w.tells; hook = w.turn; there = λ _ _. w.begun }) drafted (record {
             moves = ap (λ (c : Calls). c.moves) on ∙ facts.0;
             begun = ap (λ (c : Calls). c.peer) on ∙ facts.1;
             dials = ap (λ (c : Calls). c.dial) on ∙ facts.2;
@@ -260,7 +259,7 @@ module _ {C : Type 0} (standing : Standing C) (awaited : C → Option Ask) (numb
             now = ap (λ (c : Calls). c.moment) on;
             sees = λ view told. seen_heard view conv trace moment heard;
             hook = hook_heard conv trace moment heard;
-          }) served;
+          }) served follows;
       settled = t.settled;
     }
 
@@ -289,20 +288,20 @@ takes_end moment c server ok dial same is =
     let yes : is_dialling server c.dial ≡ true = ap (is_dialling server) same ∙ is in rw yes refl
 
 module _ {C : Type 0} (standing : Standing C) (awaited : C → Option Ask) (number : C → ℕ) (made_due : C → List Move → List Command) {S : Type 0} (answers : Answering S) where
-  pub heard_event : (conv moment : ℕ) (what : News) (side : Side) (event : Event) (before after : Held C) (out new_out : List Step) → what ≡ news.Event side event →
+  pub heard_event : (conv moment : ℕ) (what : News) (side : Side) (event : Event) (before after : Held C) {old new : AnswererState S} (out new_out : List Step) → what ≡ news.Event side event →
       is_connected side before.connected.items ≡ true →
-      Takes standing awaited number made_due answers conv moment (Took moment event) (dial_of (awaited before.conversation)) before.connected.items before after out new_out →
-      Hears standing awaited number made_due answers conv moment what before after out new_out
+      Takes standing awaited number made_due answers conv moment (Took moment event) (dial_of (awaited before.conversation)) before.connected.items before after old new out new_out →
+      Hears standing awaited number made_due answers conv moment what before after old new out new_out
   heard_event conv moment what side event before after out new_out is connected t =
       taken standing awaited number made_due answers conv moment what (Took moment event) (dial_of (awaited before.conversation)) before.connected.items before after out new_out
       (λ c peer begun sides dial.
       let on : takes moment c what ≡ moved (Took moment event) c = ap (takes moment c) is ∙ takes_connected moment c peer side event before.connected.items begun sides connected in
       (ap (λ (c : Calls). c.moves) on, ap (λ (c : Calls). c.peer) on ∙ begun, ap (λ (c : Calls). c.dial) on ∙ dial, ap (λ (c : Calls). c.connected) on ∙ sides)) t
 
-  pub heard_end : (conv moment : ℕ) (what : News) (server : ℕ) (ok : Bool) (before after : Held C) (out new_out : List Step) → what ≡ news.Dialled server ok →
+  pub heard_end : (conv moment : ℕ) (what : News) (server : ℕ) (ok : Bool) (before after : Held C) {old new : AnswererState S} (out new_out : List Step) → what ≡ news.Dialled server ok →
       is_dialling server (dial_of (awaited before.conversation)) ≡ true →
-      Takes standing awaited number made_due answers conv moment (Replied moment (dial_reply ok)) None (connected_by server ok before.connected.items) before after out new_out →
-      Hears standing awaited number made_due answers conv moment what before after out new_out
+      Takes standing awaited number made_due answers conv moment (Replied moment (dial_reply ok)) None (connected_by server ok before.connected.items) before after old new out new_out →
+      Hears standing awaited number made_due answers conv moment what before after old new out new_out
   heard_end conv moment what server ok before after out new_out is dialling t =
       taken standing awaited number made_due answers conv moment what (Replied moment (dial_reply ok)) None (connected_by server ok before.connected.items) before after out new_out
       (λ c peer begun sides dial.

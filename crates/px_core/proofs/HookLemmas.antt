@@ -1,5 +1,5 @@
 -- Which hook is open, one step further, and what commands make of it.
-use Rattle.std.proofs.Common.{◌≡◌, ◌≢◌, ℕ, true, false, ◌==◌, List, [], ◌∷◌, ◌++◌, Option, Some, None, refl, ap, sym, ◌∙◌, subst, append_assoc, option_to_list}
+use Rattle.std.proofs.Common.{◌≡◌, ◌≢◌, ℕ, false, ◌==◌, List, [], ◌∷◌, ◌++◌, Option, Some, None, refl, ap, sym, ◌∙◌, subst, append_assoc, option_to_list}
 use Rattle.std.specs.List.{flat_map}
 use Rattle.std.proofs.lemmas.Bool.{ne_eqb}
 use Rattle.std.proofs.lemmas.List.{append-nil}
@@ -39,7 +39,7 @@ hook_heard conv trace moment heard = hook_more conv trace (steps.Heard moment he
 pub hook_answered : (conv : ℕ) (trace : Trace) (ask : Ask) (reply : Reply) → open_hook conv (trace ++ steps.Answered conv ask reply ∷ []) ≡ None
 hook_answered conv trace ask reply = hook_more conv trace (steps.Answered conv ask reply) ∙ (rw (same_number conv) refl)
 
-hook_asked : (conv : ℕ) (trace : Trace) (ask : Ask) → open_hook conv (trace ++ steps.Asked conv ask ∷ []) ≡ Some ask
+pub hook_asked : (conv : ℕ) (trace : Trace) (ask : Ask) → open_hook conv (trace ++ steps.Asked conv ask ∷ []) ≡ Some ask
 hook_asked conv trace ask = hook_more conv trace (steps.Asked conv ask) ∙ (rw (same_number conv) refl)
 
 -- a step of another conversation

@@ -1,4 +1,5 @@
 pub mod AnswerLemmas
+pub mod AnsweredLemmas
 pub mod AskLemmas
 pub mod CallLemmas
 pub mod HearLemmas
@@ -10,3 +11,4 @@ pub mod RouteLemmas
 pub mod RunLemmas
 pub mod ServedLemmas
 pub mod WorkLemmas
+pub mod LiveLemmas

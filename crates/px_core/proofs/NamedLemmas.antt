@@ -9,7 +9,7 @@ use Rattle.px_event.specs.declared.command.Command.TheVariants as commands
 use Rattle.px_event.specs.Chain.{Chain}
 use Rattle.px_event.specs.Layer.{Move, Standing, IsSound, Goes}
 use Rattle.px_event.specs.Stands.{due_by}
-use Rattle.px_event.specs.View.{View, Atom, about, done, flows, finished, seen_of}
+use Rattle.px_event.specs.View.{View, Atom, about, course, done, flows, seen_of}
 use Rattle.px_gate.specs.declared.gate.Gate.{Gate}
 use Rattle.px_gate.specs.Gate.{GateStands, TakeAsksWhere}
 use Rattle.px_core.specs.Conversation.{AsksWhile, IsHookOf, AllNamed, NamesOnly}
@@ -32,20 +32,20 @@ flows_named conv (commands.Dial server address inside ∷ rest) (here, all) = fl
 flows_named conv (commands.Ask ask flow ∷ rest) (here, all) = (here, flows_named conv rest all)
 flows_named conv (commands.Done flow ∷ rest) (here, all) = flows_named conv rest all
 
-ends_named : (conv : ℕ) (l : List Command) → AllNamed conv l → AtomsNamed conv (seen_of finished l)
+ends_named : (conv : ℕ) (l : List Command) → AllNamed conv l → AtomsNamed conv (seen_of course l)
 ends_named conv [] all = tt
 ends_named conv (commands.Send side bytes ∷ rest) (here, all) = ends_named conv rest all
 ends_named conv (commands.Close side ∷ rest) (here, all) = ends_named conv rest all
 ends_named conv (commands.Dial server address inside ∷ rest) (here, all) = ends_named conv rest all
-ends_named conv (commands.Ask ask flow ∷ rest) (here, all) = ends_named conv rest all
+ends_named conv (commands.Ask ask flow ∷ rest) (here, all) = (tt, ends_named conv rest all)
 ends_named conv (commands.Done flow ∷ rest) (here, all) = (here, ends_named conv rest all)
 
-views_named : (conv : ℕ) (l : List Command) → AtomsNamed conv (seen_of flows l) → AtomsNamed conv (seen_of finished l) → AllNamed conv l
+views_named : (conv : ℕ) (l : List Command) → AtomsNamed conv (seen_of flows l) → AtomsNamed conv (seen_of course l) → AllNamed conv l
 views_named conv [] asks ends = tt
 views_named conv (commands.Send side bytes ∷ rest) asks ends = (tt, views_named conv rest asks ends)
 views_named conv (commands.Close side ∷ rest) asks ends = (tt, views_named conv rest asks ends)
 views_named conv (commands.Dial server address inside ∷ rest) asks ends = (tt, views_named conv rest asks ends)
-views_named conv (commands.Ask ask flow ∷ rest) (here, asks) ends = (here, views_named conv rest asks ends)
+views_named conv (commands.Ask ask flow ∷ rest) (here, asks) (hook, ends) = (here, views_named conv rest asks ends)
 views_named conv (commands.Done flow ∷ rest) asks (here, ends) = (here, views_named conv rest asks ends)
 
 behind_named : (conv : ℕ) (xs ys : List Command) → AllNamed conv (xs ++ ys) → AllNamed conv ys
@@ -56,7 +56,7 @@ behind_named conv (x ∷ xs) ys (here, all) = behind_named conv xs ys all
 same_views : (conv : ℕ) (given due : List Command) → ((view : View) → seen_of view given ≡ seen_of view due) → AllNamed conv due → AllNamed conv given
 same_views conv given due same named =
     let P : List Atom → Type 0 = AtomsNamed conv in
-    views_named conv given (subst P (sym (same flows)) (flows_named conv due named)) (subst P (sym (same finished)) (ends_named conv due named))
+    views_named conv given (subst P (sym (same flows)) (flows_named conv due named)) (subst P (sym (same course)) (ends_named conv due named))
 
 -- what a gate gave names the conversation
 gate_named : {S : Type 0} (conv : ℕ) (chain : Chain S Event Reply Command) (start : S) (calls : List Move) (given : List Command) →

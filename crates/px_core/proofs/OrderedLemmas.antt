@@ -1,23 +1,17 @@
 -- No hook of a flow is asked behind the flow's end, in what is due and in a trace.
-use Rattle.std.proofs.Common.{◌≡◌, ℕ, Bool, true, List, [], ◌∷◌, ◌++◌, Option, Some, None, sym, subst}
-use Rattle.std.proofs.lemmas.List.{append-nil}
+use Rattle.std.proofs.Common.{◌≡◌, ℕ, Bool, true, List, [], ◌∷◌, ◌++◌, Option, Some, None, subst}
 use Rattle.px_message.specs.declared.address.Address.{Address}
-use Rattle.px_event.specs.declared.ask.Ask.{Ask}
 use Rattle.px_event.specs.declared.ask.Ask.TheVariants as asks
 use Rattle.px_event.specs.declared.command.Command.{Command}
 use Rattle.px_event.specs.declared.command.Command.TheVariants as commands
 use Rattle.px_event.specs.Chain.{Stamped, Chain, due}
-use Rattle.px_event.specs.Layer.{Move, Standing}
+use Rattle.px_event.specs.Layer.{Move}
 use Rattle.px_event.specs.Trace.{Trace}
 use Rattle.px_event.specs.View.{Atom, about, asked, byte, close, course, dialled, done, seen_in, seen_of}
-use Rattle.px_core.specs.Answers.{Answering}
 use Rattle.px_core.specs.Calls.{calls, calls_of}
-use Rattle.px_core.specs.Due.{Due, due_at, IsServed}
+use Rattle.px_core.specs.Due.{Due, due_at, IsWithinDue}
 use Rattle.px_core.specs.Leaving.{leaving_ordered}
 use Rattle.px_core.specs.Ordered.{AsksNoneOf, AsksBeforeEnds, HooksNoneOf, HooksBeforeEnds, IsInOrder, LeavesFlows}
-use Rattle.px_core.specs.Router.{TableStands}
-use Rattle.px_core.specs.Run.{IsDueOf, Tells}
-use Rattle.px_core.specs.declared.table.Table.{Table}
 
 -- what is due of a chain that leaves its flows behind
 pub due_ordered : {S E R : Type 0} (chain : Chain S E R Command) (is_stage : S → Bool) (past : S → ℕ → Bool) → LeavesFlows chain is_stage past →
@@ -61,28 +55,13 @@ ordered_front (dialled server address ∷ xs) ys ordered = ordered_front xs ys o
 ordered_front (about ask flow ∷ xs) ys ordered = ordered_front xs ys ordered
 
 -- what is within what is due is in order
-pub in_order : {S : Type 0} (answers : Answering S) (made due : Due) → ((conv : ℕ) (peer : Address) (moves : List Move) → AsksBeforeEnds (made conv peer moves)) →
-    IsDueOf made due → (trace : Trace) → IsServed answers due trace → IsInOrder trace
-in_order answers made due ordered owes trace served conv =
-    let within = served.within.at trace [] (sym (append-nil trace)) conv course tt in
+pub in_order : (due : Due) → ((conv : ℕ) (peer : Address) (moves : List Move) → AsksBeforeEnds (due conv peer moves)) →
+    (trace : Trace) → IsWithinDue due trace → IsInOrder trace
+in_order due ordered trace within conv =
+    let front = within conv course tt in
     let P : List Atom → Type 0 = HooksBeforeEnds in
-    ordered_front (seen_in course conv trace) within.0 (subst P within.1 (here (calls conv trace).peer))
+    ordered_front (seen_in course conv trace) front.0 (subst P front.1 (here (calls conv trace).peer))
   where
     here : (at : Option Address) → HooksBeforeEnds (seen_of course (due_at due conv at (calls_of conv trace)))
     here None = tt
-    here (Some peer) =
-        let P : List Command → Type 0 = λ l. HooksBeforeEnds (seen_of course l) in
-        subst P (owes conv peer (calls_of conv trace)) (hooks_ordered (made conv peer (calls_of conv trace)) (ordered conv peer (calls_of conv trace)))
-
-pub tells_in_order : {S : Type 0} (answers : Answering S) (made due : Due) → ((conv : ℕ) (peer : Address) (moves : List Move) → AsksBeforeEnds (made conv peer moves)) →
-    IsDueOf made due → (trace : Trace) (told : Option Trace) → Tells (IsServed answers due) trace told → Tells IsInOrder trace told
-tells_in_order answers made due ordered owes trace told t = record {
-  more = t.more;
-  is = t.is;
-  holds = in_order answers made due ordered owes (trace ++ t.more) t.holds;
-}
-
-pub tells_served : {C : Type 0} (standing : Standing C) (awaited : C → Option Ask) (number : C → ℕ) (made_due : C → List Move → List Command) {S : Type 0} (answers : Answering S)
-    (due : Due) (table : Table C) (trace : Trace) (told : Option Trace) → Tells (TableStands standing awaited number made_due answers due table) trace told →
-    Tells (IsServed answers due) trace told
-tells_served standing awaited number made_due answers due table trace told t = record { more = t.more; is = t.is; holds = t.holds.served }
+    here (Some peer) = hooks_ordered (due conv peer (calls_of conv trace)) (ordered conv peer (calls_of conv trace))

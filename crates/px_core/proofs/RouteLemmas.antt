@@ -29,12 +29,14 @@ use Rattle.px_core.specs.declared.news.News.TheVariants as news
 use Rattle.px_core.specs.declared.table.Place.{Place}
 use Rattle.px_core.specs.declared.table.Place.TheVariants as place
 use Rattle.px_core.specs.declared.table.Table.{Table}
-use Rattle.px_core.specs.Answers.{Answering}
+use Rattle.px_core.specs.Answered.{nothing_pending, at_first, at_other}
+use Rattle.px_core.specs.Answers.{Answering, AnswererState}
 use Rattle.px_core.specs.Calls.{Calls, calls, calls_of, takes, moved, addressed, is_connected, is_dialling, dial_ends}
 use Rattle.px_core.specs.Due.{Due, due_at, due_by, due_in, IsWithinDue, IsAllTold, EndsMet, Waits, OpenOnesWait, IsServed}
-use Rattle.px_core.specs.Held.{AllOf, dial_of, Hears, Takes}
+use Rattle.px_core.specs.Held.{AllOf, dial_of, waiting, Follows, Hears, Takes}
 use Rattle.px_core.specs.Hooks.{open_hook, hook_of, EndsInTurn}
-use Rattle.px_core.specs.Router.{Found, unknown, over, lost, live, found_at, found_by, place_of, found, IsUnknown, IsOver, IsLive, StandsIn, TableStands, HearsAt, Hands, Admits, Routes, IsAtKey}
+use Rattle.px_core.specs.Router.{Found, unknown, over, lost, live, found_at, found_by, place_of, found, draft_of, IsUnknown, IsOver, IsLive, StandsIn, TableStands, IsTabled, HearsAt, Hands, Admits, Routes, IsAtKey}
+use Rattle.px_core.proofs.AnsweredLemmas.{follows_step}
 use Rattle.px_core.proofs.CallLemmas.{others_calls, others_seen}
 use Rattle.px_core.proofs.HearLemmas.{seen_heard, calls_heard, calls_heard_other, calls_heard_none}
 use Rattle.px_core.proofs.HookLemmas.{hook_heard, others_hook, hook_is, hook_named, kept_on}
@@ -193,9 +195,9 @@ module _ {C : Type 0} (standing : Standing C) (awaited : C → Option Ask) (numb
       }
 
   -- a table in which nothing was admitted
-  pub new_stands : {S : Type 0} (answers : Answering S) (due : Due) (table : Table C) → ((conv : ℕ) → place_of table conv ≡ None) →
-      TableStands standing awaited number made_due answers due table []
-  new_stands answers due table empty = record {
+  pub new_stands : {S : Type 0} (answers : Answering S) (due : Due) (first : AnswererState S) (table : Table C) → ((conv : ℕ) → place_of table conv ≡ None) →
+      TableStands standing awaited number made_due answers due first first table []
+  new_stands answers due first table empty = record {
     at = λ conv.
         let P : Found (Held C) → Type 0 = StandsIn standing awaited number made_due answers due conv [] in
         let u : IsUnknown conv [] = record { begun = refl; dial = refl; connected = refl; moves = refl; sees = λ view told. refl; hook = refl } in
@@ -207,6 +209,9 @@ module _ {C : Type 0} (standing : Standing C) (awaited : C → Option Ask) (numb
       turns = always_empty EndsInTurn (λ front step e. absurd (no_end front step e));
       waits = before_empty (OpenOnesWait answers due);
     };
+    pending = nothing_pending;
+    answered = at_first;
+    drafts = λ conv. refl;
   }
     where
       no_end : (front : List Step) (step : Step) → [] ≡ front ++ step ∷ [] → ⊥
@@ -225,7 +230,7 @@ module _ {C : Type 0} (standing : Standing C) (awaited : C → Option Ask) (numb
     told_in due conv trace (live held) w view told =
         sym (due_is answers due standing awaited number made_due gave conv held trace [] w.within view ∙ (append-nil (seen_of view w.within.earlier) ∙ w.within.tells view told))
 
-    pub all_told : (due : Due) (table : Table C) (trace : Trace) → TableStands standing awaited number made_due answers due table trace → IsAllTold due trace
+    pub all_told : (due : Due) {first now : AnswererState S} (table : Table C) (trace : Trace) → TableStands standing awaited number made_due answers due first now table trace → IsAllTold due trace
     all_told due table trace stands conv view told = told_in due conv trace (found table conv) (stands.at conv) view told
 
     -- a hook that is open waits
@@ -241,7 +246,7 @@ module _ {C : Type 0} (standing : Standing C) (awaited : C → Option Ask) (numb
         let kept = w.drafted named.0 named.1 (hook_is (awaited held.conversation) ask waits ∙ ap Some named.2) in
         subst P (sym named.2) (kept.draft, kept.waits)
 
-    pub open_ones_wait : (due : Due) (table : Table C) (trace : Trace) → TableStands standing awaited number made_due answers due table trace → OpenOnesWait answers due trace
+    pub open_ones_wait : (due : Due) {first now : AnswererState S} (table : Table C) (trace : Trace) → TableStands standing awaited number made_due answers due first now table trace → OpenOnesWait answers due trace
     open_ones_wait due table trace stands conv ask is = waits_in due conv trace (found table conv) (stands.at conv) ask is
 
     -- what is due to one that is live by one call more
@@ -282,7 +287,7 @@ module _ {C : Type 0} (standing : Standing C) (awaited : C → Option Ask) (numb
     next_within due conv trace next (live held) w grown view told sees = live_next due conv trace next held w grown view told sees
 
     -- what was heard takes nothing back
-    pub heard_served : (due : Due) (table : Table C) (trace : Trace) (moment : ℕ) (heard : Heard) → TableStands standing awaited number made_due answers due table trace →
+    pub heard_served : (due : Due) {first now : AnswererState S} (table : Table C) (trace : Trace) (moment : ℕ) (heard : Heard) → TableStands standing awaited number made_due answers due first now table trace →
         IsServed answers due (trace ++ steps.Heard moment heard ∷ [])
     heard_served due table trace moment heard stands = record {
       within = always_more (IsWithinDue due) trace (steps.Heard moment heard) stands.served.within
@@ -295,14 +300,19 @@ module _ {C : Type 0} (standing : Standing C) (awaited : C → Option Ask) (numb
     }
 
     -- the others stay, and this one stands
-    next_stands : (due : Due) (conv moment : ℕ) (what : News) (before after : Table C) (trace more : Trace) (heard : Heard) → addressed heard ≡ Some (conv, what) →
-        AllOf conv more → ((other : ℕ) → conv ≢ other → found after other ≡ found before other) → TableStands standing awaited number made_due answers due before trace →
+    next_stands : (due : Due) {first old new : AnswererState S} (conv moment : ℕ) (what : News) (before after : Table C) (draft : Option Draft) (trace more : Trace) (heard : Heard) → addressed heard ≡ Some (conv, what) →
+        AllOf conv more → ((other : ℕ) → conv ≢ other → found after other ≡ found before other) → (stands : TableStands standing awaited number made_due answers due first old before trace) →
         StandsIn standing awaited number made_due answers due conv ((trace ++ steps.Heard moment heard ∷ []) ++ more) (found after conv) →
         IsServed answers due ((trace ++ steps.Heard moment heard ∷ []) ++ more) →
-        TableStands standing awaited number made_due answers due after ((trace ++ steps.Heard moment heard ∷ []) ++ more)
-    next_stands due conv moment what before after trace more heard is own others stands here served = record {
+        (f : Follows answers due first stands.pending conv draft new ((trace ++ steps.Heard moment heard ∷ []) ++ more)) →
+        waiting (open_hook conv ((trace ++ steps.Heard moment heard ∷ []) ++ more)) draft ≡ waiting (open_hook conv ((trace ++ steps.Heard moment heard ∷ []) ++ more)) (draft_of (found after conv)) →
+        TableStands standing awaited number made_due answers due first new after ((trace ++ steps.Heard moment heard ∷ []) ++ more)
+    next_stands due conv moment what before after draft trace more heard is own others stands here served f kept = record {
       at = λ other. by other (eqb_tells conv other);
       served = served;
+      pending = f.pending;
+      answered = f.answered;
+      drafts = λ other. drafted other (eqb_tells conv other);
     }
       where
         next : Trace
@@ -315,6 +325,24 @@ module _ {C : Type 0} (standing : Standing C) (awaited : C → Option Ask) (numb
         by other (inr apart) =
             let P : Found (Held C) → Type 0 = λ x. StandsIn standing awaited number made_due answers due other ((trace ++ steps.Heard moment heard ∷ []) ++ more) x in
             subst P (sym (others other apart.1)) (stands_same answers due other trace ((trace ++ steps.Heard moment heard ∷ []) ++ more) (other_same conv other moment trace more heard what is own apart.1) (found before other) (stands.at other))
+
+        drafted : (other : ℕ) → ((conv == other) ≡ true) × (conv ≡ other) ⊎ ((conv == other) ≡ false) × (conv ≢ other) →
+            f.pending other ≡ waiting (open_hook other ((trace ++ steps.Heard moment heard ∷ []) ++ more)) (draft_of (found after other))
+        drafted other (inl same) =
+            let P : ℕ → Type 0 = λ k. f.pending k ≡ waiting (open_hook k ((trace ++ steps.Heard moment heard ∷ []) ++ more)) (draft_of (found after k)) in subst P same.1 (f.here ∙ kept)
+        drafted other (inr apart) =
+            f.others other apart.1
+            ∙ (stands.drafts other
+            ∙ (ap (λ h. waiting h (draft_of (found before other))) (sym (other_same conv other moment trace more heard what is own apart.1).hook)
+            ∙ ap (λ x. waiting (open_hook other ((trace ++ steps.Heard moment heard ∷ []) ++ more)) (draft_of x)) (sym (others other apart.1))))
+
+    -- what is heard follows where the table stands
+    heard_follows : (due : Due) {first now : AnswererState S} (conv moment : ℕ) (table : Table C) (draft : Option Draft) (trace : Trace) (heard : Heard) →
+        (stands : TableStands standing awaited number made_due answers due first now table trace) → draft_of (found table conv) ≡ draft →
+        Follows answers due first stands.pending conv draft now (trace ++ steps.Heard moment heard ∷ [])
+    heard_follows due {first} {now} conv moment table draft trace heard stands same =
+        follows_step answers due first stands.pending conv draft now trace (steps.Heard moment heard)
+        (record { pending = stands.pending; answered = stands.answered; here = stands.drafts conv ∙ ap (waiting (open_hook conv trace)) same; others = λ other apart. refl }) tt
 
     module _ (ended : C → Bool) (ends : (made state : C) (moves : List Move) (given : List Command) → standing made state moves given → ended state ≡ true →
         (more : List Move) (view : View) → seen_of view (made_due made (moves ++ more)) ≡ seen_of view (made_due made moves))
@@ -342,35 +370,47 @@ module _ {C : Type 0} (standing : Standing C) (awaited : C → Option Ask) (numb
       here_stands due conv held trace x w (inr (is, end)) =
           let P : Found (Held C) → Type 0 = StandsIn standing awaited number made_due answers due conv trace in subst P (sym is) (over_of due conv held trace w end)
 
+      -- of one that has ended no hook is open
+      draft_in : (due : Due) (conv : ℕ) (held : Held C) (trace : Trace) (x : Found (Held C)) → IsLive standing awaited number made_due answers due conv held trace → IsHeldOr held x →
+          waiting (open_hook conv trace) held.draft ≡ waiting (open_hook conv trace) (draft_of x)
+      draft_in due conv held trace x w (inl is) = ap (λ y. waiting (open_hook conv trace) (draft_of y)) (sym is)
+      draft_in due conv held trace x w (inr (is, end)) =
+          let none : open_hook conv trace ≡ None = (over_of due conv held trace w end).hook in
+          ap (λ h. waiting h held.draft) none ∙ sym (ap (λ h. waiting h (draft_of x)) none)
+
       live_in : (due : Due) (conv : ℕ) (held : Held C) (trace : Trace) (x : Found (Held C)) → x ≡ live held → StandsIn standing awaited number made_due answers due conv trace x →
           IsLive standing awaited number made_due answers due conv held trace
       live_in due conv held trace x is w = let P : Found (Held C) → Type 0 = StandsIn standing awaited number made_due answers due conv trace in subst P is w
 
-      pub hands_of : (conv moment : ℕ) (what : News) (before after : Table C) (held new_held : Held C) (out new_out : List Step) → found before conv ≡ live held →
-          Hears standing awaited number made_due answers conv moment what held new_held out new_out → IsHeldOr new_held (found after conv) →
-          ((other : ℕ) → conv ≢ other → found after other ≡ found before other) → Hands standing awaited number made_due answers conv moment what before after out new_out
+      pub hands_of : (conv moment : ℕ) (what : News) (before after : Table C) (held new_held : Held C) {old new : AnswererState S} (out new_out : List Step) → found before conv ≡ live held →
+          Hears standing awaited number made_due answers conv moment what held new_held old new out new_out → IsHeldOr new_held (found after conv) →
+          ((other : ℕ) → conv ≢ other → found after other ≡ found before other) → Hands standing awaited number made_due answers conv moment what before after old new out new_out
       hands_of conv moment what before after held new_held out new_out was hears there others = record {
         more = hears.more;
         grown = hears.grown;
         own = hears.own;
         others = others;
-        stands = λ due trace heard is stands.
+        stands = λ due first trace heard is stands.
             let w = live_in due conv held trace (found before conv) was (stands.at conv) in
-            let next = hears.hears due trace heard is w.within w.drafted (heard_served due before trace moment heard stands) in
-            next_stands due conv moment what before after trace hears.more heard is hears.own others stands
-            (here_stands due conv new_held ((trace ++ steps.Heard moment heard ∷ []) ++ hears.more) (found after conv) (record { within = next.0; settled = hears.settled; drafted = next.2 }) there) next.1;
+            let next = hears.hears due first stands.pending trace heard is w.within w.drafted (heard_served due before trace moment heard stands)
+            (heard_follows due conv moment before held.draft trace heard stands (ap draft_of was)) in
+            let there_now : IsLive standing awaited number made_due answers due conv new_held ((trace ++ steps.Heard moment heard ∷ []) ++ hears.more) =
+            record { within = next.0; settled = hears.settled; drafted = next.2 } in
+            next_stands due conv moment what before after new_held.draft trace hears.more heard is hears.own others stands
+            (here_stands due conv new_held ((trace ++ steps.Heard moment heard ∷ []) ++ hears.more) (found after conv) there_now there) next.1 next.3
+            (draft_in due conv new_held ((trace ++ steps.Heard moment heard ∷ []) ++ hears.more) (found after conv) there_now there);
       }
 
-      pub admits_of : (conv moment : ℕ) (conversation : C) (before after : Table C) (held new_held : Held C) (out new_out : List Step) → found before conv ≡ unknown →
-          held.conversation ≡ conversation → awaited conversation ≡ None → standing conversation conversation [] [] →
-          Takes standing awaited number made_due answers conv moment (Took moment events.Begun) None [] held new_held out new_out → IsHeldOr new_held (found after conv) →
-          ((other : ℕ) → conv ≢ other → found after other ≡ found before other) → Admits standing awaited number made_due answers conv moment conversation before after out new_out
-      admits_of conv moment conversation before after held new_held out new_out was same free fresh t there others = record {
+      pub admits_of : (conv moment : ℕ) (conversation : C) (before after : Table C) (held new_held : Held C) {old new : AnswererState S} (out new_out : List Step) → found before conv ≡ unknown →
+          held.conversation ≡ conversation → held.draft ≡ None → awaited conversation ≡ None → standing conversation conversation [] [] →
+          Takes standing awaited number made_due answers conv moment (Took moment events.Begun) None [] held new_held old new out new_out → IsHeldOr new_held (found after conv) →
+          ((other : ℕ) → conv ≢ other → found after other ≡ found before other) → Admits standing awaited number made_due answers conv moment conversation before after old new out new_out
+      admits_of conv moment conversation before after held new_held {old} {new} out new_out was same no_draft free fresh t there others = record {
         more = t.more;
         grown = t.grown;
         own = t.own;
         others = others;
-        stands = λ due trace heard peer is owes stands.
+        stands = λ due first trace heard peer is owes stands.
             let P : Found (Held C) → Type 0 = StandsIn standing awaited number made_due answers due conv trace in
             let w : IsUnknown conv trace = subst P was (stands.at conv) in
             let on = calls_heard conv trace moment heard (news.Begun peer) is in
@@ -378,7 +418,8 @@ module _ {C : Type 0} (standing : Standing C) (awaited : C → Option Ask) (numb
             let Q : C → Type 0 = λ s. standing conversation s (calls_of conv trace) [] in
             let R : List Move → Type 0 = λ l. standing conversation conversation l [] in
             let none : awaited held.conversation ≡ None = ap awaited same ∙ free in
-            let next = t.takes due peer trace (trace ++ steps.Heard moment heard ∷ [])
+            let T : Option Draft → Type 0 = λ d. Follows answers due first stands.pending conv d old (trace ++ steps.Heard moment heard ∷ []) in
+            let next = t.takes due first stands.pending peer trace (trace ++ steps.Heard moment heard ∷ [])
             (record {
               made = conversation;
               earlier = [];
@@ -398,30 +439,36 @@ module _ {C : Type 0} (standing : Standing C) (awaited : C → Option Ask) (numb
               sees = λ view told. seen_heard view conv trace moment heard;
               hook = hook_heard conv trace moment heard;
             })
-            (heard_served due before trace moment heard stands) in
-            next_stands due conv moment (news.Begun peer) before after trace t.more heard is t.own others stands
-            (here_stands due conv new_held ((trace ++ steps.Heard moment heard ∷ []) ++ t.more) (found after conv) (record { within = next.0; settled = t.settled; drafted = next.2 }) there) next.1;
+            (heard_served due before trace moment heard stands)
+            (subst T (sym no_draft) (heard_follows due conv moment before None trace heard stands (ap draft_of was))) in
+            let there_now : IsLive standing awaited number made_due answers due conv new_held ((trace ++ steps.Heard moment heard ∷ []) ++ t.more) =
+            record { within = next.0; settled = t.settled; drafted = next.2 } in
+            next_stands due conv moment (news.Begun peer) before after new_held.draft trace t.more heard is t.own others stands
+            (here_stands due conv new_held ((trace ++ steps.Heard moment heard ∷ []) ++ t.more) (found after conv) there_now there) next.1 next.3
+            (draft_in due conv new_held ((trace ++ steps.Heard moment heard ∷ []) ++ t.more) (found after conv) there_now there);
       }
 
     -- news that the table ignores
-    ignored_hands : (conv moment : ℕ) (what : News) (table : Table C) (out : List Step) →
+    ignored_hands : (conv moment : ℕ) (what : News) (table : Table C) {state : AnswererState S} (out : List Step) →
         ((due : Due) (trace : Trace) (heard : Heard) → addressed heard ≡ Some (conv, what) → StandsIn standing awaited number made_due answers due conv trace (found table conv) →
         StandsIn standing awaited number made_due answers due conv (trace ++ steps.Heard moment heard ∷ []) (found table conv)) →
-        Hands standing awaited number made_due answers conv moment what table table out out
-    ignored_hands conv moment what table out here = record {
+        Hands standing awaited number made_due answers conv moment what table table state state out out
+    ignored_hands conv moment what table {state} out here = record {
       more = [];
       grown = sym (append-nil out);
       own = tt;
       others = λ other apart. refl;
-      stands = λ due trace heard is stands.
+      stands = λ due first trace heard is stands.
           let P : Trace → Type 0 = λ t. StandsIn standing awaited number made_due answers due conv t (found table conv) in
           let Q : Trace → Type 0 = IsServed answers due in
+          let R : Trace → Type 0 = Follows answers due first stands.pending conv (draft_of (found table conv)) state in
           let same = sym (append-nil (trace ++ steps.Heard moment heard ∷ [])) in
-          next_stands due conv moment what table table trace [] heard is tt (λ other apart. refl) stands
-          (subst P same (here due trace heard is (stands.at conv))) (subst Q same (heard_served due table trace moment heard stands));
+          next_stands due conv moment what table table (draft_of (found table conv)) trace [] heard is tt (λ other apart. refl) stands
+          (subst P same (here due trace heard is (stands.at conv))) (subst Q same (heard_served due table trace moment heard stands))
+          (subst R same (heard_follows due conv moment table (draft_of (found table conv)) trace heard stands refl)) refl;
     }
 
-    pub over_hands : (conv moment : ℕ) (what : News) (table : Table C) (out : List Step) → found table conv ≡ over → Hands standing awaited number made_due answers conv moment what table table out out
+    pub over_hands : (conv moment : ℕ) (what : News) (table : Table C) {state : AnswererState S} (out : List Step) → found table conv ≡ over → Hands standing awaited number made_due answers conv moment what table table state state out out
     over_hands conv moment what table out was = ignored_hands conv moment what table out (λ due trace heard is w.
         let P : Found (Held C) → Type 0 = StandsIn standing awaited number made_due answers due conv trace in
         let Q : Found (Held C) → Type 0 = StandsIn standing awaited number made_due answers due conv (trace ++ steps.Heard moment heard ∷ []) in
@@ -433,8 +480,8 @@ module _ {C : Type 0} (standing : Standing C) (awaited : C → Option Ask) (numb
     takes_nothing moment c (news.Event side event) not begun dial = rw begun refl
     takes_nothing moment c (news.Dialled server ok) not begun dial = rw dial refl
 
-    pub unknown_hands : (conv moment : ℕ) (what : News) (table : Table C) (out : List Step) → found table conv ≡ unknown → ((peer : Address) → what ≡ news.Begun peer → ⊥) →
-        Hands standing awaited number made_due answers conv moment what table table out out
+    pub unknown_hands : (conv moment : ℕ) (what : News) (table : Table C) {state : AnswererState S} (out : List Step) → found table conv ≡ unknown → ((peer : Address) → what ≡ news.Begun peer → ⊥) →
+        Hands standing awaited number made_due answers conv moment what table table state state out out
     unknown_hands conv moment what table out was not = ignored_hands conv moment what table out (λ due trace heard is w.
         let P : Found (Held C) → Type 0 = StandsIn standing awaited number made_due answers due conv trace in
         let Q : Found (Held C) → Type 0 = StandsIn standing awaited number made_due answers due conv (trace ++ steps.Heard moment heard ∷ []) in
@@ -445,37 +492,40 @@ module _ {C : Type 0} (standing : Standing C) (awaited : C → Option Ask) (numb
         subst Q (sym was) (stands_same answers due conv trace (trace ++ steps.Heard moment heard ∷ []) same unknown u))
 
     -- what was heard of no conversation
-    pub routes_none : (moment : ℕ) (heard : Heard) (table : Table C) (out : List Step) → addressed heard ≡ None → Routes standing awaited number made_due answers moment heard table table out out
-    routes_none moment heard table out is = record {
+    pub routes_none : (moment : ℕ) (heard : Heard) (table : Table C) {state : AnswererState S} (out : List Step) → addressed heard ≡ None → Routes standing awaited number made_due answers moment heard table table state state out out
+    routes_none moment heard table {state} out is = record {
       more = [];
       grown = sym (append-nil out);
       own = λ conv what some. tt;
       none = λ _. (refl, refl);
       others = λ conv other what some apart. refl;
-      stands = λ due trace stands.
-          let P : Trace → Type 0 = TableStands standing awaited number made_due answers due table in
+      stands = λ due first trace stands.
+          let P : Trace → Type 0 = TableStands standing awaited number made_due answers due first state table in
           subst P (sym (append-nil (trace ++ steps.Heard moment heard ∷ []))) (record {
             at = λ conv. stands_same answers due conv trace (trace ++ steps.Heard moment heard ∷ []) (none_same conv moment trace heard is) (found table conv) (stands.at conv);
             served = heard_served due table trace moment heard stands;
+            pending = stands.pending;
+            answered = at_other trace (trace ++ steps.Heard moment heard ∷ []) state stands.pending (steps.Heard moment heard) stands.answered refl tt;
+            drafts = λ conv. stands.drafts conv ∙ ap (λ h. waiting h (draft_of (found table conv))) (sym (hook_heard conv trace moment heard));
           });
     }
 
     same_pair : (p q : ℕ × News) → Some p ≡ Some q → p.0 ≡ q.0
     same_pair p q e = let s : p ≡ q = cc in ap (λ (r : ℕ × News). r.0) s
 
-    pub routes_of : (moment : ℕ) (heard : Heard) (conv : ℕ) (what : News) (before after : Table C) (out new_out : List Step) → addressed heard ≡ Some (conv, what) →
-        Hands standing awaited number made_due answers conv moment what before after out new_out → Routes standing awaited number made_due answers moment heard before after out new_out
+    pub routes_of : (moment : ℕ) (heard : Heard) (conv : ℕ) (what : News) (before after : Table C) {old new : AnswererState S} (out new_out : List Step) → addressed heard ≡ Some (conv, what) →
+        Hands standing awaited number made_due answers conv moment what before after old new out new_out → Routes standing awaited number made_due answers moment heard before after old new out new_out
     routes_of moment heard conv what before after out new_out is hands = record {
       more = hands.more;
       grown = hands.grown;
       own = λ other what' some. let P : ℕ → Type 0 = λ k. AllOf k hands.more in subst P (same_pair (conv, what) (other, what') (sym is ∙ some)) hands.own;
       none = λ no. absurd (let wrong : Some (conv, what) ≡ None = sym is ∙ no in cc);
       others = λ first other what' some apart. hands.others other (λ same. apart (sym (same_pair (conv, what) (first, what') (sym is ∙ some)) ∙ same));
-      stands = λ due trace stands. hands.stands due trace heard is stands;
+      stands = λ due first trace stands. hands.stands due first trace heard is stands;
     }
 
-    pub routes_out : (moment : ℕ) (heard : Heard) (before after : Table C) (empty given out new_out : List Step) → empty ≡ [] → new_out ≡ out ++ given →
-        Routes standing awaited number made_due answers moment heard before after empty given → Routes standing awaited number made_due answers moment heard before after out new_out
+    pub routes_out : (moment : ℕ) (heard : Heard) (before after : Table C) {old new : AnswererState S} (empty given out new_out : List Step) → empty ≡ [] → new_out ≡ out ++ given →
+        Routes standing awaited number made_due answers moment heard before after old new empty given → Routes standing awaited number made_due answers moment heard before after old new out new_out
     routes_out moment heard before after empty given out new_out none grown r = record {
       more = r.more;
       grown = grown ∙ ap (λ l. out ++ l) (r.grown ∙ ap (λ l. l ++ r.more) none);
@@ -485,8 +535,8 @@ module _ {C : Type 0} (standing : Standing C) (awaited : C → Option Ask) (numb
       stands = r.stands;
     }
 
-    pub admits_out : (conv moment : ℕ) (conversation : C) (before after : Table C) (empty given out new_out : List Step) → empty ≡ [] → new_out ≡ out ++ given →
-        Admits standing awaited number made_due answers conv moment conversation before after empty given → Admits standing awaited number made_due answers conv moment conversation before after out new_out
+    pub admits_out : (conv moment : ℕ) (conversation : C) (before after : Table C) {old new : AnswererState S} (empty given out new_out : List Step) → empty ≡ [] → new_out ≡ out ++ given →
+        Admits standing awaited number made_due answers conv moment conversation before after old new empty given → Admits standing awaited number made_due answers conv moment conversation before after old new out new_out
     admits_out conv moment conversation before after empty given out new_out none grown r = record {
       more = r.more;
       grown = grown ∙ ap (λ l. out ++ l) (r.grown ∙ ap (λ l. l ++ r.more) none);
@@ -496,7 +546,7 @@ module _ {C : Type 0} (standing : Standing C) (awaited : C → Option Ask) (numb
     }
 
     -- no two numbers share a key
-    pub apart_keys : (due : Due) (table : Table C) (trace : Trace) (conv other key : ℕ) (held : Held C) → TableStands standing awaited number made_due answers due table trace →
+    pub apart_keys : (due : Due) {first now : AnswererState S} (table : Table C) (trace : Trace) (conv other key : ℕ) (held : Held C) → TableStands standing awaited number made_due answers due first now table trace →
         slab.get table.live key ≡ Some held → number held.conversation ≡ conv → conv ≢ other → place_of table other ≡ Some (place.Live key) → ⊥
     apart_keys due table trace conv other key held stands is named apart at =
         let there : found table other ≡ live held = ap (found_by table.live) at ∙ ap found_at is in
@@ -504,22 +554,22 @@ module _ {C : Type 0} (standing : Standing C) (awaited : C → Option Ask) (numb
         let w : IsLive standing awaited number made_due answers due other held trace = subst P there (stands.at other) in
         apart (sym named ∙ w.within.named)
 
-    pub no_vacant_key : (due : Due) (table : Table C) (trace : Trace) (other key : ℕ) → TableStands standing awaited number made_due answers due table trace →
+    pub no_vacant_key : (due : Due) {first now : AnswererState S} (table : Table C) (trace : Trace) (other key : ℕ) → TableStands standing awaited number made_due answers due first now table trace →
         slab.get table.live key ≡ None → place_of table other ≡ Some (place.Live key) → ⊥
     no_vacant_key due table trace other key stands is at =
         let there : found table other ≡ lost = ap (found_by table.live) at ∙ ap found_at is in
         let P : Found (Held C) → Type 0 = StandsIn standing awaited number made_due answers due other trace in subst P there (stands.at other)
 
-    first_takes : (conv moment : ℕ) (conversation : C) (held new_held : Held C) (out new_out : List Step) → held.conversation ≡ conversation → held.connected.items ≡ [] →
+    first_takes : (conv moment : ℕ) (conversation : C) (held new_held : Held C) {old new : AnswererState S} (out new_out : List Step) → held.conversation ≡ conversation → held.connected.items ≡ [] →
         awaited conversation ≡ None →
-        Takes standing awaited number made_due answers conv moment (Took moment events.Begun) (dial_of (awaited held.conversation)) held.connected.items held new_held out new_out →
-        Takes standing awaited number made_due answers conv moment (Took moment events.Begun) None [] held new_held out new_out
-    first_takes conv moment conversation held new_held out new_out same sides free t =
-        let P : Option ℕ → Type 0 = λ d. Takes standing awaited number made_due answers conv moment (Took moment events.Begun) d [] held new_held out new_out in
-        let Q : List ℕ → Type 0 = λ l. Takes standing awaited number made_due answers conv moment (Took moment events.Begun) (dial_of (awaited held.conversation)) l held new_held out new_out in
+        Takes standing awaited number made_due answers conv moment (Took moment events.Begun) (dial_of (awaited held.conversation)) held.connected.items held new_held old new out new_out →
+        Takes standing awaited number made_due answers conv moment (Took moment events.Begun) None [] held new_held old new out new_out
+    first_takes conv moment conversation held new_held {old} {new} out new_out same sides free t =
+        let P : Option ℕ → Type 0 = λ d. Takes standing awaited number made_due answers conv moment (Took moment events.Begun) d [] held new_held old new out new_out in
+        let Q : List ℕ → Type 0 = λ l. Takes standing awaited number made_due answers conv moment (Took moment events.Begun) (dial_of (awaited held.conversation)) l held new_held old new out new_out in
         subst P (ap (λ s. dial_of (awaited s)) same ∙ ap dial_of free) (subst Q sides t)
 
-    pub at_key : (due : Due) (table : Table C) (trace : Trace) (conv key : ℕ) → TableStands standing awaited number made_due answers due table trace →
+    pub at_key : (due : Due) {first now : AnswererState S} (table : Table C) (trace : Trace) (conv key : ℕ) → TableStands standing awaited number made_due answers due first now table trace →
         place_of table conv ≡ Some (place.Live key) → IsAtKey standing awaited number made_due conv key table
     at_key due table trace conv key stands at = by (slab.get table.live key) refl
       where
@@ -540,29 +590,29 @@ module _ {C : Type 0} (standing : Standing C) (awaited : C → Option Ask) (numb
     module _ (ended : C → Bool) (ends : (made state : C) (moves : List Move) (given : List Command) → standing made state moves given → ended state ≡ true →
         (more : List Move) (view : View) → seen_of view (made_due made (moves ++ more)) ≡ seen_of view (made_due made moves))
         (rests : (made state : C) (moves : List Move) (given : List Command) → standing made state moves given → ended state ≡ true → awaited state ≡ None) where
-      named_at : (due : Due) (table : Table C) (trace : Trace) (conv key : ℕ) (held : Held C) → TableStands standing awaited number made_due answers due table trace →
+      named_at : (due : Due) {first now : AnswererState S} (table : Table C) (trace : Trace) (conv key : ℕ) (held : Held C) → TableStands standing awaited number made_due answers due first now table trace →
           place_of table conv ≡ Some (place.Live key) → slab.get table.live key ≡ Some held → number held.conversation ≡ conv
       named_at due table trace conv key held stands at is =
           let P : Found (Held C) → Type 0 = StandsIn standing awaited number made_due answers due conv trace in
           let w : IsLive standing awaited number made_due answers due conv held trace = subst P (ap (found_by table.live) at ∙ ap found_at is) (stands.at conv) in
           w.within.named
 
-      pub hands_live : (conv moment key : ℕ) (what : News) (before after : Table C) (over_now : Bool) (out new_out : List Step) →
-          (due : Due) × (trace : Trace) × TableStands standing awaited number made_due answers due before trace → place_of before conv ≡ Some (place.Live key) →
-          HearsAt standing awaited number made_due answers ended conv moment what key before after over_now out new_out →
-          Hands standing awaited number made_due answers conv moment what before after out new_out
-      hands_live conv moment key what before after over_now out new_out (due, trace, stands) at h =
+      pub hands_live : (conv moment key : ℕ) (what : News) (before after : Table C) {old new : AnswererState S} (over_now : Bool) (out new_out : List Step) →
+          IsTabled standing awaited number made_due answers before → place_of before conv ≡ Some (place.Live key) →
+          HearsAt standing awaited number made_due answers ended conv moment what key before after old new over_now out new_out →
+          Hands standing awaited number made_due answers conv moment what before after old new out new_out
+      hands_live conv moment key what before after over_now out new_out (due, first, now, trace, stands) at h =
           hands_of ended ends rests conv moment what before after h.held h.new_held out new_out (ap (found_by before.live) at ∙ ap found_at h.was) h.hears
           (inl (ap (found_by after.live) (ap (λ m. tree.get nat_cmp m conv) h.places ∙ at) ∙ ap found_at h.live_now.changed))
           (λ other apart. same_found before.live after.live (place_of before other) (place_of after other) key (ap (λ m. tree.get nat_cmp m other) h.places) h.live_now.others
           (apart_keys due before trace conv other key h.held stands h.was (named_at due before trace conv key h.held stands at h.was) apart))
 
-      pub hands_ended : (conv moment key : ℕ) (what : News) (before between after : Table C) (over_now : Bool) (out new_out : List Step) →
-          (due : Due) × (trace : Trace) × TableStands standing awaited number made_due answers due before trace → place_of before conv ≡ Some (place.Live key) →
-          HearsAt standing awaited number made_due answers ended conv moment what key before between over_now out new_out → over_now ≡ true →
+      pub hands_ended : (conv moment key : ℕ) (what : News) (before between after : Table C) {old new : AnswererState S} (over_now : Bool) (out new_out : List Step) →
+          IsTabled standing awaited number made_due answers before → place_of before conv ≡ Some (place.Live key) →
+          HearsAt standing awaited number made_due answers ended conv moment what key before between old new over_now out new_out → over_now ≡ true →
           slab.Updates between.live after.live key None → tree.Updates nat_cmp between.places after.places conv (Some place.Ended) →
-          Hands standing awaited number made_due answers conv moment what before after out new_out
-      hands_ended conv moment key what before between after over_now out new_out (due, trace, stands) at h is_over_now removed noted =
+          Hands standing awaited number made_due answers conv moment what before after old new out new_out
+      hands_ended conv moment key what before between after over_now out new_out (due, first, now, trace, stands) at h is_over_now removed noted =
           hands_of ended ends rests conv moment what before after h.held h.new_held out new_out (ap (found_by before.live) at ∙ ap found_at h.was) h.hears
           (inr (ap (found_by after.live) noted.1, sym h.ends ∙ is_over_now))
           (λ other apart. same_found before.live after.live (place_of before other) (place_of after other) key
@@ -570,26 +620,26 @@ module _ {C : Type 0} (standing : Standing C) (awaited : C → Option Ask) (numb
           (λ k k_apart. removed.others k k_apart ∙ h.live_now.others k k_apart)
           (apart_keys due before trace conv other key h.held stands h.was (named_at due before trace conv key h.held stands at h.was) apart))
 
-      pub admits_added : (conv moment key : ℕ) (conversation : C) (before after : Table C) (held new_held : Held C) (out new_out : List Step) →
-          (due : Due) × (trace : Trace) × TableStands standing awaited number made_due answers due before trace → is_some (place_of before conv) ≡ false →
-          held.conversation ≡ conversation → held.connected.items ≡ [] → awaited conversation ≡ None → standing conversation conversation [] [] →
-          Takes standing awaited number made_due answers conv moment (Took moment events.Begun) (dial_of (awaited held.conversation)) held.connected.items held new_held out new_out →
+      pub admits_added : (conv moment key : ℕ) (conversation : C) (before after : Table C) (held new_held : Held C) {old new : AnswererState S} (out new_out : List Step) →
+          IsTabled standing awaited number made_due answers before → is_some (place_of before conv) ≡ false →
+          held.conversation ≡ conversation → held.connected.items ≡ [] → held.draft ≡ None → awaited conversation ≡ None → standing conversation conversation [] [] →
+          Takes standing awaited number made_due answers conv moment (Took moment events.Begun) (dial_of (awaited held.conversation)) held.connected.items held new_held old new out new_out →
           slab.Updates before.live after.live key (Some new_held) → slab.get before.live key ≡ None → tree.Updates nat_cmp before.places after.places conv (Some (place.Live key)) →
-          Admits standing awaited number made_due answers conv moment conversation before after out new_out
-      admits_added conv moment key conversation before after held new_held out new_out (due, trace, stands) fresh same sides free new t added vacant noted =
-          admits_of ended ends rests conv moment conversation before after held new_held out new_out (ap (found_by before.live) (unplaced (place_of before conv) fresh)) same free new
+          Admits standing awaited number made_due answers conv moment conversation before after old new out new_out
+      admits_added conv moment key conversation before after held new_held out new_out (due, first, now, trace, stands) unknown_here same sides no_draft free fresh t added vacant noted =
+          admits_of ended ends rests conv moment conversation before after held new_held out new_out (ap (found_by before.live) (unplaced (place_of before conv) unknown_here)) same no_draft free fresh
           (first_takes conv moment conversation held new_held out new_out same sides free t)
           (inl (ap (found_by after.live) noted.1 ∙ ap found_at added.changed))
           (λ other apart. same_found before.live after.live (place_of before other) (place_of after other) key (noted.2 other (not_at conv other apart)) added.others
           (no_vacant_key due before trace other key stands vacant))
 
-      pub admits_ended : (conv moment : ℕ) (conversation : C) (before after : Table C) (held new_held : Held C) (out new_out : List Step) → is_some (place_of before conv) ≡ false →
-          held.conversation ≡ conversation → held.connected.items ≡ [] → awaited conversation ≡ None → standing conversation conversation [] [] →
-          Takes standing awaited number made_due answers conv moment (Took moment events.Begun) (dial_of (awaited held.conversation)) held.connected.items held new_held out new_out →
+      pub admits_ended : (conv moment : ℕ) (conversation : C) (before after : Table C) (held new_held : Held C) {old new : AnswererState S} (out new_out : List Step) → is_some (place_of before conv) ≡ false →
+          held.conversation ≡ conversation → held.connected.items ≡ [] → held.draft ≡ None → awaited conversation ≡ None → standing conversation conversation [] [] →
+          Takes standing awaited number made_due answers conv moment (Took moment events.Begun) (dial_of (awaited held.conversation)) held.connected.items held new_held old new out new_out →
           ended new_held.conversation ≡ true → after.live ≡ before.live → tree.Updates nat_cmp before.places after.places conv (Some place.Ended) →
-          Admits standing awaited number made_due answers conv moment conversation before after out new_out
-      admits_ended conv moment conversation before after held new_held out new_out fresh same sides free new t is_over_now kept noted =
-          admits_of ended ends rests conv moment conversation before after held new_held out new_out (ap (found_by before.live) (unplaced (place_of before conv) fresh)) same free new
+          Admits standing awaited number made_due answers conv moment conversation before after old new out new_out
+      admits_ended conv moment conversation before after held new_held out new_out unknown_here same sides no_draft free fresh t is_over_now kept noted =
+          admits_of ended ends rests conv moment conversation before after held new_held out new_out (ap (found_by before.live) (unplaced (place_of before conv) unknown_here)) same no_draft free fresh
           (first_takes conv moment conversation held new_held out new_out same sides free t)
           (inr (ap (found_by after.live) noted.1, is_over_now))
           (λ other apart. ap (λ l. found_by l (place_of after other)) kept ∙ ap (found_by before.live) (noted.2 other (not_at conv other apart)))

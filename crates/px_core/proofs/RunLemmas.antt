@@ -20,12 +20,14 @@ use Rattle.px_event.specs.Trace.{Trace}
 use Rattle.px_core.specs.declared.news.News.{News}
 use Rattle.px_core.specs.declared.news.News.TheVariants as news
 use Rattle.px_core.specs.declared.table.Table.{Table}
-use Rattle.px_core.specs.Answers.{Answering}
+use Rattle.px_core.specs.Answered.{IsAnswered, at_other}
+use Rattle.px_core.specs.Answers.{Answering, AnswererState}
 use Rattle.px_core.specs.Calls.{number_end, addressed}
 use Rattle.px_core.specs.Due.{Due, IsServed}
 use Rattle.px_core.specs.Held.{IsOf, AllOf}
 use Rattle.px_core.specs.declared.router.Router.{Router}
 use Rattle.px_core.specs.Router.{found, TableStands, Admits, Routes}
+use Rattle.px_core.proofs.AnsweredLemmas.{front_answered}
 use Rattle.px_core.specs.Run.{begun_by, done_of, Tells, IsTellable, AllTellable, ToldPart, IsOfHeard, TellsOfHeard, KeepsOthers}
 
 -- steps of a conversation are said or noted
@@ -51,31 +53,31 @@ served_front answers due trace rest served = record {
 }
 
 module _ {C : Type 0} (standing : Standing C) (awaited : C → Option Ask) (number : C → ℕ) (made_due : C → List Move → List Command) {S : Type 0} (answers : Answering S) where
-  pub admitted : (conv moment : ℕ) (conversation : C) (before after : Table C) (empty given : List Step) → empty ≡ [] →
-      Admits standing awaited number made_due answers conv moment conversation before after empty given →
-      (due : Due) (trace : Trace) (what : Heard) (peer : Address) → addressed what ≡ Some (conv, news.Begun peer) → ((moves : List Move) → made_due conversation moves ≡ due conv peer moves) →
-      TableStands standing awaited number made_due answers due before trace →
-      TableStands standing awaited number made_due answers due after ((trace ++ steps.Heard moment what ∷ []) ++ given)
-  admitted conv moment conversation before after empty given none a due trace what peer is owes stands =
+  pub admitted : (conv moment : ℕ) (conversation : C) (before after : Table C) {old new : AnswererState S} (empty given : List Step) → empty ≡ [] →
+      Admits standing awaited number made_due answers conv moment conversation before after old new empty given →
+      (due : Due) (first : AnswererState S) (trace : Trace) (what : Heard) (peer : Address) → addressed what ≡ Some (conv, news.Begun peer) → ((moves : List Move) → made_due conversation moves ≡ due conv peer moves) →
+      TableStands standing awaited number made_due answers due first old before trace →
+      TableStands standing awaited number made_due answers due first new after ((trace ++ steps.Heard moment what ∷ []) ++ given)
+  admitted conv moment conversation before after {old} {new} empty given none a due first trace what peer is owes stands =
       let same : a.more ≡ given = sym (a.grown ∙ ap (λ l. l ++ a.more) none) in
-      let P : Trace → Type 0 = λ l. TableStands standing awaited number made_due answers due after ((trace ++ steps.Heard moment what ∷ []) ++ l) in
-      subst P same (a.stands due trace what peer is owes stands)
+      let P : Trace → Type 0 = λ l. TableStands standing awaited number made_due answers due first new after ((trace ++ steps.Heard moment what ∷ []) ++ l) in
+      subst P same (a.stands due first trace what peer is owes stands)
 
-  pub admitted_own : (conv moment : ℕ) (conversation : C) (before after : Table C) (empty given : List Step) → empty ≡ [] →
-      Admits standing awaited number made_due answers conv moment conversation before after empty given → AllOf conv given
+  pub admitted_own : (conv moment : ℕ) (conversation : C) (before after : Table C) {old new : AnswererState S} (empty given : List Step) → empty ≡ [] →
+      Admits standing awaited number made_due answers conv moment conversation before after old new empty given → AllOf conv given
   admitted_own conv moment conversation before after empty given none a =
       let P : Trace → Type 0 = AllOf conv in subst P (sym (a.grown ∙ ap (λ l. l ++ a.more) none)) a.own
 
-  pub routed : (moment : ℕ) (what : Heard) (before after : Table C) (empty given : List Step) → empty ≡ [] →
-      Routes standing awaited number made_due answers moment what before after empty given →
-      (due : Due) (trace : Trace) → TableStands standing awaited number made_due answers due before trace →
-      TableStands standing awaited number made_due answers due after ((trace ++ steps.Heard moment what ∷ []) ++ given)
-  routed moment what before after empty given none r due trace stands =
-      let P : Trace → Type 0 = λ l. TableStands standing awaited number made_due answers due after ((trace ++ steps.Heard moment what ∷ []) ++ l) in
-      subst P (sym (r.grown ∙ ap (λ l. l ++ r.more) none)) (r.stands due trace stands)
+  pub routed : (moment : ℕ) (what : Heard) (before after : Table C) {old new : AnswererState S} (empty given : List Step) → empty ≡ [] →
+      Routes standing awaited number made_due answers moment what before after old new empty given →
+      (due : Due) (first : AnswererState S) (trace : Trace) → TableStands standing awaited number made_due answers due first old before trace →
+      TableStands standing awaited number made_due answers due first new after ((trace ++ steps.Heard moment what ∷ []) ++ given)
+  routed moment what before after {old} {new} empty given none r due first trace stands =
+      let P : Trace → Type 0 = λ l. TableStands standing awaited number made_due answers due first new after ((trace ++ steps.Heard moment what ∷ []) ++ l) in
+      subst P (sym (r.grown ∙ ap (λ l. l ++ r.more) none)) (r.stands due first trace stands)
 
-  pub routed_tellable : (moment : ℕ) (what : Heard) (before after : Table C) (empty given : List Step) → empty ≡ [] →
-      Routes standing awaited number made_due answers moment what before after empty given → AllTellable given
+  pub routed_tellable : (moment : ℕ) (what : Heard) (before after : Table C) {old new : AnswererState S} (empty given : List Step) → empty ≡ [] →
+      Routes standing awaited number made_due answers moment what before after old new empty given → AllTellable given
   routed_tellable moment what before after empty given none r = by (addressed what) refl
     where
       same : given ≡ r.more
@@ -144,6 +146,29 @@ pub served_none : {S : Type 0} (answers : Answering S) (due : Due) (trace : Trac
 served_none answers due trace now served is =
     let P : Trace → Type 0 = IsServed answers due in
     record { more = []; is = is ∙ ap Some (sym (append-nil trace)); holds = subst P (sym (append-nil trace)) served }
+
+-- so the answerer came over what was told
+pub answered_part : {S : Type 0} (answers : Answering S) (due : Due) (first : AnswererState S) (trace list : Trace) (now : Option Trace) (before after : List Flow) →
+    IsAnswered answers due first (trace ++ list) → ToldPart list trace now before after → Tells (IsAnswered answers due first) trace now
+answered_part answers due first trace list now before after all t = record {
+  more = t.given;
+  is = t.is;
+  holds =
+      front_answered answers due first (trace ++ t.given) t.front.0 (trace ++ list) all.last all.pending
+      (ap (λ l. trace ++ l) t.front.1 ∙ sym (append_assoc trace t.given t.front.0)) all.answered;
+}
+
+-- and over what was heard where no step was told
+pub answered_none : {S : Type 0} (answers : Answering S) (due : Due) (first : AnswererState S) (trace : Trace) (moment : ℕ) (what : Heard) (now : Option Trace) →
+    IsAnswered answers due first trace → now ≡ Some (trace ++ steps.Heard moment what ∷ []) → Tells (IsAnswered answers due first) (trace ++ steps.Heard moment what ∷ []) now
+answered_none answers due first trace moment what now a is =
+    let there = trace ++ steps.Heard moment what ∷ [] in
+    let P : Trace → Type 0 = IsAnswered answers due first in
+    record {
+      more = [];
+      is = is ∙ ap Some (sym (append-nil there));
+      holds = subst P (sym (append-nil there)) (record { last = a.last; pending = a.pending; answered = at_other trace there a.last a.pending (steps.Heard moment what) a.answered refl tt });
+    }
 
 pub done_next : (front : List Step) (x : Step) → flat_map done_of (front ++ x ∷ []) ≡ flat_map done_of front ++ done_of x
 done_next front x = flat_map-append done_of front (x ∷ []) ∙ ap (λ l. flat_map done_of front ++ l) (append-nil (done_of x))
@@ -248,8 +273,8 @@ begun_keeps_by (Ok t) what conv peer before after is kept = begun_keeps what con
 begun_keeps_by (Err e) what conv peer before after is kept = tt
 
 module _ {C : Type 0} (standing : Standing C) (awaited : C → Option Ask) (number : C → ℕ) (made_due : C → List Move → List Command) {S : Type 0} (answers : Answering S) where
-  pub routed_of_heard : (moment : ℕ) (what : Heard) (before after : Table C) (empty given : List Step) → empty ≡ [] →
-      Routes standing awaited number made_due answers moment what before after empty given → IsOfHeard what given
+  pub routed_of_heard : (moment : ℕ) (what : Heard) (before after : Table C) {old new : AnswererState S} (empty given : List Step) → empty ≡ [] →
+      Routes standing awaited number made_due answers moment what before after old new empty given → IsOfHeard what given
   routed_of_heard moment what before after empty given none r =
       let same : r.more ≡ given = sym (r.grown ∙ ap (λ l. l ++ r.more) none) in
       record {
@@ -257,8 +282,8 @@ module _ {C : Type 0} (standing : Standing C) (awaited : C → Option Ask) (numb
         none = λ no. sym same ∙ (r.none no).0;
       }
 
-  pub routed_keeps : {A : Type 0} (moment : ℕ) (what : Heard) (before after : Router C A) (out new_out : List Step) →
-      Routes standing awaited number made_due answers moment what before.table after.table out new_out → KeepsOthers what before after
+  pub routed_keeps : {A : Type 0} (moment : ℕ) (what : Heard) (before after : Router C A) {old new : AnswererState S} (out new_out : List Step) →
+      Routes standing awaited number made_due answers moment what before.table after.table old new out new_out → KeepsOthers what before after
   routed_keeps moment what before after out new_out r = record {
     others = r.others;
     none = λ no. (r.none no).1;
@@ -277,3 +302,13 @@ pub tells_by : {T E : Type 0} (result : Result T E) (what : Heard) (trace list :
     OnOk result (now ≡ Some (trace ++ list)) → OnErr result (ToldPart list trace now before after) → TellsOfHeard what trace now
 tells_by (Ok t) what trace list now before after of all part = record { more = list; is = all; own = of }
 tells_by (Err e) what trace list now before after of all part = record { more = part.given; is = part.is; own = front_of_heard what part.given list part.front of }
+
+-- a router that stands for what is told came there by its answers
+pub tells_answered : {C : Type 0} (standing : Standing C) (awaited : C → Option Ask) (number : C → ℕ) (made_due : C → List Move → List Command) {S : Type 0} (answers : Answering S)
+    (due : Due) {first now : AnswererState S} (table : Table C) (trace : Trace) (told : Option Trace) → Tells (TableStands standing awaited number made_due answers due first now table) trace told →
+    Tells (IsAnswered answers due first) trace told
+tells_answered standing awaited number made_due answers due {first} {now} table trace told t = record {
+  more = t.more;
+  is = t.is;
+  holds = record { last = now; pending = t.holds.pending; answered = t.holds.answered };
+}

@@ -11,18 +11,19 @@ use Rattle.px_event.specs.declared.step.Step.{Step}
 use Rattle.px_event.specs.declared.step.Step.TheVariants as steps
 use Rattle.px_event.specs.Layer.{Move, Replied, Standing, Goes, asks_in}
 use Rattle.px_event.specs.Trace.{Trace}
-use Rattle.px_event.specs.View.{View, bytes, closes, questions, finished, course, flows, about, seen_of, seen_in, step_atoms}
+use Rattle.px_event.specs.View.{View, line, questions, course, flows, about, seen_of, seen_in, step_atoms}
 use Rattle.px_core.specs.declared.answerer.Answer.{Answer}
 use Rattle.px_core.specs.declared.answerer.Answer.TheVariants as answer
 use Rattle.px_core.specs.declared.answerer.Draft.{Draft}
 use Rattle.px_core.specs.declared.held.Held.{Held}
 use Rattle.px_core.specs.declared.held.Question.{Question}
-use Rattle.px_core.specs.Answers.{Answering, FilesMeaning}
+use Rattle.px_core.specs.Answers.{Answering, AnswererState}
 use Rattle.px_core.specs.Calls.{Calls, calls, calls_of, calls_on, moved}
 use Rattle.px_core.specs.Conversation.{AllNamed}
 use Rattle.px_core.specs.Due.{Due, due_by, due_in, IsMet, Waits}
-use Rattle.px_core.specs.Held.{step_of, AllOf, asked_from, dial_from, dial_of, IsSettled, IsNext, IsReady, IsAbout, IsDrafted, IsDraftedBut, IsDraftedBehind, Replies, Within, WorkedTo, Asks, Works, turns_left}
-use Rattle.px_core.specs.Hooks.{open_hook, hook_of, AsksInTurn}
+use Rattle.px_core.specs.Held.{step_of, AllOf, asked_from, dial_from, dial_of, IsSettled, IsNext, IsReady, IsAbout, IsDraftedBut, IsDraftedBehind, Follows, Replies, Within, WorkedTo, Asks, Works, turns_left}
+use Rattle.px_core.specs.Hooks.{hook_of, AsksInTurn}
+use Rattle.px_core.proofs.AnsweredLemmas.{follows_told, follows_wait, follows_reply}
 use Rattle.px_core.proofs.AskLemmas.{asks_one, dial_now, quiet, IsTheQuestion}
 use Rattle.px_core.proofs.CallLemmas.{calls_more, seen_more, same_number, told_calls}
 use Rattle.px_core.proofs.HookLemmas.{hook_answered, one_turn, kept_on}
@@ -33,10 +34,8 @@ own_append conv [] ys a b = b
 own_append conv (x ∷ xs) ys (h, a) b = (h, own_append conv xs ys a b)
 
 answered_seen : (view : View) (conv other : ℕ) (ask : Ask) (reply : Reply) → step_atoms view conv (steps.Answered other ask reply) ≡ []
-answered_seen (bytes side) conv other ask reply = refl
-answered_seen (closes side) conv other ask reply = refl
+answered_seen (line side) conv other ask reply = refl
 answered_seen questions conv other ask reply = refl
-answered_seen finished conv other ask reply = refl
 answered_seen course conv other ask reply = refl
 answered_seen flows conv other ask reply = refl
 
@@ -93,16 +92,16 @@ module _ {C : Type 0} (standing : Standing C) (awaited : C → Option Ask) (numb
   drafted_of due conv held trace after given (Some question) named is ready same kept = tt
 
   -- the commands of a call are told
-  pub tell_works : (conv moment : ℕ) (held : Held C) (given : List Command) (question : Option Question) (out new_out : List Step) → AllNamed conv given →
+  pub tell_works : (conv moment : ℕ) {state : AnswererState S} (held : Held C) (given : List Command) (question : Option Question) (out new_out : List Step) → AllNamed conv given →
       IsReady awaited held given → question ≡ asked_from None given → new_out ≡ out ++ map (step_of conv) given →
-      Works standing awaited number made_due answers conv moment given held held question out new_out
-  tell_works conv moment held given question out new_out named ready asked grown =
+      Works standing awaited number made_due answers conv moment given held held state state question out new_out
+  tell_works conv moment {state} held given question out new_out named ready asked grown =
       let next = next_of conv held given question named asked ready in
       record {
         more = map (step_of conv) given;
         grown = grown;
         own = all_own conv given named;
-        works = λ due trace w now served kept.
+        works = λ due first pending trace w now served kept follows.
             let told = told_all answers due standing awaited number made_due gave conv moment held given trace w now served named in
             record {
               within = told.within;
@@ -110,6 +109,8 @@ module _ {C : Type 0} (standing : Standing C) (awaited : C → Option Ask) (numb
               served = told.served;
               last = about_last due conv held trace (trace ++ map (step_of conv) given) given (awaited held.conversation) question w (same_due due conv given trace) next.1;
               drafted = drafted_of due conv held trace (trace ++ map (step_of conv) given) given question named asked ready (ap (seen_of flows) (same_due due conv given trace)) kept;
+              follows = follows_told answers due first pending conv held.draft state given question trace (hook_of (awaited held.conversation)) named w.turn asked
+                  (about_last due conv held trace trace given (awaited held.conversation) question w refl next.1) follows;
             };
         next = next.0;
       }
@@ -119,16 +120,18 @@ module _ {C : Type 0} (standing : Standing C) (awaited : C → Option Ask) (numb
 
   -- a hook that waits
   pub wait_works : (conv moment : ℕ) (question : Question) (draft : Draft) (before after : Held C) (out new_out : List Step)
-      (old : S) (old_files : FilesMeaning) (new : S) (new_files : FilesMeaning) → IsNext awaited before (Some question) →
-      (given_answer : Answer) → answers question.hook question.flow old old_files new new_files given_answer → given_answer ≡ answer.Wait draft →
+      (old new : AnswererState S) → IsNext awaited before (Some question) →
+      (given_answer : Answer) → answers question.hook question.flow old.own old.files new.own new.files given_answer → given_answer ≡ answer.Wait draft →
       after.conversation ≡ before.conversation → after.connected ≡ before.connected → after.draft ≡ Some draft → new_out ≡ out → IsSettled awaited after →
-      Asks standing awaited number made_due answers conv moment question before after None out new_out
-  wait_works conv moment question draft before after out new_out old old_files new new_files next_before given_answer met is same sides kept grown settled = record {
+      Asks standing awaited number made_due answers conv moment question before after old new None out new_out
+  wait_works conv moment question draft before after out new_out old new next_before given_answer met is same sides kept grown settled = record {
     more = [];
     grown = grown ∙ sym (append-nil out);
     own = tt;
-    works = λ due trace at.
-        let P : Trace → Type 0 = WorkedTo standing awaited number made_due answers due conv moment after None in
+    works = λ due first pending trace at.
+        let P : Trace → Type 0 = WorkedTo standing awaited number made_due answers due first pending conv moment after new None in
+        let gives_so : Answer → Type 0 = λ a. answers question.hook question.flow old.own old.files new.own new.files a in
+        let T : Option Draft → Type 0 = λ d. Follows answers due first pending conv d new trace in
         let w = at.within in
         let Q : C → Type 0 = λ s. standing w.made s (calls_of conv trace) (w.earlier ++ []) in
         subst P (sym (append-nil trace)) (record {
@@ -152,7 +155,6 @@ module _ {C : Type 0} (standing : Standing C) (awaited : C → Option Ask) (numb
               let ask : Ask = asks.Hook flow hook in
               let is_asked : question.ask ≡ ask = some_ask question.ask ask (sym next_before.0 ∙ (ap awaited (sym same) ∙ waits)) in
               let R : Ask → Type 0 = λ a. Waits answers due trace conv a draft in
-              let answered_so : Answer → Type 0 = λ a. answers question.hook question.flow old old_files new new_files a in
               record {
                 draft = draft;
                 is = kept;
@@ -162,13 +164,14 @@ module _ {C : Type 0} (standing : Standing C) (awaited : C → Option Ask) (numb
                   asked = next_before.1;
                   earlier = at.last.0;
                   last = at.last.1;
-                  old = old;
-                  old_files = old_files;
-                  new = new;
-                  new_files = new_files;
-                  answers_so = subst answered_so is met;
+                  old = old.own;
+                  old_files = old.files;
+                  new = new.own;
+                  new_files = new.files;
+                  answers_so = subst gives_so is met;
                 });
               };
+          follows = subst T (sym kept) (follows_wait answers due first pending conv before.draft draft old new trace question next_before.1 (subst gives_so is met) at.follows);
         });
     next = settled;
   }
@@ -218,11 +221,11 @@ module _ {C : Type 0} (standing : Standing C) (awaited : C → Option Ask) (numb
 
   -- a reply
   pub reply_works : (conv moment : ℕ) (question : Question) (reply : Reply) (before after : Held C) (open_now : Option Question) (out new_out : List Step)
-      (old : S) (old_files : FilesMeaning) (new : S) (new_files : FilesMeaning) → IsNext awaited before (Some question) → number after.conversation ≡ conv →
-      (given_answer : Answer) → answers question.hook question.flow old old_files new new_files given_answer → given_answer ≡ answer.Reply reply →
+      (old new : AnswererState S) → IsNext awaited before (Some question) → number after.conversation ≡ conv →
+      (given_answer : Answer) → answers question.hook question.flow old.own old.files new.own new.files given_answer → given_answer ≡ answer.Reply reply →
       Replies standing awaited conv moment question.ask reply before after open_now out new_out →
-      Asks standing awaited number made_due answers conv moment question before after open_now out new_out
-  reply_works conv moment question reply before after open_now out new_out old old_files new new_files next_before named_after given_answer met is r =
+      Asks standing awaited number made_due answers conv moment question before after old new open_now out new_out
+  reply_works conv moment question reply before after open_now out new_out old new next_before named_after given_answer met is r =
       let ask = question.ask in
       let answered = steps.Answered conv ask reply in
       let next = next_of conv after r.given open_now r.named r.asked (inl r.asks_one) in
@@ -230,20 +233,22 @@ module _ {C : Type 0} (standing : Standing C) (awaited : C → Option Ask) (numb
         more = answered ∷ map (step_of conv) r.given;
         grown = r.grown ∙ append_assoc out (answered ∷ []) (map (step_of conv) r.given);
         own = (refl, all_own conv r.given r.named);
-        works = λ due trace at.
+        works = λ due first pending trace at.
             let w = answered_within due conv moment ask reply before after trace r.given at.within at.now named_after
             (no_dial_of (awaited before.conversation) ask question.flow.id.index question.hook next_before.0 next_before.1) r.named r.goes r.asks_one r.same_sides in
+            let gives_so : Answer → Type 0 = λ a. answers question.hook question.flow old.own old.files new.own new.files a in
+            let T : Option Draft → Type 0 = λ d. Follows answers due first pending conv d new (trace ++ answered ∷ []) in
             let here : IsMet answers due trace conv ask reply = record {
               hook = question.hook;
               flow = question.flow;
               asked = next_before.1;
               earlier = at.last.0;
               last = at.last.1;
-              old = old;
-              old_files = old_files;
-              new = new;
-              new_files = new_files;
-              answers_so = let P : Answer → Type 0 = λ a. answers question.hook question.flow old old_files new new_files a in subst P is met;
+              old = old.own;
+              old_files = old.files;
+              new = new.own;
+              new_files = new.files;
+              answers_so = subst gives_so is met;
             } in
             let now : (calls conv (trace ++ answered ∷ [])).moment ≡ moment =
             ap (λ (c : Calls). c.moment) (calls_more conv trace answered ∙ answered_calls conv (calls conv trace) ask reply) ∙ at.now in
@@ -251,7 +256,7 @@ module _ {C : Type 0} (standing : Standing C) (awaited : C → Option Ask) (numb
             (within_due answers due standing awaited number made_due gave conv after (trace ++ answered ∷ []) r.given w) (ends_met answers due conv trace ask reply here)
             (at.within.turn ∙ (ap hook_of (next_before.0 ∙ ap Some next_before.1) ∙ ap Some (sym next_before.1))) in
             let told = told_all answers due standing awaited number made_due gave conv moment after r.given (trace ++ answered ∷ []) w now served r.named in
-            let P : Trace → Type 0 = WorkedTo standing awaited number made_due answers due conv moment after open_now in
+            let P : Trace → Type 0 = WorkedTo standing awaited number made_due answers due first pending conv moment after new open_now in
             subst P (append_assoc trace (answered ∷ []) (map (step_of conv) r.given)) (record {
               within = told.within;
               now = told.now;
@@ -259,23 +264,26 @@ module _ {C : Type 0} (standing : Standing C) (awaited : C → Option Ask) (numb
               last = about_last due conv after (trace ++ answered ∷ []) ((trace ++ answered ∷ []) ++ map (step_of conv) r.given) r.given (awaited after.conversation) open_now w
                   (same_due due conv r.given (trace ++ answered ∷ [])) next.1;
               drafted = drafted_replied due conv after ((trace ++ answered ∷ []) ++ map (step_of conv) r.given) r.given open_now r.named r.asked r.asks_one;
+              follows = follows_told answers due first pending conv after.draft new r.given open_now (trace ++ answered ∷ []) (hook_of (awaited after.conversation)) r.named w.turn r.asked
+                  (about_last due conv after (trace ++ answered ∷ []) (trace ++ answered ∷ []) r.given (awaited after.conversation) open_now w refl next.1)
+                  (subst T (sym r.same_draft) (follows_reply answers due first pending conv before.draft reply old new trace question next_before.1 (subst gives_so is met) at.follows));
             });
         next = next.0;
       }
 
   -- one hook more
-  pub works_on : (conv moment : ℕ) (given : List Command) (first before after : Held C) (opened : Option Question) (question : Question) (open_now : Option Question) (out between new_out : List Step) →
-      Works standing awaited number made_due answers conv moment given first before opened out between → opened ≡ Some question →
-      Asks standing awaited number made_due answers conv moment question before after open_now between new_out →
-      Works standing awaited number made_due answers conv moment given first after open_now out new_out
-  works_on conv moment given first before after opened question open_now out between new_out works is asks = record {
+  pub works_on : (conv moment : ℕ) {start old new : AnswererState S} (given : List Command) (first before after : Held C) (opened : Option Question) (question : Question) (open_now : Option Question) (out between new_out : List Step) →
+      Works standing awaited number made_due answers conv moment given first before start old opened out between → opened ≡ Some question →
+      Asks standing awaited number made_due answers conv moment question before after old new open_now between new_out →
+      Works standing awaited number made_due answers conv moment given first after start new open_now out new_out
+  works_on conv moment {start} {old} {new} given first before after opened question open_now out between new_out works is asks = record {
     more = works.more ++ asks.more;
     grown = asks.grown ∙ (ap (λ l. l ++ asks.more) works.grown ∙ append_assoc out works.more asks.more);
     own = own_append conv works.more asks.more works.own asks.own;
-    works = λ due trace w now served kept.
-        let P : Trace → Type 0 = WorkedTo standing awaited number made_due answers due conv moment after open_now in
-        let Q : Option Question → Type 0 = λ q. WorkedTo standing awaited number made_due answers due conv moment before q (trace ++ works.more) in
-        subst P (append_assoc trace works.more asks.more) (asks.works due (trace ++ works.more) (subst Q is (works.works due trace w now served kept)));
+    works = λ due at_first pending trace w now served kept follows.
+        let P : Trace → Type 0 = WorkedTo standing awaited number made_due answers due at_first pending conv moment after new open_now in
+        let Q : Option Question → Type 0 = λ q. WorkedTo standing awaited number made_due answers due at_first pending conv moment before old q (trace ++ works.more) in
+        subst P (append_assoc trace works.more asks.more) (asks.works due at_first pending (trace ++ works.more) (subst Q is (works.works due at_first pending trace w now served kept follows)));
     next = asks.next;
   }
 

@@ -14,6 +14,21 @@ pub record FilesMeaning : Type 0 where
   pub faults : ℕ
   pub losses : ℕ
 
+-- so do these files, by their parts
+abbrev pub files_meaning : {F : Type 0} → (F → Option Contents) → (F → Option (List FileCall)) → (F → ℕ) → (F → ℕ) → (F → ℕ) → F → FilesMeaning
+files_meaning contents calls misses faults losses files =
+    record { contents = contents files; calls = calls files; misses = misses files; faults = faults files; losses = losses files }
+
+-- what an answerer answers by: its own state, and what files mean
+pub record AnswererState (S : Type 0) : Type 0 where
+  pub own : S
+  pub files : FilesMeaning
+
+-- so is this answerer with these files, by what they mean
+abbrev pub state_of : {A F S : Type 0} → (A → S) → (F → Option Contents) → (F → Option (List FileCall)) → (F → ℕ) → (F → ℕ) → (F → ℕ) → A → F → AnswererState S
+state_of state contents calls misses faults losses answerer files =
+    record { own = state answerer; files = files_meaning contents calls misses faults losses files }
+
 -- The answers to a hook about a flow, by the answerer's state and the files before and after.
 abbrev pub Answering : Type 0 → Type 1
 Answering S = Hook → Flow → S → FilesMeaning → S → FilesMeaning → Answer → Type 0
@@ -32,6 +47,4 @@ pub data ByAnswers {S : Type 0} (answers : Answering S) (fails : Failing) : File
 -- so are these files, by what they mean
 abbrev pub ChangedByAnswers : {F S : Type 0} → Answering S → Failing → (F → Option Contents) → (F → Option (List FileCall)) → (F → ℕ) → (F → ℕ) → (F → ℕ) → F → F → Type 0
 ChangedByAnswers answers fails contents calls misses faults losses old new =
-    ByAnswers answers fails
-    (record { contents = contents old; calls = calls old; misses = misses old; faults = faults old; losses = losses old })
-    (record { contents = contents new; calls = calls new; misses = misses new; faults = faults new; losses = losses new })
+    ByAnswers answers fails (files_meaning contents calls misses faults losses old) (files_meaning contents calls misses faults losses new)

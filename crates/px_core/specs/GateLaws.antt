@@ -1,16 +1,16 @@
 -- What a gate before a layer whose due is a chain owes: it is a function of the gate's calls that only grows, and ends
 -- where the layer ends.
-use Rattle.std.proofs.Common.{◌≡◌, ◌+◌, Bool, true, List, [], ◌∷◌, ◌++◌, length, Option, Some, None, refl, ap, sym, ◌∙◌, subst}
+use Rattle.std.proofs.Common.{◌≡◌, ◌+◌, Bool, true, false, List, [], ◌∷◌, ◌++◌, length, Option, Some, None, refl, ap, sym, ◌∙◌, subst}
 use Rattle.std.proofs.lemmas.List.{append-nil}
 use Rattle.px_text.specs.Prefix.{IsPrefixOf}
 use Rattle.px_event.specs.declared.ask.Ask.{Ask}
 use Rattle.px_event.specs.declared.event.Event.{Event}
 use Rattle.px_event.specs.declared.reply.Reply.{Reply}
 use Rattle.px_event.specs.declared.command.Command.{Command}
-use Rattle.px_event.specs.Chain.{Stamped, Timed, never, Chain, Asks, Ends, due}
+use Rattle.px_event.specs.Chain.{Stamped, Timed, never, Chain, Look, NotYet, Asks, Ends, is_end, due}
 use Rattle.px_event.specs.Laws.{Settles, SoFarGrows}
 use Rattle.px_event.specs.Layer.{Move, Took, Replied, Standing}
-use Rattle.px_event.specs.Stands.{events_in, replies_in, stop_of, due_by, StandsAt, AwaitsWhatItAsks, EndsWhereItEnds}
+use Rattle.px_event.specs.Stands.{events_in, replies_in, stop_of, has_ended, due_by, StandsAt, AwaitsWhatItAsks, EndsWhereItEnds}
 use Rattle.px_event.specs.View.{View, seen_of}
 use Rattle.px_event.proofs.Growth.{grows_by_events, grows_by_replies}
 use Rattle.px_event.proofs.Moves.{events_in-append, replies_in-append}
@@ -79,6 +79,27 @@ module _ {S : Type 0} (chain : Chain S Event Reply Command) (law : Settles chain
         ap (λ l. seen_of view l)
         (ap (λ es. due chain start es (replies_in 1 (calls ++ more))) (events_in-append 1 calls more)
         ∙ (ap (λ rs. due chain start (events_in 1 calls ++ events) rs) (replies_in-append 1 calls more) ∙ same))
+
+    -- its layer has ended exactly where the walk over the gate's calls has
+    pub calls_ended : (ended : M → Bool) → EndsWhereItEnds chain is_at ended → (first gate : Gate M) (calls : List Move) (given : List Command) →
+        first.layer ≡ made → GateStands standing awaited first gate calls given → ended gate.layer ≡ has_ended chain start calls
+    calls_ended ended ends first gate calls given is stands =
+        let P : M → Type 0 = λ m. Serves standing awaited m calls stands.moves gate.queue.items in
+        let Q : M → Type 0 = λ m. standing m gate.layer stands.moves given in
+        let like = (calls_as chain law start is_at awaited ties standing made stands_at calls stands.moves gate.queue.items (subst P is stands.serves)).as_moves in
+        let place = (stands_at gate.layer stands.moves given (subst Q is stands.stands)).place in
+        let same : chain.look (stop_of chain start calls).stage (stop_of chain start calls).front
+        ≡ chain.look (stop_of chain start stands.moves).stage (stop_of chain start stands.moves).front =
+        ap (λ s. chain.look s (stop_of chain start calls).front) like.stage ∙ ap (λ f. chain.look (stop_of chain start stands.moves).stage f) like.front in
+        exact (ended gate.layer) (chain.look (stop_of chain start calls).stage (stop_of chain start calls).front)
+        (λ over. let end = ends.ends gate.layer _ _ place over in (end.0, same ∙ end.1))
+        (λ owed looks. ends.there gate.layer _ _ owed place (sym same ∙ looks))
+      where
+        exact : (over : Bool) (l : Look Command) → (over ≡ true → (owed : List Command) × (l ≡ Ends owed)) → ((owed : List Command) → l ≡ Ends owed → over ≡ true) → over ≡ is_end l
+        exact true l here there = sym (ap is_end (here refl).1)
+        exact false NotYet here there = refl
+        exact false (Asks ask) here there = refl
+        exact false (Ends owed) here there = there owed refl
 
     -- where its layer has ended it awaits nothing
     pub calls_rest : (ended : M → Bool) → EndsWhereItEnds chain is_at ended → (first gate : Gate M) (calls : List Move) (given : List Command) →

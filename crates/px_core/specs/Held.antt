@@ -1,5 +1,5 @@
 -- What a held conversation is in a trace, within a step and at its end.
-use Rattle.std.specs.Prelude.{◌≡◌, ℕ, ◌+◌, List, [], ◌∷◌, ◌++◌, map, Option, Some, None, IsSome, option_to_list, ◌⊎◌}
+use Rattle.std.specs.Prelude.{◌≡◌, ℕ, ◌≢◌, ◌+◌, List, [], ◌∷◌, ◌++◌, map, Option, Some, None, IsSome, option_to_list, ◌⊎◌}
 use Rattle.std.specs.List.{flat_map}
 use Rattle.px_message.specs.declared.address.Address.{Address}
 use Rattle.px_message.specs.declared.flow.Flow.{Flow}
@@ -16,10 +16,12 @@ use Rattle.px_event.specs.declared.heard.Heard.{Heard}
 use Rattle.px_event.specs.Layer.{Move, Replied, Standing, Goes, IsNews, asks_in}
 use Rattle.px_event.specs.Trace.{Trace}
 use Rattle.px_event.specs.View.{View, Atom, about, flows, IsTold, seen_of, seen_in}
+use Rattle.px_core.specs.declared.answerer.Answer.TheVariants as answer
 use Rattle.px_core.specs.declared.answerer.Draft.{Draft}
 use Rattle.px_core.specs.declared.held.Held.{Held}
 use Rattle.px_core.specs.declared.held.Question.{Question}
-use Rattle.px_core.specs.Answers.{Answering}
+use Rattle.px_core.specs.Answered.{GivenTo, Pending, IsNoAnswer, Answers}
+use Rattle.px_core.specs.Answers.{Answering, AnswererState}
 use Rattle.px_core.specs.declared.news.News.{News}
 use Rattle.px_core.specs.declared.news.News.TheVariants as news
 use Rattle.px_core.specs.Calls.{calls, calls_of, addressed}
@@ -121,6 +123,43 @@ IsDraftedBut awaited answers due conv held trace (Some question) = Unit {0}
 abbrev pub IsDraftedBehind : {C S : Type 0} → (C → Option Ask) → Answering S → Due → ℕ → Held C → Trace → List Command → Type 0
 IsDraftedBehind awaited answers due conv held trace rest = flat_map asks_in rest ≡ [] → IsDrafted awaited answers due conv held trace
 
+-- of a hook that is open and waits, what the answerer gave
+abbrev pub waiting : Option Ask → Option Draft → Option GivenTo
+waiting (Some ask) (Some draft) = Some (record { ask = ask; answer = answer.Wait draft })
+waiting _ _ = None
+
+-- of these steps none asks a hook or answers one
+abbrev pub NoneAnswers : List Step → Type 0
+NoneAnswers [] = Unit {0}
+NoneAnswers (step ∷ rest) = IsNoAnswer step × NoneAnswers rest
+
+-- The answerer came so far over a trace in which this conversation is worked off. Of a hook that is open in it, this draft is
+-- pending, and in the others what was pending before.
+pub record Follows {S : Type 0} (answers : Answering S) (due : Due) (first : AnswererState S) (before : Pending) (conv : ℕ) (draft : Option Draft) (now : AnswererState S)
+    (trace : Trace) : Type 0 where
+  pub pending : Pending
+  pub answered : Answers answers due first trace now pending
+  pub here : pending conv ≡ waiting (open_hook conv trace) draft
+  pub others : (other : ℕ) → conv ≢ other → pending other ≡ before other
+
+-- The answerer is still to be asked this question: it came so far directly before its hook was asked, about whose flow it was, and
+-- behind that no hook was asked or answered.
+pub record IsToAsk {S : Type 0} (answers : Answering S) (due : Due) (first : AnswererState S) (before : Pending) (conv : ℕ) (draft : Option Draft) (now : AnswererState S)
+    (trace : Trace) (question : Question) : Type 0 where
+  pub front : Trace
+  pub behind : List Step
+  pub is : trace ≡ (front ++ steps.Asked conv question.ask ∷ []) ++ behind
+  pub quiet : NoneAnswers behind
+  pub follows : Follows answers due first before conv draft now front
+  pub free : open_hook conv front ≡ None
+  pub earlier : List Atom
+  pub last : due_in due flows conv front ≡ earlier ++ about question.ask question.flow ∷ []
+
+-- it came so far, or where a question is open is still to be asked it
+abbrev pub FollowsTo : {S : Type 0} → Answering S → Due → AnswererState S → Pending → ℕ → Option Draft → AnswererState S → Trace → Option Question → Type 0
+FollowsTo answers due first before conv draft now trace None = Follows answers due first before conv draft now trace
+FollowsTo answers due first before conv draft now trace (Some question) = IsToAsk answers due first before conv draft now trace question
+
 -- how often the loop that answers can still turn
 abbrev pub turns_left : ℕ → Option Question → ℕ
 turns_left left None = left
@@ -189,52 +228,60 @@ module _ {C : Type 0} (standing : Standing C) (awaited : C → Option Ask) (numb
     pub there : (ask : Ask) → hook_of (awaited state) ≡ Some ask → (calls conv trace).peer ≡ Some peer
 
   module _ {S : Type 0} (answers : Answering S) where
-    -- where a conversation is worked off to, with this question open
-    pub record WorkedTo (due : Due) (conv moment : ℕ) (held : Held C) (question : Option Question) (trace : Trace) : Type 0 where
+    -- Where a conversation is worked off to, with this question open, and the answerer with it. Each record below takes the answerer
+    -- from what it is before to what it is after, whatever it was at first and whatever is pending in the other conversations.
+    pub record WorkedTo (due : Due) (first : AnswererState S) (pending : Pending) (conv moment : ℕ) (held : Held C) (state : AnswererState S) (question : Option Question) (trace : Trace) : Type 0 where
       pub within : Within due conv held trace []
       pub now : (calls conv trace).moment ≡ moment
       pub served : IsServed answers due trace
       pub last : IsAbout due conv trace question
       pub drafted : IsDraftedBut awaited answers due conv held trace question
+      pub follows : FollowsTo answers due first pending conv held.draft state trace question
 
     -- Answering its open hook, or letting it wait, does so too.
-    pub record Asks (conv moment : ℕ) (question : Question) (before after : Held C) (open_now : Option Question) (out new_out : List Step) : Type 0 where
+    pub record Asks (conv moment : ℕ) (question : Question) (before after : Held C) (old new : AnswererState S) (open_now : Option Question) (out new_out : List Step) : Type 0 where
       pub more : List Step
       pub grown : new_out ≡ out ++ more
       pub own : AllOf conv more
-      pub works : (due : Due) (trace : Trace) → WorkedTo due conv moment before (Some question) trace → WorkedTo due conv moment after open_now (trace ++ more)
+      pub works : (due : Due) (first : AnswererState S) (pending : Pending) (trace : Trace) → WorkedTo due first pending conv moment before old (Some question) trace →
+          WorkedTo due first pending conv moment after new open_now (trace ++ more)
       pub next : IsNext awaited after open_now
 
     -- Working off a conversation that has these commands still to be told adds steps of its own; wherever it stood in a
     -- trace, it stands in that trace with these steps more.
-    pub record Works (conv moment : ℕ) (rest : List Command) (before after : Held C) (question : Option Question) (out new_out : List Step) : Type 0 where
+    pub record Works (conv moment : ℕ) (rest : List Command) (before after : Held C) (old new : AnswererState S) (question : Option Question) (out new_out : List Step) : Type 0 where
       pub more : List Step
       pub grown : new_out ≡ out ++ more
       pub own : AllOf conv more
-      pub works : (due : Due) (trace : Trace) → Within due conv before trace rest → (calls conv trace).moment ≡ moment → IsServed answers due trace →
-          IsDraftedBehind awaited answers due conv before trace rest → WorkedTo due conv moment after question (trace ++ more)
+      pub works : (due : Due) (first : AnswererState S) (pending : Pending) (trace : Trace) → Within due conv before trace rest → (calls conv trace).moment ≡ moment → IsServed answers due trace →
+          IsDraftedBehind awaited answers due conv before trace rest → Follows answers due first pending conv before.draft old trace →
+          WorkedTo due first pending conv moment after new question (trace ++ more)
       pub next : IsNext awaited after question
 
     -- A call that was taken and worked off adds steps of the conversation's; wherever it stood in a trace that goes on by
     -- that call, it stands in that trace with these steps more.
-    pub record Takes (conv moment : ℕ) (move : Move) (dial : Option ℕ) (sides : List ℕ) (before after : Held C) (out new_out : List Step) : Type 0 where
+    pub record Takes (conv moment : ℕ) (move : Move) (dial : Option ℕ) (sides : List ℕ) (before after : Held C) (old new : AnswererState S) (out new_out : List Step) : Type 0 where
       pub more : List Step
       pub grown : new_out ≡ out ++ more
       pub own : AllOf conv more
-      pub takes : (due : Due) (peer : Address) (trace next : Trace) → Stood due conv peer before.conversation trace → IsDrafted awaited answers due conv before trace →
-          IsOneOn conv peer moment move dial sides trace next → IsServed answers due next →
+      pub takes : (due : Due) (first : AnswererState S) (pending : Pending) (peer : Address) (trace next : Trace) → Stood due conv peer before.conversation trace →
+          IsDrafted awaited answers due conv before trace → IsOneOn conv peer moment move dial sides trace next → IsServed answers due next →
+          Follows answers due first pending conv before.draft old next →
           Within due conv after (next ++ more) [] × IsServed answers due (next ++ more) × IsDrafted awaited answers due conv after (next ++ more)
+          × Follows answers due first pending conv after.draft new (next ++ more)
       pub settled : IsSettled awaited after
 
     -- News that a conversation took add steps of its own; wherever it stood in a trace, it stands in that trace with what
     -- was heard and these steps more.
-    pub record Hears (conv moment : ℕ) (what : News) (before after : Held C) (out new_out : List Step) : Type 0 where
+    pub record Hears (conv moment : ℕ) (what : News) (before after : Held C) (old new : AnswererState S) (out new_out : List Step) : Type 0 where
       pub more : List Step
       pub grown : new_out ≡ out ++ more
       pub own : AllOf conv more
-      pub hears : (due : Due) (trace : Trace) (heard : Heard) → addressed heard ≡ Some (conv, what) →
+      pub hears : (due : Due) (first : AnswererState S) (pending : Pending) (trace : Trace) (heard : Heard) → addressed heard ≡ Some (conv, what) →
           Within due conv before trace [] → IsDrafted awaited answers due conv before trace → IsServed answers due (trace ++ steps.Heard moment heard ∷ []) →
+          Follows answers due first pending conv before.draft old (trace ++ steps.Heard moment heard ∷ []) →
           Within due conv after ((trace ++ steps.Heard moment heard ∷ []) ++ more) []
           × IsServed answers due ((trace ++ steps.Heard moment heard ∷ []) ++ more)
           × IsDrafted awaited answers due conv after ((trace ++ steps.Heard moment heard ∷ []) ++ more)
+          × Follows answers due first pending conv after.draft new ((trace ++ steps.Heard moment heard ∷ []) ++ more)
       pub settled : IsSettled awaited after

@@ -12,6 +12,7 @@ use Rattle.px_event.specs.declared.step.Step.TheVariants as steps
 use Rattle.px_event.specs.Layer.{Move, Standing, IsSound}
 use Rattle.px_event.specs.Trace.{Trace}
 use Rattle.px_event.specs.View.{View, IsTold, seen_of, seen_in}
+use Rattle.px_core.specs.declared.answerer.Draft.{Draft}
 use Rattle.px_core.specs.declared.held.Held.{Held}
 use Rattle.px_core.specs.declared.news.News.{News}
 use Rattle.px_core.specs.declared.news.News.TheVariants as news
@@ -19,10 +20,11 @@ use Rattle.px_core.specs.declared.table.Place.{Place}
 use Rattle.px_core.specs.declared.table.Place.TheVariants as place
 use Rattle.px_core.specs.declared.router.Router.{Router}
 use Rattle.px_core.specs.declared.table.Table.{Table}
-use Rattle.px_core.specs.Answers.{Answering}
+use Rattle.px_core.specs.Answered.{Pending, Answers}
+use Rattle.px_core.specs.Answers.{Answering, AnswererState, FilesMeaning}
 use Rattle.px_core.specs.Calls.{calls, calls_of, addressed}
 use Rattle.px_core.specs.Due.{Due, due_in, IsServed}
-use Rattle.px_core.specs.Held.{AllOf, IsSettled, IsDrafted, Within, Hears}
+use Rattle.px_core.specs.Held.{AllOf, IsSettled, IsDrafted, waiting, Within, Hears}
 use Rattle.px_core.specs.Hooks.{open_hook}
 
 -- what a router has under a number: nothing was admitted, the conversation has ended, or it is live. A number whose
@@ -56,6 +58,15 @@ is_known router conv = is_some (place_of router.table conv)
 abbrev pub kept_in : {C : Type 0} → (C → ℕ) → Found (Held C) → ℕ
 kept_in kept (live held) = min (kept held.conversation) (2 ^ 64 - 1)
 kept_in kept _ = 0
+
+-- the draft that is kept of it
+abbrev pub draft_of : {C : Type 0} → Found (Held C) → Option Draft
+draft_of (live held) = held.draft
+draft_of _ = None
+
+-- no conversation that has ended is held
+abbrev pub HoldsNoEnded : {C : Type 0} → (C → Bool) → Table C → Type 0
+HoldsNoEnded {C = C} ended table = (key : ℕ) (held : Held C) → slab.get table.live key ≡ Some held → ended held.conversation ≡ false
 
 -- nothing of this number was admitted
 pub record IsUnknown (conv : ℕ) (trace : Trace) : Type 0 where
@@ -97,59 +108,67 @@ module _ {C : Type 0} (standing : Standing C) (awaited : C → Option Ask) (numb
     StandsIn due conv trace lost = ⊥
     StandsIn due conv trace (live held) = IsLive due conv held trace
 
-    -- At a step's end: under each number the table has what the trace says, and the trace is served.
-    pub record TableStands (due : Due) (table : Table C) (trace : Trace) : Type 0 where
+    -- At a step's end: under each number the table has what the trace says, and the trace is served. The answerer came over the trace
+    -- from what it was at first to what it is now, and of each hook that is open the draft that the table keeps is pending.
+    pub record TableStands (due : Due) (first now : AnswererState S) (table : Table C) (trace : Trace) : Type 0 where
       pub at : (conv : ℕ) → StandsIn due conv trace (found table conv)
       pub served : IsServed answers due trace
+      pub pending : Pending
+      pub answered : Answers answers due first trace now pending
+      pub drafts : (conv : ℕ) → pending conv ≡ waiting (open_hook conv trace) (draft_of (found table conv))
 
-    -- so has a router
-    abbrev pub RouterStands : {A : Type 0} → Due → Router C A → Trace → Type 0
-    RouterStands due router trace = TableStands due router.table trace
+    -- it stands for something
+    abbrev pub IsTabled : Table C → Type 0
+    IsTabled table = (due : Due) × (first : AnswererState S) × (now : AnswererState S) × (trace : Trace) × TableStands due first now table trace
+
+    -- so has a router, by the state of its own answerer and what files mean
+    abbrev pub RouterStands : {A : Type 0} → (A → S) → Due → AnswererState S → FilesMeaning → Router C A → Trace → Type 0
+    RouterStands state due first files router trace = TableStands due first (record { own = state router.answerer; files = files }) router.table trace
 
     -- it stands for something, unless memory ran out
     abbrev pub IsRouted : {A : Type 0} → Router C A → Type 0
-    IsRouted router = router.spent ≡ false → (due : Due) × (trace : Trace) × TableStands due router.table trace
+    IsRouted router = router.spent ≡ false → IsTabled router.table
 
     -- News that the conversation under this key took.
-    pub record HearsAt (ended : C → Bool) (conv moment : ℕ) (what : News) (key : ℕ) (before after : Table C) (over_now : Bool) (out new_out : List Step) : Type 0 where
+    pub record HearsAt (ended : C → Bool) (conv moment : ℕ) (what : News) (key : ℕ) (before after : Table C) (old new : AnswererState S) (over_now : Bool) (out new_out : List Step) : Type 0 where
       pub held : Held C
       pub new_held : Held C
       pub was : slab.get before.live key ≡ Some held
       pub live_now : slab.Updates before.live after.live key (Some new_held)
       pub places : after.places ≡ before.places
-      pub hears : Hears standing awaited number made_due answers conv moment what held new_held out new_out
+      pub hears : Hears standing awaited number made_due answers conv moment what held new_held old new out new_out
       pub ends : over_now ≡ ended new_held.conversation
 
     -- Steps that were added for news of a conversation are its own, and nothing of another changes; whatever trace the table
     -- stood for, it stands for that trace with what was heard and these steps more.
-    pub record Hands (conv moment : ℕ) (what : News) (before after : Table C) (out new_out : List Step) : Type 0 where
+    pub record Hands (conv moment : ℕ) (what : News) (before after : Table C) (old new : AnswererState S) (out new_out : List Step) : Type 0 where
       pub more : List Step
       pub grown : new_out ≡ out ++ more
       pub own : AllOf conv more
       pub others : (other : ℕ) → conv ≢ other → found after other ≡ found before other
-      pub stands : (due : Due) (trace : Trace) (heard : Heard) → addressed heard ≡ Some (conv, what) → TableStands due before trace →
-          TableStands due after ((trace ++ steps.Heard moment heard ∷ []) ++ more)
+      pub stands : (due : Due) (first : AnswererState S) (trace : Trace) (heard : Heard) → addressed heard ≡ Some (conv, what) → TableStands due first old before trace →
+          TableStands due first new after ((trace ++ steps.Heard moment heard ∷ []) ++ more)
 
     -- So are those of a conversation that was admitted, where what is due of it is what is due under its number where its client
     -- is.
-    pub record Admits (conv moment : ℕ) (conversation : C) (before after : Table C) (out new_out : List Step) : Type 0 where
+    pub record Admits (conv moment : ℕ) (conversation : C) (before after : Table C) (old new : AnswererState S) (out new_out : List Step) : Type 0 where
       pub more : List Step
       pub grown : new_out ≡ out ++ more
       pub own : AllOf conv more
       pub others : (other : ℕ) → conv ≢ other → found after other ≡ found before other
-      pub stands : (due : Due) (trace : Trace) (heard : Heard) (peer : Address) → addressed heard ≡ Some (conv, news.Begun peer) →
-          ((moves : List Move) → made_due conversation moves ≡ due conv peer moves) → TableStands due before trace →
-          TableStands due after ((trace ++ steps.Heard moment heard ∷ []) ++ more)
+      pub stands : (due : Due) (first : AnswererState S) (trace : Trace) (heard : Heard) (peer : Address) → addressed heard ≡ Some (conv, news.Begun peer) →
+          ((moves : List Move) → made_due conversation moves ≡ due conv peer moves) → TableStands due first old before trace →
+          TableStands due first new after ((trace ++ steps.Heard moment heard ∷ []) ++ more)
 
     -- Something heard that a router took: it adds steps of that conversation alone, and changes nothing of another; whatever
     -- trace it stood for, it stands for that trace with what was heard and these steps more.
-    pub record Routes (moment : ℕ) (heard : Heard) (before after : Table C) (out new_out : List Step) : Type 0 where
+    pub record Routes (moment : ℕ) (heard : Heard) (before after : Table C) (old new : AnswererState S) (out new_out : List Step) : Type 0 where
       pub more : List Step
       pub grown : new_out ≡ out ++ more
       pub own : (conv : ℕ) (what : News) → addressed heard ≡ Some (conv, what) → AllOf conv more
       pub none : addressed heard ≡ None → (more ≡ []) × (after ≡ before)
       pub others : (conv other : ℕ) (what : News) → addressed heard ≡ Some (conv, what) → conv ≢ other → found after other ≡ found before other
-      pub stands : (due : Due) (trace : Trace) → TableStands due before trace → TableStands due after ((trace ++ steps.Heard moment heard ∷ []) ++ more)
+      pub stands : (due : Due) (first : AnswererState S) (trace : Trace) → TableStands due first old before trace → TableStands due first new after ((trace ++ steps.Heard moment heard ∷ []) ++ more)
 
 -- Nothing is heard by which a conversation begins, but one that was admitted.
 abbrev pub BeginsNone : {C A : Type 0} → Router C A → Heard → Type 0

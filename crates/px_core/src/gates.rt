@@ -4,7 +4,6 @@ ghost use Rattle.px_message.specs.declared.address.Address.{Address as PeerAddre
 ghost use Rattle.px_event.specs.Layer.{Move};
 ghost use Rattle.px_event.specs.Stands.{due_by};
 ghost use Rattle.px_core.specs.Due.{Due};
-ghost use Rattle.px_core.specs.Ordered.{AsksBeforeEnds};
 
 use crate::{Maker, Numbered};
 use px_gate::Gate;
@@ -25,9 +24,6 @@ pub trait LayerMaker<L: Numbered> {
         ensures free { IfOk result (λ made. L.awaited made ≡ None) }
         ensures due { IfOk result (λ made. (moves : List Move) → due_by (L.chain made) (L.start made) moves ≡ due self.old conv peer.now moves) }
         ensures same { (number : ℕ) (at : PeerAddress) (moves : List Move) → due self.new number at moves ≡ due self.old number at moves };
-
-    /// What is due asks no hook of a flow behind the flow's end.
-    ghost ordered: { (maker : Self) (conv : ℕ) (at : PeerAddress) (moves : List Move) → AsksBeforeEnds (due maker conv at moves) };
 }
 
 /// Makes gates before the layers that this maker makes.
@@ -53,6 +49,4 @@ impl<L: Numbered, K: LayerMaker<L>> Maker<Gate<L>> for Gates<K> {
         let layer = self.layers.make(conv, peer)?;
         Ok(Gate::new(self.alloc, layer))
     }
-
-    ghost ordered = { λ maker. K.ordered maker.layers };
 }

@@ -7,7 +7,7 @@ ghost use Rattle.std.specs.Prelude.{◌≡◌, ◌==◌, ◌<◌, true, ◌++◌
 ghost use Rattle.std.specs.List.{list_any};
 ghost use Rattle.px_event.specs.Layer.{IsSound, IsNews, MayAnswer, Took, Replied};
 ghost use Rattle.px_event.specs.declared.ask.Ask.TheVariants.{Hook as AsksHook, Dial as AsksDial};
-ghost use Rattle.px_core.specs.Answers.{ChangedByAnswers};
+ghost use Rattle.px_core.specs.Answers.{ChangedByAnswers, state_of};
 ghost use Rattle.px_core.specs.Calls.{dial_reply, connected_by, is_connected, is_dialling};
 ghost use Rattle.px_core.specs.Conversation.{AllNamed};
 ghost use Rattle.px_core.specs.Held.{step_of, question_about, question_by, question_in, asked_from, dial_of, Replies, Gives, Works, Takes, Hears, IsHeardNews, Asks, IsNext, IsReady, IsSettled, turns_left};
@@ -59,7 +59,7 @@ impl<C: Owes> Held<C> {
         requires number { C.number self.old.conversation ≡ call.conv }
         requires settled { IsSettled C.awaited self.old }
         requires news { IsHeardNews news }
-        ensures hears { OnOk result (Hears C.stands C.awaited C.number C.due A.answers call.conv call.moment news self.old self.new steps.old.items steps.new.items) }
+        ensures hears { OnOk result (Hears C.stands C.awaited C.number C.due A.answers call.conv call.moment news self.old self.new (state_of A.state F.contents F.calls F.misses F.faults F.losses answerer.old files.old) (state_of A.state F.contents F.calls F.misses F.faults F.losses answerer.new files.new) steps.old.items steps.new.items) }
         ensures files { ChangedByAnswers A.answers A.fails F.contents F.calls F.misses F.faults F.losses files.old files.new }
     {
         match news {
@@ -94,7 +94,7 @@ impl<C: Owes> Held<C> {
         requires number { C.number self.old.conversation ≡ call.conv }
         requires settled { IsSettled C.awaited self.old }
         requires news { IsNews event }
-        ensures takes { OnOk result (Takes C.stands C.awaited C.number C.due A.answers call.conv call.moment (Took call.moment event) (dial_of (C.awaited self.old.conversation)) self.old.connected.items self.old self.new steps.old.items steps.new.items) }
+        ensures takes { OnOk result (Takes C.stands C.awaited C.number C.due A.answers call.conv call.moment (Took call.moment event) (dial_of (C.awaited self.old.conversation)) self.old.connected.items self.old self.new (state_of A.state F.contents F.calls F.misses F.faults F.losses answerer.old files.old) (state_of A.state F.contents F.calls F.misses F.faults F.losses answerer.new files.new) steps.old.items steps.new.items) }
         ensures files { ChangedByAnswers A.answers A.fails F.contents F.calls F.misses F.faults F.losses files.old files.new }
     {
         let commands = self.take_event(call, event)?;
@@ -114,7 +114,7 @@ impl<C: Owes> Held<C> {
         requires sound { IsSound C.stands self.old.conversation }
         requires number { C.number self.old.conversation ≡ call.conv }
         requires awaited { C.awaited self.old.conversation ≡ Some (AsksDial server) }
-        ensures takes { OnOk result (Takes C.stands C.awaited C.number C.due A.answers call.conv call.moment (Replied call.moment (dial_reply ok)) None (connected_by server ok self.old.connected.items) self.old self.new steps.old.items steps.new.items) }
+        ensures takes { OnOk result (Takes C.stands C.awaited C.number C.due A.answers call.conv call.moment (Replied call.moment (dial_reply ok)) None (connected_by server ok self.old.connected.items) self.old self.new (state_of A.state F.contents F.calls F.misses F.faults F.losses answerer.old files.old) (state_of A.state F.contents F.calls F.misses F.faults F.losses answerer.new files.new) steps.old.items steps.new.items) }
         ensures files { ChangedByAnswers A.answers A.fails F.contents F.calls F.misses F.faults F.losses files.old files.new }
     {
         self.connect(server, ok)?;
@@ -215,7 +215,7 @@ impl<C: Owes> Held<C> {
         requires number { C.number self.old.conversation ≡ call.conv }
         requires named { AllNamed call.conv commands.items }
         requires ready { IsReady C.awaited self.old commands.items }
-        ensures works { OnOk result (Works C.stands C.awaited C.number C.due A.answers call.conv call.moment commands.items self.old self.new None steps.old.items steps.new.items) }
+        ensures works { OnOk result (Works C.stands C.awaited C.number C.due A.answers call.conv call.moment commands.items self.old self.new (state_of A.state F.contents F.calls F.misses F.faults F.losses answerer.old files.old) (state_of A.state F.contents F.calls F.misses F.faults F.losses answerer.new files.new) None steps.old.items steps.new.items) }
         ensures sound { OnOk result (IsSound C.stands self.new.conversation) }
         ensures number { OnOk result (C.number self.new.conversation ≡ call.conv) }
         ensures files { ChangedByAnswers A.answers A.fails F.contents F.calls F.misses F.faults F.losses files.old files.new }
@@ -239,7 +239,7 @@ impl<C: Owes> Held<C> {
         requires sound { IsSound C.stands self.old.conversation }
         requires number { C.number self.old.conversation ≡ call.conv }
         requires next { IsNext C.awaited self.old (Some question) }
-        ensures asks { IfOk result (λ now_open. Asks C.stands C.awaited C.number C.due A.answers call.conv call.moment question self.old self.new now_open steps.old.items steps.new.items) }
+        ensures asks { IfOk result (λ now_open. Asks C.stands C.awaited C.number C.due A.answers call.conv call.moment question self.old self.new (state_of A.state F.contents F.calls F.misses F.faults F.losses answerer.old files.old) (state_of A.state F.contents F.calls F.misses F.faults F.losses answerer.new files.new) now_open steps.old.items steps.new.items) }
         ensures sound { OnOk result (IsSound C.stands self.new.conversation) }
         ensures number { OnOk result (C.number self.new.conversation ≡ call.conv) }
         ensures left { IfOk result (λ now_open. turns_left (C.left self.new.conversation) now_open < turns_left (C.left self.old.conversation) (Some question)) }

@@ -6,6 +6,10 @@
 //! each answer to a hook is one that the answerer may give about the flow with which the hook was asked; and hooks are
 //! answered once and in order (`specs/Hooks.antt`): at each step's end none is open but those that the answerer lets wait
 //! (`specs/Due.antt`, `IsServed`). `work_off` keeps it in every exit, for any conversation whose due only grows (`Owes`).
+//!
+//! One answerer answers the hooks of all conversations, and what it is goes along the trace: it moves at each hook that is
+//! asked, once, by its own relation, and at nothing else (`specs/Answered.antt`). So each answer follows from what the answerer
+//! was at first and from all that it was asked before, in every exit too.
 #![tactic(auto)]
 
 mod answerer;

@@ -4,7 +4,6 @@ ghost use Rattle.px_message.specs.declared.address.Address.{Address as PeerAddre
 ghost use Rattle.px_event.specs.Layer.{Move};
 ghost use Rattle.px_message.specs.declared.flow.Flow.{Flow as FinishedFlow};
 ghost use Rattle.px_core.specs.Due.{Due};
-ghost use Rattle.px_core.specs.Ordered.{AsksBeforeEnds};
 
 use crate::Owes;
 use px_message::{Address, Flow};
@@ -22,9 +21,6 @@ pub trait Maker<C: Owes> {
         ensures free { IfOk result (λ made. C.awaited made ≡ None) }
         ensures due { IfOk result (λ made. (moves : List Move) → C.due made moves ≡ due self.old conv peer.now moves) }
         ensures same { (number : ℕ) (at : PeerAddress) (moves : List Move) → due self.new number at moves ≡ due self.old number at moves };
-
-    /// What is due asks no hook of a flow behind the flow's end.
-    ghost ordered: { (maker : Self) (conv : ℕ) (at : PeerAddress) (moves : List Move) → AsksBeforeEnds (due maker conv at moves) };
 }
 
 /// Takes finished flows.

@@ -1,8 +1,8 @@
 //! What is due of a conversation, as a function of how it was made and of its calls.
 //!
-//! Four laws carry every theorem on runs: in each view a state gave what is due by its calls; one call more takes nothing
-//! back; and where a state has ended, no call changes what is due, and it awaits nothing.
-ghost use Rattle.std.specs.Prelude.{◌≡◌, true, List, [], ◌∷◌, ◌++◌, None};
+//! Five laws carry every theorem on runs: in each view a state gave what is due by its calls; one call more takes nothing
+//! back; a state has ended exactly where its calls say so; and there no call changes what is due, and nothing is awaited.
+ghost use Rattle.std.specs.Prelude.{◌≡◌, Bool, true, List, [], ◌∷◌, ◌++◌, None};
 ghost use Rattle.px_text.specs.Prefix.{IsPrefixOf};
 ghost use Rattle.px_event.specs.Layer.{Move};
 ghost use Rattle.px_event.specs.View.{View, seen_of};
@@ -22,6 +22,12 @@ pub trait Owes: Conversation {
     /// One call more takes nothing back.
     ghost grows: { (made : Self) (moves : List Move) (move : Move) (view : View) →
         IsPrefixOf (seen_of view (due made moves)) (seen_of view (due made (moves ++ move ∷ []))) };
+
+    /// Whether a conversation that was made so is over by these calls: nothing more is looked for, and nothing awaited.
+    ghost is_over: { Self → List Move → Bool };
+
+    /// A state has ended exactly where it is over by its calls.
+    ghost ends: { (made state : Self) (moves : List Move) (given : List GivenCommand) → Self.stands made state moves given → Self.ended state ≡ is_over made moves };
 
     /// Where a state has ended no call changes what is due.
     ghost over: { (made state : Self) (moves : List Move) (given : List GivenCommand) → Self.stands made state moves given → Self.ended state ≡ true →

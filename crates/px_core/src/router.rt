@@ -1,8 +1,9 @@
 //! Many conversations, each handed its own events.
 //!
 //! A router stands for a trace (`RouterStands`): each live conversation stands for the calls of its number in the trace
-//! and gave what the trace has of it; of one that has ended the trace has all that will ever be due; and the trace is
-//! served. Each call holds for every trace that the router stands for, so it needs no word of the network.
+//! and gave what the trace has of it; of one that has ended the trace has all that will ever be due; the trace is served;
+//! and the answerer came over it, from what it was at first to what it is with the files as they are. Each call holds for
+//! every trace that the router stands for, so it needs no word of the network. No conversation that has ended is held.
 //!
 //! Steps are given to the caller once the whole call has succeeded. A router in which memory ran out answers so for ever.
 ghost use Rattle.std.specs.Prelude.{◌≡◌, Some, None, IsErr, true, false, [], List, IfOk, OnOk, OnErr};
@@ -10,10 +11,10 @@ ghost use Rattle.slab.specs.Slab.{get as held_under};
 ghost use Rattle.px_message.specs.declared.address.Address.{Address as PeerAddress};
 ghost use Rattle.px_event.specs.Layer.{IsSound};
 ghost use Rattle.px_event.specs.declared.event.Event.TheVariants.{Begun as HasBegun};
-ghost use Rattle.px_core.specs.Answers.{ChangedByAnswers};
+ghost use Rattle.px_core.specs.Answers.{ChangedByAnswers, FilesMeaning, state_of};
 ghost use Rattle.px_core.specs.Due.{Due};
 ghost use Rattle.px_core.specs.Held.{IsHeardNews, IsSettled};
-ghost use Rattle.px_core.specs.Router.{found, is_known, kept_in, place_of, TableStands, RouterStands, IsRouted, IsAtKey, HearsAt, Hands, Admits, Routes, BeginsNone};
+ghost use Rattle.px_core.specs.Router.{found, HoldsNoEnded, is_known, kept_in, place_of, IsTabled, RouterStands, IsRouted, IsAtKey, HearsAt, Hands, Admits, Routes, BeginsNone};
 ghost use Rattle.px_core.specs.declared.table.Place.TheVariants.{Live as IsLiveUnder};
 
 use crate::held::{Call, Held};
@@ -35,10 +36,11 @@ pub struct Router<C, A> {
 }
 
 impl<C: Owes, A: Answerer> Router<C, A> {
-    /// No conversation was admitted. It stands for the empty trace.
+    /// No conversation was admitted. It stands for the empty trace, with any files, and the answerer is what it was at first.
     pub fn new(alloc: Global, answerer: A) -> Router<C, A>
-        ensures stands { (due : Due) → RouterStands C.stands C.awaited C.number C.due A.answers due result [] }
+        ensures stands { (due : Due) (files : FilesMeaning) → RouterStands C.stands C.awaited C.number C.due A.answers A.state due (record { own = A.state answerer; files = files }) files result [] }
         ensures sound { IsRouted C.stands C.awaited C.number C.due A.answers result }
+        ensures goes_on { HoldsNoEnded C.ended result.table }
     {
         Router {
             alloc,
@@ -83,11 +85,12 @@ impl<C: Owes, A: Answerer> Router<C, A> {
         requires number { C.number conversation ≡ conv }
         requires stands { C.stands conversation conversation [] [] }
         requires free { C.awaited conversation ≡ None }
-        ensures admits { OnOk result (Admits C.stands C.awaited C.number C.due A.answers conv moment conversation self.old.table self.new.table out.old.items out.new.items) }
+        ensures admits { OnOk result (Admits C.stands C.awaited C.number C.due A.answers conv moment conversation self.old.table self.new.table (state_of A.state F.contents F.calls F.misses F.faults F.losses self.old.answerer files.old) (state_of A.state F.contents F.calls F.misses F.faults F.losses self.new.answerer files.new) out.old.items out.new.items) }
         ensures spent { self.old.spent ≡ true → IsErr result }
         ensures err { OnErr result ((self.new.spent ≡ true) × (out.new.items ≡ out.old.items)) }
         ensures ok { OnOk result (self.new.spent ≡ false) }
         ensures files { ChangedByAnswers A.answers A.fails F.contents F.calls F.misses F.faults F.losses files.old files.new }
+        ensures goes_on { HoldsNoEnded C.ended self.old.table → OnOk result (HoldsNoEnded C.ended self.new.table) }
     {
         if self.spent {
             return Err(NoMemory);
@@ -117,11 +120,12 @@ impl<C: Owes, A: Answerer> Router<C, A> {
     ) -> Result<(), NoMemory>
         requires sound { IsRouted C.stands C.awaited C.number C.due A.answers self.old }
         requires begins { BeginsNone self.old heard }
-        ensures routes { OnOk result (Routes C.stands C.awaited C.number C.due A.answers moment heard self.old.table self.new.table out.old.items out.new.items) }
+        ensures routes { OnOk result (Routes C.stands C.awaited C.number C.due A.answers moment heard self.old.table self.new.table (state_of A.state F.contents F.calls F.misses F.faults F.losses self.old.answerer files.old) (state_of A.state F.contents F.calls F.misses F.faults F.losses self.new.answerer files.new) out.old.items out.new.items) }
         ensures spent { self.old.spent ≡ true → IsErr result }
         ensures err { OnErr result ((self.new.spent ≡ true) × (out.new.items ≡ out.old.items)) }
         ensures ok { OnOk result (self.new.spent ≡ false) }
         ensures files { ChangedByAnswers A.answers A.fails F.contents F.calls F.misses F.faults F.losses files.old files.new }
+        ensures goes_on { HoldsNoEnded C.ended self.old.table → OnOk result (HoldsNoEnded C.ended self.new.table) }
     {
         if self.spent {
             return Err(NoMemory);
@@ -150,11 +154,12 @@ impl<C: Owes, A: Answerer> Router<C, A> {
         files: &mut F,
         steps: &mut Vec<Step>,
     ) -> Result<(), NoMemory>
-        requires sound { (due : Due) × (trace : _) × TableStands C.stands C.awaited C.number C.due A.answers due self.old.table trace }
+        requires sound { IsTabled C.stands C.awaited C.number C.due A.answers self.old.table }
         requires begins { BeginsNone self.old heard }
-        ensures routes { OnOk result (Routes C.stands C.awaited C.number C.due A.answers moment heard self.old.table self.new.table steps.old.items steps.new.items) }
+        ensures routes { OnOk result (Routes C.stands C.awaited C.number C.due A.answers moment heard self.old.table self.new.table (state_of A.state F.contents F.calls F.misses F.faults F.losses self.old.answerer files.old) (state_of A.state F.contents F.calls F.misses F.faults F.losses self.new.answerer files.new) steps.old.items steps.new.items) }
         ensures spent { self.new.spent ≡ self.old.spent }
         ensures files { ChangedByAnswers A.answers A.fails F.contents F.calls F.misses F.faults F.losses files.old files.new }
+        ensures goes_on { HoldsNoEnded C.ended self.old.table → OnOk result (HoldsNoEnded C.ended self.new.table) }
     {
         match news_of(heard) {
             Some((conv, news)) => {
@@ -177,12 +182,13 @@ impl<C: Owes, A: Answerer> Router<C, A> {
         files: &mut F,
         steps: &mut Vec<Step>,
     ) -> Result<(), NoMemory>
-        requires sound { (due : Due) × (trace : _) × TableStands C.stands C.awaited C.number C.due A.answers due self.old.table trace }
+        requires sound { IsTabled C.stands C.awaited C.number C.due A.answers self.old.table }
         requires begins { (peer : PeerAddress) → news ≡ News.Begun peer → is_known self.old call.conv ≡ true }
         requires news { IsHeardNews news }
-        ensures hands { OnOk result (Hands C.stands C.awaited C.number C.due A.answers call.conv call.moment news self.old.table self.new.table steps.old.items steps.new.items) }
+        ensures hands { OnOk result (Hands C.stands C.awaited C.number C.due A.answers call.conv call.moment news self.old.table self.new.table (state_of A.state F.contents F.calls F.misses F.faults F.losses self.old.answerer files.old) (state_of A.state F.contents F.calls F.misses F.faults F.losses self.new.answerer files.new) steps.old.items steps.new.items) }
         ensures spent { self.new.spent ≡ self.old.spent }
         ensures files { ChangedByAnswers A.answers A.fails F.contents F.calls F.misses F.faults F.losses files.old files.new }
+        ensures goes_on { HoldsNoEnded C.ended self.old.table → OnOk result (HoldsNoEnded C.ended self.new.table) }
     {
         match self.table.place(call.conv) {
             Some(Place::Live(key)) => {
@@ -209,7 +215,7 @@ impl<C: Owes, A: Answerer> Router<C, A> {
     ) -> Result<bool, NoMemory>
         requires held { IsAtKey C.stands C.awaited C.number C.due call.conv key self.old.table }
         requires news { IsHeardNews news }
-        ensures hears { IfOk result (λ over. HearsAt C.stands C.awaited C.number C.due A.answers C.ended call.conv call.moment news key self.old.table self.new.table over steps.old.items steps.new.items) }
+        ensures hears { IfOk result (λ over. HearsAt C.stands C.awaited C.number C.due A.answers C.ended call.conv call.moment news key self.old.table self.new.table (state_of A.state F.contents F.calls F.misses F.faults F.losses self.old.answerer files.old) (state_of A.state F.contents F.calls F.misses F.faults F.losses self.new.answerer files.new) over steps.old.items steps.new.items) }
         ensures spent { self.new.spent ≡ self.old.spent }
         ensures files { ChangedByAnswers A.answers A.fails F.contents F.calls F.misses F.faults F.losses files.old files.new }
     {
@@ -228,14 +234,15 @@ impl<C: Owes, A: Answerer> Router<C, A> {
         files: &mut F,
         steps: &mut Vec<Step>,
     ) -> Result<(), NoMemory>
-        requires sound { (due : Due) × (trace : _) × TableStands C.stands C.awaited C.number C.due A.answers due self.old.table trace }
+        requires sound { IsTabled C.stands C.awaited C.number C.due A.answers self.old.table }
         requires unknown { is_known self.old call.conv ≡ false }
         requires number { C.number conversation ≡ call.conv }
         requires stands { C.stands conversation conversation [] [] }
         requires free { C.awaited conversation ≡ None }
-        ensures admits { OnOk result (Admits C.stands C.awaited C.number C.due A.answers call.conv call.moment conversation self.old.table self.new.table steps.old.items steps.new.items) }
+        ensures admits { OnOk result (Admits C.stands C.awaited C.number C.due A.answers call.conv call.moment conversation self.old.table self.new.table (state_of A.state F.contents F.calls F.misses F.faults F.losses self.old.answerer files.old) (state_of A.state F.contents F.calls F.misses F.faults F.losses self.new.answerer files.new) steps.old.items steps.new.items) }
         ensures spent { self.new.spent ≡ self.old.spent }
         ensures files { ChangedByAnswers A.answers A.fails F.contents F.calls F.misses F.faults F.losses files.old files.new }
+        ensures goes_on { HoldsNoEnded C.ended self.old.table → OnOk result (HoldsNoEnded C.ended self.new.table) }
     {
         let mut held = Held {
             conversation,

@@ -35,6 +35,7 @@ impl<C: Drop> Table<C> {
     /// No conversation was admitted.
     pub(crate) fn new(alloc: Global) -> Table<C>
         ensures empty { (conv : _) → place_of result conv ≡ None }
+        ensures vacant { (key : _) → held_under result.live key ≡ None }
     {
         Table {
             live: Slab::new(alloc),

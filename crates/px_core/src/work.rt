@@ -10,12 +10,12 @@ ghost use Rattle.px_event.specs.Layer.{Move};
 ghost use Rattle.px_event.specs.Trace.{Trace};
 ghost use Rattle.px_event.specs.declared.step.Step.TheVariants.{Heard as WasHeard};
 ghost use Rattle.px_outside.specs.Net.{IsNote};
-ghost use Rattle.px_core.specs.Answers.{ChangedByAnswers};
+ghost use Rattle.px_core.specs.Answered.{IsAnswered};
+ghost use Rattle.px_core.specs.Answers.{AnswererState, ChangedByAnswers, files_meaning};
 ghost use Rattle.px_core.specs.Due.{Due, IsServed};
-ghost use Rattle.px_core.specs.Router.{RouterStands, IsRouted, BeginsNone, is_known, found};
+ghost use Rattle.px_core.specs.Router.{HoldsNoEnded, RouterStands, IsRouted, BeginsNone, is_known, found};
 ghost use Rattle.px_core.specs.Calls.{addressed};
 ghost use Rattle.px_core.specs.Held.{AllOf};
-ghost use Rattle.px_core.specs.Ordered.{IsInOrder};
 ghost use Rattle.px_core.specs.declared.news.News.TheVariants.{Begun as HasBegun};
 ghost use Rattle.px_core.specs.Run.{IsDueOf, begun_by, done_of, Tells, IsTellable, AllTellable, ToldPart, IsOfHeard, TellsOfHeard, KeepsOthers};
 
@@ -28,7 +28,8 @@ use std::alloc::Global;
 
 /// Works off one thing that the network has just told: makes and admits the conversation that it begins, or hands it to
 /// its own; then says and notes each step in its order, and hands on each finished flow. Each step is of the conversation
-/// that was heard alone, and nothing changes of another.
+/// that was heard alone, and nothing changes of another. In every exit the answerer came over the trace that is told by its
+/// own relation, from what it was at first.
 ///
 /// `NoMemory` where memory ran out: in the router, the maker, the network or the taker. The trace is served all the same,
 /// the flows that were handed on are a front of those that it finishes, and the router is spent: it answers want of memory
@@ -44,11 +45,11 @@ pub fn work_off<C: Owes, A: Answerer, M: Maker<C>, F: Files, N: Net, T: Taker>(
     heard: Heard,
 ) -> Result<(), NoMemory>
     requires sound { IsRouted C.stands C.awaited C.number C.due A.answers router.old }
-    ensures ok { (due : Due) (trace : Trace) → IsDueOf (M.due maker.old) due → RouterStands C.stands C.awaited C.number C.due A.answers due router.old trace →
+    ensures ok { (due : Due) (first : AnswererState A.State) (trace : Trace) → IsDueOf (M.due maker.old) due → RouterStands C.stands C.awaited C.number C.due A.answers A.state due first (files_meaning F.contents F.calls F.misses F.faults F.losses files.old) router.old trace →
         N.trace net.old ≡ Some (trace ++ WasHeard moment heard ∷ []) →
-        OnOk result (Tells (RouterStands C.stands C.awaited C.number C.due A.answers due router.new) (trace ++ WasHeard moment heard ∷ []) (N.trace net.new)) }
-    ensures stands { (due : Due) (trace : Trace) → IsDueOf (M.due maker.old) due → RouterStands C.stands C.awaited C.number C.due A.answers due router.old trace →
-        OnOk result ((more : Trace) × RouterStands C.stands C.awaited C.number C.due A.answers due router.new ((trace ++ WasHeard moment heard ∷ []) ++ more)) }
+        OnOk result (Tells (RouterStands C.stands C.awaited C.number C.due A.answers A.state due first (files_meaning F.contents F.calls F.misses F.faults F.losses files.new) router.new) (trace ++ WasHeard moment heard ∷ []) (N.trace net.new)) }
+    ensures stands { (due : Due) (first : AnswererState A.State) (trace : Trace) → IsDueOf (M.due maker.old) due → RouterStands C.stands C.awaited C.number C.due A.answers A.state due first (files_meaning F.contents F.calls F.misses F.faults F.losses files.old) router.old trace →
+        OnOk result ((more : Trace) × RouterStands C.stands C.awaited C.number C.due A.answers A.state due first (files_meaning F.contents F.calls F.misses F.faults F.losses files.new) router.new ((trace ++ WasHeard moment heard ∷ []) ++ more)) }
     ensures taken { (trace : Trace) → N.trace net.old ≡ Some (trace ++ WasHeard moment heard ∷ []) → T.taken taker.old ≡ flat_map done_of trace →
         OnOk result (Tells (λ told. T.taken taker.new ≡ flat_map done_of told) (trace ++ WasHeard moment heard ∷ []) (N.trace net.new)) }
     ensures due { (number : ℕ) (at : PeerAddress) (moves : List Move) → M.due maker.new number at moves ≡ M.due maker.old number at moves }
@@ -56,16 +57,17 @@ pub fn work_off<C: Owes, A: Answerer, M: Maker<C>, F: Files, N: Net, T: Taker>(
     ensures faults { N.faults net.new ≡ N.faults net.old }
     ensures own { (trace : Trace) → N.trace net.old ≡ Some trace → TellsOfHeard heard trace (N.trace net.new) }
     ensures others { OnOk result (KeepsOthers heard router.old router.new) }
-    ensures err { (due : Due) (trace : Trace) → IsDueOf (M.due maker.old) due → RouterStands C.stands C.awaited C.number C.due A.answers due router.old trace →
+    ensures err { (due : Due) (first : AnswererState A.State) (trace : Trace) → IsDueOf (M.due maker.old) due → RouterStands C.stands C.awaited C.number C.due A.answers A.state due first (files_meaning F.contents F.calls F.misses F.faults F.losses files.old) router.old trace →
         N.trace net.old ≡ Some (trace ++ WasHeard moment heard ∷ []) →
         OnErr result (Tells (IsServed A.answers due) (trace ++ WasHeard moment heard ∷ []) (N.trace net.new)) }
     ensures taken_part { (trace : Trace) → N.trace net.old ≡ Some (trace ++ WasHeard moment heard ∷ []) → T.taken taker.old ≡ flat_map done_of trace →
         OnErr result (Tells (λ told. IsPrefixOf (T.taken taker.new) (flat_map done_of told)) (trace ++ WasHeard moment heard ∷ []) (N.trace net.new)) }
-    ensures ordered { (due : Due) (trace : Trace) → IsDueOf (M.due maker.old) due → RouterStands C.stands C.awaited C.number C.due A.answers due router.old trace →
-        N.trace net.old ≡ Some (trace ++ WasHeard moment heard ∷ []) → Tells IsInOrder (trace ++ WasHeard moment heard ∷ []) (N.trace net.new) }
+    ensures follows { (due : Due) (first : AnswererState A.State) (trace : Trace) → IsDueOf (M.due maker.old) due → RouterStands C.stands C.awaited C.number C.due A.answers A.state due first (files_meaning F.contents F.calls F.misses F.faults F.losses files.old) router.old trace →
+        N.trace net.old ≡ Some (trace ++ WasHeard moment heard ∷ []) → Tells (IsAnswered A.answers due first) (trace ++ WasHeard moment heard ∷ []) (N.trace net.new) }
     ensures spent { OnErr result (router.new.spent ≡ true) }
     ensures again { router.old.spent ≡ true → IsErr result × (N.trace net.new ≡ N.trace net.old) × (T.taken taker.new ≡ T.taken taker.old) }
     ensures files { ChangedByAnswers A.answers A.fails F.contents F.calls F.misses F.faults F.losses files.old files.new }
+    ensures goes_on { HoldsNoEnded C.ended router.old.table → OnOk result (HoldsNoEnded C.ended router.new.table) }
 {
     match follow(alloc, router, maker, files, net, taker, moment, heard) {
         Ok(()) => Ok(()),
@@ -88,11 +90,11 @@ fn follow<C: Owes, A: Answerer, M: Maker<C>, F: Files, N: Net, T: Taker>(
     heard: Heard,
 ) -> Result<(), NoMemory>
     requires sound { IsRouted C.stands C.awaited C.number C.due A.answers router.old }
-    ensures ok { (due : Due) (trace : Trace) → IsDueOf (M.due maker.old) due → RouterStands C.stands C.awaited C.number C.due A.answers due router.old trace →
+    ensures ok { (due : Due) (first : AnswererState A.State) (trace : Trace) → IsDueOf (M.due maker.old) due → RouterStands C.stands C.awaited C.number C.due A.answers A.state due first (files_meaning F.contents F.calls F.misses F.faults F.losses files.old) router.old trace →
         N.trace net.old ≡ Some (trace ++ WasHeard moment heard ∷ []) →
-        OnOk result (Tells (RouterStands C.stands C.awaited C.number C.due A.answers due router.new) (trace ++ WasHeard moment heard ∷ []) (N.trace net.new)) }
-    ensures stands { (due : Due) (trace : Trace) → IsDueOf (M.due maker.old) due → RouterStands C.stands C.awaited C.number C.due A.answers due router.old trace →
-        OnOk result ((more : Trace) × RouterStands C.stands C.awaited C.number C.due A.answers due router.new ((trace ++ WasHeard moment heard ∷ []) ++ more)) }
+        OnOk result (Tells (RouterStands C.stands C.awaited C.number C.due A.answers A.state due first (files_meaning F.contents F.calls F.misses F.faults F.losses files.new) router.new) (trace ++ WasHeard moment heard ∷ []) (N.trace net.new)) }
+    ensures stands { (due : Due) (first : AnswererState A.State) (trace : Trace) → IsDueOf (M.due maker.old) due → RouterStands C.stands C.awaited C.number C.due A.answers A.state due first (files_meaning F.contents F.calls F.misses F.faults F.losses files.old) router.old trace →
+        OnOk result ((more : Trace) × RouterStands C.stands C.awaited C.number C.due A.answers A.state due first (files_meaning F.contents F.calls F.misses F.faults F.losses files.new) router.new ((trace ++ WasHeard moment heard ∷ []) ++ more)) }
     ensures taken { (trace : Trace) → N.trace net.old ≡ Some (trace ++ WasHeard moment heard ∷ []) → T.taken taker.old ≡ flat_map done_of trace →
         OnOk result (Tells (λ told. T.taken taker.new ≡ flat_map done_of told) (trace ++ WasHeard moment heard ∷ []) (N.trace net.new)) }
     ensures due { (number : ℕ) (at : PeerAddress) (moves : List Move) → M.due maker.new number at moves ≡ M.due maker.old number at moves }
@@ -100,13 +102,17 @@ fn follow<C: Owes, A: Answerer, M: Maker<C>, F: Files, N: Net, T: Taker>(
     ensures faults { N.faults net.new ≡ N.faults net.old }
     ensures own { (trace : Trace) → N.trace net.old ≡ Some trace → TellsOfHeard heard trace (N.trace net.new) }
     ensures others { OnOk result (KeepsOthers heard router.old router.new) }
-    ensures err { (due : Due) (trace : Trace) → IsDueOf (M.due maker.old) due → RouterStands C.stands C.awaited C.number C.due A.answers due router.old trace →
+    ensures err { (due : Due) (first : AnswererState A.State) (trace : Trace) → IsDueOf (M.due maker.old) due → RouterStands C.stands C.awaited C.number C.due A.answers A.state due first (files_meaning F.contents F.calls F.misses F.faults F.losses files.old) router.old trace →
         N.trace net.old ≡ Some (trace ++ WasHeard moment heard ∷ []) →
         OnErr result (Tells (IsServed A.answers due) (trace ++ WasHeard moment heard ∷ []) (N.trace net.new)) }
+    ensures follows { (due : Due) (first : AnswererState A.State) (trace : Trace) → IsDueOf (M.due maker.old) due → RouterStands C.stands C.awaited C.number C.due A.answers A.state due first (files_meaning F.contents F.calls F.misses F.faults F.losses files.old) router.old trace →
+        N.trace net.old ≡ Some (trace ++ WasHeard moment heard ∷ []) →
+        OnErr result (Tells (IsAnswered A.answers due first) (trace ++ WasHeard moment heard ∷ []) (N.trace net.new)) }
     ensures taken_part { (trace : Trace) → N.trace net.old ≡ Some (trace ++ WasHeard moment heard ∷ []) → T.taken taker.old ≡ flat_map done_of trace →
         OnErr result (Tells (λ told. IsPrefixOf (T.taken taker.new) (flat_map done_of told)) (trace ++ WasHeard moment heard ∷ []) (N.trace net.new)) }
     ensures again { router.old.spent ≡ true → IsErr result × (N.trace net.new ≡ N.trace net.old) × (T.taken taker.new ≡ T.taken taker.old) }
     ensures files { ChangedByAnswers A.answers A.fails F.contents F.calls F.misses F.faults F.losses files.old files.new }
+    ensures goes_on { HoldsNoEnded C.ended router.old.table → OnOk result (HoldsNoEnded C.ended router.new.table) }
 {
     let steps = route(alloc, router, maker, files, moment, heard)?;
     tell_all(net, taker, steps)
@@ -122,14 +128,15 @@ fn route<C: Owes, A: Answerer, M: Maker<C>, F: Files>(
     heard: Heard,
 ) -> Result<Vec<Step>, NoMemory>
     requires sound { IsRouted C.stands C.awaited C.number C.due A.answers router.old }
-    ensures stands { IfOk result (λ steps. (due : Due) (trace : Trace) → IsDueOf (M.due maker.old) due → RouterStands C.stands C.awaited C.number C.due A.answers due router.old trace →
-        RouterStands C.stands C.awaited C.number C.due A.answers due router.new ((trace ++ WasHeard moment heard ∷ []) ++ steps.items)) }
+    ensures stands { IfOk result (λ steps. (due : Due) (first : AnswererState A.State) (trace : Trace) → IsDueOf (M.due maker.old) due → RouterStands C.stands C.awaited C.number C.due A.answers A.state due first (files_meaning F.contents F.calls F.misses F.faults F.losses files.old) router.old trace →
+        RouterStands C.stands C.awaited C.number C.due A.answers A.state due first (files_meaning F.contents F.calls F.misses F.faults F.losses files.new) router.new ((trace ++ WasHeard moment heard ∷ []) ++ steps.items)) }
     ensures tellable { IfOk result (λ steps. AllTellable steps.items) }
     ensures own { IfOk result (λ steps. IsOfHeard heard steps.items) }
     ensures others { OnOk result (KeepsOthers heard router.old router.new) }
     ensures spent { router.old.spent ≡ true → IsErr result }
     ensures due { (number : ℕ) (at : PeerAddress) (moves : List Move) → M.due maker.new number at moves ≡ M.due maker.old number at moves }
     ensures files { ChangedByAnswers A.answers A.fails F.contents F.calls F.misses F.faults F.losses files.old files.new }
+    ensures goes_on { HoldsNoEnded C.ended router.old.table → OnOk result (HoldsNoEnded C.ended router.new.table) }
 {
     if let Some(conv) = fresh(router, &heard) {
         return begin(alloc, router, maker, files, moment, conv, &heard);
@@ -152,13 +159,14 @@ fn begin<C: Owes, A: Answerer, M: Maker<C>, F: Files>(
     requires sound { IsRouted C.stands C.awaited C.number C.due A.answers router.old }
     requires unknown { is_known router.old conv ≡ false }
     requires begins { (peer : PeerAddress) × (addressed heard.now ≡ Some (conv, HasBegun peer)) }
-    ensures stands { IfOk result (λ steps. (due : Due) (trace : Trace) → IsDueOf (M.due maker.old) due → RouterStands C.stands C.awaited C.number C.due A.answers due router.old trace →
-        RouterStands C.stands C.awaited C.number C.due A.answers due router.new ((trace ++ WasHeard moment heard.now ∷ []) ++ steps.items)) }
+    ensures stands { IfOk result (λ steps. (due : Due) (first : AnswererState A.State) (trace : Trace) → IsDueOf (M.due maker.old) due → RouterStands C.stands C.awaited C.number C.due A.answers A.state due first (files_meaning F.contents F.calls F.misses F.faults F.losses files.old) router.old trace →
+        RouterStands C.stands C.awaited C.number C.due A.answers A.state due first (files_meaning F.contents F.calls F.misses F.faults F.losses files.new) router.new ((trace ++ WasHeard moment heard.now ∷ []) ++ steps.items)) }
     ensures own { IfOk result (λ steps. AllOf conv steps.items) }
     ensures others { (other : ℕ) → conv ≢ other → OnOk result (found router.new.table other ≡ found router.old.table other) }
     ensures spent { router.old.spent ≡ true → IsErr result }
     ensures due { (number : ℕ) (at : PeerAddress) (moves : List Move) → M.due maker.new number at moves ≡ M.due maker.old number at moves }
     ensures files { ChangedByAnswers A.answers A.fails F.contents F.calls F.misses F.faults F.losses files.old files.new }
+    ensures goes_on { HoldsNoEnded C.ended router.old.table → OnOk result (HoldsNoEnded C.ended router.new.table) }
 {
     let Heard::Accepted { peer, .. } = heard else {
         unreachable!()

@@ -1,5 +1,6 @@
 pub mod Growth
 pub mod Likeness
+pub mod LineLemmas
 pub mod Moves
 pub mod Only
 pub mod Reach

@@ -1,6 +1,6 @@
 -- What is due, as a chain of stages. A stage looks at joined fronts of what was heard, and at nothing else: not at pieces,
 -- queues or the states of a program.
-use Rattle.std.specs.Prelude.{ℕ, nat_lt, if◌then◌else◌, List, [], ◌∷◌, ◌++◌}
+use Rattle.std.specs.Prelude.{ℕ, Bool, true, false, nat_lt, if◌then◌else◌, List, [], ◌∷◌, ◌++◌}
 
 -- the step of a run in which something happened: its number in the run, and its moment in microseconds since 1970
 pub record Stamp : Type 0 where
@@ -34,6 +34,11 @@ pub data Look (A : Type 0) : Type 0 where
   NotYet : Look A
   Asks : (ask : A) → Look A
   Ends : (owed : List A) → Look A
+
+-- it is an end
+abbrev pub is_end : {A : Type 0} → Look A → Bool
+is_end (Ends owed) = true
+is_end _ = false
 
 -- what a reply or a passage brings: what is owed at once, and the stage that follows
 pub record Turn (S A : Type 0) : Type 0 where

@@ -4,7 +4,7 @@ use Rattle.px_event.specs.declared.ask.Ask.{Ask}
 use Rattle.px_event.specs.declared.event.Event.{Event}
 use Rattle.px_event.specs.declared.reply.Reply.{Reply}
 use Rattle.px_event.specs.declared.command.Command.{Command}
-use Rattle.px_event.specs.Chain.{Chain, Asks, Ends, Stop, Stamped, Timed, walk_from, due}
+use Rattle.px_event.specs.Chain.{Chain, Asks, Ends, is_end, Stop, Stamped, Timed, walk_from, due}
 use Rattle.px_event.specs.Layer.{Move, Took, Replied}
 use Rattle.px_event.specs.View.{View, seen_of}
 
@@ -26,6 +26,10 @@ replies_in step (Replied moment reply ∷ moves) =
 abbrev pub stop_of : {S : Type 0} → Chain S Event Reply Command → S → List Move → Stop S Event Reply Command
 stop_of chain start moves = walk_from chain start (events_in 1 moves) (replies_in 1 moves)
 
+-- the walk over the moves has ended
+abbrev pub has_ended : {S : Type 0} → Chain S Event Reply Command → S → List Move → Bool
+has_ended chain start moves = is_end (chain.look (stop_of chain start moves).stage (stop_of chain start moves).front)
+
 -- what is due by the moves
 abbrev pub due_by : {S : Type 0} → Chain S Event Reply Command → S → List Move → List Command
 due_by chain start moves = due chain start (events_in 1 moves) (replies_in 1 moves)
@@ -46,7 +50,8 @@ pub record AwaitsWhatItAsks {M S : Type 0} (chain : Chain S Event Reply Command)
   pub asks : (state : M) (stage : S) (front : List (Timed Event)) (ask : Ask) → is_at state stage front → awaited state ≡ Some ask →
       (command : Command) × (chain.look stage front ≡ Asks command)
 
--- It has ended only where the stage ends.
+-- It has ended exactly where the stage ends.
 pub record EndsWhereItEnds {M S : Type 0} (chain : Chain S Event Reply Command) (is_at : M → S → List (Timed Event) → Type 0) (ended : M → Bool) : Type 0 where
   pub ends : (state : M) (stage : S) (front : List (Timed Event)) → is_at state stage front → ended state ≡ true →
       (owed : List Command) × (chain.look stage front ≡ Ends owed)
+  pub there : (state : M) (stage : S) (front : List (Timed Event)) (owed : List Command) → is_at state stage front → chain.look stage front ≡ Ends owed → ended state ≡ true

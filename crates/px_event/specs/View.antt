@@ -1,5 +1,7 @@
 -- What one peer or one list sees of the commands of a conversation. A text may come in any number of sends, and what is
--- said to one side is in no order with what is said to another; so what is due is compared in views.
+-- said to one side is in no order with what is said to another; so what is due is compared in views. A side's bytes, its
+-- close and the flows that are finished are seen in one order: a close before the bytes that are due before it would cut
+-- them off, as the end of a connection ends a message (RFC 9112, section 6.3).
 use Rattle.std.specs.Prelude.{ℕ, ◌==◌, if◌then◌else◌, List, [], ◌∷◌, map}
 use Rattle.std.specs.List.{flat_map}
 use Rattle.px_message.specs.declared.address.Address.{Address}
@@ -15,14 +17,10 @@ use Rattle.px_event.specs.declared.step.Step.TheVariants as steps
 use Rattle.px_event.specs.Trace.{is_same_side}
 
 pub data View : Type 0 where
-  -- the bytes sent to a side
-  bytes : (side : Side) → View
-  -- the closes said to a side
-  closes : (side : Side) → View
+  -- what is sent to a side, its close, and the flows that are finished, in one order
+  line : (side : Side) → View
   -- the hooks asked and the servers dialled, in one order
   questions : View
-  -- the flows that are finished
-  finished : View
   -- the hooks asked and the flows that are finished, in one order
   course : View
   -- the hooks asked, each with its flow
@@ -37,20 +35,28 @@ pub data Atom : Type 0 where
   done : (flow : Flow) → Atom
   about : (ask : Ask) (flow : Flow) → Atom
 
+-- the bytes among them
+abbrev pub byte_in : Atom → List ℕ
+byte_in (byte value) = value ∷ []
+byte_in _ = []
+
+abbrev pub bytes_in : List Atom → List ℕ
+bytes_in atoms = flat_map byte_in atoms
+
 -- what a view has of something said
 abbrev pub said_atoms : View → Said → List Atom
-said_atoms (bytes side) (said.Send other text) = if is_same_side other side then map byte text else []
-said_atoms (closes side) (said.Close other) = if is_same_side other side then close ∷ [] else []
+said_atoms (line side) (said.Send other text) = if is_same_side other side then map byte text else []
+said_atoms (line side) (said.Close other) = if is_same_side other side then close ∷ [] else []
 said_atoms questions (said.Dial server address) = dialled server address ∷ []
 said_atoms _ _ = []
 
 -- what a view has of a command
 abbrev pub command_atoms : View → Command → List Atom
-command_atoms (bytes side) (command.Send other text) = if is_same_side other side then map byte text else []
-command_atoms (closes side) (command.Close other) = if is_same_side other side then close ∷ [] else []
+command_atoms (line side) (command.Send other text) = if is_same_side other side then map byte text else []
+command_atoms (line side) (command.Close other) = if is_same_side other side then close ∷ [] else []
+command_atoms (line side) (command.Done flow) = done flow ∷ []
 command_atoms questions (command.Dial server address inside) = dialled server address ∷ []
 command_atoms questions (command.Ask ask flow) = asked ask ∷ []
-command_atoms finished (command.Done flow) = done flow ∷ []
 command_atoms course (command.Ask ask flow) = asked ask ∷ []
 command_atoms course (command.Done flow) = done flow ∷ []
 command_atoms flows (command.Ask ask flow) = about ask flow ∷ []
@@ -69,7 +75,7 @@ IsTold _ = Unit {0}
 abbrev pub step_atoms : View → ℕ → Step → List Atom
 step_atoms view conv (steps.Said other said) = if other == conv then said_atoms view said else []
 step_atoms questions conv (steps.Asked other ask) = if other == conv then asked ask ∷ [] else []
-step_atoms finished conv (steps.Done flow) = if flow.id.conv == conv then done flow ∷ [] else []
+step_atoms (line side) conv (steps.Done flow) = if flow.id.conv == conv then done flow ∷ [] else []
 step_atoms course conv (steps.Asked other ask) = if other == conv then asked ask ∷ [] else []
 step_atoms course conv (steps.Done flow) = if flow.id.conv == conv then done flow ∷ [] else []
 step_atoms _ _ _ = []

@@ -40,6 +40,6 @@ pub trait Chained: Layer {
     /// Something is awaited exactly where the stage asks.
     ghost asks: { (made : Self) → AwaitsWhatItAsks (chain made) (is_at made) Self.awaited };
 
-    /// It has ended only where the stage ends.
+    /// It has ended exactly where the stage ends.
     ghost ends: { (made : Self) → EndsWhereItEnds (chain made) (is_at made) Self.ended };
 }

@@ -2,14 +2,16 @@
 //!
 //! They need one thing of a chain, that passing settles at once (`Settles`), and growth one thing more (`SoFarGrows`).
 //! Neither speaks of bytes or of a protocol, so a chain of any protocol gets the laws for these two premises.
-ghost use Rattle.std.specs.Prelude.{◌≡◌, List, [], ◌++◌};
+ghost use Rattle.std.specs.Prelude.{◌≡◌, ◌≢◌, ℕ, List, [], ◌∷◌, ◌++◌};
 ghost use Rattle.px_text.specs.Prefix.{IsPrefixOf};
 ghost use Rattle.px_event.specs.Chain.{Chain, Stamped, Asks, Ends, walk_from, due};
 ghost use Rattle.px_event.specs.Laws.{Settles, SoFarGrows, with_events, with_replies, Stopped, waiting_values};
-ghost use Rattle.px_event.specs.View.{View, seen_of};
+ghost use Rattle.px_event.specs.View.{Atom, View, bytes_in, line, seen_of};
 ghost use Rattle.px_event.specs.declared.event.Event.{Event as TakenEvent};
 ghost use Rattle.px_event.specs.declared.reply.Reply.{Reply as GivenReply};
 ghost use Rattle.px_event.specs.declared.command.Command.{Command as GivenCommand};
+ghost use Rattle.px_event.specs.declared.command.Command.TheVariants.{Close as Closes, Send as Sends};
+ghost use Rattle.px_event.specs.declared.side.Side.{Side as OfSide};
 
 /// A walk over more events, or with more replies, is the walk resumed from where it stopped.
 pub fn walks_resume<Stage>()
@@ -37,6 +39,15 @@ pub fn due_only_grows<Stage>()
     ensures replies { (chain : Chain Stage TakenEvent GivenReply GivenCommand) → Settles chain → (view : View) → SoFarGrows chain (seen_of view) →
         (start : Stage) (events : List (Stamped TakenEvent)) (replies more : List (Stamped GivenReply)) →
         IsPrefixOf (seen_of view (due chain start events replies)) (seen_of view (due chain start events (replies ++ more))) }
+{}
+
+/// The line of a side. Joined lines have joined bytes, and a beginning of a line has a beginning of its bytes: so what is sent to a
+/// side begins with what its line so far has of bytes. A close that comes before bytes makes another line than one behind them.
+pub fn lines_have_bytes()
+    ensures joins { (first second : List Atom) → bytes_in (first ++ second) ≡ bytes_in first ++ bytes_in second }
+    ensures begins { (front whole : List Atom) → IsPrefixOf front whole → IsPrefixOf (bytes_in front) (bytes_in whole) }
+    ensures ordered { (side : OfSide) (value : ℕ) (text : List ℕ) →
+        seen_of (line side) (Closes side ∷ Sends side (value ∷ text) ∷ []) ≢ seen_of (line side) (Sends side (value ∷ text) ∷ Closes side ∷ []) }
 {}
 
 /// Events behind an open ask change nothing of what is due.

@@ -32,8 +32,8 @@ pub use compared::Compared;
 pub use event::{Event, Rests};
 pub use heard::Heard;
 pub use laws::{
-    due_only_grows, nothing_is_due_past_the_end, waiting_events_owe_nothing, walks_resume,
-    walks_stop,
+    due_only_grows, lines_have_bytes, nothing_is_due_past_the_end, waiting_events_owe_nothing,
+    walks_resume, walks_stop,
 };
 pub use layer::Layer;
 pub use reply::Reply;

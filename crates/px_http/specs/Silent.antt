@@ -3,7 +3,7 @@ use Rattle.std.proofs.Common.{◌≡◌, ℕ, List, [], refl}
 use Rattle.px_message.specs.declared.address.Address.{Address}
 use Rattle.px_event.specs.declared.side.Side.TheVariants.{Server}
 use Rattle.px_event.specs.Layer.{Move}
-use Rattle.px_event.specs.View.{bytes, seen_of}
+use Rattle.px_event.specs.View.{bytes_in, line, seen_of}
 use Rattle.px_stream.specs.Chain.{sequence}
 use Rattle.px_stream.specs.Cuts.{is_sequence}
 use Rattle.px_stream.specs.Silent.{NoAnswer}
@@ -14,7 +14,7 @@ use Rattle.px_http.specs.Fixed.{fixed_due, fixed_terms}
 -- No byte is due to a server while no call answers its dial with the connection. Servers are numbered from 0 in the order
 -- of their dials.
 pub fixed_silent : (address : Address) (conv : ℕ) (peer : Address) (server : ℕ) (moves : List Move) → NoAnswer server moves →
-    seen_of (bytes (Server server)) (fixed_due address conv peer moves) ≡ []
+    bytes_in (seen_of (line (Server server)) (fixed_due address conv peer moves)) ≡ []
 fixed_silent address conv peer server moves none =
     silent_from sequence (is_sequence refl) (fixed_terms address conv peer) (start_of (record { flow = 0; server = 0 })) refl server moves none
 

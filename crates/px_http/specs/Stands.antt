@@ -61,14 +61,17 @@ asks_there made =
 pub ends_there : (made : HttpConv) → EndsWhereItEnds (chain_of made) (is_there made) (λ state. is_last state.stream.phase)
 ends_there made =
     let law = ends_where_it_ends sequence made.stream.terms in
-    record { ends = λ state stage front at last. law.ends state.stream stage front at.is_at last }
+    record {
+      ends = λ state stage front at last. law.ends state.stream stage front at.is_at last;
+      there = λ state stage front owed at is. law.there state.stream stage front owed at.is_at is;
+    }
 
 -- ---- from the flow's machine to the conversation
 
 -- it stands as a flow does, whose end leads to the next
 pub flow_stands : (made state : HttpConv) (moves : List Move) (given : List Command) → HttpStands made state moves given → Stands sequence made.stream state.stream moves given
 flow_stands made state moves given stands =
-    record { place = stands.place.is_at; used = stands.used; seen = stands.seen; gave = stands.gave; in_order = stands.in_order }
+    record { place = stands.place.is_at; used = stands.used; seen = stands.seen; gave = stands.gave }
 
 -- what it stands for, its flow's machine does
 pub sound_within : (state : HttpConv) → IsSound HttpStands state → IsSound StandsInSequence state.stream

@@ -26,7 +26,7 @@ impl Fixed {
 }
 
 impl LayerMaker<HttpConv> for Fixed {
-    ghost use Rattle.px_http.specs.Fixed.{fixed_due, fixed_ordered};
+    ghost use Rattle.px_http.specs.Fixed.{fixed_due};
 
     ghost due = { λ maker. fixed_due maker.address };
 
@@ -40,6 +40,4 @@ impl LayerMaker<HttpConv> for Fixed {
         };
         Ok(HttpConv::new(self.alloc, conv, client, place, 0, 0))
     }
-
-    ghost ordered = { λ maker. fixed_ordered maker.address };
 }

@@ -1,5 +1,6 @@
 pub mod CallLemmas
 pub mod DialLemmas
+pub mod EndLemmas
 pub mod RunLemmas
 pub mod SentLemmas
 pub mod TakenDueLemmas

@@ -1,15 +1,16 @@
 -- What a wire took begins what is due: what was sent begins it, nothing is sent to a side that was not opened, and so the wire
 -- took for each side what was sent to it.
-use Rattle.std.proofs.Common.{◌≡◌, ◌∙◌, ℕ, ◌≤◌, false, refl, ap, sym, subst, arith, List, [], ◌∷◌, ◌++◌, length, map, Option, Some, None}
-use Rattle.std.proofs.lemmas.List.{append-nil, append_assoc, map-append}
+use Rattle.std.proofs.Common.{◌≡◌, ◌∙◌, ℕ, ◌≤◌, false, refl, ap, sym, subst, arith, List, [], ◌∷◌, ◌++◌, length, Option, Some, None}
+use Rattle.std.proofs.lemmas.List.{append-nil, append_assoc}
 use Rattle.px_text.specs.Prefix.{IsPrefixOf}
 use Rattle.px_message.specs.declared.address.Address.{Address}
 use Rattle.px_event.specs.declared.side.Side.{Side}
 use Rattle.px_event.specs.declared.side.Side.TheVariants.{Client, Server}
 use Rattle.px_event.specs.declared.step.Step.TheVariants as steps
 use Rattle.px_event.specs.Layer.{Move}
-use Rattle.px_event.specs.Trace.{Trace, Always, sent}
-use Rattle.px_event.specs.View.{Atom, byte, bytes, seen_of, seen_in}
+use Rattle.px_event.specs.Trace.{Trace, Always}
+use Rattle.px_event.specs.View.{bytes_in, line, seen_of, seen_in}
+use Rattle.px_event.proofs.LineLemmas.{bytes_begin}
 use Rattle.px_core.specs.Calls.{calls}
 use Rattle.px_core.specs.Due.{Due, due_at, due_in, IsWithinDue}
 use Rattle.px_app.specs.Going.{EndsGoing}
@@ -26,7 +27,7 @@ use Rattle.px_wire.proofs.TakenLemmas.{steps_joined, front_obeys, taken_is_sent}
 
 -- no byte is due to a server before so many calls connect
 abbrev pub IsSilent : Due → Type 0
-IsSilent due = (conv : ℕ) (peer : Address) (server : ℕ) (moves : List Move) → NoAnswer server moves → seen_of (bytes (Server server)) (due conv peer moves) ≡ []
+IsSilent due = (conv : ℕ) (peer : Address) (server : ℕ) (moves : List Move) → NoAnswer server moves → bytes_in (seen_of (line (Server server)) (due conv peer moves)) ≡ []
 
 -- ---- fronts
 
@@ -45,23 +46,19 @@ no_dial_answered due trace going front rest conv ask reply is =
 
 -- ---- nothing is sent to a side that was not opened
 
-none_sent : (xs : List ℕ) → map byte xs ≡ [] → xs ≡ []
-none_sent [] is = refl
-none_sent (x ∷ xs) is = absurd (cc)
-
 prefix_none : {A : Type 0} (xs ys : List A) → IsPrefixOf xs ys → ys ≡ [] → xs ≡ []
 prefix_none [] ys before none = refl
 prefix_none (x ∷ xs) ys before none = let e = sym none ∙ before.1 in absurd (cc)
 
 module _ (due : Due) (silent : IsSilent due) where
-  silent_at : (conv server : ℕ) (peer : Option Address) (moves : List Move) → NoAnswer server moves → seen_of (bytes (Server server)) (due_at due conv peer moves) ≡ []
+  silent_at : (conv server : ℕ) (peer : Option Address) (moves : List Move) → NoAnswer server moves → bytes_in (seen_of (line (Server server)) (due_at due conv peer moves)) ≡ []
   silent_at conv server None moves none = refl
   silent_at conv server (Some peer) moves none = silent conv peer server moves none
 
-  nothing_due : (trace : Trace) → CountsServers trace → NoDialAnswered trace → (conv : ℕ) (side : Side) → is_opened conv side trace ≡ false → due_in due (bytes side) conv trace ≡ []
+  nothing_due : (trace : Trace) → CountsServers trace → NoDialAnswered trace → (conv : ℕ) (side : Side) → is_opened conv side trace ≡ false → bytes_in (due_in due (line side) conv trace) ≡ []
   nothing_due trace counts answered conv Client never =
       let none = not_begun conv trace never in
-      ap (λ (peer : Option Address). seen_of (bytes Client) (due_at due conv peer (calls conv trace).moves)) none
+      ap (λ (peer : Option Address). bytes_in (seen_of (line Client) (due_at due conv peer (calls conv trace).moves))) none
   nothing_due trace counts answered conv (Server server) never =
       let few : connections (calls conv trace).moves ≤ length (dialled_in trace conv) = connections_most conv trace answered in
       let most : length (dialled_in trace conv) ≤ server = not_dialled trace conv server counts never in
@@ -69,8 +66,9 @@ module _ (due : Due) (silent : IsSilent due) where
 
   pub sends_to_opened : (trace : Trace) → CountsServers trace → NoDialAnswered trace → IsWithinDue due trace → SendsToOpened trace
   sends_to_opened trace counts answered within conv side never =
-      none_sent (sent trace conv side) (sym (seen_is_sent side conv trace)
-      ∙ prefix_none (seen_in (bytes side) conv trace) (due_in due (bytes side) conv trace) (within conv (bytes side) tt) (nothing_due trace counts answered conv side never))
+      let told = bytes_begin (seen_in (line side) conv trace) (due_in due (line side) conv trace) (within conv (line side) tt) in
+      sym (seen_is_sent side conv trace)
+      ∙ prefix_none (bytes_in (seen_in (line side) conv trace)) (bytes_in (due_in due (line side) conv trace)) told (nothing_due trace counts answered conv side never)
 
   always_sends : (trace : Trace) → Always CountsServers trace → Always (EndsGoing due) trace → Always (IsWithinDue due) trace → Always SendsToOpened trace
   always_sends trace counts going within = record {
@@ -84,11 +82,9 @@ module _ (due : Due) (silent : IsSilent due) where
   taken_due : (list : Calls) → Obeys list → Always CountsServers (steps_of list) → Always (EndsGoing due) (steps_of list) → Always (IsWithinDue due) (steps_of list) → TakesWhatIsDue due list
   taken_due list obeys counts going within conv side =
       let taken = taken_is_sent list obeys (always_sends (steps_of list) counts going within) (dials_once (steps_of list) counts) conv side in
-      let told = always_all (IsWithinDue due) (steps_of list) within conv (bytes side) tt in
-      let first = map byte (taken_for conv side list) in
-      let seen : seen_in (bytes side) conv (steps_of list) ≡ first ++ map byte taken.0 =
-      seen_is_sent side conv (steps_of list) ∙ (ap (map byte) taken.1 ∙ map-append byte (taken_for conv side list) taken.0) in
-      (map byte taken.0 ++ told.0, told.1 ∙ (ap (λ (l : List Atom). l ++ told.0) seen ∙ append_assoc first (map byte taken.0) told.0))
+      let told = bytes_begin (seen_in (line side) conv (steps_of list)) (due_in due (line side) conv (steps_of list)) (always_all (IsWithinDue due) (steps_of list) within conv (line side) tt) in
+      let seen : bytes_in (seen_in (line side) conv (steps_of list)) ≡ taken_for conv side list ++ taken.0 = seen_is_sent side conv (steps_of list) ∙ taken.1 in
+      (taken.0 ++ told.0, told.1 ∙ (ap (λ (l : List ℕ). l ++ told.0) seen ∙ append_assoc (taken_for conv side list) taken.0 told.0))
 
   -- what the wire took for each side begins what is due to it, after each call
   pub always_taken : (list : Calls) → Obeys list → Always CountsServers (steps_of list) → Always (EndsGoing due) (steps_of list) → Always (IsWithinDue due) (steps_of list) → AlwaysTakesWhatIsDue due list

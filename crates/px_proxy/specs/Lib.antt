@@ -1,1 +1,2 @@
 pub mod TakenDue
+pub mod Failed

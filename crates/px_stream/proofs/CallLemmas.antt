@@ -8,7 +8,7 @@ use Rattle.px_event.specs.declared.reply.Reply.{Reply}
 use Rattle.px_event.specs.Chain.{Timed, Look, NotYet, Asks, Ends, Turn, found}
 use Rattle.px_event.specs.Layer.{Took, Replied, IsSound, Goes, AsksOnly, MayAnswer}
 use Rattle.px_event.specs.View.{seen_of}
-use Rattle.px_event.proofs.Steps.{Takes, onward, past_end, Resumes}
+use Rattle.px_event.proofs.Steps.{Takes, onward, past_end, Resumes, begins, resume_goes, take_goes}
 use Rattle.px_read.specs.Marks.{asks, answers}
 use Rattle.px_read.specs.Reader.{State, before_all, request, response, Reads}
 use Rattle.px_read.specs.Items.{missing, request_item}
@@ -24,7 +24,6 @@ use Rattle.px_stream.specs.declared.terms.Terms.{Terms}
 use Rattle.px_stream.specs.Calls.{Answers, Hears, IsSome, LooksOnce, MayHear, TakesEvent, TurnsTo, ended, hears}
 use Rattle.px_stream.specs.Chain.{alone, look, look_head, onto, or_leaves, sequence, turn, http_chain}
 use Rattle.px_stream.specs.Heard.{LinkAgrees, closes_client, ready_takes, requests_take}
-use Rattle.px_stream.specs.InOrder.{AddsOwed, AddsTurned, behind_end}
 use Rattle.px_stream.specs.Laws.{open_still, settles}
 use Rattle.px_stream.specs.Led.{Turned}
 use Rattle.px_stream.specs.Left.{flow_left, sequence_left, stage_left, stages_left}
@@ -38,7 +37,6 @@ use Rattle.px_stream.specs.Streams.{client_bytes, client_closed, server_bytes, s
 use Rattle.px_stream.specs.Turns.{asked_leads, asked_owes, behind_asked, behind_ready}
 use Rattle.px_stream.proofs.HearLemmas.{ready_on}
 use Rattle.px_stream.proofs.MoveLemmas.{flow_falls, flow_measures, pass_few, resumes_asks, resumes_left, sequence_falls, sequence_few, sequence_measures, takes_asks, takes_left, turn_few}
-use Rattle.px_stream.proofs.OrderLemmas.{begins_in_order, resumes_in_order, takes_in_order}
 use Rattle.px_stream.proofs.ResumeLemmas.{begun_again, led_alone, led_onward, resumes_answer}
 use Rattle.px_stream.proofs.TakeLemmas.{never_last, takes_event}
 use Rattle.px_stream.proofs.TurnLemmas.{answered}
@@ -293,12 +291,12 @@ module _ (before after : Stream) (moment : ℕ) (event : Event) (out longer : Li
 
   -- where it goes, and what it adds
   takes : (onward_to : Stage → Stage) (made : Terms) (more : List Command) → TakesEvent before after moment event out longer → longer ≡ out ++ more → (stage : Stage) (front : List (Timed Event)) →
-      IsAt made before stage front → Takes (http_chain onward_to made) (IsAt made) after moment event more stage front × AddsOwed (http_chain onward_to made) (record { moment = moment; value = event }) more stage front
+      IsAt made before stage front → Takes (http_chain onward_to made) (IsAt made) after moment event more stage front
   takes onward_to made more (ended is same none) grown stage front at =
       let end = (ends_where_it_ends onward_to made).ends before stage front at is in
       let P : Stream → Type 0 = λ s. IsAt made s stage front in
       let nothing = nothing_added more none grown in
-      (past_end end.0 end.1 (subst P (sym same) at) (λ view. ap (seen_of view) nothing), behind_end end.0 end.1 nothing)
+      past_end end.0 end.1 (subst P (sym same) at) (λ view. ap (seen_of view) nothing)
   takes onward_to made more (hears looked live goes heard) grown stage front at =
       takes_event onward_to made before after moment event looked out longer more live goes heard.terms heard.numbers heard.client heard.looks grown stage front at
 
@@ -312,36 +310,34 @@ module _ (before after : Stream) (moment : ℕ) (event : Event) (out longer : Li
   pub take_alone_goes : IsSound (Stands alone) before → TakesEvent before after moment event out longer → Goes (Stands alone) before after (Took moment event) out longer
   take_alone_goes (made, past, given, stands) call =
       let added = take_adds made.terms _ _ stands.place call in
-      takes_in_order (λ (m : Stream). http_chain alone m.terms) (λ m. settles alone m.terms) (λ m. idle (start_of m.numbers)) (λ m. IsAt m.terms) before after moment event added.0 out longer added.1
-      (λ m stage front at. takes alone m.terms added.0 call added.1 stage front at)
+      take_goes (λ (m : Stream). http_chain alone m.terms) (λ m. settles alone m.terms) (λ m. idle (start_of m.numbers)) (λ m. IsAt m.terms) before after moment event added.0 out longer added.1
+      (λ m stage front _ at. takes alone m.terms added.0 call added.1 stage front at)
 
   pub take_alone_asks : IsSound (Stands alone) before → TakesEvent before after moment event out longer → AsksOnly (awaits after) out longer
   take_alone_asks (made, past, given, stands) call =
       let added = take_adds made.terms _ _ stands.place call in
-      (added.0, added.1, takes_asks alone made.terms after moment added.0 event _ _ (takes alone made.terms added.0 call added.1 _ _ stands.place).0)
+      (added.0, added.1, takes_asks alone made.terms after moment added.0 event _ _ (takes alone made.terms added.0 call added.1 _ _ stands.place))
 
   pub take_alone_left : IsSound (Stands alone) before → TakesEvent before after moment event out longer → flow_left after ≤ flow_left before
   take_alone_left (made, past, given, stands) call =
       let added = take_adds made.terms _ _ stands.place call in
-      takes_left flow_left stage_left flow_measures made.terms alone before after moment event added.0 _ _ stands.place (takes alone made.terms added.0 call added.1 _ _ stands.place).0
+      takes_left flow_left stage_left flow_measures made.terms alone before after moment event added.0 _ _ stands.place (takes alone made.terms added.0 call added.1 _ _ stands.place)
 
   pub take_sequence_goes : IsSound StandsInSequence before → TakesEvent before after moment event out longer → Goes StandsInSequence before after (Took moment event) out longer
   take_sequence_goes (made, past, given, stands) call =
       let added = take_adds made.terms _ _ stands.place.is_at call in
-      takes_in_order (λ (m : Stream). http_chain sequence m.terms) (λ m. settles sequence m.terms) (λ m. idle (start_of m.numbers)) (λ m. IsInSequence m.terms) before after moment event added.0 out longer added.1
-      (λ m stage front at.
-      let there = takes sequence m.terms added.0 call added.1 stage front at.is_at in
-      (few_takes m.terms added.0 stage front at.few there.0, there.1))
+      take_goes (λ (m : Stream). http_chain sequence m.terms) (λ m. settles sequence m.terms) (λ m. idle (start_of m.numbers)) (λ m. IsInSequence m.terms) before after moment event added.0 out longer added.1
+      (λ m stage front _ at. few_takes m.terms added.0 stage front at.few (takes sequence m.terms added.0 call added.1 stage front at.is_at))
 
   pub take_sequence_asks : IsSound StandsInSequence before → TakesEvent before after moment event out longer → AsksOnly (awaits after) out longer
   take_sequence_asks (made, past, given, stands) call =
       let added = take_adds made.terms _ _ stands.place.is_at call in
-      (added.0, added.1, takes_asks sequence made.terms after moment added.0 event _ _ (takes sequence made.terms added.0 call added.1 _ _ stands.place.is_at).0)
+      (added.0, added.1, takes_asks sequence made.terms after moment added.0 event _ _ (takes sequence made.terms added.0 call added.1 _ _ stands.place.is_at))
 
   pub take_sequence_left : IsSound StandsInSequence before → TakesEvent before after moment event out longer → sequence_left after ≤ sequence_left before
   take_sequence_left (made, past, given, stands) call =
       let added = take_adds made.terms _ _ stands.place.is_at call in
-      takes_left sequence_left stages_left sequence_measures made.terms sequence before after moment event added.0 _ _ stands.place.is_at (takes sequence made.terms added.0 call added.1 _ _ stands.place.is_at).0
+      takes_left sequence_left stages_left sequence_measures made.terms sequence before after moment event added.0 _ _ stands.place.is_at (takes sequence made.terms added.0 call added.1 _ _ stands.place.is_at)
 
 -- ---- an answer
 
@@ -404,7 +400,7 @@ module _ (onward_to : Stage → Stage) (before after : Stream) (moment : ℕ) (r
 
   -- where it goes, and what it adds
   resumes : (made : Terms) (more : List Command) → longer ≡ out ++ more → (stage : Stage) (front : List (Timed Event)) → IsAt made before stage front → Led made stage front →
-      Resumes (http_chain onward_to made) (IsAt made) after moment reply more stage front × AddsTurned (http_chain onward_to made) (record { moment = moment; value = reply }) more stage front
+      Resumes (http_chain onward_to made) (IsAt made) after moment reply more stage front
   resumes made more grown stage front at led =
       resumes_answer onward_to made before after moment reply here looked requests out call.between longer more live call.terms call.client call.owes call.looks grown stage front at (λ _. led)
 
@@ -434,7 +430,7 @@ module _ (before after : Stream) (moment : ℕ) (reply : Reply) (here : Asked) (
         (led_alone (turn made stage front answer) front before.requests _ leads _ before.client_closed moment (turned made before moment reply here live stage front at))
 
     alone_resumes : (made : Terms) (more : List Command) → longer ≡ out ++ more → (stage : Stage) (front : List (Timed Event)) → IsAt made before stage front →
-        Resumes (http_chain alone made) (IsAt made) after moment reply more stage front × AddsTurned (http_chain alone made) answer more stage front
+        Resumes (http_chain alone made) (IsAt made) after moment reply more stage front
     alone_resumes made more grown stage front at =
         resumes alone before after moment reply here leads before.requests out longer live call made more grown stage front at (alone_led made stage front at)
 
@@ -444,18 +440,18 @@ module _ (before after : Stream) (moment : ℕ) (reply : Reply) (here : Asked) (
     pub resume_alone_goes : IsSound (Stands alone) before → Goes (Stands alone) before after (Replied moment reply) out longer
     resume_alone_goes (made, past, given, stands) =
         let added = alone_adds made.terms _ _ stands.place in
-        resumes_in_order (λ (m : Stream). http_chain alone m.terms) (λ m. settles alone m.terms) (λ m. idle (start_of m.numbers)) (λ m. IsAt m.terms) before after moment reply added.0 out longer added.1
-        (λ m stage front at. alone_resumes m.terms added.0 added.1 stage front at)
+        resume_goes (λ (m : Stream). http_chain alone m.terms) (λ m. settles alone m.terms) (λ m. idle (start_of m.numbers)) (λ m. IsAt m.terms) before after moment reply added.0 out longer added.1
+        (λ m stage front _ at. alone_resumes m.terms added.0 added.1 stage front at)
 
     pub resume_alone_asks : IsSound (Stands alone) before → AsksOnly (awaits after) out longer
     resume_alone_asks (made, past, given, stands) =
         let added = alone_adds made.terms _ _ stands.place in
-        (added.0, added.1, resumes_asks alone made.terms after moment added.0 reply _ _ (alone_resumes made.terms added.0 added.1 _ _ stands.place).0)
+        (added.0, added.1, resumes_asks alone made.terms after moment added.0 reply _ _ (alone_resumes made.terms added.0 added.1 _ _ stands.place))
 
     pub resume_alone_left : IsSound (Stands alone) before → flow_left after < flow_left before
     resume_alone_left (made, past, given, stands) =
         let added = alone_adds made.terms _ _ stands.place in
-        let there = (alone_resumes made.terms added.0 added.1 _ _ stands.place).0 in
+        let there = alone_resumes made.terms added.0 added.1 _ _ stands.place in
         resumes_left flow_left stage_left flow_measures made.terms alone before after moment reply added.0 _ _ stands.place
         (flow_falls made.terms _ _ answer there.ask there.asked) there
 
@@ -481,23 +477,20 @@ module _ (before after : Stream) (moment : ℕ) (reply : Reply) (here : Asked) (
         let asks_now = asks_there made (look made stage front) stage front refl at.is_at.phase in onward_led made stage front asks_now.0 asks_now.1 at
 
     sequence_resumes : (made : Terms) (more : List Command) → longer ≡ out ++ more → (stage : Stage) (front : List (Timed Event)) → IsInSequence made before stage front →
-        Resumes (http_chain sequence made) (IsAt made) after moment reply more stage front × AddsTurned (http_chain sequence made) answer more stage front
+        Resumes (http_chain sequence made) (IsAt made) after moment reply more stage front
     sequence_resumes made more grown stage front at =
         resumes sequence before after moment reply here (ready_onward leads) (requests_onward leads before.requests) out longer live call made more grown stage front at.is_at (sequence_led made stage front at)
 
     few_resumes : (made : Terms) (more : List Command) → longer ≡ out ++ more → (stage : Stage) (front : List (Timed Event)) → IsInSequence made before stage front →
-        Resumes (http_chain sequence made) (IsInSequence made) after moment reply more stage front × AddsTurned (http_chain sequence made) answer more stage front
+        Resumes (http_chain sequence made) (IsInSequence made) after moment reply more stage front
     few_resumes made more grown stage front at =
-        let both = sequence_resumes made more grown stage front at in
-        let there = both.0 in (
-          record {
-            ask = there.ask;
-            asked = there.asked;
-            place = record { is_at = there.place; few = sequence_few made stage front answer there.ask there.asked at.few };
-            gives = there.gives;
-          },
-          both.1,
-        )
+        let there = sequence_resumes made more grown stage front at in
+        record {
+          ask = there.ask;
+          asked = there.asked;
+          place = record { is_at = there.place; few = sequence_few made stage front answer there.ask there.asked at.few };
+          gives = there.gives;
+        }
 
     sequence_adds : (made : Terms) (stage : Stage) (front : List (Timed Event)) → IsInSequence made before stage front → (more : List Command) × (longer ≡ out ++ more)
     sequence_adds made stage front at =
@@ -506,18 +499,18 @@ module _ (before after : Stream) (moment : ℕ) (reply : Reply) (here : Asked) (
     pub resume_sequence_goes : IsSound StandsInSequence before → Goes StandsInSequence before after (Replied moment reply) out longer
     resume_sequence_goes (made, past, given, stands) =
         let added = sequence_adds made.terms _ _ stands.place in
-        resumes_in_order (λ (m : Stream). http_chain sequence m.terms) (λ m. settles sequence m.terms) (λ m. idle (start_of m.numbers)) (λ m. IsInSequence m.terms) before after moment reply added.0 out longer added.1
-        (λ m stage front at. few_resumes m.terms added.0 added.1 stage front at)
+        resume_goes (λ (m : Stream). http_chain sequence m.terms) (λ m. settles sequence m.terms) (λ m. idle (start_of m.numbers)) (λ m. IsInSequence m.terms) before after moment reply added.0 out longer added.1
+        (λ m stage front _ at. few_resumes m.terms added.0 added.1 stage front at)
 
     pub resume_sequence_asks : IsSound StandsInSequence before → AsksOnly (awaits after) out longer
     resume_sequence_asks (made, past, given, stands) =
         let added = sequence_adds made.terms _ _ stands.place in
-        (added.0, added.1, resumes_asks sequence made.terms after moment added.0 reply _ _ (sequence_resumes made.terms added.0 added.1 _ _ stands.place).0)
+        (added.0, added.1, resumes_asks sequence made.terms after moment added.0 reply _ _ (sequence_resumes made.terms added.0 added.1 _ _ stands.place))
 
     pub resume_sequence_left : IsSound StandsInSequence before → sequence_left after < sequence_left before
     resume_sequence_left (made, past, given, stands) =
         let added = sequence_adds made.terms _ _ stands.place in
-        let there = (sequence_resumes made.terms added.0 added.1 _ _ stands.place).0 in
+        let there = sequence_resumes made.terms added.0 added.1 _ _ stands.place in
         resumes_left sequence_left stages_left sequence_measures made.terms sequence before after moment reply added.0 _ _ stands.place.is_at
         (sequence_falls made.terms _ _ answer there.ask there.asked) there
 
@@ -555,9 +548,9 @@ module _ (made : Stream) (open_still : made.client_closed ≡ false) (waits : ma
   -- it stands for no moves, and has given nothing
   pub stands_first : (onward_to : Stage → Stage) → Stands onward_to made made [] []
   stands_first onward_to =
-      begins_in_order (http_chain onward_to made.terms) (settles onward_to made.terms) first (IsAt made.terms) made begins_there (ap found finds_nothing)
+      begins (http_chain onward_to made.terms) (settles onward_to made.terms) first (IsAt made.terms) made begins_there (λ view. ap (λ l. seen_of view (found l)) finds_nothing)
 
   pub stands_first_in_sequence : made.numbers.flow < 1000000 → made.numbers.server ≤ made.numbers.flow + 1 → StandsInSequence made made [] []
   stands_first_in_sequence few dials =
-      begins_in_order (http_chain sequence made.terms) (settles sequence made.terms) first (IsInSequence made.terms) made
-      (record { is_at = begins_there; few = record { few = few; dials = dials } }) (ap found finds_nothing)
+      begins (http_chain sequence made.terms) (settles sequence made.terms) first (IsInSequence made.terms) made
+      (record { is_at = begins_there; few = record { few = few; dials = dials } }) (λ view. ap (λ l. seen_of view (found l)) finds_nothing)

@@ -10,7 +10,6 @@ pub mod ResponseLemmas
 pub mod AnsweringLemmas
 pub mod AdvanceLemmas
 pub mod TakeLemmas
-pub mod OrderLemmas
 pub mod ResumeLemmas
 pub mod QuietLemmas
 pub mod MoveLemmas

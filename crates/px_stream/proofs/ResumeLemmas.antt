@@ -18,7 +18,6 @@ use Rattle.px_read.specs.Reader.{request, before_all, reading_from, Reads}
 use Rattle.px_read.specs.declared.head.ResponseHead.{ResponseHead as ReadResponse}
 use Rattle.px_stream.specs.declared.phase.Ready.TheVariants as ready
 use Rattle.px_stream.specs.Chain.{alone, look, onto, pass, sequence, so_far, turn, http_chain}
-use Rattle.px_stream.specs.InOrder.{AddsTurned}
 use Rattle.px_stream.specs.Led.{Turned}
 use Rattle.px_stream.specs.Looking.{LookFound}
 use Rattle.px_stream.specs.Stages.{At, Stage, idle, receiving, dialling, answering, returning, given_head, given_body, next, over}
@@ -27,7 +26,7 @@ use Rattle.px_stream.specs.Stands.{Dials, IsNow, IsAsked, IsReady, IsIdle, Keeps
 use Rattle.px_stream.specs.Streams.{client_closed}
 use Rattle.px_stream.specs.Turns.{asked_owes}
 use Rattle.px_stream.proofs.AdvanceLemmas.{advanced}
-use Rattle.px_stream.proofs.TakeLemmas.{gives_seen, owes_passed, pass_dials, same_tail}
+use Rattle.px_stream.proofs.TakeLemmas.{gives_seen, pass_dials, same_tail}
 use Rattle.px_stream.proofs.TurnLemmas.{same_reading}
 
 -- a stage that asks knows whether the client has closed
@@ -161,11 +160,11 @@ module _ (onward_to : Stage → Stage) (made : Terms) (before after : Stream) (m
   Led stage front = Turned (onto onward_to (turn made stage front answer)) front requests (asked_owes before.numbers.flow asked reply moment (client_closed front)) looked after.numbers before.client_closed moment
 
   -- where it goes, and what it adds
-  abbrev pub Both : Stage → List (Timed Event) → Type 0
-  Both stage front = Resumes (http_chain onward_to made) (IsAt made) after moment reply more stage front × AddsTurned (http_chain onward_to made) answer more stage front
+  abbrev pub ResumesHere : Stage → List (Timed Event) → Type 0
+  ResumesHere stage front = Resumes (http_chain onward_to made) (IsAt made) after moment reply more stage front
 
   resumes_by : (stage : Stage) (front : List (Timed Event)) (ask : Command) → look made stage front ≡ Asks ask → IsAt made before stage front → IsAsked made before.requests asked stage front →
-      Led stage front → Both stage front
+      Led stage front → ResumesHere stage front
   resumes_by stage front ask is at is_asked turned =
       let further : Stage = onward_to (turn made stage front answer).stage in
       let T : Terms → Type 0 = λ t. LookFound t after.numbers looked requests after.requests moment before.client_closed between longer after.phase in
@@ -179,25 +178,23 @@ module _ (onward_to : Stage → Stage) (made : Terms) (before after : Stream) (m
       let parts : more ≡ (turn made stage front answer).owed ++ there.0.more = same_tail out more _ all in
       let C : Bool → Type 0 = λ c. HasPlace (pass further front).stage front after.numbers c in
       let none : there.0.more ≡ so_far (pass further front).stage front ++ found (look made (pass further front).stage front) =
-      ap (λ l. l ++ there.0.more) (sym turned.none_sent) ∙ there.0.owes in (
-        record {
-          ask = ask;
-          asked = is;
-          place = record {
-            terms = same_terms ∙ at.terms;
-            place = subst C (sym same_closed) there.1;
-            phase = there.0.phase;
-            dials = pass_dials further front turned.dials;
-          };
-          gives = λ view. ap (seen_of view) parts ∙ (seen_append view (turn made stage front answer).owed there.0.more
-              ∙ (ap (λ l. seen_of view (turn made stage front answer).owed ++ l) (gives_seen onward_to made view further front [] there.0.more none)
-              ∙ sym (seen_append view (turn made stage front answer).owed _)));
-        },
-        parts ∙ ap (λ l. (turn made stage front answer).owed ++ l) (none ∙ owes_passed onward_to made further front),
-      )
+      ap (λ l. l ++ there.0.more) (sym turned.none_sent) ∙ there.0.owes in
+      record {
+        ask = ask;
+        asked = is;
+        place = record {
+          terms = same_terms ∙ at.terms;
+          place = subst C (sym same_closed) there.1;
+          phase = there.0.phase;
+          dials = pass_dials further front turned.dials;
+        };
+        gives = λ view. ap (seen_of view) parts ∙ (seen_append view (turn made stage front answer).owed there.0.more
+            ∙ (ap (λ l. seen_of view (turn made stage front answer).owed ++ l) (gives_seen onward_to made view further front [] there.0.more none)
+            ∙ sym (seen_append view (turn made stage front answer).owed _)));
+      }
 
   resumes_look : (l : Look Command) (stage : Stage) (front : List (Timed Event)) → look made stage front ≡ l → PhaseAt l made before.requests before.phase stage front → IsAt made before stage front →
-      (IsAsked made before.requests asked stage front → Led stage front) → Both stage front
+      (IsAsked made before.requests asked stage front → Led stage front) → ResumesHere stage front
   resumes_look NotYet stage front is (looked, sent, same, ready, gave) at led = absurd (let e : phase.Ready looked ≡ phase.Asked asked = sym same ∙ live in cc)
   resumes_look (Asks ask) stage front is (one, same, is_asked) at led =
       let e : phase.Asked one ≡ phase.Asked asked = sym same ∙ live in
@@ -208,5 +205,5 @@ module _ (onward_to : Stage → Stage) (made : Terms) (before after : Stream) (m
   resumes_look (Ends owed_there) stage front is (same, _) at led = absurd (let e : phase.Ready (last_of stage) ≡ phase.Asked asked = sym same ∙ live in cc)
 
   pub resumes_answer : (stage : Stage) (front : List (Timed Event)) → IsAt made before stage front → (IsAsked made before.requests asked stage front → Led stage front) →
-      Both stage front
+      ResumesHere stage front
   resumes_answer stage front at led = resumes_look (look made stage front) stage front refl at.phase at led

@@ -1,5 +1,5 @@
 -- A server is sent nothing before its dial was answered with the connection, and before the first move nobody is.
-use Rattle.std.proofs.Common.{◌≡◌, ℕ, ◌+◌, ◌≤◌, Bool, true, false, List, [], ◌∷◌, ◌++◌, drop, Option, Some, None, refl, ap, sym, ◌∙◌, arith}
+use Rattle.std.proofs.Common.{◌≡◌, ℕ, ◌+◌, ◌≤◌, Bool, true, false, cond, List, [], ◌∷◌, ◌++◌, drop, Option, Some, None, refl, ap, sym, ◌∙◌, arith}
 use Rattle.std.specs.Prelude.{◌==◌, map}
 use Rattle.std.proofs.lemmas.Bool.{eqb-true}
 use Rattle.px_message.specs.declared.fault.Fault.{Fault}
@@ -17,7 +17,8 @@ use Rattle.px_event.specs.declared.side.Side.TheVariants.{Server}
 use Rattle.px_event.specs.Chain.{Stamp, Stamped, Timed, Look, NotYet, Asks, Ends, Turn, Reached, Stop, Chain, worked_off, at_its_step, never, reach, reach_by, walk, walk_by, found, owed_at}
 use Rattle.px_event.specs.Layer.{Move, Took, Replied}
 use Rattle.px_event.specs.Stands.{due_by, events_in, replies_in}
-use Rattle.px_event.specs.View.{bytes, seen_of}
+use Rattle.px_event.specs.View.{bytes_in, close, line, seen_of}
+use Rattle.px_event.proofs.LineLemmas.{bytes_join}
 use Rattle.px_event.proofs.Seen.{seen_append}
 use Rattle.px_read.specs.Items.{Item, missing, part, complete, bad_head, bad_body, request_item}
 use Rattle.px_read.specs.declared.head.RequestHead.{RequestHead as ReadRequest}
@@ -47,10 +48,18 @@ dialled stage = (place_of stage).dials
 module _ (server : ℕ) where
   -- nothing of this is sent to the server
   abbrev IsSilent : List Command → Type 0
-  IsSilent owed = seen_of (bytes (Server server)) owed ≡ []
+  IsSilent owed = bytes_in (seen_of (line (Server server)) owed) ≡ []
 
   silent_both : (xs ys : List Command) → IsSilent xs → IsSilent ys → IsSilent (xs ++ ys)
-  silent_both xs ys a b = seen_append (bytes (Server server)) xs ys ∙ (ap (λ l. l ++ seen_of (bytes (Server server)) ys) a ∙ b)
+  silent_both xs ys a b =
+      ap bytes_in (seen_append (line (Server server)) xs ys)
+      ∙ (bytes_join (seen_of (line (Server server)) xs) (seen_of (line (Server server)) ys)
+      ∙ (ap (λ l. l ++ bytes_in (seen_of (line (Server server)) ys)) a ∙ b))
+
+  -- a close has no bytes
+  close_silent : (same : Bool) → bytes_in (cond same (close ∷ []) [] ++ []) ≡ []
+  close_silent true = refl
+  close_silent false = refl
 
   -- ---- ends
 
@@ -61,7 +70,7 @@ module _ (server : ℕ) where
   server_silent : (used : Used) → IsSilent (shut_server used)
   server_silent NoServer = refl
   server_silent (ByServer number true) = refl
-  server_silent (ByServer number false) = refl
+  server_silent (ByServer number false) = close_silent (number == server)
 
   early_silent : (flow : Flow) (message : List ℕ) (moment : ℕ) (used : Used) (closed : Bool) → IsSilent (ends_early flow message moment used closed)
   early_silent flow message moment used closed = silent_both (shut_server used) (shut_client closed) (server_silent used) (client_silent closed)
@@ -381,7 +390,7 @@ module _ (onward : Stage → Stage) (goes : IsOnward onward) (terms : Terms) (se
 
   passed_silent : (before : List Command) (s : Stage) (f : List (Timed Event)) → IsSilent server before → IsSilent server (before ++ (pass s f).owed)
   passed_silent before s f silent =
-      let none : IsSilent server (pass s f).owed = ap (seen_of (bytes (Server server))) (pass_owes_nothing s f) in silent_both server before (pass s f).owed silent none
+      let none : IsSilent server (pass s f).owed = ap (λ l. bytes_in (seen_of (line (Server server)) l)) (pass_owes_nothing s f) in silent_both server before (pass s f).owed silent none
 
   passed_before : (more : ℕ) (s : Stage) (f : List (Timed Event)) → dialled s + more ≤ server → dialled (pass s f).stage + more ≤ server
   passed_before more s f few = let same = passes_same s f in omega arith
@@ -401,7 +410,7 @@ module _ (onward : Stage → Stage) (goes : IsOnward onward) (terms : Terms) (se
 
   asked_silent : (ask : Command) (s : Stage) (f : List (Timed Event)) (owed : List Command) → look terms s f ≡ Asks ask → IsSilent server owed → IsSilent server (so_far s f ++ ask ∷ owed)
   asked_silent ask s f owed is silent =
-      let one : IsSilent server (ask ∷ []) = ap (λ l. seen_of (bytes (Server server)) (found l)) (sym is) ∙ looks_silent server terms s f in
+      let one : IsSilent server (ask ∷ []) = ap (λ l. bytes_in (seen_of (line (Server server)) (found l))) (sym is) ∙ looks_silent server terms s f in
       silent_both server (so_far s f) (ask ∷ owed) (so_far_silent server s f) (silent_both server (ask ∷ []) owed one silent)
 
   walk_by_silent : (l : Look Command) (on : Command → Stop Stage Event Reply Command) (stop : Stop Stage Event Reply Command) →
@@ -432,7 +441,7 @@ module _ (onward : Stage → Stage) (goes : IsOnward onward) (terms : Terms) (se
 -- A conversation, or one flow, that begins with no server sends nothing to a server whose dial was not answered with its
 -- connection.
 pub silent_from : (onward : Stage → Stage) → IsOnward onward → (terms : Terms) (at : At) → at.dials ≡ 0 → (server : ℕ) (moves : List Move) → NoAnswer server moves →
-    seen_of (bytes (Server server)) (due_by (http_chain onward terms) (idle at) moves) ≡ []
+    bytes_in (seen_of (line (Server server)) (due_by (http_chain onward terms) (idle at) moves)) ≡ []
 silent_from onward goes terms at first server moves none =
     let are = connected_are 1 moves in
     walk_silent onward goes terms server (replies_in 1 moves) never [] (idle at) [] (events_in 1 moves) refl (omega arith)

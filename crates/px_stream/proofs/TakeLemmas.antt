@@ -20,7 +20,6 @@ use Rattle.px_read.specs.Items.{Item, missing, part, complete, bad_head, bad_bod
 use Rattle.px_read.specs.declared.head.RequestHead.{RequestHead as ReadRequest}
 use Rattle.px_stream.specs.Chain.{look, pass, pass_body, request_over, so_far, http_chain}
 use Rattle.px_stream.specs.Heard.{closes_client, ready_takes, requests_take}
-use Rattle.px_stream.specs.InOrder.{AddsOwed, over_one_more}
 use Rattle.px_stream.specs.Laws.{open_still}
 use Rattle.px_stream.specs.Looking.{LookFound}
 use Rattle.px_stream.specs.Stages.{At, Stage, idle, receiving, dialling, answering, returning, given_head, given_body, next, over}
@@ -57,12 +56,6 @@ pass_owes_nothing (given_head at flow) front = refl
 pass_owes_nothing (given_body at flow) front = refl
 pass_owes_nothing (next at) front = refl
 pass_owes_nothing over front = refl
-
--- what is owed over a front is what the stage owes that is passed to
-pub owes_passed : (leads_on : Stage → Stage) (terms : Terms) (stage : Stage) (front : List (Timed Event)) →
-    so_far (pass stage front).stage front ++ found (look terms (pass stage front).stage front) ≡ owed_over (http_chain leads_on terms) stage front
-owes_passed leads_on terms stage front =
-    ap (λ l. l ++ (so_far (pass stage front).stage front ++ found (look terms (pass stage front).stage front))) (sym (pass_owes_nothing stage front))
 
 -- what is added behind what was owed is what is owed now
 pub gives_seen : (leads_on : Stage → Stage) (terms : Terms) (view : View) (stage : Stage) (front : List (Timed Event)) (before more : List Command) →
@@ -120,12 +113,12 @@ module _ (onward_to : Stage → Stage) (made : Terms) (before after : Stream) (m
     (seen : LookFound before.terms before.numbers (ready_takes event looked) (requests_take event before.requests) after.requests moment (closes_client event before.client_closed) out longer after.phase)
     (grown : longer ≡ out ++ more) where
   -- where it goes, and what it adds
-  abbrev pub Both : Stage → List (Timed Event) → Type 0
-  Both stage front = Takes (http_chain onward_to made) (IsAt made) after moment event more stage front × AddsOwed (http_chain onward_to made) (record { moment = moment; value = event }) more stage front
+  abbrev pub TakesHere : Stage → List (Timed Event) → Type 0
+  TakesHere stage front = Takes (http_chain onward_to made) (IsAt made) after moment event more stage front
 
   -- the stage waits, so its readers hear the event, and it looks once
   takes_by : (stage : Stage) (front : List (Timed Event)) → IsAt made before stage front → look made stage front ≡ NotYet → (sent : List ReadResponse) →
-      IsReady before.requests looked stage front sent → so_far stage front ≡ sent_on stage sent → Both stage front
+      IsReady before.requests looked stage front sent → so_far stage front ≡ sent_on stage sent → TakesHere stage front
   takes_by stage front at is sent ready gave =
       let now : Timed Event = record { moment = moment; value = event } in
       let open_client : client_closed front ≡ false = open_still made stage front is in
@@ -139,21 +132,19 @@ module _ (onward_to : Stage → Stage) (made : Terms) (before after : Stream) (m
       let N : Numbers → Type 0 = λ n. HasPlace (pass stage (front ++ now ∷ [])).stage (front ++ now ∷ []) n after.client_closed in
       let C : Bool → Type 0 = λ c. HasPlace (pass stage (front ++ now ∷ [])).stage (front ++ now ∷ []) before.numbers c in
       let M : List Command → Type 0 = λ l. sent_on stage sent ++ l ≡ so_far (pass stage (front ++ now ∷ [])).stage (front ++ now ∷ []) ++ found (look made (pass stage (front ++ now ∷ [])).stage (front ++ now ∷ [])) in
-      let owes = subst M same_more there.0.owes in (
-        onward is
-            (record {
-              terms = same_terms ∙ at.terms;
-              place = subst N (sym same_numbers) (subst C (sym client) there.1);
-              phase = there.0.phase;
-              dials = pass_dials stage (front ++ now ∷ []) at.dials;
-            })
-            (λ view. ap (λ l. seen_of view l ++ seen_of view more) gave
-            ∙ gives_seen onward_to made view stage (front ++ now ∷ []) (sent_on stage sent) more owes),
-        over_one_more is (ap (λ l. l ++ more) gave ∙ (owes ∙ owes_passed onward_to made stage (front ++ now ∷ []))),
-      )
+      let owes = subst M same_more there.0.owes in
+      onward is
+      (record {
+        terms = same_terms ∙ at.terms;
+        place = subst N (sym same_numbers) (subst C (sym client) there.1);
+        phase = there.0.phase;
+        dials = pass_dials stage (front ++ now ∷ []) at.dials;
+      })
+      (λ view. ap (λ l. seen_of view l ++ seen_of view more) gave
+      ∙ gives_seen onward_to made view stage (front ++ now ∷ []) (sent_on stage sent) more owes)
 
   takes_look : (l : Look Command) (stage : Stage) (front : List (Timed Event)) → look made stage front ≡ l → PhaseAt l made before.requests before.phase stage front → IsAt made before stage front →
-      Both stage front
+      TakesHere stage front
   takes_look NotYet stage front is (found_ready, sent, same, ready, gave) at =
       let one : phase.Ready found_ready ≡ phase.Ready looked = sym same ∙ live in
       let same_ready : found_ready ≡ looked = cc in
@@ -163,5 +154,5 @@ module _ (onward_to : Stage → Stage) (made : Terms) (before after : Stream) (m
   takes_look (Ends owed) stage front is (same, _) at =
       let last : is_last (phase.Ready (last_of stage)) ≡ false = ap is_last (sym same ∙ live) ∙ goes in absurd (never_last stage last)
 
-  pub takes_event : (stage : Stage) (front : List (Timed Event)) → IsAt made before stage front → Both stage front
+  pub takes_event : (stage : Stage) (front : List (Timed Event)) → IsAt made before stage front → TakesHere stage front
   takes_event stage front at = takes_look (look made stage front) stage front refl at.phase at

@@ -6,7 +6,6 @@ pub mod EndOrder
 pub mod Endings
 pub mod Found
 pub mod Heard
-pub mod InOrder
 pub mod Kept
 pub mod Law
 pub mod Laws

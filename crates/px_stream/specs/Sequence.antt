@@ -5,7 +5,7 @@ use Rattle.px_event.specs.declared.event.Event.{Event}
 use Rattle.px_event.specs.declared.reply.Reply.{Reply}
 use Rattle.px_event.specs.Chain.{Look, Ends, Stop, Timed}
 use Rattle.px_event.specs.Layer.{Move}
-use Rattle.px_event.specs.Stands.{stop_of}
+use Rattle.px_event.specs.Stands.{StandsAt, stop_of}
 use Rattle.px_read.specs.Reader.{State, request, before_all}
 use Rattle.px_stream.specs.declared.outcome.Outcome.{Outcome}
 use Rattle.px_stream.specs.declared.outcome.Outcome.TheVariants as outcomes
@@ -16,13 +16,12 @@ use Rattle.px_stream.specs.declared.phase.Ready.TheVariants as ready
 use Rattle.px_stream.specs.declared.stream.Stream.{Stream}
 use Rattle.px_stream.specs.declared.terms.Terms.{Terms}
 use Rattle.px_stream.specs.Chain.{sequence, http_chain}
-use Rattle.px_stream.specs.InOrder.{StandsInOrder}
 use Rattle.px_stream.specs.Stages.{At, Stage, idle, receiving, dialling, answering, returning, given_head, given_body, next, over}
 use Rattle.px_stream.specs.Stands.{IsAt, start_of}
 
 -- what a state stands for, where a finished flow leads so
 abbrev pub Stands : (Stage → Stage) → Stream → Stream → List Move → List Command → Type 0
-Stands onward made state moves given = StandsInOrder (http_chain onward made.terms) (idle (start_of made.numbers)) (IsAt made.terms) state moves given
+Stands onward made state moves given = StandsAt (http_chain onward made.terms) (idle (start_of made.numbers)) (IsAt made.terms) state moves given
 
 -- where the walk over the moves of a flow that was made so stops
 abbrev pub stop_at : (Stage → Stage) → Stream → List Move → Stop Stage Event Reply Command
@@ -54,7 +53,7 @@ pub record IsInSequence (made : Terms) (state : Stream) (stage : Stage) (front :
 -- what a state of flows in sequence stands for
 abbrev pub StandsInSequence : Stream → Stream → List Move → List Command → Type 0
 StandsInSequence made state moves given =
-    StandsInOrder (http_chain sequence made.terms) (idle (start_of made.numbers)) (IsInSequence made.terms) state moves given
+    StandsAt (http_chain sequence made.terms) (idle (start_of made.numbers)) (IsInSequence made.terms) state moves given
 
 -- where a flow is finished the next one is looked for: what was kept behind the one is all that has come of the other
 abbrev pub ready_onward : Ready → Ready

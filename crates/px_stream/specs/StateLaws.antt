@@ -14,7 +14,7 @@ use Rattle.px_stream.specs.declared.terms.Terms.{Terms}
 use Rattle.px_stream.specs.Chain.{or_leaves, look, http_chain}
 use Rattle.px_stream.specs.Stages.{Stage, idle, receiving, dialling, answering, returning, given_head, given_body, next, over}
 use Rattle.px_stream.specs.Streams.{client_closed}
-use Rattle.px_stream.specs.Stands.{IsReady, PhaseAt, IsAt, asked_of, awaited_in, awaits, is_last}
+use Rattle.px_stream.specs.Stands.{IsReady, PhaseAt, IsAt, asked_of, awaited_in, awaits, is_last, last_of}
 
 free_by : (l : Look Command) (terms : Terms) (requests : State) (found : Phase) (stage : Stage) (front : List (Timed Event)) (ask : Command) →
     PhaseAt l terms requests found stage front → awaited_in found ≡ None → l ≡ Asks ask → ⊥
@@ -64,8 +64,27 @@ ends_by (Asks command) terms requests found stage front at (asked, same, is) las
     absurd (let no : false ≡ true = ap is_last (sym same) ∙ last in cc)
 ends_by (Ends owed) terms requests found stage front at is last = (owed, refl)
 
--- It has ended only where the stage ends.
+-- where the walk stopped at an end nothing more is looked for
+ends_last : (stage : Stage) → is_last (phase.Ready (last_of stage)) ≡ true
+ends_last (idle at) = refl
+ends_last (receiving at flow given) = refl
+ends_last (dialling at flow) = refl
+ends_last (answering at flow link) = refl
+ends_last (returning at flow link) = refl
+ends_last (given_head at flow) = refl
+ends_last (given_body at flow) = refl
+ends_last (next at) = refl
+ends_last over = refl
+
+there_by : (l : Look Command) (terms : Terms) (requests : State) (found : Phase) (stage : Stage) (front : List (Timed Event)) (owed : List Command) → l ≡ Ends owed →
+    PhaseAt l terms requests found stage front → is_last found ≡ true
+there_by NotYet terms requests found stage front owed is at = absurd (cc)
+there_by (Asks command) terms requests found stage front owed is at = absurd (cc)
+there_by (Ends other) terms requests found stage front owed is (same, at) = ap is_last same ∙ ends_last stage
+
+-- It has ended exactly where the stage ends.
 pub ends_where_it_ends : (onward : Stage → Stage) (terms : Terms) → EndsWhereItEnds (http_chain onward terms) (IsAt terms) (λ state. is_last state.phase)
 ends_where_it_ends onward terms = record {
   ends = λ state stage front at last. ends_by (look terms stage front) terms state.requests state.phase stage front refl at.phase last;
+  there = λ state stage front owed at is. there_by (look terms stage front) terms state.requests state.phase stage front owed is at.phase;
 }

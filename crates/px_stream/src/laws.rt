@@ -3,14 +3,14 @@ ghost use Rattle.std.specs.Prelude.{◌≡◌, ◌≤◌, ◌++◌, ◌∷◌, [
 ghost use Rattle.px_event.specs.Chain.{Timed, found};
 ghost use Rattle.px_event.specs.Laws.{Settles, SoFarGrows};
 ghost use Rattle.px_event.specs.Layer.{Move};
-ghost use Rattle.px_event.specs.View.{View, bytes, seen_of};
+ghost use Rattle.px_event.specs.View.{View, bytes_in, line, seen_of};
 ghost use Rattle.px_event.specs.Stands.{AwaitsWhatItAsks, EndsWhereItEnds, due_by};
 ghost use Rattle.px_event.specs.declared.event.Event.{Event as Heard};
 ghost use Rattle.px_read.specs.Laws.{head_in};
 ghost use Rattle.px_read.specs.Reader.{Reads, State, request as OfRequest};
 ghost use Rattle.px_stream.specs.Phases.{head_phase, marks_at};
 ghost use Rattle.px_read.specs.declared.head.ResponseHead.{ResponseHead};
-ghost use Rattle.px_stream.specs.Chain.{http_chain, sequence};
+ghost use Rattle.px_stream.specs.Chain.{http_chain};
 ghost use Rattle.px_stream.specs.Heard.{closes_client, ready_takes, requests_take};
 ghost use Rattle.px_event.specs.declared.reply.Reply.{Reply as Answer};
 ghost use Rattle.px_event.specs.declared.command.Command.{Command as Given};
@@ -23,7 +23,6 @@ ghost use Rattle.px_stream.specs.EndOrder.{EndsInOrder, FoundInOrder};
 ghost use Rattle.px_stream.specs.Cuts.{IsOnward};
 ghost use Rattle.px_stream.specs.Found.{LookedAt};
 ghost use Rattle.px_stream.specs.Looking.{LookFound};
-ghost use Rattle.px_stream.specs.Sequence.{Stands, StandsInSequence};
 ghost use Rattle.px_stream.specs.Silent.{NoAnswer};
 ghost use Rattle.px_stream.specs.Stages.{At, Link, answering, idle, receiving, returning};
 ghost use Rattle.px_stream.specs.Responses.{AnswerFound};
@@ -37,8 +36,7 @@ ghost use Rattle.px_stream.specs.declared.phase.Asked.{Asked as Awaited};
 ghost use Rattle.px_stream.specs.declared.phase.Ready.{Ready as Looked};
 ghost use Rattle.px_stream.specs.declared.terms.Numbers.{Numbers as Counted};
 ghost use Rattle.px_stream.specs.Stages.{Stage};
-ghost use Rattle.px_stream.specs.Stands.{Dials, HasPlace, IsAnswering, IsAsked, IsAt, IsNow, IsReady, IsReceiving, IsReturning, awaits, is_last, sent_on, start_of};
-ghost use Rattle.px_stream.specs.declared.stream.Stream.{Stream as Machine};
+ghost use Rattle.px_stream.specs.Stands.{Dials, HasPlace, IsAnswering, IsAsked, IsAt, IsNow, IsReady, IsReceiving, IsReturning, awaits, is_last, sent_on};
 ghost use Rattle.px_stream.specs.declared.terms.Terms.{Terms as Made};
 
 /// At one front passing settles at once.
@@ -54,17 +52,8 @@ pub fn waiting_grows()
 /// A server is sent nothing before its dial was answered with the connection, and nothing is due before the first move.
 pub fn servers_hear_nothing_early()
     ensures silent { (onward : Stage → Stage) (made : Made) (at : At) (server : ℕ) (moves : List Move) → IsOnward onward → at.dials ≡ 0 → NoAnswer server moves →
-        seen_of (bytes (TheServer server)) (due_by (http_chain onward made) (idle at) moves) ≡ [] }
+        bytes_in (seen_of (line (TheServer server)) (due_by (http_chain onward made) (idle at) moves)) ≡ [] }
     ensures before_all { (onward : Stage → Stage) (made : Made) (at : At) → at.used ≡ 0 → due_by (http_chain onward made) (idle at) [] ≡ [] }
-{}
-
-/// What was given is what is due, as one list and not in each view alone: so the bytes, the end and the closes of each flow were
-/// given in the order in which the chain owes them. It is so where flows follow one another, too.
-pub fn commands_come_in_order()
-    ensures alone { (onward : Stage → Stage) (made state : Machine) (moves : List Move) (given : List Given) → Stands onward made state moves given →
-        given ≡ due_by (http_chain onward made.terms) (idle (start_of made.numbers)) moves }
-    ensures in_sequence { (made state : Machine) (moves : List Move) (given : List Given) → StandsInSequence made state moves given →
-        given ≡ due_by (http_chain sequence made.terms) (idle (start_of made.numbers)) moves }
 {}
 
 /// What a reply brings, and what is owed at an end, is bytes, then the end of at most one flow, then closes, in this order.
@@ -73,7 +62,7 @@ pub fn bytes_come_before_ends()
     ensures ends { (made : Made) (stage : Stage) (front : List (Timed Heard)) → FoundInOrder (look made stage front) }
 {}
 
-/// An answer is awaited exactly where the stage asks, and a state has ended only where the stage ends.
+/// An answer is awaited exactly where the stage asks, and a state has ended exactly where the stage ends.
 fn states_follow()
     ensures awaits { (onward : Stage → Stage) (made : Made) → AwaitsWhatItAsks (http_chain onward made) (IsAt made) awaits }
     ensures ends { (onward : Stage → Stage) (made : Made) → EndsWhereItEnds (http_chain onward made) (IsAt made) (λ state. is_last state.phase) }

@@ -1,6 +1,5 @@
 //! One flow as a layer: what is due of it is the chain of one flow.
 ghost use Rattle.px_stream.specs.Chain.{alone, http_chain};
-ghost use Rattle.px_stream.specs.InOrder.{in_each_view};
 ghost use Rattle.px_stream.specs.Stages.{Stage, idle};
 ghost use Rattle.px_stream.specs.Stands.{IsAt, is_last, start_of};
 ghost use Rattle.px_stream.specs.Laws.{settles};
@@ -65,7 +64,7 @@ impl Chained for Stream {
 
     ghost is_at = { λ made. IsAt made.terms };
 
-    ghost stands_at = { λ made state moves given stands. in_each_view (http_chain alone made.terms) (idle (start_of made.numbers)) (IsAt made.terms) state moves given stands };
+    ghost stands_at = { λ made state moves given stands. stands };
 
     ghost settles = { λ made. settles alone made.terms };
 

@@ -104,7 +104,7 @@ asks_at_place flow state Over front ask at is =
 pub awaits_what_it_asks : (flow : Flow) → AwaitsWhatItAsks (echo_chain flow) (IsAt flow) awaits
 awaits_what_it_asks flow = record { free = free_at flow; asks = asks_at_place flow }
 
--- it has ended only where the stage ends
+-- it has ended exactly where the stage ends
 over_by : (line : Option ℕ) → is_over (phase_at line) ≡ true → ⊥
 over_by None is = let no : false ≡ true = is in cc
 over_by (Some size) is = let no : false ≡ true = is in cc
@@ -114,5 +114,17 @@ ends_at : (flow : Flow) (state : LineEcho) (stage : Stage) (front : List (Timed 
 ends_at flow state (Reading used) front at is = absurd (over_by (first_line (unread used front)) (ap is_over (sym at.phase) ∙ is))
 ends_at flow state Over front at is = ([], refl)
 
+asks_no_end : (ask : Command) (owed : List Command) → Asks ask ≡ Ends owed → ⊥
+asks_no_end ask owed is = cc
+
+not_an_end : (flow : Flow) (line : Option ℕ) (owed : List Command) → look_by flow line ≡ Ends owed → ⊥
+not_an_end flow None owed is = let no : NotYet ≡ Ends owed = is in cc
+not_an_end flow (Some size) owed is = asks_no_end _ owed is
+
+there_at : (flow : Flow) (state : LineEcho) (stage : Stage) (front : List (Timed Event)) (owed : List Command) → IsAt flow state stage front → look flow stage front ≡ Ends owed →
+    is_over state.phase ≡ true
+there_at flow state (Reading used) front owed at is = absurd (not_an_end flow (first_line (unread used front)) owed is)
+there_at flow state Over front owed at is = ap is_over at.phase
+
 pub ends_where_it_ends : (flow : Flow) → EndsWhereItEnds (echo_chain flow) (IsAt flow) (λ state. is_over state.phase)
-ends_where_it_ends flow = record { ends = ends_at flow }
+ends_where_it_ends flow = record { ends = ends_at flow; there = there_at flow }

@@ -1,4 +1,5 @@
 pub mod AcceptLemmas
+pub mod AskedLemmas
 pub mod CallLemmas
 pub mod ChangeLemmas
 pub mod FindLemmas

@@ -4,7 +4,8 @@ ghost use Rattle.px_event.specs.declared.heard.Heard.{Heard};
 ghost use Rattle.px_wire.specs.declared.link.Link.{Link as LinkState};
 ghost use Rattle.px_outside.specs.Count.{Rose};
 ghost use Rattle.px_wire.specs.declared.call.WireCall.TheVariants.{Shut as WasShut};
-ghost use Rattle.px_wire.specs.Calls.{Tells, put_call, PutWithin};
+ghost use Rattle.px_wire.specs.Asked.{AnsweredSince};
+ghost use Rattle.px_wire.specs.Calls.{Calls, Tells, put_call, PutWithin};
 ghost use Rattle.px_wire.specs.Found.{IsAt};
 ghost use Rattle.px_wire.specs.Links.{is_done, after_put};
 ghost use Rattle.px_wire.specs.Puts.{FlushedSo};
@@ -31,6 +32,7 @@ pub fn flush_link<W: Wire>(wire: &mut W, link: &mut Link) -> Flushed
     ensures listening { W.listening wire.new ≡ W.listening wire.old }
     ensures faults { W.faults wire.new ≡ W.faults wire.old }
     ensures asks { W.asks wire.new ≡ W.asks wire.old }
+    ensures kept { (past : Calls) (times : ℕ) → AnsweredSince past times (W.calls wire.old) → AnsweredSince past times (W.calls wire.new) }
 {
     while link.queue.len() > 0 {
         match put_once(wire, link) {
@@ -83,6 +85,7 @@ pub fn flush_at<W: Wire>(wire: &mut W, table: &mut Table, place: usize) -> Flush
     ensures asks { W.asks wire.new ≡ W.asks wire.old }
     ensures blocked { result ≡ Flushed.Blocked → Rose (W.blocks wire.old) (W.blocks wire.new) }
     ensures broken { result ≡ Flushed.Broken → Rose (W.breaks wire.old) (W.breaks wire.new) }
+    ensures kept { (past : Calls) (times : ℕ) → AnsweredSince past times (W.calls wire.old) → AnsweredSince past times (W.calls wire.new) }
 {
     let flushed = flush_link(wire, &mut table.links[place]);
     if is_done(&table.links[place]) {
@@ -112,6 +115,7 @@ pub fn shut_at<W: Wire>(wire: &mut W, table: &mut Table, place: usize)
     ensures asks { W.asks wire.new ≡ W.asks wire.old }
     ensures blocks { W.blocks wire.old ≤ W.blocks wire.new }
     ensures breaks { W.breaks wire.old ≤ W.breaks wire.new }
+    ensures kept { (past : Calls) (times : ℕ) → AnsweredSince past times (W.calls wire.old) → AnsweredSince past times (W.calls wire.new) }
 {
     let link = table.links.remove(place);
     wire.shut(link.slot);

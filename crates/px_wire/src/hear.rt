@@ -8,7 +8,8 @@ ghost use Rattle.px_outside.specs.Net.{Adds};
 ghost use Rattle.px_wire.specs.declared.link.Link.{Link as LinkState};
 ghost use Rattle.px_wire.specs.Links.{is_over, after_get};
 ghost use Rattle.px_wire.specs.Hears.{IsPlain, AddsHeard};
-ghost use Rattle.px_wire.specs.Calls.{GotWithin, Tells, got_call};
+ghost use Rattle.px_wire.specs.Asked.{AnsweredSince};
+ghost use Rattle.px_wire.specs.Calls.{Calls, GotWithin, Tells, got_call};
 ghost use Rattle.px_wire.specs.Found.{IsAt, Missing, HasTurn, Loose, readable_count};
 ghost use Rattle.px_wire.specs.Stands.{StandsFor, EndsFor, Rests, AllCalm, idle, name_of, owed_by};
 
@@ -45,6 +46,7 @@ pub fn hear<W: Wire>(
     ensures listening { W.listening wire.new ≡ W.listening wire.old }
     ensures faults { W.faults wire.new ≡ W.faults wire.old }
     ensures asks { W.asks wire.new ≡ W.asks wire.old }
+    ensures kept { (past : Calls) (times : ℕ) → AnsweredSince past times (W.calls wire.old) → AnsweredSince past times (W.calls wire.new) }
 {
     let step = Step::Heard { moment, heard };
     wire.note(&step)?;
@@ -78,6 +80,7 @@ pub fn hear_close<W: Wire>(
     ensures listening { W.listening wire.new ≡ W.listening wire.old }
     ensures faults { W.faults wire.new ≡ W.faults wire.old }
     ensures asks { W.asks wire.new ≡ W.asks wire.old }
+    ensures kept { (past : Calls) (times : ℕ) → AnsweredSince past times (W.calls wire.old) → AnsweredSince past times (W.calls wire.new) }
 {
     let link = &table.links[place];
     let conv = link.conv;
@@ -134,6 +137,7 @@ fn read_at<W: Wire>(
     ensures listening { W.listening wire.new ≡ W.listening wire.old }
     ensures faults { W.faults wire.new ≡ W.faults wire.old }
     ensures asks { W.asks wire.new ≡ W.asks wire.old }
+    ensures kept { (past : Calls) (times : ℕ) → AnsweredSince past times (W.calls wire.old) → AnsweredSince past times (W.calls wire.new) }
 {
     match read_link(wire, &mut table.links[place], room) {
         Got::Gave(count) => hear_given(alloc, wire, table, place, &room[..count]),
@@ -164,6 +168,7 @@ fn hear_given<W: Wire>(
     ensures listening { W.listening wire.new ≡ W.listening wire.old }
     ensures faults { W.faults wire.new ≡ W.faults wire.old }
     ensures asks { W.asks wire.new ≡ W.asks wire.old }
+    ensures kept { (past : Calls) (times : ℕ) → AnsweredSince past times (W.calls wire.old) → AnsweredSince past times (W.calls wire.new) }
 {
     let link = table.links.remove(place);
     let told = hear_piece(alloc, wire, table.moment, &link, bytes);
@@ -188,6 +193,7 @@ fn hear_piece<W: Wire>(
     ensures listening { W.listening wire.new ≡ W.listening wire.old }
     ensures faults { W.faults wire.new ≡ W.faults wire.old }
     ensures asks { W.asks wire.new ≡ W.asks wire.old }
+    ensures kept { (past : Calls) (times : ℕ) → AnsweredSince past times (W.calls wire.old) → AnsweredSince past times (W.calls wire.new) }
 {
     let bytes = Bytes::copied(alloc, bytes)?;
     let conv = link.conv;
@@ -212,6 +218,7 @@ pub fn hear_waiting<W: Wire>(
     ensures listening { W.listening wire.new ≡ W.listening wire.old }
     ensures faults { W.faults wire.new ≡ W.faults wire.old }
     ensures asks { W.asks wire.new ≡ W.asks wire.old }
+    ensures kept { (past : Calls) (times : ℕ) → AnsweredSince past times (W.calls wire.old) → AnsweredSince past times (W.calls wire.new) }
 {
     match find_over(&table.links) {
         Some(place) => hear_close(wire, table, place),
@@ -237,6 +244,7 @@ fn read_on<W: Wire>(
     ensures listening { W.listening wire.new ≡ W.listening wire.old }
     ensures faults { W.faults wire.new ≡ W.faults wire.old }
     ensures asks { W.asks wire.new ≡ W.asks wire.old }
+    ensures kept { (past : Calls) (times : ℕ) → AnsweredSince past times (W.calls wire.old) → AnsweredSince past times (W.calls wire.new) }
 {
     while let Some(place) = find_readable(&table.links) {
         if let Some(told) = read_at(alloc, wire, table, room, place)? {

@@ -4,6 +4,9 @@
 //! waits until some slot can go on. `Lines` makes a network of it: what is said waits in a queue for each side until the
 //! wire takes it, and what the wire gives is heard. It is one body for sockets and for `MemWire`, the wire in memory,
 //! which tells its calls.
+//!
+//! A fault of `Lines` is the wire's, but for one: where `ready` told something 2^64 - 1 times in a row and nothing was heard,
+//! lines give up, since each call has to end. What they keep says that they never do so sooner (`specs/Asked.antt`).
 #![tactic(auto)]
 
 mod call;

@@ -1,9 +1,10 @@
 //! A network over a wire.
-ghost use Rattle.std.specs.Prelude.{◌≡◌, ◌⊎◌, ◌-◌, ◌^◌, [], true, ◌+◌, ◌<◌, ◌≤◌, length, Option, Some, None, Ok, Err, IsErr, IfOk, false, OnOk, OnErr, option_copied};
+ghost use Rattle.std.specs.Prelude.{ℕ, ◌≡◌, ◌⊎◌, ◌-◌, ◌^◌, [], true, ◌+◌, ◌<◌, ◌≤◌, length, Option, Some, None, Ok, Err, IsErr, IfOk, false, OnOk, OnErr, option_copied};
 ghost use Rattle.px_event.specs.declared.heard.Heard.{Heard as WhatIsHeard};
 ghost use Rattle.px_outside.specs.Count.{Rose};
 ghost use Rattle.px_outside.specs.Net.{Adds, idle, failed, at, IsNote};
-ghost use Rattle.px_wire.specs.Calls.{Agrees, AsksMore, AsksAtMost, NoneTold};
+ghost use Rattle.px_wire.specs.Asked.{AnsweredSince, most_asks, FailedSo};
+ghost use Rattle.px_wire.specs.Calls.{Calls, Agrees, AsksMore, AsksAtMost, NoneTold};
 ghost use Rattle.px_wire.specs.Lines.{Keeps};
 ghost use Rattle.px_wire.specs.Puts.{FlushedSo, queue_of};
 ghost use Rattle.px_wire.specs.Found.{Loose};
@@ -42,13 +43,14 @@ pub struct Lines<W: Wire> {
 }
 
 impl<W: Wire> Model for Lines<W> {
+    ghost use Rattle.px_wire.specs.Asked.{FailedSo};
     ghost use Rattle.px_wire.specs.Lines.{LinesState, Keeps};
 
     ghost Value = { LinesState W };
 
     ghost view = { λ l. record { wire = l.wire; table = l.table; faults = l.faults; is_spent = l.is_spent } };
 
-    ghost invariant = { λ l. Keeps l.is_spent l.table (W.calls l.wire) };
+    ghost invariant = { λ l. Keeps l.is_spent l.table (W.calls l.wire) × FailedSo l.faults (W.calls l.wire) };
 }
 
 impl<W: Wire> Lines<W> {
@@ -58,6 +60,7 @@ impl<W: Wire> Lines<W> {
         ensures wire { result.wire ≡ wire }
         ensures links { result.table.links.items ≡ [] }
         ensures spent { result.is_spent ≡ false }
+        ensures own_faults { result.faults ≡ 0 }
     {
         let table = Table::new(alloc);
         let room = Vec::new(alloc);
@@ -71,11 +74,13 @@ impl<W: Wire> Lines<W> {
         }
     }
 
-    /// The wire. What is kept stands for its calls, and the steps that it was handed are those of its calls.
+    /// The wire. What is kept stands for its calls, and the steps that it was handed are those of its calls. Where it tells its
+    /// calls, lines failed by themselves only if `ready` told something 2^64 - 1 times in a row and nothing was heard.
     pub fn wire(&self) -> &W
         ensures wire { result.now ≡ self.now.wire }
         ensures keeps { Keeps self.now.is_spent self.now.table (W.calls self.now.wire) }
         ensures agree { Agrees (W.steps self.now.wire) (W.calls self.now.wire) }
+        ensures own_faults { FailedSo self.now.faults (W.calls self.now.wire) }
     {
         &self.wire
     }
@@ -212,6 +217,9 @@ fn hear_next<W: Wire>(
     ensures idle { result ≡ Ok None → AsksMore (2 ^ 64 - 1) (W.asks wire.old) (W.asks wire.new) }
     ensures later { W.faults wire.old ≤ W.faults wire.new }
     ensures fault { result ≡ Err NetError.Fault → Rose (W.faults wire.old) (W.faults wire.new) }
+    ensures kept { (past : Calls) (times : ℕ) → AnsweredSince past times (W.calls wire.old) → AnsweredSince past times (W.calls wire.new) }
+    ensures answered { (past : Calls) → AnsweredSince past 0 (W.calls wire.old) → result ≡ Ok None → AnsweredSince past most_asks (W.calls wire.new) }
+    ensures calm { result ≡ Ok None → AllCalm table.new.links.items table.new.links.items }
 {
     let heard = hear_waiting(alloc, wire, table, room)?;
     match heard {
@@ -239,6 +247,9 @@ fn wait<W: Wire>(
     ensures idle { result ≡ Ok None → AsksMore (2 ^ 64 - 1) (W.asks wire.old) (W.asks wire.new) }
     ensures later { W.faults wire.old ≤ W.faults wire.new }
     ensures fault { result ≡ Err NetError.Fault → Rose (W.faults wire.old) (W.faults wire.new) }
+    ensures kept { (past : Calls) (times : ℕ) → AnsweredSince past times (W.calls wire.old) → AnsweredSince past times (W.calls wire.new) }
+    ensures answered { (past : Calls) → AnsweredSince past 0 (W.calls wire.old) → result ≡ Ok None → AnsweredSince past most_asks (W.calls wire.new) }
+    ensures calm { result ≡ Ok None → AllCalm table.new.links.items table.new.links.items }
 {
     let mut left = u64::MAX;
     while left > 0 {
@@ -273,6 +284,8 @@ fn hear_once<W: Wire>(
     ensures asks_err { OnErr result (AsksAtMost 1 (W.asks wire.old) (W.asks wire.new)) }
     ensures later { W.faults wire.old ≤ W.faults wire.new }
     ensures fault { result ≡ Err NetError.Fault → Rose (W.faults wire.old) (W.faults wire.new) }
+    ensures kept { (past : Calls) (times : ℕ) → AnsweredSince past times (W.calls wire.old) → AnsweredSince past times (W.calls wire.new) }
+    ensures answered { (past : Calls) (times : ℕ) → AnsweredSince past times (W.calls wire.old) → OnOk result (AnsweredSince past (times + 1) (W.calls wire.new)) }
 {
     if let Some(told) = hear_ready(alloc, wire, table)? {
         return Ok(Some(told));

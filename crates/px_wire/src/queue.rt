@@ -11,7 +11,8 @@ use std::alloc::Global;
 use std::collections::VecDeque;
 use std::marker::Model;
 
-/// Bytes that wait to be taken, in their order. They are kept in the pieces in which they came, shared; no piece is empty.
+/// Bytes that wait to be taken, in their order. They are kept in the pieces in which they came, shared. The pieces joined are
+/// the bytes that wait, and no piece is empty: a piece of which all was taken is held no longer.
 #[derive(Debug, Drop)]
 pub struct Queue {
     pieces: VecDeque<Bytes>,

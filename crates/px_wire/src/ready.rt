@@ -3,6 +3,7 @@ ghost use Rattle.std.specs.Prelude.{◌≡◌, ◌+◌, ◌<◌, ◌≤◌, ℕ,
 ghost use Rattle.px_outside.specs.Count.{Rose};
 ghost use Rattle.px_wire.specs.declared.wire.Ready.TheVariants as told;
 ghost use Rattle.px_wire.specs.declared.call.WireCall.TheVariants.{Told as WasTold};
+ghost use Rattle.px_wire.specs.Asked.{AnsweredSince};
 ghost use Rattle.px_wire.specs.Calls.{Calls, AsksMore, AsksAtMost, Tells, IfTold, IsFree, GivesFree};
 ghost use Rattle.px_event.specs.declared.heard.Heard.TheVariants.{Dialled as HeardDialled};
 ghost use Rattle.px_event.specs.declared.side.Side.TheVariants.{Server as ServerSide};
@@ -42,6 +43,8 @@ pub fn hear_ready<W: Wire>(
     ensures asks_err { OnErr result (AsksAtMost 1 (W.asks wire.old) (W.asks wire.new)) }
     ensures later { W.faults wire.old ≤ W.faults wire.new }
     ensures fault { result ≡ Err NetError.Fault → Rose (W.faults wire.old) (W.faults wire.new) }
+    ensures kept { (past : Calls) (times : ℕ) → AnsweredSince past times (W.calls wire.old) → AnsweredSince past times (W.calls wire.new) }
+    ensures answered { (past : Calls) (times : ℕ) → AnsweredSince past times (W.calls wire.old) → OnOk result (AnsweredSince past (times + 1) (W.calls wire.new)) }
 {
     reserve(&mut table.links)?;
     let told = wire.ready()?;
@@ -77,6 +80,7 @@ fn take_ready<W: Wire>(
     ensures listening { W.listening wire.new ≡ W.listening wire.old }
     ensures faults { W.faults wire.new ≡ W.faults wire.old }
     ensures asks { W.asks wire.new ≡ W.asks wire.old }
+    ensures kept { (past : Calls) (times : ℕ) → AnsweredSince past times (W.calls wire.old) → AnsweredSince past times (W.calls wire.new) }
 {
     match ready {
         Ready::Accepted { slot, door, peer } => {
@@ -114,6 +118,7 @@ fn accept<W: Wire>(
     ensures listening { W.listening wire.new ≡ W.listening wire.old }
     ensures faults { W.faults wire.new ≡ W.faults wire.old }
     ensures asks { W.asks wire.new ≡ W.asks wire.old }
+    ensures kept { (past : Calls) (times : ℕ) → AnsweredSince past times (W.calls wire.old) → AnsweredSince past times (W.calls wire.new) }
 {
     table.moment = moment;
     if table.accepted >= NUMBER_END {
@@ -147,6 +152,7 @@ fn flush_slot<W: Wire>(wire: &mut W, table: &mut Table, moment: u64, slot: u32)
     ensures listening { W.listening wire.new ≡ W.listening wire.old }
     ensures faults { W.faults wire.new ≡ W.faults wire.old }
     ensures asks { W.asks wire.new ≡ W.asks wire.old }
+    ensures kept { (past : Calls) (times : ℕ) → AnsweredSince past times (W.calls wire.old) → AnsweredSince past times (W.calls wire.new) }
 {
     table.moment = moment;
     if let Some(place) = find_slot(&table.links, slot) {
@@ -171,6 +177,7 @@ fn hear_dialled<W: Wire>(
     ensures listening { W.listening wire.new ≡ W.listening wire.old }
     ensures faults { W.faults wire.new ≡ W.faults wire.old }
     ensures asks { W.asks wire.new ≡ W.asks wire.old }
+    ensures kept { (past : Calls) (times : ℕ) → AnsweredSince past times (W.calls wire.old) → AnsweredSince past times (W.calls wire.new) }
 {
     table.moment = moment;
     match find_slot(&table.links, slot) {
@@ -201,6 +208,7 @@ fn hear_server<W: Wire>(
     ensures listening { W.listening wire.new ≡ W.listening wire.old }
     ensures faults { W.faults wire.new ≡ W.faults wire.old }
     ensures asks { W.asks wire.new ≡ W.asks wire.old }
+    ensures kept { (past : Calls) (times : ℕ) → AnsweredSince past times (W.calls wire.old) → AnsweredSince past times (W.calls wire.new) }
 {
     let link = &table.links[place];
     let conv = link.conv;

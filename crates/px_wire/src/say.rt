@@ -5,6 +5,7 @@ ghost use Rattle.px_event.specs.declared.step.Step.TheVariants.{Said as WasSaid}
 ghost use Rattle.px_outside.specs.Net.{Adds};
 ghost use Rattle.px_wire.specs.declared.link.Link.{Link as LinkState};
 ghost use Rattle.px_wire.specs.declared.call.WireCall.TheVariants.{Noted, Shut as WasShut};
+ghost use Rattle.px_wire.specs.Asked.{AnsweredSince};
 ghost use Rattle.px_wire.specs.Calls.{Calls, Tells};
 ghost use Rattle.std.specs.List.{remove};
 ghost use Rattle.px_wire.specs.Found.{IsAt};
@@ -37,6 +38,7 @@ pub fn say<W: Wire>(
     ensures listening { W.listening wire.new ≡ W.listening wire.old }
     ensures faults { W.faults wire.new ≡ W.faults wire.old }
     ensures asks { W.asks wire.new ≡ W.asks wire.old }
+    ensures kept { (past : Calls) (times : ℕ) → AnsweredSince past times (W.calls wire.old) → AnsweredSince past times (W.calls wire.new) }
 {
     let step = Step::Said { conv, said };
     match &step {
@@ -62,6 +64,7 @@ fn say_in<W: Wire>(
     ensures listening { W.listening wire.new ≡ W.listening wire.old }
     ensures faults { W.faults wire.new ≡ W.faults wire.old }
     ensures asks { W.asks wire.new ≡ W.asks wire.old }
+    ensures kept { (past : Calls) (times : ℕ) → AnsweredSince past times (W.calls wire.old) → AnsweredSince past times (W.calls wire.new) }
 {
     match said {
         Said::Send { side, bytes } => say_send(wire, table, conv, *side, bytes, step),
@@ -90,6 +93,7 @@ fn say_dial<W: Wire>(
     ensures listening { W.listening wire.new ≡ W.listening wire.old }
     ensures faults { W.faults wire.new ≡ W.faults wire.old }
     ensures asks { W.asks wire.new ≡ W.asks wire.old }
+    ensures kept { (past : Calls) (times : ℕ) → AnsweredSince past times (W.calls wire.old) → AnsweredSince past times (W.calls wire.new) }
 {
     reserve(&mut table.links)?;
     let slot = wire.dial(address, step)?;
@@ -137,6 +141,7 @@ fn say_send<W: Wire>(
     ensures listening { W.listening wire.new ≡ W.listening wire.old }
     ensures faults { W.faults wire.new ≡ W.faults wire.old }
     ensures asks { W.asks wire.new ≡ W.asks wire.old }
+    ensures kept { (past : Calls) (times : ℕ) → AnsweredSince past times (W.calls wire.old) → AnsweredSince past times (W.calls wire.new) }
 {
     match find_side(&table.links, conv, side) {
         Some(place) => send_at(wire, table, place, bytes, step),
@@ -162,6 +167,7 @@ fn send_at<W: Wire>(
     ensures listening { W.listening wire.new ≡ W.listening wire.old }
     ensures faults { W.faults wire.new ≡ W.faults wire.old }
     ensures asks { W.asks wire.new ≡ W.asks wire.old }
+    ensures kept { (past : Calls) (times : ℕ) → AnsweredSince past times (W.calls wire.old) → AnsweredSince past times (W.calls wire.new) }
 {
     let is_over = table.links[place].is_over;
     if is_over {
@@ -208,6 +214,7 @@ fn say_close<W: Wire>(
     ensures listening { W.listening wire.new ≡ W.listening wire.old }
     ensures faults { W.faults wire.new ≡ W.faults wire.old }
     ensures asks { W.asks wire.new ≡ W.asks wire.old }
+    ensures kept { (past : Calls) (times : ℕ) → AnsweredSince past times (W.calls wire.old) → AnsweredSince past times (W.calls wire.new) }
 {
     wire.note(step)?;
     if let Some(place) = find_side(&table.links, conv, side) {
@@ -225,6 +232,7 @@ fn close_at<W: Wire>(wire: &mut W, table: &mut Table, place: usize)
     ensures listening { W.listening wire.new ≡ W.listening wire.old }
     ensures faults { W.faults wire.new ≡ W.faults wire.old }
     ensures asks { W.asks wire.new ≡ W.asks wire.old }
+    ensures kept { (past : Calls) (times : ℕ) → AnsweredSince past times (W.calls wire.old) → AnsweredSince past times (W.calls wire.new) }
 {
     table.links[place].is_closing = true;
     if is_done(&table.links[place]) {

@@ -1,5 +1,8 @@
 //! Worked runs: a small layer that echoes lines and asks before each, through gate, router and `work_off`.
-ghost use Rattle.std.specs.Prelude.{IfOk, OnOk};
+ghost use Rattle.std.specs.Prelude.{List, Option, IfOk, OnOk};
+ghost use Rattle.px_core.specs.Answered.{IsAnswered};
+ghost use Rattle.px_core.specs.Answers.{AnswererState, FilesMeaning, files_meaning};
+ghost use Rattle.px_core.specs.declared.answerer.Verdict.{Verdict as TurnVerdict};
 ghost use Rattle.px_core.specs.Due.{Due, IsServed};
 ghost use Rattle.px_toy.specs.EchoRuns.{echo_due, by_turns, EchoRuns};
 
@@ -16,7 +19,7 @@ use px_core::{Gates, Router, Verdict, work_off};
 use px_event::{Door, Heard, Side, Step};
 use px_gate::Gate;
 use px_message::{Address, Flow};
-use px_outside::{MemFiles, Net, ScriptNet};
+use px_outside::{Files, MemFiles, Net, ScriptNet};
 use px_text::{Bytes, NoMemory};
 use show::write_step;
 use std::alloc::Global;
@@ -123,14 +126,14 @@ fn turns_of(alloc: Global, turns: &[Turn]) -> Result<Turns, NoMemory> {
 struct Run {
     router: Router<Gate<LineEcho>, Turns>,
     maker: Gates<EchoMaker>,
-    files: MemFiles,
     net: ScriptNet,
     taker: Finished,
 }
 
 /// A run that is still to hear all.
 fn run_of(alloc: Global, flow: Flow, row: &Row<'_>) -> Result<Run, NoMemory>
-    ensures { IfOk result (λ run. EchoRuns (echo_due run.maker.layers.flow) run.maker.layers.flow run.router run.net.trace) }
+    ensures { IfOk result (λ run. (files : FilesMeaning) → (first : AnswererState (List (Option TurnVerdict))) ×
+        EchoRuns (echo_due run.maker.layers.flow) first (record { own = run.router.answerer.turns.items; files = files }) run.maker.layers.flow run.router run.net.trace) }
 {
     let peer = Address {
         host: flow.request.get().host.clone()?,
@@ -139,7 +142,6 @@ fn run_of(alloc: Global, flow: Flow, row: &Row<'_>) -> Result<Run, NoMemory>
     Ok(Run {
         router: Router::new(alloc, turns_of(alloc, row.turns)?),
         maker: Gates::new(alloc, EchoMaker { alloc, flow }),
-        files: MemFiles::new(alloc, Vec::new(alloc), Vec::new(alloc)),
         net: ScriptNet::new(alloc, script_of(alloc, &peer, row.hears)?, Vec::new(alloc)),
         taker: Finished {
             flows: Vec::new(alloc),
@@ -147,11 +149,12 @@ fn run_of(alloc: Global, flow: Flow, row: &Row<'_>) -> Result<Run, NoMemory>
     })
 }
 
-/// Hears one thing more, and works it off. In every exit the trace is served.
-fn hear_one(alloc: Global, run: &mut Run) -> Result<(), NoMemory>
-    requires sound { (due : Due) × EchoRuns due run.old.maker.layers.flow run.old.router run.old.net.trace }
-    ensures runs { (due : Due) → EchoRuns due run.old.maker.layers.flow run.old.router run.old.net.trace → OnOk result (EchoRuns due run.new.maker.layers.flow run.new.router run.new.net.trace) }
-    ensures served { (due : Due) → EchoRuns due run.old.maker.layers.flow run.old.router run.old.net.trace → IsServed by_turns due run.new.net.trace }
+/// Hears one thing more, and works it off. In every exit the trace is served, and its answers follow the list.
+fn hear_one<F: Files>(alloc: Global, run: &mut Run, files: &mut F) -> Result<(), NoMemory>
+    requires sound { (due : Due) × (first : AnswererState (List (Option TurnVerdict))) × EchoRuns due first (record { own = run.old.router.answerer.turns.items; files = files_meaning F.contents F.calls F.misses F.faults F.losses files.old }) run.old.maker.layers.flow run.old.router run.old.net.trace }
+    ensures runs { (due : Due) (first : AnswererState (List (Option TurnVerdict))) → EchoRuns due first (record { own = run.old.router.answerer.turns.items; files = files_meaning F.contents F.calls F.misses F.faults F.losses files.old }) run.old.maker.layers.flow run.old.router run.old.net.trace → OnOk result (EchoRuns due first (record { own = run.new.router.answerer.turns.items; files = files_meaning F.contents F.calls F.misses F.faults F.losses files.new }) run.new.maker.layers.flow run.new.router run.new.net.trace) }
+    ensures served { (due : Due) (first : AnswererState (List (Option TurnVerdict))) → EchoRuns due first (record { own = run.old.router.answerer.turns.items; files = files_meaning F.contents F.calls F.misses F.faults F.losses files.old }) run.old.maker.layers.flow run.old.router run.old.net.trace → IsServed by_turns due run.new.net.trace }
+    ensures follows { (due : Due) (first : AnswererState (List (Option TurnVerdict))) → EchoRuns due first (record { own = run.old.router.answerer.turns.items; files = files_meaning F.contents F.calls F.misses F.faults F.losses files.old }) run.old.maker.layers.flow run.old.router run.old.net.trace → IsAnswered by_turns due first run.new.net.trace }
 {
     let Ok((moment, heard)) = run.net.next() else {
         return Err(NoMemory);
@@ -160,7 +163,7 @@ fn hear_one(alloc: Global, run: &mut Run) -> Result<(), NoMemory>
         alloc,
         &mut run.router,
         &mut run.maker,
-        &mut run.files,
+        files,
         &mut run.net,
         &mut run.taker,
         moment,
@@ -168,14 +171,20 @@ fn hear_one(alloc: Global, run: &mut Run) -> Result<(), NoMemory>
     )
 }
 
-/// Hears so many things. In every exit the trace is served.
-fn hear_all(alloc: Global, run: &mut Run, count: usize) -> Result<(), NoMemory>
-    requires sound { (due : Due) × EchoRuns due run.old.maker.layers.flow run.old.router run.old.net.trace }
-    ensures runs { (due : Due) → EchoRuns due run.old.maker.layers.flow run.old.router run.old.net.trace → OnOk result (EchoRuns due run.new.maker.layers.flow run.new.router run.new.net.trace) }
-    ensures served { (due : Due) → EchoRuns due run.old.maker.layers.flow run.old.router run.old.net.trace → IsServed by_turns due run.new.net.trace }
+/// Hears so many things. In every exit the trace is served, and its answers follow the list.
+fn hear_all<F: Files>(
+    alloc: Global,
+    run: &mut Run,
+    files: &mut F,
+    count: usize,
+) -> Result<(), NoMemory>
+    requires sound { (due : Due) × (first : AnswererState (List (Option TurnVerdict))) × EchoRuns due first (record { own = run.old.router.answerer.turns.items; files = files_meaning F.contents F.calls F.misses F.faults F.losses files.old }) run.old.maker.layers.flow run.old.router run.old.net.trace }
+    ensures runs { (due : Due) (first : AnswererState (List (Option TurnVerdict))) → EchoRuns due first (record { own = run.old.router.answerer.turns.items; files = files_meaning F.contents F.calls F.misses F.faults F.losses files.old }) run.old.maker.layers.flow run.old.router run.old.net.trace → OnOk result (EchoRuns due first (record { own = run.new.router.answerer.turns.items; files = files_meaning F.contents F.calls F.misses F.faults F.losses files.new }) run.new.maker.layers.flow run.new.router run.new.net.trace) }
+    ensures served { (due : Due) (first : AnswererState (List (Option TurnVerdict))) → EchoRuns due first (record { own = run.old.router.answerer.turns.items; files = files_meaning F.contents F.calls F.misses F.faults F.losses files.old }) run.old.maker.layers.flow run.old.router run.old.net.trace → IsServed by_turns due run.new.net.trace }
+    ensures follows { (due : Due) (first : AnswererState (List (Option TurnVerdict))) → EchoRuns due first (record { own = run.old.router.answerer.turns.items; files = files_meaning F.contents F.calls F.misses F.faults F.losses files.old }) run.old.maker.layers.flow run.old.router run.old.net.trace → IsAnswered by_turns due first run.new.net.trace }
 {
     for _ in 0..count {
-        hear_one(alloc, run)?;
+        hear_one(alloc, run, files)?;
     }
     Ok(())
 }
@@ -194,7 +203,8 @@ fn gives(alloc: Global, row: &Row<'_>) -> Result<bool, NoMemory> {
         return Ok(false);
     };
     let mut run = run_of(alloc, flow, row)?;
-    hear_all(alloc, &mut run, row.hears.len() + 1)?;
+    let mut files = MemFiles::new(alloc, Vec::new(alloc), Vec::new(alloc));
+    hear_all(alloc, &mut run, &mut files, row.hears.len() + 1)?;
     let mut text = Vec::new(alloc);
     write_steps(run.net.trace(), &mut text)?;
     let kept = (run.router.kept(0), run.router.kept(1));

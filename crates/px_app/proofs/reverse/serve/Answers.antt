@@ -2,7 +2,9 @@ use Rattle.std.proofs.Common.{◌∙◌, [], ap, sym, subst, refl, arith}
 use Rattle.px_message.specs.declared.address.Address.{Address}
 use Rattle.px_http.specs.declared.fixed.Fixed.{Fixed}
 use Rattle.px_http.specs.Fixed.{fixed_due}
+use Rattle.px_core.specs.Answers.{AnswererState}
 use Rattle.px_core.specs.declared.gates.Gates.{Gates}
+use Rattle.px_core.specs.Answers.{files_meaning}
 use Rattle.px_app.specs.Going.{goes_on}
 use Rattle.px_app.specs.Printed.{Has}
 use Rattle.px_app.specs.declared.printing.Printing.{Printing}
@@ -13,18 +15,20 @@ use Rattle.px_app.proofs.reverse.serve.Goals as goal
 
 pub returns-in-Err-clause-run : goal.returns-in-Err-clause-run
 returns-in-Err-clause-run g c = λ empty.
-    error_first goes_on (fixed_due c.args.address) c.args.budget c.in-Err.error _ _ (c.listen.ensures.trace ∙ empty) c.requires.budget c.into-status.ensures
+    error_first goes_on (fixed_due c.args.address) _ c.args.budget c.in-Err.error _ _ (c.listen.ensures.trace ∙ empty) c.requires.budget c.into-status.ensures
 
 pub serve_all-status-requires : goal.serve_all-status-requires
 serve_all-status-requires g c =
     let due = fixed_due c.new-serving.result.maker.layers.address in
-    record { sound = (due, [], (λ conv peer moves. refl), c.new-serving.ensures.stands due) }
+    let files = files_meaning g.F.Files.contents g.F.Files.calls g.F.Files.misses g.F.Files.faults g.F.Files.losses c.args.files.now in
+    let first : AnswererState (Unit {0}) = record { own = tt; files = files } in
+    record { sound = (due, first, [], (λ conv peer moves. refl), c.new-serving.ensures.stands due files) }
 
 pub returns-clause-run : goal.returns-clause-run
 returns-clause-run g c = λ empty.
     let there = ap (λ (m : Gates Fixed). m.layers.address) c.new-serving.ensures.maker ∙ (ap (λ (f : Fixed). f.address) c.new-maker.ensures ∙ c.new.ensures) in
-    c.serve_all-status.ensures.run (fixed_due c.args.address) (λ conv peer moves. ap (λ (a : Address). fixed_due a conv peer moves) there)
-    (c.new-serving.ensures.stands (fixed_due c.args.address)) (c.listen.ensures.trace ∙ empty)
+    c.serve_all-status.ensures.run (fixed_due c.args.address) _ (λ conv peer moves. ap (λ (a : Address). fixed_due a conv peer moves) there)
+    (c.new-serving.ensures.stands (fixed_due c.args.address) _) (c.listen.ensures.trace ∙ empty)
 
 pub returns-clause-prints : goal.returns-clause-prints
 returns-clause-prints g c = λ empty other.

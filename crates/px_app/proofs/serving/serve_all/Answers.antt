@@ -1,4 +1,4 @@
-use Rattle.std.proofs.Common.{◌≡◌, ◌∙◌, [], refl, arith}
+use Rattle.std.proofs.Common.{◌≡◌, ◌<◌, ◌∙◌, ℕ, [], refl, sym, subst, arith}
 use Rattle.px_core.specs.Answers.{by_none}
 use Rattle.px_core.proofs.AnswerLemmas.{by_both}
 use Rattle.px_app.proofs.StepLemmas.{first_turn, next_turn, tells_spent}
@@ -6,7 +6,7 @@ use Rattle.px_app.proofs.serving.serve_all.Goals as goal
 
 pub turns-init : goal.turns-init
 turns-init g c = record {
-  turn = λ due owes stands told.
+  turn = λ due first owes stands told.
       first_turn g.C.Conversation.stands g.C.Conversation.awaited g.C.Conversation.number g.C.Owes.due g.met.C.Owes.gave g.C.Owes.grows g.A.Answerer.answers due
       c.args.serving.now.router _ stands told;
   sound = c.requires.sound;
@@ -26,10 +26,10 @@ pub turns-preserved : goal.turns-preserved
 turns-preserved g c =
     let before = c.turns.invariant in
     record {
-      turn = λ due owes stands told.
+      turn = λ due first owes stands told.
           next_turn g.C.Conversation.stands g.C.Conversation.awaited g.C.Conversation.number g.C.Owes.due g.met.C.Owes.gave g.C.Owes.grows g.A.Answerer.answers due
-          c.turns.serving.router c.hear.new.self.router c.turns.turn _ _ (before.turn due owes stands told)
-          (λ trace here is. c.in_default.ensures.ok due trace (λ n p m. before.due n p m ∙ owes n p m) here is);
+          c.turns.serving.router c.hear.new.self.router c.turns.turn _ _ (before.turn due first owes stands told)
+          (λ trace here is. c.in_default.ensures.ok due first trace (λ n p m. before.due n p m ∙ owes n p m) here is);
       sound = c.in_default.ensures.sound;
       due = λ n p m. c.in_default.ensures.due n p m ∙ before.due n p m;
       prints = λ start told has.
@@ -45,7 +45,14 @@ turns-preserved g c =
     }
 
 pub returns-clause-run : goal.returns-clause-run
-returns-clause-run g c = λ due owes stands told.
+returns-clause-run g c = λ due first owes stands told.
     let same : c.turns.turn ≡ c.args.budget = omega arith in
     tells_spent g.C.Conversation.stands g.C.Conversation.awaited g.C.Conversation.number g.C.Owes.due g.met.C.Owes.gave g.C.Owes.grows g.A.Answerer.answers due
-    c.turns.serving.router c.args.budget c.turns.turn _ (c.turns.invariant.turn due owes stands told) same
+    c.turns.serving.router c.args.budget c.turns.turn _ (c.turns.invariant.turn due first owes stands told) same
+
+pub returns-in-Err-clause-run : goal.returns-in-Err-clause-run
+returns-in-Err-clause-run g c = λ due first owes stands told.
+    let before = c.turns.invariant in
+    let turn = before.turn due first owes stands told in
+    let P : ℕ → Type 0 = λ n. n < c.args.budget in
+    c.in-Err.ensures.err due first turn.trace c.args.budget (λ n p m. before.due n p m ∙ owes n p m) turn.stands turn.tells (subst P (sym turn.counts) c.turns-test.true)

@@ -2,7 +2,7 @@ use Rattle.std.proofs.Common.{◌≡◌, ◌≤◌, ℕ, List, [], Option, Some}
 use Rattle.px_message.specs.declared.address.Address.{Address}
 use Rattle.px_event.specs.Layer.{Move}
 use Rattle.px_outside.specs.Count.{Rose}
-use Rattle.px_core.specs.Answers.{ChangedByAnswers}
+use Rattle.px_core.specs.Answers.{AnswererState, ChangedByAnswers, files_meaning}
 use Rattle.px_core.specs.Due.{Due}
 use Rattle.px_core.specs.Router.{RouterStands}
 use Rattle.px_core.specs.Run.{IsDueOf}
@@ -15,10 +15,10 @@ use Rattle.px_app.proofs.serving.serve_all.Given as goal
 
 abbrev pub invariant-turns : goal.invariant-turns
 invariant-turns g l = record {
-  turn : (due : Due) → IsDueOf (g.M.Maker.due l.fn.serving.maker) due →
-      RouterStands g.C.Conversation.stands g.C.Conversation.awaited g.C.Conversation.number g.C.Owes.due g.A.Answerer.answers due l.fn.serving.router [] → g.N.Net.trace l.fn.net ≡ Some [] →
-      ToldTurn g.C.Conversation.stands g.C.Conversation.awaited g.C.Conversation.number g.C.Owes.due g.A.Answerer.answers due l.serving.router l.turn (g.N.Net.trace l.net);
-  sound : IsSound g.C.Conversation.stands g.C.Conversation.awaited g.C.Conversation.number g.C.Owes.due g.A.Answerer.answers (g.M.Maker.due l.serving.maker) l.serving.router;
+  turn : (due : Due) (first : AnswererState g.A.Answerer.State) → IsDueOf (g.M.Maker.due l.fn.serving.maker) due →
+      RouterStands g.C.Conversation.stands g.C.Conversation.awaited g.C.Conversation.number g.C.Owes.due g.A.Answerer.answers g.A.Answerer.state due first (files_meaning g.F.Files.contents g.F.Files.calls g.F.Files.misses g.F.Files.faults g.F.Files.losses l.fn.files) l.fn.serving.router [] → g.N.Net.trace l.fn.net ≡ Some [] →
+      ToldTurn g.C.Conversation.stands g.C.Conversation.awaited g.C.Conversation.number g.C.Owes.due g.A.Answerer.answers g.A.Answerer.state due first (files_meaning g.F.Files.contents g.F.Files.calls g.F.Files.misses g.F.Files.faults g.F.Files.losses l.files) l.serving.router l.turn (g.N.Net.trace l.net);
+  sound : IsSound g.C.Conversation.stands g.C.Conversation.awaited g.C.Conversation.number g.C.Owes.due g.A.Answerer.answers g.A.Answerer.state (g.M.Maker.due l.serving.maker) (files_meaning g.F.Files.contents g.F.Files.calls g.F.Files.misses g.F.Files.faults g.F.Files.losses l.files) l.serving.router;
   due : (number : ℕ) (peer : Address) (moves : List Move) → g.M.Maker.due l.serving.maker number peer moves ≡ g.M.Maker.due l.fn.serving.maker number peer moves;
   prints : (start : Option (List ℕ)) → g.N.Net.trace l.fn.net ≡ Some [] → Has l.fn.serving.printing [] start (g.S.Sink.written l.fn.out) →
       Told (λ told. Has l.serving.printing (listed told) start (g.S.Sink.written l.out)) (g.N.Net.trace l.net);

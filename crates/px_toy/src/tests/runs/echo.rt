@@ -23,7 +23,6 @@ pub(crate) struct EchoMaker {
 }
 
 impl LayerMaker<LineEcho> for EchoMaker {
-    ghost use Rattle.px_toy.specs.EchoNamed.{echo_ordered, flow_of};
     ghost use Rattle.px_toy.specs.EchoRuns.{echo_due};
 
     ghost due = { λ maker. echo_due maker.flow };
@@ -34,6 +33,4 @@ impl LayerMaker<LineEcho> for EchoMaker {
         flow.client = Some(peer.try_clone()?);
         Ok(LineEcho::new(self.alloc, flow))
     }
-
-    ghost ordered = { λ maker conv at moves. echo_ordered (flow_of maker.flow conv at) moves };
 }

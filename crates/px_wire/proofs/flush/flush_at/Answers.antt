@@ -32,3 +32,6 @@ returns-then-is_done-clause-does g c = λ front back link at.
 pub returns-else-is_done-clause-does : goal.returns-else-is_done-clause-does
 returns-else-is_done-clause-does g c = λ front back link at.
     flush_on_at c.args.table.now.links.items c.args.place front link back c.index_mut.result.now c.flush_link-flushed.result _ _ at c.index_mut.ensures.value c.flush_link-flushed.ensures.does
+
+pub returns-then-is_done-clause-kept : goal.returns-then-is_done-clause-kept
+returns-then-is_done-clause-kept g c = λ past times since. c.shut_at.ensures.kept past times (c.flush_link-flushed.ensures.kept past times since)

@@ -1,5 +1,6 @@
 use Rattle.std.proofs.Common.{◌≡◌, ◌∙◌, refl, arith}
 use Rattle.px_wire.specs.Stands.{name_of}
+use Rattle.px_wire.proofs.AskedLemmas.{told_kept}
 use Rattle.px_wire.proofs.CallLemmas.{put_took, put_blocked, put_broke, put_all, same_slot}
 use Rattle.px_wire.proofs.PutsLemmas.{took_none, put_more, put_stopped, put_failed, put_whole}
 use Rattle.px_wire.proofs.flush.flush_link.Goals as goal
@@ -12,6 +13,7 @@ loop-wire-init g c = record {
   listening = refl;
   faults = refl;
   asks = refl;
+  kept = λ past times since. since;
   took = took_none c.args.link.now.slot c.args.link.now.queue (g.W.Wire.calls c.args.wire.now);
   blocks = omega arith;
   breaks = omega arith;
@@ -30,6 +32,7 @@ loop-wire-preserved g c =
       listening = c.put_once.ensures.listening ∙ before.listening;
       faults = c.put_once.ensures.faults ∙ before.faults;
       asks = c.put_once.ensures.asks ∙ before.asks;
+      kept = λ past times since. told_kept _ _ _ c.put_once.ensures.told past times (before.kept past times since);
       took = put_more c.args.link.now.slot c.args.link.now.queue c.loop-wire.link c.put_once.result _ _ _ c.put_once.new.link c.in-Took.field-0 c.in-Took.is at c.put_once.ensures.link c.put_once.ensures.told before.took;
       blocks = omega (arith, c.put_once.ensures.blocks, before.blocks);
       breaks = omega (arith, c.put_once.ensures.breaks, before.breaks);
@@ -67,3 +70,9 @@ returns-in-Broken-clause-does g c =
 pub returns-clause-does : goal.returns-clause-does
 returns-clause-does g c =
     put_whole c.args.link.now.slot c.args.link.now.queue c.loop-wire.link _ _ (omega arith) c.loop-wire.invariant.took
+
+pub returns-in-Blocked-clause-kept : goal.returns-in-Blocked-clause-kept
+returns-in-Blocked-clause-kept g c = λ past times since. told_kept _ _ _ c.put_once.ensures.told past times (c.loop-wire.invariant.kept past times since)
+
+pub returns-in-Broken-clause-kept : goal.returns-in-Broken-clause-kept
+returns-in-Broken-clause-kept g c = λ past times since. told_kept _ _ _ c.put_once.ensures.told past times (c.loop-wire.invariant.kept past times since)

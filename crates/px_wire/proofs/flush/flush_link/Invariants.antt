@@ -1,6 +1,8 @@
 use Rattle.std.proofs.Common.{◌≡◌, ◌≤◌, ℕ, List, ◌∷◌, ◌++◌, length, Option}
 use Rattle.px_event.specs.declared.heard.Heard.{Heard}
 use Rattle.px_wire.specs.declared.link.Link.{Link}
+use Rattle.px_wire.specs.Asked.{AnsweredSince}
+use Rattle.px_wire.specs.Calls.{Calls}
 use Rattle.px_wire.specs.Puts.{TookSo}
 use Rattle.px_wire.specs.Stands.{StandsFor, putting, name_of}
 use Rattle.px_wire.proofs.flush.flush_link.Given as goal
@@ -16,6 +18,7 @@ invariant-loop-wire g l = record {
   listening : g.W.Wire.listening l.wire ≡ g.W.Wire.listening l.initial.wire;
   faults : g.W.Wire.faults l.wire ≡ g.W.Wire.faults l.initial.wire;
   asks : g.W.Wire.asks l.wire ≡ g.W.Wire.asks l.initial.wire;
+  kept : (past : Calls) (times : ℕ) → AnsweredSince past times (g.W.Wire.calls l.initial.wire) → AnsweredSince past times (g.W.Wire.calls l.wire);
   took : TookSo l.initial.link.slot l.initial.link.queue l.link.queue (g.W.Wire.calls l.initial.wire) (g.W.Wire.calls l.wire);
   blocks : g.W.Wire.blocks l.initial.wire ≤ g.W.Wire.blocks l.wire;
   breaks : g.W.Wire.breaks l.initial.wire ≤ g.W.Wire.breaks l.wire;

@@ -1,3 +1,4 @@
+use Rattle.px_wire.proofs.AskedLemmas.{told_kept}
 use Rattle.px_wire.proofs.TableLemmas.{shut_place}
 use Rattle.px_wire.proofs.StepLemmas.{shut_told}
 use Rattle.px_wire.proofs.flush.shut_at.Goals as goal
@@ -10,3 +11,6 @@ returns-clause-stands g c = λ owed front back link at ends.
 pub returns-clause-told : goal.returns-clause-told
 returns-clause-told g c = λ front back link at.
     shut_told c.args.table.now.links.items c.args.place front link back c.remove-link.result _ _ at c.remove-link.ensures.value c.shut.ensures.told
+
+pub returns-clause-kept : goal.returns-clause-kept
+returns-clause-kept g c = told_kept _ _ _ c.shut.ensures.told

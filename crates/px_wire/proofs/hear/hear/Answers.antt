@@ -1,3 +1,4 @@
+use Rattle.px_wire.proofs.AskedLemmas.{told_kept, same_kept}
 use Rattle.px_wire.proofs.TableLemmas.{hears_plain, hears_piece, hears_closed, hears_undialled}
 use Rattle.px_wire.proofs.hear.hear.Goals as goal
 
@@ -16,3 +17,9 @@ returns-clause-closed g c = λ front back link accepted is over stands.
 pub returns-clause-dialled : goal.returns-clause-dialled
 returns-clause-dialled g c = λ front back link accepted server is side stands.
     hears_undialled accepted c.args.moment _ _ front back link server c.args.heard is side c.in_ok-note.ensures.told stands
+
+pub returns-clause-kept : goal.returns-clause-kept
+returns-clause-kept g c = told_kept _ _ _ c.in_ok-note.ensures.told
+
+pub returns-in_err-note-clause-kept : goal.returns-in_err-note-clause-kept
+returns-in_err-note-clause-kept g c = same_kept _ _ c.in_err-note.ensures.calls_err

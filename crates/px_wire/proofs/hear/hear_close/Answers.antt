@@ -13,3 +13,6 @@ returns-clause-stands g c = λ front back link at over rests.
     (c.in_ok-told.ensures.closed front back link c.args.table.now.accepted
     (closed_is links place front link back seen seen (heard.Closed seen.conv seen.side) at c.index-link.ensures c.index-link.ensures refl) over
     (apart_at idle None links place front link back c.args.table.now.accepted c.args.table.now.moment _ at rests))
+
+pub returns-clause-kept : goal.returns-clause-kept
+returns-clause-kept g c = λ past times since. c.shut_at.ensures.kept past times (c.in_ok-told.ensures.kept past times since)

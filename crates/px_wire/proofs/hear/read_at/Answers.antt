@@ -1,4 +1,5 @@
 use Rattle.std.proofs.Common.{inl, inr}
+use Rattle.px_wire.proofs.AskedLemmas.{told_kept}
 use Rattle.px_wire.proofs.StepLemmas.{gave_place, blocked_place, over_place, read_at_again, read_blocked, close_lost}
 use Rattle.px_wire.proofs.hear.read_at.Goals as goal
 
@@ -107,3 +108,15 @@ returns-in-Broken-clause-err g c = λ front back link at turn rests.
 
 pub returns-in-Broken-clause-none : goal.returns-in-Broken-clause-none
 returns-in-Broken-clause-none g c = λ front back link at is. absurd (c.hear_close-in-Broken.ensures.some is)
+
+pub returns-in-Gave-clause-kept : goal.returns-in-Gave-clause-kept
+returns-in-Gave-clause-kept g c = λ past times since. c.hear_given.ensures.kept past times (told_kept _ _ _ c.read_link.ensures.told past times since)
+
+pub returns-in-Blocked-clause-kept : goal.returns-in-Blocked-clause-kept
+returns-in-Blocked-clause-kept g c = told_kept _ _ _ c.read_link.ensures.told
+
+pub returns-in-Ended-clause-kept : goal.returns-in-Ended-clause-kept
+returns-in-Ended-clause-kept g c = λ past times since. c.hear_close.ensures.kept past times (told_kept _ _ _ c.read_link.ensures.told past times since)
+
+pub returns-in-Broken-clause-kept : goal.returns-in-Broken-clause-kept
+returns-in-Broken-clause-kept g c = λ past times since. c.hear_close-in-Broken.ensures.kept past times (told_kept _ _ _ c.read_link.ensures.told past times since)

@@ -16,6 +16,7 @@ loop-place-preserved g c =
       steps = none_added c.in_ok-told.field-0 _ _ c.in_default-2.is c.in_ok-told.ensures.steps ∙ before.steps;
       listening = c.read_at.ensures.listening ∙ before.listening;
       faults = c.read_at.ensures.faults ∙ before.faults;
+      kept = λ past times since. c.read_at.ensures.kept past times (before.kept past times since);
       asks = c.read_at.ensures.asks ∙ before.asks;
     }
 
@@ -43,3 +44,9 @@ returns-in-Some-2-clause-stands g c = λ rests.
     let links = c.loop-place.table.links.items in
     let f = found_open links _ c.in-Some.place c.deref.ensures.value c.in-Some.ensures.position in
     c.in_ok-told.ensures.stands f.front f.back f.link f.is_at (turn_here links c.in-Some.place f before.alive) (before.stands rests)
+
+pub returns-in_err-told-clause-kept : goal.returns-in_err-told-clause-kept
+returns-in_err-told-clause-kept g c = λ past times since. c.in_err-told.ensures.kept past times (c.loop-place.invariant.kept past times since)
+
+pub returns-in-Some-2-clause-kept : goal.returns-in-Some-2-clause-kept
+returns-in-Some-2-clause-kept g c = λ past times since. c.in_ok-told.ensures.kept past times (c.loop-place.invariant.kept past times since)

@@ -1,4 +1,6 @@
-use Rattle.std.proofs.Common.{◌≡◌, None, length}
+use Rattle.std.proofs.Common.{◌≡◌, ℕ, None, length}
+use Rattle.px_wire.specs.Asked.{AnsweredSince}
+use Rattle.px_wire.specs.Calls.{Calls}
 use Rattle.px_wire.specs.Found.{Missing, readable_count}
 use Rattle.px_wire.specs.Links.{is_over}
 use Rattle.px_wire.specs.Stands.{Rests}
@@ -13,6 +15,7 @@ invariant-loop-place g l = record {
   steps : g.W.Wire.steps l.wire ≡ g.W.Wire.steps l.initial.wire;
   listening : g.W.Wire.listening l.wire ≡ g.W.Wire.listening l.initial.wire;
   faults : g.W.Wire.faults l.wire ≡ g.W.Wire.faults l.initial.wire;
+  kept : (past : Calls) (times : ℕ) → AnsweredSince past times (g.W.Wire.calls l.initial.wire) → AnsweredSince past times (g.W.Wire.calls l.wire);
   asks : g.W.Wire.asks l.wire ≡ g.W.Wire.asks l.initial.wire;
 }
 

@@ -1,5 +1,6 @@
 use Rattle.std.proofs.Common.{◌∙◌, ◌+◌, ◌-◌, ◌^◌, ap, refl, arith}
 use Rattle.std.specs.Prelude.{Ok}
+use Rattle.px_wire.proofs.AskedLemmas.{times_same}
 use Rattle.px_wire.proofs.LinesLemmas.{asked_none, asked_more, asked_same, asked_at_most, asked_then, adds_none}
 use Rattle.px_wire.proofs.lines.wait.Goals as goal
 
@@ -12,6 +13,8 @@ loop-left-init g c = record {
   listening = refl;
   later = omega arith;
   most = omega arith;
+  kept = λ past times since. since;
+  answered = λ past since. since;
   asks = asked_none (g.W.Wire.asks c.args.wire.now);
 }
 
@@ -26,6 +29,10 @@ loop-left-preserved g c =
       listening = c.in_ok-heard.ensures.listening ∙ before.listening;
       later = omega (arith, c.in_ok-heard.ensures.later, before.later);
       most = omega (arith, before.most);
+      kept = λ past times since. c.in_ok-heard.ensures.kept past times (before.kept past times since);
+      answered = λ past since.
+          times_same past (2 ^ 64 - 1 - c.loop-left.left + 1) (2 ^ 64 - 1 - (c.loop-left.left - 1)) _ (omega (arith, before.most))
+          (c.in_ok-heard.ensures.answered past (2 ^ 64 - 1 - c.loop-left.left) (before.answered past since));
       asks = asked_same (2 ^ 64 - 1 - c.loop-left.left + 1) (2 ^ 64 - 1 - (c.loop-left.left - 1)) _ _ (omega (arith, before.most))
           (asked_more (2 ^ 64 - 1 - c.loop-left.left) 1 _ _ _ before.asks c.in_ok-heard.ensures.asks);
     }
@@ -44,3 +51,12 @@ returns-clause-asks g c = asked_at_most (2 ^ 64 - 1 - c.loop-left.left) (2 ^ 64 
 
 pub returns-clause-idle : goal.returns-clause-idle
 returns-clause-idle g c = λ is. asked_same (2 ^ 64 - 1 - c.loop-left.left) (2 ^ 64 - 1) _ _ (omega arith) c.loop-left.invariant.asks
+
+pub returns-clause-answered : goal.returns-clause-answered
+returns-clause-answered g c = λ past since is. times_same past (2 ^ 64 - 1 - c.loop-left.left) (2 ^ 64 - 1) _ (omega arith) (c.loop-left.invariant.answered past since)
+
+pub returns-in_err-heard-clause-kept : goal.returns-in_err-heard-clause-kept
+returns-in_err-heard-clause-kept g c = λ past times since. c.in_err-heard.ensures.kept past times (c.loop-left.invariant.kept past times since)
+
+pub returns-in-Some-clause-kept : goal.returns-in-Some-clause-kept
+returns-in-Some-clause-kept g c = λ past times since. c.in_ok-heard.ensures.kept past times (c.loop-left.invariant.kept past times since)

@@ -1,5 +1,6 @@
-use Rattle.std.proofs.Common.{◌≡◌, ◌≤◌, ◌<◌, ◌-◌, ◌^◌, None, length}
-use Rattle.px_wire.specs.Calls.{AsksMore}
+use Rattle.std.proofs.Common.{◌≡◌, ℕ, ◌≤◌, ◌<◌, ◌-◌, ◌^◌, None, length}
+use Rattle.px_wire.specs.Asked.{AnsweredSince}
+use Rattle.px_wire.specs.Calls.{Calls, AsksMore}
 use Rattle.px_wire.specs.Stands.{Rests, AllCalm}
 use Rattle.px_wire.proofs.lines.wait.Given as goal
 
@@ -13,6 +14,8 @@ invariant-loop-left g l = record {
   listening : g.W.Wire.listening l.wire ≡ g.W.Wire.listening l.initial.wire;
   later : g.W.Wire.faults l.initial.wire ≤ g.W.Wire.faults l.wire;
   most : l.left ≤ 2 ^ 64 - 1;
+  kept : (past : Calls) (times : ℕ) → AnsweredSince past times (g.W.Wire.calls l.initial.wire) → AnsweredSince past times (g.W.Wire.calls l.wire);
+  answered : (past : Calls) → AnsweredSince past 0 (g.W.Wire.calls l.initial.wire) → AnsweredSince past (2 ^ 64 - 1 - l.left) (g.W.Wire.calls l.wire);
   asks : AsksMore (2 ^ 64 - 1 - l.left) (g.W.Wire.asks l.initial.wire) (g.W.Wire.asks l.wire);
 }
 

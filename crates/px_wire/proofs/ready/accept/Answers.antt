@@ -3,6 +3,7 @@ use Rattle.px_event.specs.declared.heard.Heard.TheVariants as heard
 use Rattle.px_event.specs.declared.side.Side.TheVariants.{Client}
 use Rattle.px_wire.specs.Links.{new_link}
 use Rattle.px_wire.specs.Stands.{idle}
+use Rattle.px_wire.proofs.AskedLemmas.{told_kept}
 use Rattle.px_wire.proofs.StepLemmas.{tells_accepted, tells_refused, on_err, same_calls, pushed}
 use Rattle.px_wire.proofs.ready.accept.Goals as goal
 
@@ -30,3 +31,6 @@ returns-clause-err g c = λ before calm rests free tells.
           (pushed idle owed links _ _ (new_link c.args.slot accepted Client) (accepted + 1) c.args.moment _ c.push_reserved.ensures.items c.new.ensures
           (tells_accepted links accepted c.args.table.now.moment c.args.moment c.args.slot c.args.door c.args.peer before _ calm rests free tells (omega arith))),
     ))
+
+pub returns-then-table-ge-NUMBER_END-clause-kept : goal.returns-then-table-ge-NUMBER_END-clause-kept
+returns-then-table-ge-NUMBER_END-clause-kept g c = told_kept _ _ _ c.shut.ensures.told

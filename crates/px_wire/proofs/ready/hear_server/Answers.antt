@@ -20,3 +20,6 @@ returns-clause-stands g c = λ front back link at side stands.
     let d = dialled_is links c.args.place front link back seen c.args.server c.args.ok accepted moment _ at c.index-link.ensures stands in
     c.shut_at.ensures.stands None front back link at
     (c.in_ok-told.ensures.dialled front back link accepted c.args.server (dialled_not links c.args.place front link back seen c.args.server c.args.ok at c.index-link.ensures c.if-ok.false) side d)
+
+pub returns-clause-kept : goal.returns-clause-kept
+returns-clause-kept g c = λ past times since. c.shut_at.ensures.kept past times (c.in_ok-told.ensures.kept past times since)

@@ -3,6 +3,7 @@ use Rattle.px_event.specs.declared.side.Side.TheVariants.{Server}
 use Rattle.px_wire.specs.Links.{is_link_of, new_link}
 use Rattle.px_wire.specs.Stands.{idle}
 use Rattle.px_wire.proofs.FindLemmas.{found_in, below_in, missing_in}
+use Rattle.px_wire.proofs.AskedLemmas.{told_kept, same_kept}
 use Rattle.px_wire.proofs.StepLemmas.{dials_new, dials_again, kept_links, pushed, replaced}
 use Rattle.px_wire.proofs.say.say_dial.Goals as goal
 
@@ -26,3 +27,12 @@ returns-in-None-clause-stands g c = λ is rests.
     pushed idle None links _ _ (new_link c.in_ok-slot.slot c.args.conv (Server c.args.server)) c.args.table.now.accepted c.args.table.now.moment _ c.push_reserved.ensures.items c.new-new.ensures
     (dials_new links c.args.table.now.accepted c.args.table.now.moment c.in_ok-slot.slot c.args.conv c.args.server c.args.address.now c.args.step.now _ _ is c.in_ok-slot.ensures.free c.in_ok-slot.ensures.told stands
     (missing_in (is_link_of c.args.conv (Server c.args.server)) links _ c.deref.ensures.value c.in-None.ensures.position))
+
+pub returns-in-Some-clause-kept : goal.returns-in-Some-clause-kept
+returns-in-Some-clause-kept g c = λ past times since. told_kept _ _ _ c.replace_at.ensures.told past times (told_kept _ _ _ c.in_ok-slot.ensures.told past times since)
+
+pub returns-in-None-clause-kept : goal.returns-in-None-clause-kept
+returns-in-None-clause-kept g c = told_kept _ _ _ c.in_ok-slot.ensures.told
+
+pub returns-in_err-slot-clause-kept : goal.returns-in_err-slot-clause-kept
+returns-in_err-slot-clause-kept g c = same_kept _ _ c.in_err-slot.ensures.calls_err

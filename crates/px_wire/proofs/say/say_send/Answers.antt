@@ -2,6 +2,7 @@ use Rattle.std.proofs.Common.{None}
 use Rattle.px_wire.specs.Links.{is_link_of}
 use Rattle.px_wire.specs.Stands.{idle}
 use Rattle.px_wire.proofs.FindLemmas.{found_in, below_in, missing_in}
+use Rattle.px_wire.proofs.AskedLemmas.{call_kept}
 use Rattle.px_wire.proofs.StepLemmas.{on_ok, on_err, same_calls, send_is}
 use Rattle.px_wire.proofs.TableLemmas.{sends_none}
 use Rattle.px_wire.proofs.say.say_send.Goals as goal
@@ -25,3 +26,6 @@ returns-in-None-clause-stands g c = λ is rests.
 pub returns-in-None-clause-err : goal.returns-in-None-clause-err
 returns-in-None-clause-err g c = λ rests.
     on_err c.note.result _ _ c.note.ensures.calls_err (λ same. same_calls idle None c.args.table.now.links.items c.args.table.now.accepted c.args.table.now.moment _ _ same rests)
+
+pub returns-in-None-clause-kept : goal.returns-in-None-clause-kept
+returns-in-None-clause-kept g c = call_kept c.note.result _ _ _ c.note.ensures.told c.note.ensures.calls_err

@@ -1,5 +1,6 @@
 use Rattle.std.proofs.Common.{None}
 use Rattle.px_wire.specs.Stands.{idle}
+use Rattle.px_wire.proofs.AskedLemmas.{told_kept, same_kept, call_kept}
 use Rattle.px_wire.proofs.StepLemmas.{on_ok, on_err, on_any_err, same_calls, sent_place, sent_place_over, read_at_again, kept_links, set_back, sent_live}
 use Rattle.px_wire.proofs.say.send_at.Goals as goal
 
@@ -31,3 +32,12 @@ returns-in_err-queue_and_note-clause-err g c = λ rests.
     on_any_err c.from_residual.result _ (kept_links idle None links _ c.args.table.now.accepted c.args.table.now.moment _
     (set_back links c.args.place old new c.requires.place c.index_mut.ensures.value c.in_err-queue_and_note.ensures.err)
     (same_calls idle None links c.args.table.now.accepted c.args.table.now.moment _ _ c.in_err-queue_and_note.ensures.calls_err rests))
+
+pub returns-then-is_over-clause-kept : goal.returns-then-is_over-clause-kept
+returns-then-is_over-clause-kept g c = call_kept c.note.result _ _ _ c.note.ensures.told c.note.ensures.calls_err
+
+pub returns-clause-kept : goal.returns-clause-kept
+returns-clause-kept g c = λ past times since. c.flush_at.ensures.kept past times (told_kept _ _ _ c.in_ok-queue_and_note.ensures.told past times since)
+
+pub returns-in_err-queue_and_note-clause-kept : goal.returns-in_err-queue_and_note-clause-kept
+returns-in_err-queue_and_note-clause-kept g c = same_kept _ _ c.in_err-queue_and_note.ensures.calls_err

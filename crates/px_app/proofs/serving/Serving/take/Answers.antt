@@ -3,6 +3,7 @@ use Rattle.std.specs.List.{flat_map}
 use Rattle.px_message.specs.declared.flow.Flow.{Flow}
 use Rattle.px_event.specs.declared.step.Step.TheVariants as steps
 use Rattle.px_core.specs.Run.{done_of, Tells}
+use Rattle.px_app.proofs.StepLemmas.{tells_served}
 use Rattle.px_core.proofs.RunLemmas.{on_err}
 use Rattle.px_app.specs.Listed.{listed}
 use Rattle.px_app.specs.Printed.{Has}
@@ -32,3 +33,12 @@ returns-clause-prints g c = λ start trace told has.
     let Q : List Flow → Type 0 = λ l. Tells (λ after. before ++ l ≡ flat_map done_of after) (trace ++ steps.Heard c.args.moment c.args.heard ∷ []) (g.N.Net.trace c.finish.new.net) in
     printed_next _ start _ trace _ before c.deref.result.now _ was (subst Q (sym c.deref.ensures.value) (c.in_ok-flows.ensures.finished trace told was))
     (c.in_ok-self.ensures.prints start (listed trace) (subst P (sym c.in_ok-flows.ensures.printing) has))
+
+pub returns-in_err-flows-clause-err : goal.returns-in_err-flows-clause-err
+returns-in_err-flows-clause-err g c = λ due first trace owes stands told.
+    on_err c.from_residual.result (c.in_err-flows.ensures.err due first trace owes stands told)
+
+pub returns-in_err-self-clause-err : goal.returns-in_err-self-clause-err
+returns-in_err-self-clause-err g c = λ due first trace owes stands told.
+    on_err c.from_residual-in_err-self.result
+    (tells_served g.C.Conversation.stands g.C.Conversation.awaited g.C.Conversation.number g.C.Owes.due g.A.Answerer.answers due _ _ _ (c.in_ok-flows.ensures.ok due first trace owes stands told))

@@ -1,0 +1,63 @@
+-- What an answerer was asked over a trace of many conversations, and what it gave.
+--
+-- One answerer answers the hooks of all conversations. What it is moves at each hook that is asked, in the order of the trace, and
+-- at nothing else. So what it gives follows from what it was at first and from all that it was asked before.
+use Rattle.std.specs.Prelude.{◌≡◌, ℕ, ◌==◌, if◌then◌else◌, List, [], ◌∷◌, ◌++◌, Option, Some, None}
+use Rattle.px_message.specs.declared.flow.Flow.{Flow}
+use Rattle.px_event.specs.declared.ask.Ask.{Ask}
+use Rattle.px_event.specs.declared.ask.Ask.TheVariants as asks
+use Rattle.px_event.specs.declared.ask.Hook.{Hook}
+use Rattle.px_event.specs.declared.reply.Reply.{Reply}
+use Rattle.px_event.specs.declared.step.Step.{Step}
+use Rattle.px_event.specs.declared.step.Step.TheVariants as steps
+use Rattle.px_event.specs.Trace.{Trace}
+use Rattle.px_event.specs.View.{Atom, about, flows}
+use Rattle.px_core.specs.declared.answerer.Answer.{Answer}
+use Rattle.px_core.specs.declared.answerer.Answer.TheVariants as answer
+use Rattle.px_core.specs.Answers.{Answering, AnswererState}
+use Rattle.px_core.specs.Due.{Due, due_in}
+
+-- what the answerer gave to a hook
+pub record GivenTo : Type 0 where
+  pub ask : Ask
+  pub answer : Answer
+
+-- by conversation: what it gave to the hook that is asked and not answered
+abbrev pub Pending : Type 0
+Pending = ℕ → Option GivenTo
+
+-- no hook was asked
+abbrev pub nothing_pending : Pending
+nothing_pending conv = None
+
+-- in this conversation that is pending, and in the others what was before
+abbrev pub with_pending : ℕ → Option GivenTo → Pending → Pending
+with_pending conv given before other = if other == conv then given else before other
+
+-- the step neither asks a hook nor answers one
+abbrev pub IsNoAnswer : Step → Type 0
+IsNoAnswer (steps.Asked conv ask) = ⊥
+IsNoAnswer (steps.Answered conv ask reply) = ⊥
+IsNoAnswer _ = Unit {0}
+
+-- The answerer over a trace, from what it was at first, and what is pending then. It moves at each hook that is asked, once, by its
+-- own relation and about the flow that is due there. A reply that it gave at once stands in the trace as that hook's answer. Nothing
+-- else is an answer: a hook that waits is not answered yet.
+pub data Answers {S : Type 0} (answers : Answering S) (due : Due) (first : AnswererState S) : Trace → AnswererState S → Pending → Type 0 where
+  at_first : Answers answers due first [] first nothing_pending
+  at_hook : (trace next : Trace) (old new : AnswererState S) (pending : Pending) (conv : ℕ) (hook : Hook) (flow : Flow) (given : Answer) (earlier : List Atom) →
+      Answers answers due first trace old pending → next ≡ trace ++ steps.Asked conv (asks.Hook flow.id.index hook) ∷ [] → pending conv ≡ None →
+      due_in due flows conv trace ≡ earlier ++ about (asks.Hook flow.id.index hook) flow ∷ [] → answers hook flow old.own old.files new.own new.files given →
+      Answers answers due first next new (with_pending conv (Some (record { ask = asks.Hook flow.id.index hook; answer = given })) pending)
+  at_reply : (trace next : Trace) (now : AnswererState S) (pending : Pending) (conv : ℕ) (ask : Ask) (reply : Reply) →
+      Answers answers due first trace now pending → next ≡ trace ++ steps.Answered conv ask reply ∷ [] →
+      pending conv ≡ Some (record { ask = ask; answer = answer.Reply reply }) →
+      Answers answers due first next now (with_pending conv None pending)
+  at_other : (trace next : Trace) (now : AnswererState S) (pending : Pending) (step : Step) →
+      Answers answers due first trace now pending → next ≡ trace ++ step ∷ [] → IsNoAnswer step → Answers answers due first next now pending
+
+-- from what it was at first it came over the whole trace
+pub record IsAnswered {S : Type 0} (answers : Answering S) (due : Due) (first : AnswererState S) (trace : Trace) : Type 0 where
+  pub last : AnswererState S
+  pub pending : Pending
+  pub answered : Answers answers due first trace last pending
