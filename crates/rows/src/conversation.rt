@@ -95,8 +95,8 @@ fn new_conversation(alloc: Global, first_flow: u32, next_server: u32) -> Result<
     if first_flow >= 1000000 || next_server > first_flow {
         return Err(RowError::Bad);
     }
-    let client = address_of(alloc, "c", 50000)?;
-    let address = address_of(alloc, "h", 80)?;
+    let client = address_at(alloc, "c", 50000)?;
+    let address = address_at(alloc, "h", 80)?;
     let place = Place::Fixed {
         address,
         side: None,
@@ -105,7 +105,8 @@ fn new_conversation(alloc: Global, first_flow: u32, next_server: u32) -> Result<
     Ok(HttpConv::new(alloc, 3, Some(client), place, first_flow, next_server))
 }
 
-fn address_of(alloc: Global, host: &str, port: u16) -> Result<Address, RowError> {
+/// The address of a host and a port, which is not 0.
+pub(crate) fn address_at(alloc: Global, host: &str, port: u16) -> Result<Address, RowError> {
     if port == 0 {
         return Err(RowError::Bad);
     }

@@ -153,6 +153,12 @@ fn pairs_of(tree: &Tnet) -> Result<&[(TnetKey, Tnet)], RowError> {
     }
 }
 
+// A pair of a dictionary, copied.
+fn pair_of(key: &TnetKey, item: &Tnet) -> Result<(TnetKey, Tnet), RowError> {
+    let key = key.clone()?;
+    Ok((key, item.clone()?))
+}
+
 fn backwards(alloc: Global, tree: &Tnet) -> Result<Tnet, RowError> {
     let mut turned = Vec::new(alloc);
     for (key, item) in pairs_of(tree)?.iter().rev() {
@@ -168,7 +174,7 @@ fn turned_inside(alloc: Global, tree: &Tnet) -> Result<Tnet, RowError> {
     };
     let mut turned = Vec::new(alloc);
     for (key, item) in dict.as_slice().iter().rev() {
-        turned.push((key.clone()?, item.clone()?))?;
+        turned.push(pair_of(key, item)?)?;
     }
     Ok(Tnet::Dict(TnetDict::new(turned)))
 }
@@ -197,12 +203,12 @@ fn change_pair(
     let mut found = false;
     for (key, item) in pairs_of(tree)? {
         if key.bytes.as_slice() != name.as_bytes() {
-            pairs.push((key.clone()?, item.clone()?))?;
+            pairs.push(pair_of(key, item)?)?;
             continue;
         }
         found = true;
         if let Some(new) = new {
-            pairs.push((key.clone()?, new.clone()?))?;
+            pairs.push(pair_of(key, new)?)?;
         }
     }
     if !found {
@@ -227,7 +233,7 @@ fn add_at(alloc: Global, tree: &Tnet, path: &str, item: Tnet) -> Result<Tnet, Ro
 fn add_pair(alloc: Global, tree: &Tnet, name: &str, item: Tnet) -> Result<Tnet, RowError> {
     let mut pairs = Vec::new(alloc);
     for (key, item) in pairs_of(tree)? {
-        pairs.push((key.clone()?, item.clone()?))?;
+        pairs.push(pair_of(key, item)?)?;
     }
     let key = TnetKey {
         text: true,

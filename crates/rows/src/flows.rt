@@ -1,5 +1,6 @@
 //! Flows that a row is about.
-use crate::replies::{change_request, change_response, host_of, status_of};
+use crate::conversation::address_at;
+use crate::replies::{change_request, change_response, status_of};
 use crate::written::new_request;
 use px_message::{Address, Flow, FlowError, FlowId, Replayed, Request, Shared, Times, WsMessage};
 use px_rows::{RowError, unescape};
@@ -104,11 +105,7 @@ fn address_of(alloc: Global, text: &str) -> Result<Address, RowError> {
     let Ok(port) = port.parse::<u16>() else {
         return Err(RowError::Bad);
     };
-    if port == 0 {
-        return Err(RowError::Bad);
-    }
-    let host = host_of(alloc, host)?;
-    Ok(Address { host, port })
+    address_at(alloc, host, port)
 }
 
 // `client TEXT` or `server TEXT`: whose message it is.
