@@ -2,7 +2,7 @@
 //!
 //! The rules are taken in their order, and each is asked of the flow as those before it left it; where its filter holds, all
 //! matches in the body are replaced.
-ghost use Rattle.std.specs.Prelude.{◌≡◌, ◌⊎◌, ℕ, map, take, string_bytes, Ok, Err, IfOk, IfErr, OnOk, OnErr};
+ghost use Rattle.std.specs.Prelude.{◌≡◌, ◌⊎◌, ℕ, [], map, take, string_bytes, Ok, Err, IfOk, IfErr, OnOk, OnErr};
 ghost use Rattle.px_rule.specs.Body.{body_of, body_rules, body_step, with_content};
 ghost use Rattle.px_rule.specs.Pattern.{replaced_all};
 ghost use Rattle.px_rule.specs.Rule.{AreRules, IsFirstBad, IsNext, body_rule};
@@ -33,6 +33,16 @@ pub struct BodyRules {
 }
 
 impl BodyRules {
+    /// No rule. It takes no memory.
+    pub fn none(alloc: Global) -> BodyRules
+        ensures none { body_views result ≡ [] }
+    {
+        BodyRules {
+            alloc,
+            rules: Vec::new(alloc),
+        }
+    }
+
     /// The rules of these texts, each `/pattern/template` or `/filter/pattern/template`. Refused with the first that is no
     /// rule, at its first cause.
     pub fn read(alloc: Global, texts: &[String]) -> Result<BodyRules, RuleError>

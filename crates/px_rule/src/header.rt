@@ -35,6 +35,16 @@ pub struct HeaderRules {
 }
 
 impl HeaderRules {
+    /// No rule. It takes no memory.
+    pub fn none(alloc: Global) -> HeaderRules
+        ensures none { header_views result ≡ [] }
+    {
+        HeaderRules {
+            alloc,
+            rules: Vec::new(alloc),
+        }
+    }
+
     /// The rules of these texts, each `/name/value` or `/filter/name/value`. Refused with the first that is no rule, at its
     /// first cause.
     pub fn read(alloc: Global, texts: &[String]) -> Result<HeaderRules, RuleError>

@@ -1,0 +1,89 @@
+-- What a chain makes of a flow and of itself, and what it answers.
+--
+-- An addon stands here as a value of any type B, with a name, a state and a relation for each.
+use Rattle.std.specs.Prelude.{◌≡◌, ℕ, Bool, true, false, List, [], ◌∷◌, Option, None, ◌<◌, length, remove}
+use Rattle.px_message.specs.declared.flow.Flow.{Flow}
+use Rattle.px_event.specs.declared.ask.Hook.{Hook}
+use Rattle.px_event.specs.declared.reply.Reply.{Reply}
+use Rattle.px_event.specs.declared.reply.Reply.TheVariants as replies
+use Rattle.px_core.specs.Addons.{has_name_by, without_first_by}
+use Rattle.px_core.specs.Answers.{FilesMeaning}
+use Rattle.px_core.specs.declared.answerer.Answer.{Answer}
+use Rattle.px_core.specs.declared.answerer.Answer.TheVariants as answers
+use Rattle.px_core.specs.declared.answerer.Draft.{Draft}
+use Rattle.px_core.specs.declared.answerer.Verdict.{Verdict}
+use Rattle.px_core.specs.declared.answerer.Verdict.TheVariants as verdicts
+use Rattle.px_addons.specs.Moving.{Moves, SameMoves}
+use Rattle.px_addons.specs.Parts.{made_by, parts}
+use Rattle.px_addons.specs.declared.parts.Part.{Part}
+use Rattle.px_addons.specs.declared.parts.Part.TheVariants as part
+use Rattle.px_addons.specs.declared.rules.Rules.{Rules}
+
+-- whether the order goes on behind this verdict
+abbrev pub is_going : Verdict → Bool
+is_going verdicts.Go = true
+is_going (verdicts.Respond _) = false
+is_going verdicts.Kill = false
+is_going verdicts.Discard = false
+
+-- the draft that the first part gets
+abbrev pub begun : Flow → Option ℕ → Draft
+begun flow stream = record { flow = flow; stream = stream; verdict = verdicts.Go }
+
+-- the reply that a draft is at the end
+abbrev pub reply_by : Verdict → Flow → Option ℕ → Reply
+reply_by verdicts.Go flow stream = replies.Go flow stream
+reply_by (verdicts.Respond response) flow stream = replies.Respond response
+reply_by verdicts.Kill flow stream = replies.Kill
+reply_by verdicts.Discard flow stream = replies.Discard
+
+abbrev pub reply_of : Draft → Reply
+reply_of draft = reply_by draft.verdict draft.flow draft.stream
+
+module _ {B : Type 0} (title state : B → List ℕ) (moves : B → Moves) where
+  -- the same addon, with a state of its own
+  pub record SameAddon (old new : B) : Type 0 where
+    pub titled : title new ≡ title old
+    pub moving : SameMoves (moves old) (moves new)
+
+  -- Addons in their order, each about the draft that those before it left. The first verdict that is not Go ends the order: the
+  -- addons behind it are not asked, and stay exactly as they were.
+  pub data AddonsMove (hook : Hook) : Draft → List B → Draft → List B → Type 0 where
+    of_none : (draft : Draft) → AddonsMove hook draft [] draft []
+    ended : (draft : Draft) (addons : List B) → is_going draft.verdict ≡ false → AddonsMove hook draft addons draft addons
+    in_turn : (draft after end : Draft) (old new : B) (olds news : List B) → is_going draft.verdict ≡ true → SameAddon old new →
+        moves old hook (state old) draft (state new) after → AddonsMove hook after olds end news → AddonsMove hook draft (old ∷ olds) end (new ∷ news)
+
+  -- what one part makes of the draft and of the addons
+  abbrev pub PartMoves : Rules → Hook → Part → Draft → List B → Draft → List B → Type 0
+  PartMoves rules hook part.Addons draft old after new = AddonsMove hook draft old after new
+  PartMoves rules hook part draft old after new = (after ≡ record draft { flow = made_by rules hook part draft.flow }) × (new ≡ old)
+
+  -- Parts in their order, each about the draft that those before it left. The first verdict that is not Go ends the order.
+  pub data PartsMove (rules : Rules) (hook : Hook) : List Part → Draft → List B → Draft → List B → Type 0 where
+    of_none : (draft : Draft) (addons : List B) → PartsMove rules hook [] draft addons draft addons
+    ended : (parts : List Part) (draft : Draft) (addons : List B) → is_going draft.verdict ≡ false → PartsMove rules hook parts draft addons draft addons
+    in_turn : (part : Part) (parts : List Part) (draft after end : Draft) (old mid new : List B) → is_going draft.verdict ≡ true →
+        PartMoves rules hook part draft old after mid → PartsMove rules hook parts after mid end new → PartsMove rules hook (part ∷ parts) draft old end new
+
+  -- The answer to a hook about a flow, by rules, addons and files before and after: what the draft is when all parts of the hook
+  -- were asked, or one ended the order.
+  pub record ChainAnswers (hook : Hook) (flow : Flow) (old_rules : Rules) (old : List B) (old_files : FilesMeaning)
+      (new_rules : Rules) (new : List B) (new_files : FilesMeaning) (answer : Answer) : Type 0 where
+    pub end : Draft
+    pub moved : PartsMove old_rules hook (parts hook) (begun flow old_rules.stream) old end new
+    pub answered : answer ≡ answers.Reply (reply_of end)
+    pub rules : new_rules ≡ old_rules
+    pub files : new_files ≡ old_files
+
+  -- What taking the first addon of a name away makes of a chain.
+  pub record ChainDrops (name : List ℕ) (old_rules : Rules) (old : List B) (new_rules : Rules) (new : List B) : Type 0 where
+    pub named : has_name_by title name old ≡ true
+    pub dropped : new ≡ without_first_by title name old
+    pub rules : new_rules ≡ old_rules
+
+  -- at that place is the first addon of the name
+  pub record IsFirstOfName (name : List ℕ) (addons : List B) (place : ℕ) : Type 0 where
+    pub within : place < length addons
+    pub named : has_name_by title name addons ≡ true
+    pub others : remove addons place ≡ without_first_by title name addons

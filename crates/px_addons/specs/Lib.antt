@@ -1,0 +1,4 @@
+pub mod Moving
+pub mod Parts
+pub mod Chain
+pub mod Counter

@@ -1,0 +1,46 @@
+-- The parts that are asked at each hook, in their order, and what rules make of a flow.
+use Rattle.std.specs.Prelude.{ℕ, Bool, true, false, List, [], ◌∷◌, if◌then◌else◌}
+use Rattle.px_message.specs.declared.flow.Flow.{Flow}
+use Rattle.px_event.specs.declared.ask.Hook.{Hook}
+use Rattle.px_event.specs.declared.ask.Hook.TheVariants as hooks
+use Rattle.px_rule.specs.Body.{body_rules}
+use Rattle.px_rule.specs.Header.{header_rules, with_fields}
+use Rattle.px_rule.specs.Requests.{uncached, uncoded}
+use Rattle.px_rule.specs.View.{body_views, header_views}
+use Rattle.px_rule.specs.declared.content.Content.{Content}
+use Rattle.px_rule.specs.declared.content.Content.TheVariants as contents
+use Rattle.px_addons.specs.declared.parts.Part.{Part}
+use Rattle.px_addons.specs.declared.parts.Part.TheVariants as part
+use Rattle.px_addons.specs.declared.rules.Rules.{Rules}
+
+-- the parts at a hook, one line each
+abbrev pub parts : Hook → List Part
+parts hooks.RequestHead = part.ModifyHeaders ∷ part.Anticache ∷ part.Anticomp ∷ part.Addons ∷ []
+parts hooks.RequestBody = part.ModifyBody ∷ part.Addons ∷ []
+parts hooks.ResponseHead = part.ModifyHeaders ∷ part.Addons ∷ []
+parts hooks.ResponseBody = part.ModifyBody ∷ part.Addons ∷ []
+parts (hooks.WsMessage _) = part.ModifyBody ∷ part.Addons ∷ []
+
+-- whether the hook is about the response
+abbrev pub is_of_response : Hook → Bool
+is_of_response hooks.RequestHead = false
+is_of_response hooks.RequestBody = false
+is_of_response hooks.ResponseHead = true
+is_of_response hooks.ResponseBody = true
+is_of_response (hooks.WsMessage _) = false
+
+-- the bytes that a hook is about
+abbrev pub content_of : Hook → Content
+content_of hooks.RequestHead = contents.Request
+content_of hooks.RequestBody = contents.Request
+content_of hooks.ResponseHead = contents.Response
+content_of hooks.ResponseBody = contents.Response
+content_of (hooks.WsMessage _) = contents.Message
+
+-- the flow as a part of the rules leaves it
+abbrev pub made_by : Rules → Hook → Part → Flow → Flow
+made_by rules hook part.ModifyHeaders flow = header_rules (is_of_response hook) (header_views rules.headers) flow
+made_by rules hook part.Anticache flow = if rules.anticache then with_fields false uncached flow else flow
+made_by rules hook part.Anticomp flow = if rules.anticomp then with_fields false uncoded flow else flow
+made_by rules hook part.ModifyBody flow = body_rules (content_of hook) (body_views rules.bodies) flow
+made_by rules hook part.Addons flow = flow

@@ -1,0 +1,177 @@
+//! The chain.
+ghost use Rattle.std.specs.Prelude.{◌≡◌, false, MatchOption, OnOk};
+ghost use Rattle.px_addons.specs.Chain.{AddonsMove, IsFirstOfName, PartMoves, PartsMove, is_going, reply_of};
+ghost use Rattle.px_core.specs.Addons.{has_name_by};
+
+use crate::parts::parts;
+use crate::{Addon, Part, Rules};
+use px_core::{Answer, Answerer, Draft, NoSuchAddon, Verdict};
+use px_event::{Hook, Reply};
+use px_message::Flow;
+use px_outside::Files;
+use px_text::NoMemory;
+use std::alloc::Global;
+
+/// Rules and addons, which answer hooks.
+#[derive(Drop)]
+pub struct Chain {
+    rules: Rules,
+    addons: Vec<Box<dyn Addon>>,
+}
+
+impl Chain {
+    /// A chain of these rules and addons.
+    pub fn new(rules: Rules, addons: Vec<Box<dyn Addon>>) -> Chain
+        ensures rules { result.rules ≡ rules }
+        ensures addons { result.addons ≡ addons }
+    {
+        Chain { rules, addons }
+    }
+}
+
+impl Answerer for Chain {
+    ghost use Rattle.std.specs.Prelude.{◌≡◌, map};
+    ghost use Rattle.px_addons.specs.Chain.{ChainAnswers, ChainDrops};
+
+    ghost State = { Self };
+
+    ghost state = { λ c. c };
+
+    ghost answers = { λ hook flow old old_files new new_files answer.
+        ChainAnswers (λ b. (Addon-box b).title b.value) (λ b. (Addon-box b).state b.value) (λ b. (Addon-box b).moves b.value)
+        hook flow old.rules old.addons.items old_files new.rules new.addons.items new_files answer };
+
+    ghost fails = { λ old new. new ≡ old };
+
+    ghost names = { λ c. map (λ b. (Addon-box b).title b.value) c.addons.items };
+
+    ghost drops = { λ name old new. ChainDrops (λ b. (Addon-box b).title b.value) name old.rules old.addons.items new.rules new.addons.items };
+
+    fn answer<F: Files>(
+        &mut self,
+        hook: Hook,
+        flow: Flow,
+        _files: &mut F,
+    ) -> Result<Answer, NoMemory> {
+        let alloc = *self.addons.allocator();
+        let mut draft = Draft {
+            flow,
+            stream: self.rules.stream,
+            verdict: Verdict::Go,
+        };
+        match ask_parts(
+            alloc,
+            &self.rules,
+            &mut self.addons,
+            parts(hook),
+            hook,
+            &mut draft,
+        ) {
+            Ok(()) => Ok(Answer::Reply(reply_of(draft))),
+            Err(e) => {
+                drop(draft);
+                Err(e)
+            }
+        }
+    }
+
+    fn drop_addon(&mut self, name: &str) -> Result<(), NoSuchAddon> {
+        match place_of(&self.addons, name) {
+            None => Err(NoSuchAddon),
+            Some(place) => {
+                drop(self.addons.remove(place));
+                Ok(())
+            }
+        }
+    }
+}
+
+// Asks the parts in their order, until one ends it.
+fn ask_parts(
+    alloc: Global,
+    rules: &Rules,
+    addons: &mut [Box<dyn Addon>],
+    parts: &[Part],
+    hook: Hook,
+    draft: &mut Draft,
+) -> Result<(), NoMemory>
+    ensures { OnOk result (PartsMove title state moves rules.now hook parts.now draft.old addons.old draft.new addons.new) }
+{
+    let Some((part, others)) = parts.split_first() else {
+        return Ok(());
+    };
+    if !is_going(&draft.verdict) {
+        return Ok(());
+    }
+    ask_part(alloc, rules, addons, *part, hook, draft)?;
+    ask_parts(alloc, rules, addons, others, hook, draft)
+}
+
+// Asks one part.
+fn ask_part(
+    alloc: Global,
+    rules: &Rules,
+    addons: &mut [Box<dyn Addon>],
+    part: Part,
+    hook: Hook,
+    draft: &mut Draft,
+) -> Result<(), NoMemory>
+    ensures { OnOk result (PartMoves title state moves rules.now hook part draft.old addons.old draft.new addons.new) }
+{
+    match part {
+        Part::Addons => ask_addons(addons, hook, draft),
+        _ => rules.apply(alloc, part, hook, &mut draft.flow),
+    }
+}
+
+// Asks the addons in their order, until one ends it.
+fn ask_addons(addons: &mut [Box<dyn Addon>], hook: Hook, draft: &mut Draft) -> Result<(), NoMemory>
+    ensures { OnOk result (AddonsMove title state moves hook draft.old addons.old draft.new addons.new) }
+{
+    if !is_going(&draft.verdict) {
+        return Ok(());
+    }
+    let Some((addon, others)) = addons.split_first_mut() else {
+        return Ok(());
+    };
+    addon.on(hook, draft)?;
+    ask_addons(others, hook, draft)
+}
+
+// Where the first addon of this name is.
+fn place_of(addons: &[Box<dyn Addon>], name: &str) -> Option<usize>
+    ensures { MatchOption result (has_name_by title name.now addons.now ≡ false) (λ place. IsFirstOfName title name.now addons.now place) }
+{
+    let Some((addon, others)) = addons.split_first() else {
+        return None;
+    };
+    if addon.name() == name {
+        return Some(0);
+    }
+    match place_of(others, name) {
+        None => None,
+        Some(place) => Some(place + 1),
+    }
+}
+
+// Whether the order goes on behind this verdict.
+fn is_going(verdict: &Verdict) -> bool
+    ensures { result ≡ is_going verdict.now }
+{
+    matches!(verdict, Verdict::Go)
+}
+
+// The reply that the draft is at the end.
+fn reply_of(draft: Draft) -> Reply
+    ensures { result ≡ reply_of draft }
+{
+    match draft.verdict {
+        Verdict::Go => Reply::Go {
+            flow: draft.flow,
+            stream: draft.stream,
+        },
+        Verdict::Respond(response) => Reply::Respond(response),
+        Verdict::Kill => Reply::Kill,
+        Verdict::Discard => Reply::Discard,
+    }
+}

@@ -1,0 +1,38 @@
+//! The parts of a chain, and their order at each hook.
+ghost use Rattle.std.specs.Prelude.{◌≡◌};
+ghost use Rattle.px_addons.specs.Parts.{parts};
+
+use px_event::Hook;
+
+/// A part of a chain.
+#[derive(Clone, Copy, Debug, PartialEq, Eq)]
+pub enum Part {
+    /// The header rules.
+    ModifyHeaders,
+    /// The wish for an answer that is not kept elsewhere.
+    Anticache,
+    /// The wish for an answer in no coding.
+    Anticomp,
+    /// The body rules.
+    ModifyBody,
+    /// The addons that were handed in.
+    Addons,
+}
+
+// The parts at the hook, in their order.
+pub(crate) fn parts(hook: Hook) -> &'static [Part]
+    ensures { result.now ≡ parts hook }
+{
+    match hook {
+        Hook::RequestHead => &[
+            Part::ModifyHeaders,
+            Part::Anticache,
+            Part::Anticomp,
+            Part::Addons,
+        ],
+        Hook::RequestBody => &[Part::ModifyBody, Part::Addons],
+        Hook::ResponseHead => &[Part::ModifyHeaders, Part::Addons],
+        Hook::ResponseBody => &[Part::ModifyBody, Part::Addons],
+        Hook::WsMessage(_) => &[Part::ModifyBody, Part::Addons],
+    }
+}
