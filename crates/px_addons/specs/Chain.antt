@@ -46,25 +46,37 @@ module _ {B : Type 0} (title state : B → List ℕ) (moves : B → Moves) where
     pub titled : title new ≡ title old
     pub moving : SameMoves (moves old) (moves new)
 
-  -- Addons in their order, each about the draft that those before it left. The first verdict that is not Go ends the order: the
-  -- addons behind it are not asked, and stay exactly as they were.
+  -- One addon in its turn: it is asked about the draft that those before it left, and moves the draft and itself by its own
+  -- relation. Behind a verdict that is not Go it is passed over, and stays exactly as it was.
+  pub data AddonMoves (hook : Hook) : Draft → B → Draft → B → Type 0 where
+    asked : (draft after : Draft) (old new : B) → is_going draft.verdict ≡ true → SameAddon old new → moves old hook (state old) draft (state new) after →
+        AddonMoves hook draft old after new
+    passed : (draft : Draft) (addon : B) → is_going draft.verdict ≡ false → AddonMoves hook draft addon draft addon
+
+  -- addons in their order
   pub data AddonsMove (hook : Hook) : Draft → List B → Draft → List B → Type 0 where
     of_none : (draft : Draft) → AddonsMove hook draft [] draft []
-    ended : (draft : Draft) (addons : List B) → is_going draft.verdict ≡ false → AddonsMove hook draft addons draft addons
-    in_turn : (draft after end : Draft) (old new : B) (olds news : List B) → is_going draft.verdict ≡ true → SameAddon old new →
-        moves old hook (state old) draft (state new) after → AddonsMove hook after olds end news → AddonsMove hook draft (old ∷ olds) end (new ∷ news)
+    in_turn : (draft after end : Draft) (old new : B) (olds news : List B) → AddonMoves hook draft old after new → AddonsMove hook after olds end news →
+        AddonsMove hook draft (old ∷ olds) end (new ∷ news)
 
-  -- what one part makes of the draft and of the addons
+  -- what a part that is asked makes of the draft and of the addons
   abbrev pub PartMoves : Rules → Hook → Part → Draft → List B → Draft → List B → Type 0
   PartMoves rules hook part.Addons draft old after new = AddonsMove hook draft old after new
-  PartMoves rules hook part draft old after new = (after ≡ record draft { flow = made_by rules hook part draft.flow }) × (new ≡ old)
+  PartMoves rules hook part.ModifyHeaders draft old after new = (after ≡ record draft { flow = made_by rules hook part.ModifyHeaders draft.flow }) × (new ≡ old)
+  PartMoves rules hook part.Anticache draft old after new = (after ≡ record draft { flow = made_by rules hook part.Anticache draft.flow }) × (new ≡ old)
+  PartMoves rules hook part.Anticomp draft old after new = (after ≡ record draft { flow = made_by rules hook part.Anticomp draft.flow }) × (new ≡ old)
+  PartMoves rules hook part.ModifyBody draft old after new = (after ≡ record draft { flow = made_by rules hook part.ModifyBody draft.flow }) × (new ≡ old)
 
-  -- Parts in their order, each about the draft that those before it left. The first verdict that is not Go ends the order.
+  -- one part in its turn; behind a verdict that is not Go it is passed over
+  pub data PartInTurn (rules : Rules) (hook : Hook) (one : Part) : Draft → List B → Draft → List B → Type 0 where
+    asked : (draft after : Draft) (old new : List B) → is_going draft.verdict ≡ true → PartMoves rules hook one draft old after new → PartInTurn rules hook one draft old after new
+    passed : (draft : Draft) (addons : List B) → is_going draft.verdict ≡ false → PartInTurn rules hook one draft addons draft addons
+
+  -- parts in their order
   pub data PartsMove (rules : Rules) (hook : Hook) : List Part → Draft → List B → Draft → List B → Type 0 where
     of_none : (draft : Draft) (addons : List B) → PartsMove rules hook [] draft addons draft addons
-    ended : (parts : List Part) (draft : Draft) (addons : List B) → is_going draft.verdict ≡ false → PartsMove rules hook parts draft addons draft addons
-    in_turn : (part : Part) (parts : List Part) (draft after end : Draft) (old mid new : List B) → is_going draft.verdict ≡ true →
-        PartMoves rules hook part draft old after mid → PartsMove rules hook parts after mid end new → PartsMove rules hook (part ∷ parts) draft old end new
+    in_turn : (one : Part) (others : List Part) (draft after end : Draft) (old mid new : List B) → PartInTurn rules hook one draft old after mid →
+        PartsMove rules hook others after mid end new → PartsMove rules hook (one ∷ others) draft old end new
 
   -- The answer to a hook about a flow, by rules, addons and files before and after: what the draft is when all parts of the hook
   -- were asked, or one ended the order.
@@ -76,6 +88,7 @@ module _ {B : Type 0} (title state : B → List ℕ) (moves : B → Moves) where
     pub rules : new_rules ≡ old_rules
     pub files : new_files ≡ old_files
 
+module _ {B : Type 0} (title : B → List ℕ) where
   -- What taking the first addon of a name away makes of a chain.
   pub record ChainDrops (name : List ℕ) (old_rules : Rules) (old : List B) (new_rules : Rules) (new : List B) : Type 0 where
     pub named : has_name_by title name old ≡ true

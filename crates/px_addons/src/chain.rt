@@ -1,6 +1,6 @@
 //! The chain.
 ghost use Rattle.std.specs.Prelude.{◌≡◌, false, MatchOption, OnOk};
-ghost use Rattle.px_addons.specs.Chain.{AddonsMove, IsFirstOfName, PartMoves, PartsMove, is_going, reply_of};
+ghost use Rattle.px_addons.specs.Chain.{AddonMoves, AddonsMove, IsFirstOfName, PartInTurn, PartsMove, is_going, reply_of};
 ghost use Rattle.px_core.specs.Addons.{has_name_by};
 
 use crate::parts::parts;
@@ -86,7 +86,7 @@ impl Answerer for Chain {
     }
 }
 
-// Asks the parts in their order, until one ends it.
+// Asks the parts in their order.
 fn ask_parts(
     alloc: Global,
     rules: &Rules,
@@ -97,17 +97,13 @@ fn ask_parts(
 ) -> Result<(), NoMemory>
     ensures { OnOk result (PartsMove title state moves rules.now hook parts.now draft.old addons.old draft.new addons.new) }
 {
-    let Some((part, others)) = parts.split_first() else {
-        return Ok(());
-    };
-    if !is_going(&draft.verdict) {
-        return Ok(());
+    for i in 0..parts.len() {
+        ask_part(alloc, rules, addons, parts[i], hook, draft)?;
     }
-    ask_part(alloc, rules, addons, *part, hook, draft)?;
-    ask_parts(alloc, rules, addons, others, hook, draft)
+    Ok(())
 }
 
-// Asks one part.
+// Asks one part, in its turn.
 fn ask_part(
     alloc: Global,
     rules: &Rules,
@@ -116,26 +112,38 @@ fn ask_part(
     hook: Hook,
     draft: &mut Draft,
 ) -> Result<(), NoMemory>
-    ensures { OnOk result (PartMoves title state moves rules.now hook part draft.old addons.old draft.new addons.new) }
-{
-    match part {
-        Part::Addons => ask_addons(addons, hook, draft),
-        _ => rules.apply(alloc, part, hook, &mut draft.flow),
-    }
-}
-
-// Asks the addons in their order, until one ends it.
-fn ask_addons(addons: &mut [Box<dyn Addon>], hook: Hook, draft: &mut Draft) -> Result<(), NoMemory>
-    ensures { OnOk result (AddonsMove title state moves hook draft.old addons.old draft.new addons.new) }
+    ensures { OnOk result (PartInTurn title state moves rules.now hook part draft.old addons.old draft.new addons.new) }
 {
     if !is_going(&draft.verdict) {
         return Ok(());
     }
-    let Some((addon, others)) = addons.split_first_mut() else {
+    match part {
+        Part::ModifyHeaders => rules.modify_headers(hook, &mut draft.flow),
+        Part::Anticache => rules.put_uncached(alloc, hook, &mut draft.flow),
+        Part::Anticomp => rules.put_uncoded(alloc, hook, &mut draft.flow),
+        Part::ModifyBody => rules.modify_body(hook, &mut draft.flow),
+        Part::Addons => ask_addons(addons, hook, draft),
+    }
+}
+
+// Asks the addons in their order.
+fn ask_addons(addons: &mut [Box<dyn Addon>], hook: Hook, draft: &mut Draft) -> Result<(), NoMemory>
+    ensures { OnOk result (AddonsMove title state moves hook draft.old addons.old draft.new addons.new) }
+{
+    for i in 0..addons.len() {
+        ask_addon(&mut addons[i], hook, draft)?;
+    }
+    Ok(())
+}
+
+// Asks one addon, in its turn.
+fn ask_addon(addon: &mut Box<dyn Addon>, hook: Hook, draft: &mut Draft) -> Result<(), NoMemory>
+    ensures { OnOk result (AddonMoves title state moves hook draft.old addon.old draft.new addon.new) }
+{
+    if !is_going(&draft.verdict) {
         return Ok(());
-    };
-    addon.on(hook, draft)?;
-    ask_addons(others, hook, draft)
+    }
+    addon.on(hook, draft)
 }
 
 // Where the first addon of this name is.
@@ -165,11 +173,13 @@ fn is_going(verdict: &Verdict) -> bool
 fn reply_of(draft: Draft) -> Reply
     ensures { result ≡ reply_of draft }
 {
-    match draft.verdict {
-        Verdict::Go => Reply::Go {
-            flow: draft.flow,
-            stream: draft.stream,
-        },
+    let Draft {
+        flow,
+        stream,
+        verdict,
+    } = draft;
+    match verdict {
+        Verdict::Go => Reply::Go { flow, stream },
         Verdict::Respond(response) => Reply::Respond(response),
         Verdict::Kill => Reply::Kill,
         Verdict::Discard => Reply::Discard,

@@ -1,16 +1,13 @@
 //! The rules of a chain, and what they make of a flow.
 ghost use Rattle.std.specs.Prelude.{◌≡◌, [], false, None, OnOk, IfOk};
-ghost use Rattle.px_addons.specs.Parts.{content_of, is_of_response, made_by};
+ghost use Rattle.px_addons.specs.Parts.{is_of_response, made_by};
 ghost use Rattle.px_addons.specs.declared.parts.Part.TheVariants as part;
-ghost use Rattle.px_event.specs.declared.ask.Hook.TheVariants as hooks;
-ghost use Rattle.px_rule.specs.Body.{body_rules};
-ghost use Rattle.px_rule.specs.Header.{with_fields};
 ghost use Rattle.px_rule.specs.Requests.{uncached, uncoded};
 ghost use Rattle.px_rule.specs.View.{body_views, header_views};
 
 use crate::Part;
 use px_event::Hook;
-use px_message::{Flow, Request, Shared};
+use px_message::{Fields, Flow, Request, Shared};
 use px_rule::{BodyRules, HeaderRules, anticache, anticomp};
 use px_text::NoMemory;
 use std::alloc::Global;
@@ -43,36 +40,21 @@ impl Rules {
         }
     }
 
-    // Makes of the flow what the part makes of it.
-    pub(crate) fn apply(
+    // Applies the header rules.
+    pub(crate) fn modify_headers(&self, hook: Hook, flow: &mut Flow) -> Result<(), NoMemory>
+        ensures { OnOk result (flow.new ≡ made_by self.now hook part.ModifyHeaders flow.old) }
+    {
+        self.headers.apply(flow, is_of_response(hook))
+    }
+
+    // Takes the conditions away, where that is wished.
+    pub(crate) fn put_uncached(
         &self,
         alloc: Global,
-        part: Part,
         hook: Hook,
         flow: &mut Flow,
     ) -> Result<(), NoMemory>
-        ensures { OnOk result (flow.new ≡ made_by self.now hook part flow.old) }
-    {
-        match part {
-            Part::ModifyHeaders => self.headers.apply(flow, is_of_response(hook)),
-            Part::Anticache => self.put_uncached(alloc, flow),
-            Part::Anticomp => self.put_uncoded(alloc, flow),
-            Part::ModifyBody => self.modify_body(hook, flow),
-            Part::Addons => Ok(()),
-        }
-    }
-
-    fn modify_body(&self, hook: Hook, flow: &mut Flow) -> Result<(), NoMemory>
-        ensures { OnOk result (flow.new ≡ body_rules (content_of hook) (body_views self.now.bodies) flow.old) }
-    {
-        match hook {
-            Hook::WsMessage(_) => self.bodies.apply_message(flow),
-            _ => self.bodies.apply(flow, is_of_response(hook)),
-        }
-    }
-
-    fn put_uncached(&self, alloc: Global, flow: &mut Flow) -> Result<(), NoMemory>
-        ensures { OnOk result (flow.new ≡ made_by self.now hooks.RequestHead part.Anticache flow.old) }
+        ensures { OnOk result (flow.new ≡ made_by self.now hook part.Anticache flow.old) }
     {
         if self.anticache {
             flow.request = uncached(alloc, flow.request.get())?;
@@ -80,13 +62,30 @@ impl Rules {
         Ok(())
     }
 
-    fn put_uncoded(&self, alloc: Global, flow: &mut Flow) -> Result<(), NoMemory>
-        ensures { OnOk result (flow.new ≡ made_by self.now hooks.RequestHead part.Anticomp flow.old) }
+    // Puts the wish for no coding, where that is wished.
+    pub(crate) fn put_uncoded(
+        &self,
+        alloc: Global,
+        hook: Hook,
+        flow: &mut Flow,
+    ) -> Result<(), NoMemory>
+        ensures { OnOk result (flow.new ≡ made_by self.now hook part.Anticomp flow.old) }
     {
         if self.anticomp {
             flow.request = uncoded(alloc, flow.request.get())?;
         }
         Ok(())
+    }
+
+    // Applies the body rules to the bytes that the hook is about.
+    pub(crate) fn modify_body(&self, hook: Hook, flow: &mut Flow) -> Result<(), NoMemory>
+        ensures { OnOk result (flow.new ≡ made_by self.now hook part.ModifyBody flow.old) }
+    {
+        match hook {
+            Hook::RequestHead | Hook::RequestBody => self.bodies.apply(flow, false),
+            Hook::ResponseHead | Hook::ResponseBody => self.bodies.apply(flow, true),
+            Hook::WsMessage(_) => self.bodies.apply_message(flow),
+        }
     }
 }
 
@@ -97,30 +96,28 @@ fn is_of_response(hook: Hook) -> bool
     matches!(hook, Hook::ResponseHead | Hook::ResponseBody)
 }
 
-// The request without the conditions.
+// The request without the conditions, which copies of the flow may share.
 fn uncached(alloc: Global, request: &Request) -> Result<Shared<Request>, NoMemory>
     ensures { IfOk result (λ shared. shared ≡ record request.now { fields = uncached request.now.fields }) }
 {
-    let mut changed = request.try_clone()?;
-    match anticache(&mut changed.fields) {
-        Ok(()) => Shared::new(alloc, changed),
-        Err(e) => {
-            drop(changed);
-            Err(e)
-        }
-    }
+    let mut fields = request.fields.try_clone()?;
+    anticache(&mut fields)?;
+    Shared::new(alloc, put_in(request.try_clone()?, fields))
 }
 
-// The request with the wish for no coding.
+// The request with the wish for no coding, which copies of the flow may share.
 fn uncoded(alloc: Global, request: &Request) -> Result<Shared<Request>, NoMemory>
     ensures { IfOk result (λ shared. shared ≡ record request.now { fields = uncoded request.now.fields }) }
 {
-    let mut changed = request.try_clone()?;
-    match anticomp(alloc, &mut changed.fields) {
-        Ok(()) => Shared::new(alloc, changed),
-        Err(e) => {
-            drop(changed);
-            Err(e)
-        }
-    }
+    let mut fields = request.fields.try_clone()?;
+    anticomp(alloc, &mut fields)?;
+    Shared::new(alloc, put_in(request.try_clone()?, fields))
+}
+
+fn put_in(request: Request, fields: Fields) -> Request
+    ensures { result ≡ record request { fields = fields } }
+{
+    let mut changed = request;
+    changed.fields = fields;
+    changed
 }

@@ -7,14 +7,14 @@ use px_message::{Body, Flow, Request, Response, Shared};
 use px_text::{Bytes, NoMemory};
 use std::alloc::Global;
 
-// Which bytes of a flow are meant.
+/// Which bytes of a flow are meant.
 #[derive(Clone, Copy, Debug, PartialEq, Eq)]
-pub(crate) enum Content {
-    // The request's body.
+pub enum Content {
+    /// The request's body.
     Request,
-    // The response's body.
+    /// The response's body.
     Response,
-    // The payload of the message of a WebSocket.
+    /// The payload of the message of a WebSocket.
     Message,
 }
 

@@ -28,6 +28,7 @@ mod text;
 
 pub use body::{BodyRule, BodyRules};
 pub use cause::{RuleCause, RuleError};
+pub use content::Content;
 pub use header::{HeaderRule, HeaderRules};
 pub use laws::{
     a_header_rule_puts_a_field, a_rules_name_has_what_the_rules_put, another_name_keeps_its_values,
