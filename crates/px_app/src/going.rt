@@ -1,5 +1,5 @@
 //! Hooks that are answered at once.
-use px_core::{Answer, Answerer};
+use px_core::{Answer, Answerer, NoSuchAddon};
 use px_event::{Hook, Reply};
 use px_message::Flow;
 use px_outside::Files;
@@ -10,7 +10,7 @@ use px_text::NoMemory;
 pub struct Going;
 
 impl Answerer for Going {
-    ghost use Rattle.std.specs.Prelude.{◌≡◌};
+    ghost use Rattle.std.specs.Prelude.{◌≡◌, []};
     ghost use Rattle.px_app.specs.Going.{goes_on};
 
     ghost State = { Unit {0} };
@@ -21,6 +21,10 @@ impl Answerer for Going {
 
     ghost fails = { λ old new. new ≡ old };
 
+    ghost names = { λ _. [] };
+
+    ghost drops = { λ name old new. ⊥ };
+
     fn answer<F: Files>(
         &mut self,
         _hook: Hook,
@@ -28,5 +32,9 @@ impl Answerer for Going {
         _files: &mut F,
     ) -> Result<Answer, NoMemory> {
         Ok(Answer::Reply(Reply::Go { flow, stream: None }))
+    }
+
+    fn drop_addon(&mut self, _name: &str) -> Result<(), NoSuchAddon> {
+        Err(NoSuchAddon)
     }
 }

@@ -1,3 +1,4 @@
+pub mod AddonLemmas
 pub mod AnswerLemmas
 pub mod AnsweredLemmas
 pub mod AskLemmas

@@ -1,3 +1,4 @@
+pub mod Addons
 pub mod Answered
 pub mod Answers
 pub mod Calls

@@ -1,5 +1,6 @@
 //! Who answers hooks.
-ghost use Rattle.std.specs.Prelude.{◌≡◌, IfOk, OnErr};
+ghost use Rattle.std.specs.Prelude.{◌≡◌, ◌↔◌, ℕ, List, false, IfOk, IsErr, OnOk, OnErr};
+ghost use Rattle.px_core.specs.Addons.{has_name, without_first};
 ghost use Rattle.px_core.specs.Answers.{Answering, Failing};
 
 use px_event::{Hook, Reply};
@@ -37,6 +38,10 @@ pub enum Answer {
     Wait(Draft),
 }
 
+/// No addon has the name.
+#[derive(Debug, Clone, Copy, PartialEq, Eq)]
+pub struct NoSuchAddon;
+
 /// Rules, addons or whoever else answers hooks.
 pub trait Answerer {
     ghost use Rattle.px_core.specs.Answers.{FilesMeaning};
@@ -53,6 +58,12 @@ pub trait Answerer {
     /// What an answer that ran out of memory does to files.
     ghost fails: { Failing };
 
+    /// The names of its addons, in their order, by its state.
+    ghost names: { State → List (List ℕ) };
+
+    /// What taking the first addon of a name away makes of its state: the name, and the states before and after.
+    ghost drops: { List ℕ → State → State → Type 0 };
+
     /// Answers a hook about this flow, or lets it wait. After `NoMemory` the answerer may only be dropped.
     fn answer<F: Files>(
         &mut self,
@@ -67,4 +78,12 @@ pub trait Answerer {
         ensures fails { OnErr result (fails
             (record { contents = F.contents files.old; calls = F.calls files.old; misses = F.misses files.old; faults = F.faults files.old; losses = F.losses files.old })
             (record { contents = F.contents files.new; calls = F.calls files.new; misses = F.misses files.new; faults = F.faults files.new; losses = F.losses files.new })) };
+
+    /// Takes the first addon of this name away, and leaves the others as they are, in their order. `NoSuchAddon` exactly where
+    /// none has the name; then nothing has changed. It takes no memory.
+    fn drop_addon(&mut self, name: &str) -> Result<(), NoSuchAddon>
+        ensures dropped { OnOk result (drops name.now (state self.old) (state self.new)) }
+        ensures names { OnOk result (names (state self.new) ≡ without_first name.now (names (state self.old))) }
+        ensures unchanged { OnErr result (state self.new ≡ state self.old) }
+        ensures missing { IsErr result ↔ has_name name.now (names (state self.old)) ≡ false };
 }

@@ -26,7 +26,7 @@ mod router;
 mod table;
 mod work;
 
-pub use answerer::{Answer, Answerer, Draft, Verdict};
+pub use answerer::{Answer, Answerer, Draft, NoSuchAddon, Verdict};
 pub use conversation::Conversation;
 pub use gates::{Gates, LayerMaker};
 pub use laws::no_hook_is_asked_behind_its_end;

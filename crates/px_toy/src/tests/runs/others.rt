@@ -2,7 +2,7 @@
 ghost use Rattle.std.specs.Prelude.{◌≡◌, IfOk};
 ghost use Rattle.px_toy.specs.Turns.{answer_by};
 
-use px_core::{Answer, Answerer, Draft, Taker, Verdict};
+use px_core::{Answer, Answerer, Draft, NoSuchAddon, Taker, Verdict};
 use px_event::{Hook, Reply};
 use px_message::Flow;
 use px_outside::Files;
@@ -16,7 +16,7 @@ pub(crate) struct Turns {
 }
 
 impl Answerer for Turns {
-    ghost use Rattle.std.specs.Prelude.{◌≡◌, List, Option};
+    ghost use Rattle.std.specs.Prelude.{◌≡◌, List, [], Option};
     ghost use Rattle.px_core.specs.declared.answerer.Verdict.{Verdict as TurnVerdict};
     ghost use Rattle.px_toy.specs.Turns.{IsByTurn};
 
@@ -28,6 +28,10 @@ impl Answerer for Turns {
 
     ghost fails = { λ old new. new ≡ old };
 
+    ghost names = { λ _. [] };
+
+    ghost drops = { λ name old new. ⊥ };
+
     fn answer<F: Files>(
         &mut self,
         _hook: Hook,
@@ -38,6 +42,10 @@ impl Answerer for Turns {
             Some(turn) => by_turn(turn, flow),
             None => by_turn(Some(Verdict::Go), flow),
         }
+    }
+
+    fn drop_addon(&mut self, _name: &str) -> Result<(), NoSuchAddon> {
+        Err(NoSuchAddon)
     }
 }
 
