@@ -12,6 +12,7 @@ mod tests;
 
 use crate::real_files::RealFiles;
 use crate::std_sink::StdSink;
+use px_addons::{Addon, FlowCounter};
 use px_mio::MioWire;
 use px_outside::{NetError, Sink};
 use px_proxy::run;
@@ -43,7 +44,23 @@ fn main(rt: HostRuntime) -> ExitCode {
     };
     let mut net = Lines::new(rt.alloc(), wire);
     let mut files = RealFiles::new(rt);
-    ExitCode::from(run(rt.alloc(), &words, &mut net, &mut files, &mut out))
+    // The addons of this program: one that counts requests, and changes nothing. A box is made where it is handed on.
+    let Ok(counter) = Box::new(rt.alloc(), FlowCounter::new()) else {
+        return ExitCode::from(NO_MEMORY);
+    };
+    let counter: Box<dyn Addon> = counter;
+    let mut addons = Vec::new(rt.alloc());
+    if addons.push(counter).is_err() {
+        return ExitCode::from(NO_MEMORY);
+    }
+    ExitCode::from(run(
+        rt.alloc(),
+        &words,
+        &mut net,
+        &mut files,
+        &mut out,
+        addons,
+    ))
 }
 
 // The words behind the program's name. Where one is no text there are none, which has no form.

@@ -5,7 +5,8 @@ pub mod ListedLemmas
 pub mod OwnLemmas
 pub mod CountLemmas
 pub mod RunLemmas
-pub mod GoingLemmas
+pub mod AtOnceLemmas
+pub mod ChainLemmas
 pub mod StepLemmas
 pub mod CodeLemmas
 pub mod EndLemmas

@@ -2,29 +2,27 @@
 -- printed.
 use Rattle.std.specs.Prelude.{◌≡◌, ◌≢◌, ◌⊎◌, ℕ, true, false, List, ◌++◌, Option, None}
 use Rattle.px_message.specs.declared.address.Address.{Address}
-use Rattle.px_event.specs.Trace.{Trace, Always, BeforeEachHeard}
+use Rattle.px_event.specs.Trace.{Trace, BeforeEachHeard}
 use Rattle.px_outside.specs.Sink.{Writes, WritesPart}
 use Rattle.px_core.specs.Answered.{IsAnswered}
-use Rattle.px_core.specs.Answers.{AnswererState}
+use Rattle.px_core.specs.Answers.{Answering, AnswererState}
 use Rattle.px_core.specs.Due.{IsServed, IsAllTold}
 use Rattle.px_core.specs.Hooks.{IsAllAnswered}
 use Rattle.px_http.specs.Fixed.{fixed_due}
-use Rattle.px_app.specs.Going.{goes_on, EndsGoing}
 use Rattle.px_app.specs.Lines.{line_of}
 use Rattle.px_app.specs.Listed.{listed}
 use Rattle.px_app.specs.Own.{IsOwn}
 use Rattle.px_app.specs.Statuses.{heard_count, ends_heard}
 
--- The trace of a run whose requests go to this address, whose answerer and files were so at first, and that ended with this status.
-pub record Promises (address : Address) (first : AnswererState (Unit {0})) (status : ℕ) (trace : Trace) : Type 0 where
+-- The trace of a run whose requests go to this address, whose answerer answers so, which with the files was this at first, and that
+-- ended with this status.
+pub record Promises {S : Type 0} (answers : Answering S) (address : Address) (first : AnswererState S) (status : ℕ) (trace : Trace) : Type 0 where
   -- At every moment, in each conversation and each view, it has a beginning of what is due, and before each thing heard all of it.
   -- A hook is asked only where none is open in its conversation, and an answer is to the hook that is open.
-  pub served : IsServed goes_on (fixed_due address) trace
+  pub served : IsServed answers (fixed_due address) trace
   -- From what it was at first the answerer came over the whole trace: it moved at each hook that was asked, once, in the order of the
   -- trace, and a reply that it gave is that hook's answer.
-  pub follows : IsAnswered goes_on (fixed_due address) first trace
-  -- each answer goes on with the flow about which the hook was asked, unchanged
-  pub answered : Always (EndsGoing (fixed_due address)) trace
+  pub follows : IsAnswered answers (fixed_due address) first trace
   -- before each thing heard no hook is open
   pub hooks : BeforeEachHeard IsAllAnswered trace
   -- and at the end all of it is there and no hook is open, but for want of memory

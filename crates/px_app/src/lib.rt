@@ -5,7 +5,6 @@
 #![tactic(auto)]
 
 mod finished;
-mod going;
 pub mod laws;
 mod local;
 mod printing;
@@ -15,6 +14,5 @@ mod serving;
 mod status;
 mod words;
 
-pub use going::Going;
 pub use program::run;
 pub use reverse::Conv;

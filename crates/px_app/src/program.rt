@@ -14,9 +14,8 @@ ghost use Rattle.px_outside.specs.Count.{Rose};
 ghost use Rattle.px_outside.specs.Net.{idle};
 ghost use Rattle.px_outside.specs.Sink.{Writes, WritesPart};
 ghost use Rattle.px_http.specs.Fixed.{fixed_due};
-ghost use Rattle.px_core.specs.Answers.{files_meaning};
+ghost use Rattle.px_core.specs.Answers.{ChangedByAnswers, files_meaning};
 ghost use Rattle.px_app.specs.Files.{IsUntouched};
-ghost use Rattle.px_app.specs.Going.{goes_on};
 ghost use Rattle.px_app.specs.Lines.{line_of};
 ghost use Rattle.px_app.specs.Listed.{listed};
 ghost use Rattle.px_app.specs.Own.{IsOwn};
@@ -25,11 +24,14 @@ ghost use Rattle.px_app.specs.Promises.{Promises, HasCause, EndsSo, Prints};
 ghost use Rattle.px_app.specs.Run.{IsEnd, IsRun, Told, ListensAt};
 ghost use Rattle.px_app.specs.Statuses.{code_of};
 ghost use Rattle.px_app.specs.Words.{served_at};
+ghost use Rattle.px_addons.specs.Chain.{IsBare};
 
 use crate::printing::Printing;
 use crate::reverse::{Ending, serve};
 use crate::status::Status;
 use crate::words::read_words;
+use px_addons::{Addon, Chain, Rules};
+use px_core::Answerer;
 use px_outside::{Files, Net, Sink};
 use px_text::NoMemory;
 use std::alloc::Global;
@@ -49,11 +51,12 @@ pub fn run<N: Net, F: Files, S: Sink>(
     net: &mut N,
     files: &mut F,
     out: &mut S,
+    addons: Vec<Box<dyn Addon>>,
 ) -> u8
     requires idle { N.listening net.old ≡ idle }
 
-    // Of the trace: every peer gets what is due to it, each hook is answered once, at once and unchanged.
-    ensures promises { (address : Place) (trace : Trace) → N.trace net.old ≡ Some [] → N.trace net.new ≡ Some trace → served_at (map string_bytes words.now) ≡ Some (address.host, address.port) → Promises address (record { own = tt; files = files_meaning F.contents F.calls F.misses F.faults F.losses files.old }) result trace }
+    // Of the trace: every peer gets what is due to it, and each hook is answered once, at once, by the chain of these addons alone.
+    ensures promises { (chain : ⟦<Chain as Answerer>⟧.State) × IsBare chain.rules × (chain.addons ≡ addons) × ((address : Place) (trace : Trace) → N.trace net.old ≡ Some [] → N.trace net.new ≡ Some trace → served_at (map string_bytes words.now) ≡ Some (address.host, address.port) → Promises ⟦<Chain as Answerer>⟧.answers address (record { own = chain; files = files_meaning F.contents F.calls F.misses F.faults F.losses files.old }) result trace) }
 
     // Where the words have no form nothing is asked of the net. Else it listens before anything is heard.
     ensures nothing_heard { served_at (map string_bytes words.now) ≡ None → net.new ≡ net.old }
@@ -70,27 +73,29 @@ pub fn run<N: Net, F: Files, S: Sink>(
     ensures prints { (trace : Trace) → N.trace net.old ≡ Some [] → N.trace net.new ≡ Some trace → Prints (Rose (S.faults out.old) (S.faults out.new)) result trace (S.written out.old) (S.written out.new) }
     ensures prints_usage { served_at (map string_bytes words.now) ≡ None → Writes (line_of result) (S.written out.old) (S.written out.new) ⊎ (Rose (S.faults out.old) (S.faults out.new) × WritesPart (line_of result) (S.written out.old) (S.written out.new)) }
 {
-    let ending = serve_words(alloc, words, net, files, out);
+    let chain = Chain::new(Rules::none(alloc), addons);
+    let ending = serve_words(alloc, words, chain, net, files, out);
     end(out, ending).code()
 }
 
 // Serves as the words say.
-fn serve_words<N: Net, F: Files, S: Sink>(
+fn serve_words<A: Answerer + Drop, N: Net, F: Files, S: Sink>(
     alloc: Global,
     words: &[String],
+    answerer: A,
     net: &mut N,
     files: &mut F,
     out: &mut S,
 ) -> Ending
     requires idle { N.listening net.old ≡ idle }
-    ensures run { (address : Place) → served_at (map string_bytes words.now) ≡ Some (address.host, address.port) → N.trace net.old ≡ Some [] → Told (IsRun goes_on (fixed_due address) (record { own = tt; files = files_meaning F.contents F.calls F.misses F.faults F.losses files.old }) 9223372036854775807 result.status) (N.trace net.new) }
+    ensures run { (address : Place) → served_at (map string_bytes words.now) ≡ Some (address.host, address.port) → N.trace net.old ≡ Some [] → Told (IsRun A.answers (fixed_due address) (record { own = A.state answerer; files = files_meaning F.contents F.calls F.misses F.faults F.losses files.old }) 9223372036854775807 result.status) (N.trace net.new) }
     ensures end { N.trace net.old ≡ Some [] → Told (λ trace. IsEnd 9223372036854775807 result.status trace × IsOwn trace) (N.trace net.new) }
     ensures untouched { served_at (map string_bytes words.now) ≡ None → (net.new ≡ net.old) × (S.written out.new ≡ S.written out.old) × (result.printing ≡ Printing.Whole) }
     ensures prints { N.trace net.old ≡ Some [] → result.status ≢ Status.NoMemory → Told (λ told. Has result.printing (listed told) (S.written out.old) (S.written out.new)) (N.trace net.new) }
     ensures part { N.trace net.old ≡ Some [] → Told (λ told. WritesPart (listed told) (S.written out.old) (S.written out.new)) (N.trace net.new) }
     ensures failed { result.printing ≡ Printing.Failed → Rose (S.faults out.old) (S.faults out.new) }
     ensures later { S.faults out.old ≤ S.faults out.new }
-    ensures files { IsUntouched F.contents F.calls F.misses F.faults F.losses files.old files.new }
+    ensures files { ChangedByAnswers A.answers A.fails F.contents F.calls F.misses F.faults F.losses files.old files.new }
     ensures listening { (N.trace net.new ≡ N.trace net.old) ⊎ ListensAt (codes "127.0.0.1") 8080 (N.listening net.new) }
     ensures fault { result.status ≡ Status.NetFault → Rose (N.faults net.old) (N.faults net.new) }
     ensures usage { result.status ≡ Status.Usage → served_at (map string_bytes words.now) ≡ None }
@@ -98,7 +103,7 @@ fn serve_words<N: Net, F: Files, S: Sink>(
     ensures output { result.status ≢ Status.OutputFailed }
 {
     let status = match read_words(alloc, words) {
-        Ok(Some(address)) => return serve(alloc, address, net, files, out, BUDGET),
+        Ok(Some(address)) => return serve(alloc, address, answerer, net, files, out, BUDGET),
         Ok(None) => Status::Usage,
         Err(NoMemory) => Status::NoMemory,
     };

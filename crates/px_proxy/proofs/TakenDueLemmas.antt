@@ -4,6 +4,9 @@ use Rattle.std.proofs.Common.{◌≡◌, ◌∙◌, ℕ, ◌≤◌, false, refl,
 use Rattle.std.proofs.lemmas.List.{append-nil, append_assoc}
 use Rattle.px_text.specs.Prefix.{IsPrefixOf}
 use Rattle.px_message.specs.declared.address.Address.{Address}
+use Rattle.px_message.specs.declared.flow.Flow.{Flow}
+use Rattle.px_event.specs.declared.ask.Hook.{Hook}
+use Rattle.px_event.specs.declared.reply.Reply.{Reply}
 use Rattle.px_event.specs.declared.side.Side.{Side}
 use Rattle.px_event.specs.declared.side.Side.TheVariants.{Client, Server}
 use Rattle.px_event.specs.declared.step.Step.TheVariants as steps
@@ -12,8 +15,9 @@ use Rattle.px_event.specs.Trace.{Trace, Always}
 use Rattle.px_event.specs.View.{bytes_in, line, seen_of, seen_in}
 use Rattle.px_event.proofs.LineLemmas.{bytes_begin}
 use Rattle.px_core.specs.Calls.{calls}
-use Rattle.px_core.specs.Due.{Due, due_at, due_in, IsWithinDue}
-use Rattle.px_app.specs.Going.{EndsGoing}
+use Rattle.px_core.specs.Due.{Due, due_at, due_in, IsWithinDue, EndsMet}
+use Rattle.px_core.specs.Answers.{Answering, FilesMeaning}
+use Rattle.px_core.specs.declared.answerer.Answer.TheVariants as answer
 use Rattle.px_app.specs.Servers.{dialled_in, CountsServers}
 use Rattle.px_stream.specs.Silent.{connects, connections, NoAnswer}
 use Rattle.px_proxy.specs.TakenDue.{TakesWhatIsDue, AlwaysTakesWhatIsDue}
@@ -37,12 +41,16 @@ front_always P front rest all = record { at = λ first more is. all.at first (mo
 pub always_all : (P : Trace → Type 0) (trace : Trace) → Always P trace → P trace
 always_all P trace all = all.at trace [] (sym (append-nil trace))
 
--- hooks are answered with their flows
-no_dial_answered : (due : Due) (trace : Trace) → Always (EndsGoing due) trace → NoDialAnswered trace
-no_dial_answered due trace going front rest conv ask reply is =
+-- no hook is answered as a dial is
+abbrev pub ConnectsNone : {S : Type 0} → Answering S → Type 0
+ConnectsNone {S} answers = (hook : Hook) (flow : Flow) (old : S) (old_files : FilesMeaning) (new : S) (new_files : FilesMeaning) (reply : Reply) →
+    answers hook flow old old_files new new_files (answer.Reply reply) → connects reply ≡ 0
+
+no_dial_answered : {S : Type 0} (answers : Answering S) → ConnectsNone answers → (due : Due) (trace : Trace) → Always (EndsMet answers due) trace → NoDialAnswered trace
+no_dial_answered answers none due trace met front rest conv ask reply is =
     let step = steps.Answered conv ask reply in
-    let goes = going.at (front ++ step ∷ []) rest (is ∙ sym (append_assoc front (step ∷ []) rest)) front conv ask reply refl in
-    ap connects goes.same
+    let m = met.at (front ++ step ∷ []) rest (is ∙ sym (append_assoc front (step ∷ []) rest)) front conv ask reply refl in
+    none m.hook m.flow m.old m.old_files m.new m.new_files reply m.answers_so
 
 -- ---- nothing is sent to a side that was not opened
 
@@ -50,7 +58,7 @@ prefix_none : {A : Type 0} (xs ys : List A) → IsPrefixOf xs ys → ys ≡ [] �
 prefix_none [] ys before none = refl
 prefix_none (x ∷ xs) ys before none = let e = sym none ∙ before.1 in absurd (cc)
 
-module _ (due : Due) (silent : IsSilent due) where
+module _ {S : Type 0} (answers : Answering S) (none_connects : ConnectsNone answers) (due : Due) (silent : IsSilent due) where
   silent_at : (conv server : ℕ) (peer : Option Address) (moves : List Move) → NoAnswer server moves → bytes_in (seen_of (line (Server server)) (due_at due conv peer moves)) ≡ []
   silent_at conv server None moves none = refl
   silent_at conv server (Some peer) moves none = silent conv peer server moves none
@@ -70,16 +78,16 @@ module _ (due : Due) (silent : IsSilent due) where
       sym (seen_is_sent side conv trace)
       ∙ prefix_none (bytes_in (seen_in (line side) conv trace)) (bytes_in (due_in due (line side) conv trace)) told (nothing_due trace counts answered conv side never)
 
-  always_sends : (trace : Trace) → Always CountsServers trace → Always (EndsGoing due) trace → Always (IsWithinDue due) trace → Always SendsToOpened trace
+  always_sends : (trace : Trace) → Always CountsServers trace → Always (EndsMet answers due) trace → Always (IsWithinDue due) trace → Always SendsToOpened trace
   always_sends trace counts going within = record {
     at = λ front rest is.
-        (let Q : Trace → Type 0 = Always (EndsGoing due) in
-        sends_to_opened front (counts.at front rest is) (no_dial_answered due front (front_always (EndsGoing due) front rest (subst Q is going))) (within.at front rest is));
+        (let Q : Trace → Type 0 = Always (EndsMet answers due) in
+        sends_to_opened front (counts.at front rest is) (no_dial_answered answers none_connects due front (front_always (EndsMet answers due) front rest (subst Q is going))) (within.at front rest is));
   }
 
   -- ---- what was taken
 
-  taken_due : (list : Calls) → Obeys list → Always CountsServers (steps_of list) → Always (EndsGoing due) (steps_of list) → Always (IsWithinDue due) (steps_of list) → TakesWhatIsDue due list
+  taken_due : (list : Calls) → Obeys list → Always CountsServers (steps_of list) → Always (EndsMet answers due) (steps_of list) → Always (IsWithinDue due) (steps_of list) → TakesWhatIsDue due list
   taken_due list obeys counts going within conv side =
       let taken = taken_is_sent list obeys (always_sends (steps_of list) counts going within) (dials_once (steps_of list) counts) conv side in
       let told = bytes_begin (seen_in (line side) conv (steps_of list)) (due_in due (line side) conv (steps_of list)) (always_all (IsWithinDue due) (steps_of list) within conv (line side) tt) in
@@ -87,14 +95,14 @@ module _ (due : Due) (silent : IsSilent due) where
       (taken.0 ++ told.0, told.1 ∙ (ap (λ (l : List ℕ). l ++ told.0) seen ∙ append_assoc (taken_for conv side list) taken.0 told.0))
 
   -- what the wire took for each side begins what is due to it, after each call
-  pub always_taken : (list : Calls) → Obeys list → Always CountsServers (steps_of list) → Always (EndsGoing due) (steps_of list) → Always (IsWithinDue due) (steps_of list) → AlwaysTakesWhatIsDue due list
+  pub always_taken : (list : Calls) → Obeys list → Always CountsServers (steps_of list) → Always (EndsMet answers due) (steps_of list) → Always (IsWithinDue due) (steps_of list) → AlwaysTakesWhatIsDue due list
   always_taken list obeys counts going within front rest is =
       let joined : steps_of list ≡ steps_of front ++ steps_of rest = ap steps_of is ∙ steps_joined front rest in
       let O : Calls → Type 0 = Obeys in
       let C : Trace → Type 0 = Always CountsServers in
-      let G : Trace → Type 0 = Always (EndsGoing due) in
+      let G : Trace → Type 0 = Always (EndsMet answers due) in
       let W : Trace → Type 0 = Always (IsWithinDue due) in
       taken_due front (front_obeys front rest (subst O is obeys))
       (front_always CountsServers (steps_of front) (steps_of rest) (subst C joined counts))
-      (front_always (EndsGoing due) (steps_of front) (steps_of rest) (subst G joined going))
+      (front_always (EndsMet answers due) (steps_of front) (steps_of rest) (subst G joined going))
       (front_always (IsWithinDue due) (steps_of front) (steps_of rest) (subst W joined within))

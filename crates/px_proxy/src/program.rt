@@ -13,12 +13,15 @@ ghost use Rattle.px_app.specs.Lines.{line_of};
 ghost use Rattle.px_app.specs.Promises.{Promises, HasCause, EndsSo, Prints};
 ghost use Rattle.px_app.specs.Run.{ListensAt};
 ghost use Rattle.px_app.specs.Words.{served_at};
+ghost use Rattle.px_addons.specs.Chain.{IsBare};
 ghost use Rattle.px_wire.specs.Asked.{AskedInVain, most_asks};
 ghost use Rattle.px_wire.specs.Calls.{Calls, IfTold, steps_of};
 ghost use Rattle.px_wire.specs.Rules.{Obeys};
 ghost use Rattle.px_proxy.specs.Failed.{LinesFailed};
 ghost use Rattle.px_proxy.specs.TakenDue.{AlwaysTakesWhatIsDue};
 
+use px_addons::{Addon, Chain};
+use px_core::Answerer;
 use px_outside::{Files, Sink};
 use px_wire::{Lines, Wire};
 use std::alloc::Global;
@@ -31,6 +34,7 @@ pub fn run<W: Wire, F: Files, S: Sink>(
     lines: &mut Lines<W>,
     files: &mut F,
     out: &mut S,
+    addons: Vec<Box<dyn Addon>>,
 ) -> u8
     requires idle { W.listening lines.old.wire ≡ idle }
 
@@ -41,8 +45,8 @@ pub fn run<W: Wire, F: Files, S: Sink>(
     ensures obeys { (list : Calls) → W.calls lines.new.wire ≡ Some list → Obeys list }
     ensures steps { (list : Calls) → W.calls lines.new.wire ≡ Some list → W.steps lines.new.wire ≡ Some (steps_of list) }
 
-    // Of the trace: every peer gets what is due to it, each hook is answered once, at once and unchanged.
-    ensures promises { (address : Place) (trace : Trace) → W.steps lines.old.wire ≡ Some [] → W.steps lines.new.wire ≡ Some trace → served_at (map string_bytes words.now) ≡ Some (address.host, address.port) → Promises address (record { own = tt; files = files_meaning F.contents F.calls F.misses F.faults F.losses files.old }) result trace }
+    // Of the trace: every peer gets what is due to it, and each hook is answered once, at once, by the chain of these addons alone.
+    ensures promises { (chain : ⟦<Chain as Answerer>⟧.State) × IsBare chain.rules × (chain.addons ≡ addons) × ((address : Place) (trace : Trace) → W.steps lines.old.wire ≡ Some [] → W.steps lines.new.wire ≡ Some trace → served_at (map string_bytes words.now) ≡ Some (address.host, address.port) → Promises ⟦<Chain as Answerer>⟧.answers address (record { own = chain; files = files_meaning F.contents F.calls F.misses F.faults F.losses files.old }) result trace) }
 
     // Where the words have no form nothing is asked of the net. Else it listens before anything is heard.
     ensures nothing_heard { served_at (map string_bytes words.now) ≡ None → lines.new ≡ lines.old }
@@ -62,7 +66,7 @@ pub fn run<W: Wire, F: Files, S: Sink>(
     ensures prints { (trace : Trace) → W.steps lines.old.wire ≡ Some [] → W.steps lines.new.wire ≡ Some trace → Prints (Rose (S.faults out.old) (S.faults out.new)) result trace (S.written out.old) (S.written out.new) }
     ensures prints_usage { served_at (map string_bytes words.now) ≡ None → Writes (line_of result) (S.written out.old) (S.written out.new) ⊎ (Rose (S.faults out.old) (S.faults out.new) × WritesPart (line_of result) (S.written out.old) (S.written out.new)) }
 {
-    let status = px_app::run(alloc, words, lines, files, out);
+    let status = px_app::run(alloc, words, lines, files, out, addons);
     let _kept = lines.wire();
     status
 }

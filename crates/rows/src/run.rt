@@ -21,7 +21,14 @@ pub(crate) fn play_run(alloc: Global, diagram: &Diagram, cut: Cut) -> Result<Str
     let mut net = ScriptNet::new(alloc, script.heard, net_fails);
     let mut files = MemFiles::new(alloc, Vec::new(alloc), Vec::new(alloc));
     let mut out = VecSink::new(alloc, sink_fails);
-    let status = run(alloc, &diagram.words, &mut net, &mut files, &mut out);
+    let status = run(
+        alloc,
+        &diagram.words,
+        &mut net,
+        &mut files,
+        &mut out,
+        Vec::new(alloc),
+    );
     let mut came = String::new(alloc);
     let lines = diagram.script.as_slice();
     show_trace(&mut came, lines, script.begins.as_slice(), net.trace())?;

@@ -4,7 +4,6 @@ use Rattle.std.specs.String.{string_bytes}
 use Rattle.px_message.specs.declared.address.Address.{Address}
 use Rattle.px_http.specs.Fixed.{fixed_due}
 use Rattle.px_core.specs.Answers.{files_meaning}
-use Rattle.px_app.specs.Going.{goes_on}
 use Rattle.px_app.specs.Run.{IsRun, Told}
 use Rattle.px_app.specs.Words.{served_at}
 use Rattle.px_app.proofs.RunLemmas.{same_address}
@@ -12,11 +11,11 @@ use Rattle.px_app.proofs.StepLemmas.{memory_first}
 use Rattle.px_app.proofs.program.serve_words.Goals as goal
 
 pub returns-in-Err-clause-run : goal.returns-in-Err-clause-run
-returns-in-Err-clause-run g c = λ address wants empty. memory_first goes_on (fixed_due address) _ _ _ empty
+returns-in-Err-clause-run g c = λ address wants empty. memory_first g.A.Answerer.answers (fixed_due address) _ _ _ empty
 
 pub returns-in-Ok-Some-clause-run : goal.returns-in-Ok-Some-clause-run
 returns-in-Ok-Some-clause-run g c = λ address wants empty.
-    let P : Address → Type 0 = λ a. Told (IsRun goes_on (fixed_due a) (record { own = tt; files = files_meaning g.F.Files.contents g.F.Files.calls g.F.Files.misses g.F.Files.faults g.F.Files.losses c.args.files.now }) 9223372036854775807 c.serve.result.status) (g.N.Net.trace c.serve.new.net) in
+    let P : Address → Type 0 = λ a. Told (IsRun g.A.Answerer.answers (fixed_due a) (record { own = g.A.Answerer.state c.args.answerer; files = files_meaning g.F.Files.contents g.F.Files.calls g.F.Files.misses g.F.Files.faults g.F.Files.losses c.args.files.now }) 9223372036854775807 c.serve.result.status) (g.N.Net.trace c.serve.new.net) in
     let found = served_at (map string_bytes c.args.words.now) in
     let Q : Option Address → Type 0 = λ o. option_map (λ (a : Address). (a.host, a.port)) o ≡ found in
     subst P (same_address c.in-Ok-Some.address address found (subst Q c.in-Ok-Some.field-0-is c.in-Ok-Some.ensures) wants) (c.serve.ensures.run empty)

@@ -5,23 +5,21 @@ use Rattle.px_http.specs.Fixed.{fixed_due}
 use Rattle.px_core.specs.Answers.{AnswererState}
 use Rattle.px_core.specs.declared.gates.Gates.{Gates}
 use Rattle.px_core.specs.Answers.{files_meaning}
-use Rattle.px_app.specs.Going.{goes_on}
 use Rattle.px_app.specs.Printed.{Has}
 use Rattle.px_app.specs.declared.printing.Printing.{Printing}
 use Rattle.px_app.proofs.EndLemmas.{not_failed, writes_none}
-use Rattle.px_app.proofs.GoingLemmas.{untouched}
 use Rattle.px_app.proofs.StepLemmas.{error_first}
 use Rattle.px_app.proofs.reverse.serve.Goals as goal
 
 pub returns-in-Err-clause-run : goal.returns-in-Err-clause-run
 returns-in-Err-clause-run g c = λ empty.
-    error_first goes_on (fixed_due c.args.address) _ c.args.budget c.in-Err.error _ _ (c.listen.ensures.trace ∙ empty) c.requires.budget c.into-status.ensures
+    error_first g.A.Answerer.answers (fixed_due c.args.address) _ c.args.budget c.in-Err.error _ _ (c.listen.ensures.trace ∙ empty) c.requires.budget c.into-status.ensures
 
 pub serve_all-status-requires : goal.serve_all-status-requires
 serve_all-status-requires g c =
     let due = fixed_due c.new-serving.result.maker.layers.address in
     let files = files_meaning g.F.Files.contents g.F.Files.calls g.F.Files.misses g.F.Files.faults g.F.Files.losses c.args.files.now in
-    let first : AnswererState (Unit {0}) = record { own = tt; files = files } in
+    let first : AnswererState g.A.Answerer.State = record { own = g.A.Answerer.state c.args.answerer; files = files } in
     record { sound = (due, first, [], (λ conv peer moves. refl), c.new-serving.ensures.stands due files) }
 
 pub returns-clause-run : goal.returns-clause-run
@@ -43,6 +41,3 @@ returns-clause-part g c = λ empty.
 pub returns-clause-failed : goal.returns-clause-failed
 returns-clause-failed g c = λ failed.
     c.serve_all-status.ensures.failed (g.S.Sink.faults c.args.out.now) (omega arith) (λ was. absurd (not_failed c.new-serving.result.printing c.new-serving.ensures.printing was)) failed
-
-pub returns-clause-files : goal.returns-clause-files
-returns-clause-files g c = untouched _ _ c.serve_all-status.ensures.files

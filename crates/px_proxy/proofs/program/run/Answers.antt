@@ -20,10 +20,10 @@ returns-clause-steps g c = agreed_steps (g.W.Wire.steps c.run-status.new.net.wir
 pub returns-clause-taken : goal.returns-clause-taken
 returns-clause-taken g c address list fresh told words =
     let steps = agreed_steps (g.W.Wire.steps c.run-status.new.net.wire) (g.W.Wire.calls c.run-status.new.net.wire) c.wire-kept.ensures.agree list told in
-    let promised = c.run-status.ensures.promises address (steps_of list) fresh steps words in
-    always_taken (fixed_due address) (fixed_silent address) list
+    let promised = c.run-status.ensures.promises.1.1.1 address (steps_of list) fresh steps words in
+    always_taken _ connects_none (fixed_due address) (fixed_silent address) list
     (kept_obeys c.run-status.new.net.is_spent c.run-status.new.net.table (g.W.Wire.calls c.run-status.new.net.wire) c.wire-kept.ensures.keeps list told)
-    (always_counts (fixed_due address) (fixed_counts address) (steps_of list) promised.served.within) promised.answered promised.served.within
+    (always_counts (fixed_due address) (fixed_counts address) (steps_of list) promised.served.within) promised.served.met promised.served.within
 
 pub returns-clause-causes : goal.returns-clause-causes
 returns-clause-causes g c =
