@@ -26,10 +26,10 @@ use Rattle.px_core.specs.Hooks.{hook_on, open_hook, AsksInTurn}
 use Rattle.px_core.proofs.CallLemmas.{calls_more, same_number, told_calls}
 use Rattle.px_core.proofs.HookLemmas.{hook_more, hook_asked, hook_answered, turn_on}
 
-pending_here : (conv : ℕ) (given : Option GivenTo) (before : Pending) → with_pending conv given before conv ≡ given
+pub pending_here : (conv : ℕ) (given : Option GivenTo) (before : Pending) → with_pending conv given before conv ≡ given
 pending_here conv given before = rw (same_number conv) refl
 
-pending_other : (conv other : ℕ) (given : Option GivenTo) (before : Pending) → conv ≢ other → with_pending conv given before other ≡ before other
+pub pending_other : (conv other : ℕ) (given : Option GivenTo) (before : Pending) → conv ≢ other → with_pending conv given before other ≡ before other
 pending_other conv other given before apart =
     let no : (other == conv) ≡ false = ne_eqb other conv (λ same. apart (sym same)) in rw no refl
 

@@ -5,6 +5,7 @@ pub mod AskLemmas
 pub mod CallLemmas
 pub mod HearLemmas
 pub mod HookLemmas
+pub mod KindLemmas
 pub mod NamedLemmas
 pub mod OrderedLemmas
 pub mod ResultLemmas

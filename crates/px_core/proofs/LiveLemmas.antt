@@ -1,6 +1,5 @@
 -- A table that holds no conversation that has ended, one change further.
 use Rattle.std.proofs.Common.{◌≡◌, inl, inr, ℕ, Bool, false, Option, Some, None, ap, sym, ◌∙◌}
-use Rattle.std.specs.Prelude.{◌==◌}
 use Rattle.std.proofs.lemmas.Bool.Decides.{eqb_tells}
 use Rattle.slab.specs.Slab as slab
 use Rattle.px_core.specs.declared.held.Held.{Held}

@@ -42,6 +42,15 @@ use Rattle.px_core.proofs.HearLemmas.{seen_heard, calls_heard, calls_heard_other
 use Rattle.px_core.proofs.HookLemmas.{hook_heard, others_hook, hook_is, hook_named, kept_on}
 use Rattle.px_core.proofs.ServedLemmas.{due_is, due_same, due_there, last_step, ends_in_turn}
 
+-- a state that has ended is over by its calls, so no call changes what is due
+pub ended_stays : {C : Type 0} (standing : Standing C) (made_due : C → List Move → List Command) (ended : C → Bool) (is_over : C → List Move → Bool) →
+    ((made state : C) (moves : List Move) (given : List Command) → standing made state moves given → ended state ≡ is_over made moves) →
+    ((made : C) (moves : List Move) → is_over made moves ≡ true → (more : List Move) (view : View) → seen_of view (made_due made (moves ++ more)) ≡ seen_of view (made_due made moves)) →
+    (made state : C) (moves : List Move) (given : List Command) → standing made state moves given → ended state ≡ true → (more : List Move) (view : View) →
+    seen_of view (made_due made (moves ++ more)) ≡ seen_of view (made_due made moves)
+ended_stays standing made_due ended is_over exact stays made state moves given stands end more view =
+    stays made moves (sym (exact made state moves given stands) ∙ end) more view
+
 -- nothing of the conversation is new
 record Same (conv : ℕ) (trace next : Trace) : Type 0 where
   moves : calls_of conv next ≡ calls_of conv trace

@@ -7,6 +7,7 @@ pub mod Due
 pub mod GateLaws
 pub mod Held
 pub mod Hooks
+pub mod Kind
 pub mod Leaving
 pub mod Named
 pub mod Ordered

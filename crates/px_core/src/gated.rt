@@ -54,7 +54,7 @@ impl<L: Numbered> Conversation for Gate<L> {
 impl<L: Numbered> Owes for Gate<L> {
     ghost use Rattle.std.specs.Prelude.{refl};
     ghost use Rattle.px_event.specs.Stands.{due_by, has_ended};
-    ghost use Rattle.px_core.specs.GateLaws.{calls_ended, calls_gave, calls_grow, calls_over, calls_rest};
+    ghost use Rattle.px_core.specs.GateLaws.{calls_ended, calls_gave, calls_grow, calls_last, calls_over, calls_rest};
 
     ghost due = { λ made moves. due_by (L.chain made.layer) (L.start made.layer) moves };
 
@@ -68,8 +68,9 @@ impl<L: Numbered> Owes for Gate<L> {
     ghost ends = { λ made state moves given stands.
         calls_ended (L.chain made.layer) (L.settles made.layer) (L.start made.layer) (L.is_at made.layer) L.awaited (L.asks made.layer) L.stands made.layer (L.stands_at made.layer) L.ended (L.ends made.layer) made state moves given refl stands };
 
-    ghost over = { λ made state moves given stands ended more view.
-        calls_over (L.chain made.layer) (L.settles made.layer) (L.start made.layer) (L.is_at made.layer) L.awaited (L.asks made.layer) L.stands made.layer (L.stands_at made.layer) L.ended (L.ends made.layer) made state moves given refl stands ended more view };
+    ghost over = { λ made moves over more view. calls_over (L.chain made.layer) (L.settles made.layer) (L.start made.layer) moves over more view };
+
+    ghost lasts = { λ made moves over more. calls_last (L.chain made.layer) (L.settles made.layer) (L.start made.layer) moves over more };
 
     ghost rests = { λ made state moves given stands ended.
         calls_rest (L.chain made.layer) (L.settles made.layer) (L.start made.layer) (L.is_at made.layer) L.awaited (L.asks made.layer) L.stands made.layer (L.stands_at made.layer) L.ended (L.ends made.layer) made state moves given refl stands ended };

@@ -1,15 +1,21 @@
-//! Laws of what is due in conversations. Each is a function with nothing to do: its contract is the law.
-ghost use Rattle.std.specs.Prelude.{◌≡◌, ℕ, Bool, true, List};
+//! Laws of what is due in conversations, and of who answers hooks. Each is a function with nothing to do: its contract is the law.
+ghost use Rattle.std.specs.Prelude.{◌≡◌, ℕ, Bool, true, List, ◌++◌};
 ghost use Rattle.px_event.specs.Chain.{Chain, Stamped, due};
 ghost use Rattle.px_event.specs.Layer.{Move};
 ghost use Rattle.px_event.specs.Stands.{due_by};
 ghost use Rattle.px_event.specs.declared.event.Event.{Event as TakenEvent};
 ghost use Rattle.px_event.specs.declared.reply.Reply.{Reply as GivenReply};
 ghost use Rattle.px_event.specs.declared.command.Command.{Command as GivenCommand};
+ghost use Rattle.px_core.specs.Answered.{IsAnswered};
+ghost use Rattle.px_core.specs.Answers.{AnswererState};
+ghost use Rattle.px_core.specs.Kind.{EndsOfKind};
 ghost use Rattle.px_core.specs.Due.{Due, IsWithinDue};
 ghost use Rattle.px_core.specs.Ordered.{LeavesFlows, AsksBeforeEnds, IsInOrder};
-ghost use Rattle.px_event.specs.Trace.{Trace};
+ghost use Rattle.px_event.specs.Trace.{Trace, Always};
+ghost use Rattle.px_event.specs.View.{View, seen_of};
 ghost use Rattle.px_message.specs.declared.address.Address.{Address};
+
+use crate::{Kind, Owes};
 
 /// No hook of a flow is asked behind the flow's end: so it is in what a chain owes that leaves its flows behind, by a test
 /// which stages a walk can come to, and a test which flows such a stage is past, as those before its own, or all where the
@@ -22,4 +28,20 @@ pub fn no_hook_is_asked_behind_its_end<Stage>()
         (start : Stage) → is_stage start ≡ true → (moves : List Move) → AsksBeforeEnds (due_by chain start moves) }
     ensures traces { (due : Due) → ((conv : ℕ) (peer : Address) (moves : List Move) → AsksBeforeEnds (due conv peer moves)) →
         (trace : Trace) → IsWithinDue due trace → IsInOrder trace }
+{}
+
+/// An end lasts: where a conversation is over by its calls, it is over whatever is called behind them, and no view of what is due
+/// changes.
+pub fn an_end_lasts<C: Owes>()
+    ensures over { (made : C) (moves : List Move) → C.is_over made moves ≡ true → (more : List Move) → C.is_over made (moves ++ more) ≡ true }
+    ensures due { (made : C) (moves : List Move) → C.is_over made moves ≡ true → (more : List Move) (view : View) →
+        seen_of view (C.due made (moves ++ more)) ≡ seen_of view (C.due made moves) }
+{}
+
+/// Answers are of their kind. Where from each of the answerer's own states that is so each answer leads to one that is so and is of
+/// a kind, and the first state is so, then in each trace over which the answerer came each reply is of that kind for the flow with
+/// which its hook was asked, as it was due there; and the state that it came to is so.
+pub fn answers_are_of_their_kind<K: Kind>()
+    ensures replies { (due : Due) (first : AnswererState K.State) → K.is_so first.own → (trace : Trace) → IsAnswered K.answers due first trace → Always (EndsOfKind K.gives due) trace }
+    ensures states { (due : Due) (first : AnswererState K.State) → K.is_so first.own → (trace : Trace) → (came : IsAnswered K.answers due first trace) → K.is_so came.last.own }
 {}

@@ -9,7 +9,13 @@
 //!
 //! One answerer answers the hooks of all conversations, and what it is goes along the trace: it moves at each hook that is
 //! asked, once, by its own relation, and at nothing else (`specs/Answered.antt`). So each answer follows from what the answerer
-//! was at first and from all that it was asked before, in every exit too.
+//! was at first and from all that it was asked before, in every exit too. And what holds of each answer from states of one
+//! property holds of each reply in the trace, for the flow with which its hook was asked (`specs/Kind.antt`).
+//!
+//! An answerer may have addons, each with a name (`specs/Addons.antt`). `drop_addon` takes the first of a name away, and leaves the
+//! others as they are; what that makes of its state is its own relation, as its answers are.
+//!
+//! A conversation that is over by its calls stays over, and no call behind them changes what is due.
 #![tactic(auto)]
 
 mod answerer;
@@ -17,6 +23,7 @@ mod conversation;
 mod gated;
 mod gates;
 mod held;
+mod kind;
 mod laws;
 mod maker;
 mod news;
@@ -29,7 +36,8 @@ mod work;
 pub use answerer::{Answer, Answerer, Draft, NoSuchAddon, Verdict};
 pub use conversation::Conversation;
 pub use gates::{Gates, LayerMaker};
-pub use laws::no_hook_is_asked_behind_its_end;
+pub use kind::Kind;
+pub use laws::{an_end_lasts, answers_are_of_their_kind, no_hook_is_asked_behind_its_end};
 pub use maker::{Maker, Taker};
 pub use numbered::Numbered;
 pub use owes::Owes;

@@ -1,7 +1,8 @@
 //! What is due of a conversation, as a function of how it was made and of its calls.
 //!
-//! Five laws carry every theorem on runs: in each view a state gave what is due by its calls; one call more takes nothing
-//! back; a state has ended exactly where its calls say so; and there no call changes what is due, and nothing is awaited.
+//! Six laws carry every theorem on runs: in each view a state gave what is due by its calls; one call more takes nothing back;
+//! a state has ended exactly where its calls say so; there nothing is awaited; and where calls say so no call behind them
+//! changes what is due, nor that it is over.
 ghost use Rattle.std.specs.Prelude.{◌≡◌, Bool, true, List, [], ◌∷◌, ◌++◌, None};
 ghost use Rattle.px_text.specs.Prefix.{IsPrefixOf};
 ghost use Rattle.px_event.specs.Layer.{Move};
@@ -29,9 +30,12 @@ pub trait Owes: Conversation {
     /// A state has ended exactly where it is over by its calls.
     ghost ends: { (made state : Self) (moves : List Move) (given : List GivenCommand) → Self.stands made state moves given → Self.ended state ≡ is_over made moves };
 
-    /// Where a state has ended no call changes what is due.
-    ghost over: { (made state : Self) (moves : List Move) (given : List GivenCommand) → Self.stands made state moves given → Self.ended state ≡ true →
-        (more : List Move) (view : View) → seen_of view (due made (moves ++ more)) ≡ seen_of view (due made moves) };
+    /// Where it is over no call changes what is due.
+    ghost over: { (made : Self) (moves : List Move) → is_over made moves ≡ true → (more : List Move) (view : View) →
+        seen_of view (due made (moves ++ more)) ≡ seen_of view (due made moves) };
+
+    /// Where it is over it stays over, whatever is called.
+    ghost lasts: { (made : Self) (moves : List Move) → is_over made moves ≡ true → (more : List Move) → is_over made (moves ++ more) ≡ true };
 
     /// Where a state has ended it awaits nothing.
     ghost rests: { (made state : Self) (moves : List Move) (given : List GivenCommand) → Self.stands made state moves given → Self.ended state ≡ true →

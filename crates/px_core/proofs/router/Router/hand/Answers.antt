@@ -1,7 +1,7 @@
 use Rattle.std.proofs.Common.{◌≡◌, Some, sym, ◌∙◌, ap, true, false, is_some}
 use Rattle.px_core.proofs.ResultLemmas.{on_ok_both}
 use Rattle.px_core.specs.Router.{found_by}
-use Rattle.px_core.proofs.RouteLemmas.{at_key, hands_live, hands_ended, over_hands, unknown_hands}
+use Rattle.px_core.proofs.RouteLemmas.{at_key, ended_stays, hands_live, hands_ended, over_hands, unknown_hands}
 use Rattle.px_core.specs.Answers.{by_none}
 use Rattle.std.proofs.lemmas.Result.{on_ok_weaker}
 use Rattle.px_core.proofs.LiveLemmas.{updated, removed}
@@ -13,13 +13,13 @@ hear_at-requires-clause-held g c =
 
 pub returns-then-over-clause-hands : goal.returns-then-over-clause-hands
 returns-then-over-clause-hands g c = on_ok_both c.end.result
-    (λ removed noted. hands_ended g.C.Conversation.stands g.C.Conversation.awaited g.C.Conversation.number g.C.Owes.due g.met.C.Owes.gave g.C.Owes.grows g.A.Answerer.answers g.C.Conversation.ended g.met.C.Owes.over g.met.C.Owes.rests
+    (λ removed noted. hands_ended g.C.Conversation.stands g.C.Conversation.awaited g.C.Conversation.number g.C.Owes.due g.met.C.Owes.gave g.C.Owes.grows g.A.Answerer.answers g.C.Conversation.ended (ended_stays g.C.Conversation.stands g.C.Owes.due g.C.Conversation.ended g.C.Owes.is_over g.met.C.Owes.ends g.C.Owes.over) g.met.C.Owes.rests
     c.args.call.conv c.args.call.moment c.in-Some-Live.key c.args.news c.args.self.now.table c.hear_at.new.self.table _ _ _ _ c.requires.sound (sym c.place.ensures ∙ (c.in-Some-Live.is) ∙ ap Some c.in-Some-Live.field-0-is)
     c.in_ok-over-in-Some-Live.ensures.hears c.if-over.true removed noted) c.end.ensures.live c.end.ensures.places
 
 pub returns-else-over-clause-hands : goal.returns-else-over-clause-hands
 returns-else-over-clause-hands g c =
-    hands_live g.C.Conversation.stands g.C.Conversation.awaited g.C.Conversation.number g.C.Owes.due g.met.C.Owes.gave g.C.Owes.grows g.A.Answerer.answers g.C.Conversation.ended g.met.C.Owes.over g.met.C.Owes.rests
+    hands_live g.C.Conversation.stands g.C.Conversation.awaited g.C.Conversation.number g.C.Owes.due g.met.C.Owes.gave g.C.Owes.grows g.A.Answerer.answers g.C.Conversation.ended (ended_stays g.C.Conversation.stands g.C.Owes.due g.C.Conversation.ended g.C.Owes.is_over g.met.C.Owes.ends g.C.Owes.over) g.met.C.Owes.rests
     c.args.call.conv c.args.call.moment c.in-Some-Live.key c.args.news c.args.self.now.table _ _ _ _ c.requires.sound (sym c.place.ensures ∙ (c.in-Some-Live.is) ∙ ap Some c.in-Some-Live.field-0-is) c.in_ok-over-in-Some-Live.ensures.hears
 
 pub returns-in-Some-Ended-clause-hands : goal.returns-in-Some-Ended-clause-hands

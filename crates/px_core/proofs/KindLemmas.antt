@@ -1,0 +1,160 @@
+-- An answerer's answers are of their kind: each from where its hook was asked to where it is given.
+use Rattle.std.proofs.Common.{◌≡◌, ◌≢◌, ◌⊎◌, inl, inr, ℕ, true, false, ◌==◌, List, [], ◌∷◌, ◌++◌, Option, Some, None, refl, ap, sym, ◌∙◌, subst, append_assoc}
+use Rattle.std.proofs.lemmas.Bool.Decides.{eqb_tells}
+use Rattle.px_message.specs.declared.flow.Flow.{Flow}
+use Rattle.px_event.specs.declared.ask.Ask.{Ask}
+use Rattle.px_event.specs.declared.ask.Ask.TheVariants as asks
+use Rattle.px_event.specs.declared.ask.Hook.{Hook}
+use Rattle.px_event.specs.declared.reply.Reply.{Reply}
+use Rattle.px_event.specs.declared.step.Step.{Step}
+use Rattle.px_event.specs.declared.step.Step.TheVariants as steps
+use Rattle.px_event.specs.Trace.{Trace, Always}
+use Rattle.px_event.specs.View.{Atom, about, flows}
+use Rattle.px_event.proofs.TraceLemmas.{always_empty, always_more}
+use Rattle.px_core.specs.declared.answerer.Answer.{Answer}
+use Rattle.px_core.specs.declared.answerer.Answer.TheVariants as answer
+use Rattle.px_core.specs.Answered.{GivenTo, Pending, with_pending, IsNoAnswer, Answers, at_first, at_hook, at_reply, at_other}
+use Rattle.px_core.specs.Answers.{Answering, AnswererState}
+use Rattle.px_core.specs.Due.{Due, due_in}
+use Rattle.px_core.specs.Kind.{KeepsKind, LeavesAlone, AllLeaveAlone, IsOfKind, EndsOfKind}
+use Rattle.px_core.proofs.AnsweredLemmas.{pending_here, pending_other}
+use Rattle.px_core.proofs.ServedLemmas.{last_step}
+
+alone_more : (conv : ℕ) (trace : Trace) (step : Step) → AllLeaveAlone conv trace → LeavesAlone conv step → AllLeaveAlone conv (trace ++ step ∷ [])
+alone_more conv [] step all here = (here, tt)
+alone_more conv (s ∷ trace) step (first, all) here = (first, alone_more conv trace step all here)
+
+quiet_alone : (conv : ℕ) (step : Step) → IsNoAnswer step → LeavesAlone conv step
+quiet_alone conv (steps.Heard moment heard) quiet = tt
+quiet_alone conv (steps.Asked number ask) quiet = absurd quiet
+quiet_alone conv (steps.Answered number ask reply) quiet = absurd quiet
+quiet_alone conv (steps.Said number what) quiet = tt
+quiet_alone conv (steps.Done flow) quiet = tt
+
+no_end : (front : Trace) (step : Step) → [] ≡ front ++ step ∷ [] → ⊥
+no_end [] step e = cc
+no_end (s ∷ front) step e = cc
+
+none_given : (given : GivenTo) → None ≡ Some given → ⊥
+none_given given e = cc
+
+same_given : (a b : GivenTo) → Some a ≡ Some b → a ≡ b
+same_given a b e = cc
+
+-- what is pending, where one conversation's has changed
+pending_is : (P : ℕ → GivenTo → Type 0) (conv : ℕ) (now : Option GivenTo) (before : Pending) → ((given : GivenTo) → now ≡ Some given → P conv given) →
+    ((other : ℕ) (given : GivenTo) → conv ≢ other → before other ≡ Some given → P other given) →
+    (other : ℕ) (given : GivenTo) → with_pending conv now before other ≡ Some given → P other given
+pending_is P conv now before here there other given e = by (eqb_tells conv other)
+  where
+    by : ((conv == other) ≡ true) × (conv ≡ other) ⊎ ((conv == other) ≡ false) × (conv ≢ other) → P other given
+    by (inl h) =
+        let Q : ℕ → Type 0 = λ n. with_pending conv now before n ≡ Some given → P n given in
+        subst Q h.1 (λ is. here given (sym (pending_here conv now before) ∙ is)) e
+    by (inr h) = there other given h.1 (sym (pending_other conv other now before h.1) ∙ e)
+
+module _ (gives : Hook → Flow → Answer → Type 0) (due : Due) where
+  -- one step more, which leaves the conversation alone
+  kind_grown : (trace next : Trace) (step : Step) (conv : ℕ) (ask : Ask) (given : Answer) → next ≡ trace ++ step ∷ [] → LeavesAlone conv step →
+      IsOfKind gives due trace conv ask given → IsOfKind gives due next conv ask given
+  kind_grown trace next step conv ask given is apart k = record {
+    front = k.front;
+    rest = k.rest ++ step ∷ [];
+    split = is ∙ (ap (λ t. t ++ step ∷ []) k.split ∙ append_assoc k.front (steps.Asked conv ask ∷ k.rest) (step ∷ []));
+    alone = alone_more conv k.rest step k.alone apart;
+    hook = k.hook;
+    flow = k.flow;
+    asked = k.asked;
+    earlier = k.earlier;
+    last = k.last;
+    gives_so = k.gives_so;
+  }
+
+  -- where the step behind a trace is an answer, it is of the kind
+  abbrev IsSo : Trace → Step → Type 0
+  IsSo trace (steps.Answered conv ask reply) = IsOfKind gives due trace conv ask (answer.Reply reply)
+  IsSo trace _ = Unit {0}
+
+  quiet_so : (trace : Trace) (step : Step) → IsNoAnswer step → IsSo trace step
+  quiet_so trace (steps.Heard moment heard) quiet = tt
+  quiet_so trace (steps.Asked number ask) quiet = tt
+  quiet_so trace (steps.Answered number ask reply) quiet = absurd quiet
+  quiet_so trace (steps.Said number what) quiet = tt
+  quiet_so trace (steps.Done flow) quiet = tt
+
+  ends_so : (trace : Trace) (step : Step) → IsSo trace step → EndsOfKind gives due (trace ++ step ∷ [])
+  ends_so trace step so front conv ask reply e =
+      let last = last_step trace front step (steps.Answered conv ask reply) e in
+      let P : Trace → Type 0 = λ t. IsSo t (steps.Answered conv ask reply) in
+      let Q : Step → Type 0 = IsSo trace in
+      subst P (sym last.0) (subst Q (sym last.1) so)
+
+  always_so : (trace next : Trace) (step : Step) → next ≡ trace ++ step ∷ [] → IsSo trace step → Always (EndsOfKind gives due) trace → Always (EndsOfKind gives due) next
+  always_so trace next step is so before =
+      let P : Trace → Type 0 = Always (EndsOfKind gives due) in
+      subst P (sym is) (always_more (EndsOfKind gives due) trace step before (ends_so trace step so))
+
+module _ {S : Type 0} (answers : Answering S) (due : Due) (is : S → Type 0) (gives : Hook → Flow → Answer → Type 0) (keeps : KeepsKind answers is gives) where
+  -- The answerer's own state is so, what is pending was given where its hook was asked, and each reply is of the kind.
+  pub record Kept (trace : Trace) (now : AnswererState S) (pending : Pending) : Type 0 where
+    pub so : is now.own
+    pub given : (conv : ℕ) (g : GivenTo) → pending conv ≡ Some g → IsOfKind gives due trace conv g.ask g.answer
+    pub of_kind : Always (EndsOfKind gives due) trace
+
+  hook_kept : (trace next : Trace) (old new : AnswererState S) (was : Pending) (conv : ℕ) (hook : Hook) (flow : Flow) (given : Answer) (earlier : List Atom) →
+      next ≡ trace ++ steps.Asked conv (asks.Hook flow.id.index hook) ∷ [] → due_in due flows conv trace ≡ earlier ++ about (asks.Hook flow.id.index hook) flow ∷ [] →
+      answers hook flow old.own old.files new.own new.files given → Kept trace old was →
+      Kept next new (with_pending conv (Some (record { ask = asks.Hook flow.id.index hook; answer = given })) was)
+  hook_kept trace next old new was conv hook flow given earlier split last answered k =
+      let ask : Ask = asks.Hook flow.id.index hook in
+      let now : GivenTo = record { ask = ask; answer = given } in
+      let here : IsOfKind gives due next conv ask given = record {
+        front = trace;
+        rest = [];
+        split = split;
+        alone = tt;
+        hook = hook;
+        flow = flow;
+        asked = refl;
+        earlier = earlier;
+        last = last;
+        gives_so = keeps.gives_so hook flow old.own old.files new.own new.files given k.so answered;
+      } in
+      let P : ℕ → GivenTo → Type 0 = λ n g. IsOfKind gives due next n g.ask g.answer in
+      let Q : GivenTo → Type 0 = P conv in
+      record {
+        so = keeps.stays hook flow old.own old.files new.own new.files given k.so answered;
+        given = pending_is P conv (Some now) was (λ g e. subst Q (same_given now g e) here)
+            (λ other g apart e. kind_grown gives due trace next (steps.Asked conv ask) other g.ask g.answer split apart (k.given other g e));
+        of_kind = always_so gives due trace next (steps.Asked conv ask) split tt k.of_kind;
+      }
+
+  reply_kept : (trace next : Trace) (now : AnswererState S) (was : Pending) (conv : ℕ) (ask : Ask) (reply : Reply) → next ≡ trace ++ steps.Answered conv ask reply ∷ [] →
+      was conv ≡ Some (record { ask = ask; answer = answer.Reply reply }) → Kept trace now was → Kept next now (with_pending conv None was)
+  reply_kept trace next now was conv ask reply split is_given k =
+      let P : ℕ → GivenTo → Type 0 = λ n g. IsOfKind gives due next n g.ask g.answer in
+      record {
+        so = k.so;
+        given = pending_is P conv None was (λ g e. absurd (none_given g e))
+            (λ other g apart e. kind_grown gives due trace next (steps.Answered conv ask reply) other g.ask g.answer split apart (k.given other g e));
+        of_kind = always_so gives due trace next (steps.Answered conv ask reply) split (k.given conv _ is_given) k.of_kind;
+      }
+
+  module _ (first : AnswererState S) (begins : is first.own) where
+    pub kept : (trace : Trace) (now : AnswererState S) (pending : Pending) → Answers answers due first trace now pending → Kept trace now pending
+    kept trace now pending at_first = record {
+      so = begins;
+      given = λ conv g e. absurd (none_given g e);
+      of_kind = always_empty (EndsOfKind gives due) (λ front conv ask reply e. absurd (no_end front (steps.Answered conv ask reply) e));
+    }
+    kept whole now pending (at_hook trace next old new was conv hook flow given earlier before split free last so) =
+        hook_kept trace whole old now was conv hook flow given earlier split last so (kept trace old was before)
+    kept whole now pending (at_reply trace next state was conv ask reply before split is_given) =
+        reply_kept trace whole now was conv ask reply split is_given (kept trace now was before)
+    kept whole now pending (at_other trace next state was step before split quiet) =
+        let k = kept trace now pending before in
+        record {
+          so = k.so;
+          given = λ conv g e. kind_grown gives due trace whole step conv g.ask g.answer split (quiet_alone conv step quiet) (k.given conv g e);
+          of_kind = always_so gives due trace whole step split (quiet_so gives due trace step quiet) k.of_kind;
+        }
