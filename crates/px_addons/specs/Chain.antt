@@ -49,14 +49,14 @@ module _ {B : Type 0} (title state : B → List ℕ) (moves : B → Moves) where
   -- One addon in its turn: it is asked about the draft that those before it left, and moves the draft and itself by its own
   -- relation. Behind a verdict that is not Go it is passed over, and stays exactly as it was.
   pub data AddonMoves (hook : Hook) : Draft → B → Draft → B → Type 0 where
-    asked : (draft after : Draft) (old new : B) → is_going draft.verdict ≡ true → SameAddon old new → moves old hook (state old) draft (state new) after →
+    by_addon : (draft after : Draft) (old new : B) → is_going draft.verdict ≡ true → SameAddon old new → moves old hook (state old) draft (state new) after →
         AddonMoves hook draft old after new
-    passed : (draft : Draft) (addon : B) → is_going draft.verdict ≡ false → AddonMoves hook draft addon draft addon
+    past_addon : (draft : Draft) (addon : B) → is_going draft.verdict ≡ false → AddonMoves hook draft addon draft addon
 
   -- addons in their order
   pub data AddonsMove (hook : Hook) : Draft → List B → Draft → List B → Type 0 where
-    of_none : (draft : Draft) → AddonsMove hook draft [] draft []
-    in_turn : (draft after end : Draft) (old new : B) (olds news : List B) → AddonMoves hook draft old after new → AddonsMove hook after olds end news →
+    no_addon : (draft : Draft) → AddonsMove hook draft [] draft []
+    next_addon : (draft after end : Draft) (old new : B) (olds news : List B) → AddonMoves hook draft old after new → AddonsMove hook after olds end news →
         AddonsMove hook draft (old ∷ olds) end (new ∷ news)
 
   -- what a part that is asked makes of the draft and of the addons
@@ -69,13 +69,13 @@ module _ {B : Type 0} (title state : B → List ℕ) (moves : B → Moves) where
 
   -- one part in its turn; behind a verdict that is not Go it is passed over
   pub data PartInTurn (rules : Rules) (hook : Hook) (one : Part) : Draft → List B → Draft → List B → Type 0 where
-    asked : (draft after : Draft) (old new : List B) → is_going draft.verdict ≡ true → PartMoves rules hook one draft old after new → PartInTurn rules hook one draft old after new
-    passed : (draft : Draft) (addons : List B) → is_going draft.verdict ≡ false → PartInTurn rules hook one draft addons draft addons
+    by_part : (draft after : Draft) (old new : List B) → is_going draft.verdict ≡ true → PartMoves rules hook one draft old after new → PartInTurn rules hook one draft old after new
+    past_part : (draft : Draft) (addons : List B) → is_going draft.verdict ≡ false → PartInTurn rules hook one draft addons draft addons
 
   -- parts in their order
   pub data PartsMove (rules : Rules) (hook : Hook) : List Part → Draft → List B → Draft → List B → Type 0 where
-    of_none : (draft : Draft) (addons : List B) → PartsMove rules hook [] draft addons draft addons
-    in_turn : (one : Part) (others : List Part) (draft after end : Draft) (old mid new : List B) → PartInTurn rules hook one draft old after mid →
+    no_part : (draft : Draft) (addons : List B) → PartsMove rules hook [] draft addons draft addons
+    next_part : (one : Part) (others : List Part) (draft after end : Draft) (old mid new : List B) → PartInTurn rules hook one draft old after mid →
         PartsMove rules hook others after mid end new → PartsMove rules hook (one ∷ others) draft old end new
 
   -- The answer to a hook about a flow, by rules, addons and files before and after: what the draft is when all parts of the hook

@@ -1,6 +1,7 @@
 //! The chain.
 ghost use Rattle.std.specs.Prelude.{◌≡◌, false, MatchOption, OnOk};
 ghost use Rattle.px_addons.specs.Chain.{AddonMoves, AddonsMove, IsFirstOfName, PartInTurn, PartsMove, is_going, reply_of};
+ghost use Rattle.px_addons.specs.Moving.{SameMoves};
 ghost use Rattle.px_core.specs.Addons.{has_name_by};
 
 use crate::parts::parts;
@@ -143,6 +144,15 @@ fn ask_addon(addon: &mut Box<dyn Addon>, hook: Hook, draft: &mut Draft) -> Resul
     if !is_going(&draft.verdict) {
         return Ok(());
     }
+    ask(addon, hook, draft)
+}
+
+// Asks the addon.
+fn ask(addon: &mut Box<dyn Addon>, hook: Hook, draft: &mut Draft) -> Result<(), NoMemory>
+    ensures title { title addon.new ≡ title addon.old }
+    ensures same { SameMoves (moves addon.old) (moves addon.new) }
+    ensures moves { OnOk result (moves addon.old hook (state addon.old) draft.old (state addon.new) draft.new) }
+{
     addon.on(hook, draft)
 }
 
