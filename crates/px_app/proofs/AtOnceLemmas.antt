@@ -20,10 +20,10 @@ NeverWaits {S} answers = (hook : Hook) (flow : Flow) (old : S) (old_files : File
 abbrev pub LeavesFiles : {S : Type 0} → Answering S → Type 0
 LeavesFiles {S} answers = (hook : Hook) (flow : Flow) (old : S) (old_files : FilesMeaning) (new : S) (new_files : FilesMeaning) (given : Answer) → answers hook flow old old_files new new_files given → new_files ≡ old_files
 
-module _ {S : Type 0} (answers : Answering S) (never : NeverWaits answers) where
+module _ {S : Type 0} {answers : Answering S} (due : Due) where
   -- no hook is open where those that are open wait
-  pub none_waits : (due : Due) (trace : Trace) → OpenOnesWait answers due trace → IsAllAnswered trace
-  none_waits due trace waits conv = by (open_hook conv trace) refl
+  pub none_waits : (trace : Trace) → OpenOnesWait answers due trace → NeverWaits answers → IsAllAnswered trace
+  none_waits trace waits never conv = by (open_hook conv trace) refl
     where
       by : (hook : Option Ask) → open_hook conv trace ≡ hook → hook ≡ None
       by None is = refl
@@ -32,11 +32,11 @@ module _ {S : Type 0} (answers : Answering S) (never : NeverWaits answers) where
           let w = (waits conv ask is).1 in
           absurd (never w.hook w.flow w.old w.old_files w.new w.new_files draft w.answers_so)
 
-  pub none_waits_within : (due : Due) (trace : Trace) → IsServed answers due trace → BeforeEachHeard IsAllAnswered trace
-  none_waits_within due trace served = record { at = λ front rest moment heard is. none_waits due front (served.waits.at front rest moment heard is) }
+  pub none_waits_within : (trace : Trace) → IsServed answers due trace → NeverWaits answers → BeforeEachHeard IsAllAnswered trace
+  none_waits_within trace served never = record { at = λ front rest moment heard is. none_waits front (served.waits.at front rest moment heard is) never }
 
 -- files that such answers alone changed are as they were
-pub untouched : {S : Type 0} (answers : Answering S) (fails : Failing) → LeavesFiles answers → ((old new : FilesMeaning) → fails old new → new ≡ old) →
-    (first last : FilesMeaning) → ByAnswers answers fails first last → last ≡ first
-untouched answers fails leaves fails_so first last by =
+pub untouched : {S : Type 0} {answers : Answering S} {fails : Failing} {first last : FilesMeaning} → ByAnswers answers fails first last →
+    LeavesFiles answers → ((old new : FilesMeaning) → fails old new → new ≡ old) → last ≡ first
+untouched {S} {answers} {fails} {first} {last} by leaves fails_so =
     unchanged answers fails (λ old hook flow state new_state new given is. leaves hook flow state old new_state new given is) fails_so first last by

@@ -24,7 +24,7 @@ ghost use Rattle.px_app.specs.Promises.{Promises, HasCause, EndsSo, Prints};
 ghost use Rattle.px_app.specs.Run.{IsEnd, IsRun, Told, ListensAt};
 ghost use Rattle.px_app.specs.Statuses.{code_of};
 ghost use Rattle.px_app.specs.Words.{served_at};
-ghost use Rattle.px_addons.specs.Chain.{IsBare};
+ghost use Rattle.px_addons.specs.Quiet.{NoRules};
 
 use crate::printing::Printing;
 use crate::reverse::{Ending, serve};
@@ -56,7 +56,7 @@ pub fn run<N: Net, F: Files, S: Sink>(
     requires idle { N.listening net.old ≡ idle }
 
     // Of the trace: every peer gets what is due to it, and each hook is answered once, at once, by the chain of these addons alone.
-    ensures promises { (chain : ⟦<Chain as Answerer>⟧.State) × IsBare chain.rules × (chain.addons ≡ addons) × ((address : Place) (trace : Trace) → N.trace net.old ≡ Some [] → N.trace net.new ≡ Some trace → served_at (map string_bytes words.now) ≡ Some (address.host, address.port) → Promises ⟦<Chain as Answerer>⟧.answers address (record { own = chain; files = files_meaning F.contents F.calls F.misses F.faults F.losses files.old }) result trace) }
+    ensures promises { (chain : ⟦<Chain as Answerer>⟧.State) × NoRules chain.rules × (chain.addons ≡ addons) × ((address : Place) (trace : Trace) → N.trace net.old ≡ Some [] → N.trace net.new ≡ Some trace → served_at (map string_bytes words.now) ≡ Some (address.host, address.port) → Promises ⟦<Chain as Answerer>⟧.answers address (record { own = chain; files = files_meaning F.contents F.calls F.misses F.faults F.losses files.old }) result trace) }
 
     // Where the words have no form nothing is asked of the net. Else it listens before anything is heard.
     ensures nothing_heard { served_at (map string_bytes words.now) ≡ None → net.new ≡ net.old }
@@ -102,11 +102,24 @@ fn serve_words<A: Answerer + Drop, N: Net, F: Files, S: Sink>(
     ensures refused { served_at (map string_bytes words.now) ≡ None → (result.status ≡ Status.Usage) ⊎ (result.status ≡ Status.NoMemory) }
     ensures output { result.status ≢ Status.OutputFailed }
 {
-    let status = match read_words(alloc, words) {
-        Ok(Some(address)) => return serve(alloc, address, answerer, net, files, out, BUDGET),
-        Ok(None) => Status::Usage,
-        Err(NoMemory) => Status::NoMemory,
-    };
+    match read_words(alloc, words) {
+        Ok(Some(address)) => serve(alloc, address, answerer, net, files, out, BUDGET),
+        Ok(None) => {
+            drop(answerer);
+            nothing_served(Status::Usage)
+        }
+        Err(NoMemory) => {
+            drop(answerer);
+            nothing_served(Status::NoMemory)
+        }
+    }
+}
+
+// Nothing was served, and nothing printed.
+fn nothing_served(status: Status) -> Ending
+    ensures status { result.status ≡ status }
+    ensures printing { result.printing ≡ Printing.Whole }
+{
     Ending {
         status,
         printing: Printing::Whole,

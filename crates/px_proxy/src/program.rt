@@ -13,7 +13,7 @@ ghost use Rattle.px_app.specs.Lines.{line_of};
 ghost use Rattle.px_app.specs.Promises.{Promises, HasCause, EndsSo, Prints};
 ghost use Rattle.px_app.specs.Run.{ListensAt};
 ghost use Rattle.px_app.specs.Words.{served_at};
-ghost use Rattle.px_addons.specs.Chain.{IsBare};
+ghost use Rattle.px_addons.specs.Quiet.{NoRules};
 ghost use Rattle.px_wire.specs.Asked.{AskedInVain, most_asks};
 ghost use Rattle.px_wire.specs.Calls.{Calls, IfTold, steps_of};
 ghost use Rattle.px_wire.specs.Rules.{Obeys};
@@ -46,7 +46,7 @@ pub fn run<W: Wire, F: Files, S: Sink>(
     ensures steps { (list : Calls) → W.calls lines.new.wire ≡ Some list → W.steps lines.new.wire ≡ Some (steps_of list) }
 
     // Of the trace: every peer gets what is due to it, and each hook is answered once, at once, by the chain of these addons alone.
-    ensures promises { (chain : ⟦<Chain as Answerer>⟧.State) × IsBare chain.rules × (chain.addons ≡ addons) × ((address : Place) (trace : Trace) → W.steps lines.old.wire ≡ Some [] → W.steps lines.new.wire ≡ Some trace → served_at (map string_bytes words.now) ≡ Some (address.host, address.port) → Promises ⟦<Chain as Answerer>⟧.answers address (record { own = chain; files = files_meaning F.contents F.calls F.misses F.faults F.losses files.old }) result trace) }
+    ensures promises { (chain : ⟦<Chain as Answerer>⟧.State) × NoRules chain.rules × (chain.addons ≡ addons) × ((address : Place) (trace : Trace) → W.steps lines.old.wire ≡ Some [] → W.steps lines.new.wire ≡ Some trace → served_at (map string_bytes words.now) ≡ Some (address.host, address.port) → Promises ⟦<Chain as Answerer>⟧.answers address (record { own = chain; files = files_meaning F.contents F.calls F.misses F.faults F.losses files.old }) result trace) }
 
     // Where the words have no form nothing is asked of the net. Else it listens before anything is heard.
     ensures nothing_heard { served_at (map string_bytes words.now) ≡ None → lines.new ≡ lines.old }

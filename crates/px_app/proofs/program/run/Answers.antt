@@ -9,28 +9,31 @@ use Rattle.px_app.specs.declared.printing.Printing.{Printing}
 use Rattle.px_app.proofs.CodeLemmas.{code_by, one_says, five_says, six_says, seven_says, ended_either, ended_gives, usage_gives, spent_gives, memory_gives, other_says, all_codes, complete_by, not_eight, ended_or}
 use Rattle.px_app.proofs.EndLemmas.{rose_later, printed_part, printed_whole, printed_line, writes_none}
 use Rattle.px_app.proofs.AtOnceLemmas.{none_waits, none_waits_within, untouched}
-use Rattle.px_app.proofs.ChainLemmas.{chain_never_waits}
+use Rattle.px_app.proofs.ChainLemmas.{chain_never_waits, still_none}
 use Rattle.px_app.proofs.RunLemmas.{told_trace, listens_where_heard}
 use Rattle.px_app.proofs.program.run.Goals as goal
 
 pub returns-clause-promises : goal.returns-clause-promises
-returns-clause-promises g c =
-    let never = λ hook flow old old_files new new_files draft is. chain_never_waits _ _ _ hook flow _ _ old_files _ _ new_files draft is in
-    (c.new-chain.result, c.none.ensures, c.new-chain.ensures.addons,
-    λ address trace empty tells wants.
-        let is = code_by c.serve_words-ending.result.printing c.serve_words-ending.result.status c.end.result c.code.result c.end.ensures.status c.code.ensures.code in
-        let run = told_trace _ _ trace (c.serve_words-ending.ensures.run address wants empty) tells in
-        record {
-          served = run.served;
-          follows = run.follows;
-          hooks = none_waits_within _ never (fixed_due address) trace run.served;
-          whole = λ other. run.whole (other_says c.serve_words-ending.result.printing c.serve_words-ending.result.status c.code.result is other);
-          hooks_whole = λ other. none_waits _ never (fixed_due address) trace (run.waits (other_says c.serve_words-ending.result.printing c.serve_words-ending.result.status c.code.result is other));
-          own = run.own;
-        })
+returns-clause-promises g c = (
+  c.new-chain.result,
+  still_none c.new-chain.ensures.rules (record { headers = c.none.ensures.headers; bodies = c.none.ensures.bodies; anticache = c.none.ensures.anticache; anticomp = c.none.ensures.anticomp; stream = c.none.ensures.stream }),
+  c.new-chain.ensures.addons,
+  λ address trace empty tells wants.
+      let is = code_by c.serve_words-ending.result.printing c.serve_words-ending.result.status c.end.result c.code.result c.end.ensures.status c.code.ensures.code in
+      let run = told_trace _ _ trace (c.serve_words-ending.ensures.run address wants empty) tells in
+      record {
+        served = run.served;
+        follows = run.follows;
+        hooks = none_waits_within (fixed_due address) trace run.served (λ hook flow old old_files new new_files draft is. chain_never_waits _ _ _ hook flow _ _ old_files _ _ new_files draft is);
+        whole = λ other. run.whole (other_says c.serve_words-ending.result.printing c.serve_words-ending.result.status c.code.result is other);
+        hooks_whole = λ other. none_waits (fixed_due address) trace (run.waits (other_says c.serve_words-ending.result.printing c.serve_words-ending.result.status c.code.result is other))
+            (λ hook flow old old_files new new_files draft is. chain_never_waits _ _ _ hook flow _ _ old_files _ _ new_files draft is);
+        own = run.own;
+      },
+)
 
 pub returns-clause-files : goal.returns-clause-files
-returns-clause-files g c = untouched _ _ (λ hook flow old old_files new new_files given is. is.files) (λ old new is. is) _ _ c.serve_words-ending.ensures.files
+returns-clause-files g c = untouched c.serve_words-ending.ensures.files (λ hook flow old old_files new new_files given is. is.files) (λ old new is. is)
 
 pub returns-clause-nothing_heard : goal.returns-clause-nothing_heard
 returns-clause-nothing_heard g c = λ none. (c.serve_words-ending.ensures.untouched none).0

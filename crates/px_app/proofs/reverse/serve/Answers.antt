@@ -4,7 +4,7 @@ use Rattle.px_http.specs.declared.fixed.Fixed.{Fixed}
 use Rattle.px_http.specs.Fixed.{fixed_due}
 use Rattle.px_core.specs.Answers.{AnswererState}
 use Rattle.px_core.specs.declared.gates.Gates.{Gates}
-use Rattle.px_core.specs.Answers.{files_meaning}
+use Rattle.px_core.specs.Answers.{by_none, files_meaning}
 use Rattle.px_app.specs.Printed.{Has}
 use Rattle.px_app.specs.declared.printing.Printing.{Printing}
 use Rattle.px_app.proofs.EndLemmas.{not_failed, writes_none}
@@ -14,6 +14,9 @@ use Rattle.px_app.proofs.reverse.serve.Goals as goal
 pub returns-in-Err-clause-run : goal.returns-in-Err-clause-run
 returns-in-Err-clause-run g c = λ empty.
     error_first g.A.Answerer.answers (fixed_due c.args.address) _ c.args.budget c.in-Err.error _ _ (c.listen.ensures.trace ∙ empty) c.requires.budget c.into-status.ensures
+
+pub returns-in-Err-clause-files : goal.returns-in-Err-clause-files
+returns-in-Err-clause-files g c = by_none _
 
 pub serve_all-status-requires : goal.serve_all-status-requires
 serve_all-status-requires g c =

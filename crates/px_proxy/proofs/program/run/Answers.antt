@@ -6,6 +6,7 @@ use Rattle.px_http.specs.Silent.{fixed_silent}
 use Rattle.px_wire.specs.Calls.{steps_of}
 use Rattle.px_app.proofs.HttpServers.{fixed_counts}
 use Rattle.px_app.proofs.ServerLemmas.{always_counts}
+use Rattle.px_proxy.proofs.ChainLemmas.{chain_connects_none}
 use Rattle.px_proxy.proofs.EndLemmas.{causes_by, fault_of, not_ended}
 use Rattle.px_proxy.proofs.RunLemmas.{kept_obeys, agreed_steps}
 use Rattle.px_proxy.proofs.TakenDueLemmas.{always_taken}
@@ -20,8 +21,8 @@ returns-clause-steps g c = agreed_steps (g.W.Wire.steps c.run-status.new.net.wir
 pub returns-clause-taken : goal.returns-clause-taken
 returns-clause-taken g c address list fresh told words =
     let steps = agreed_steps (g.W.Wire.steps c.run-status.new.net.wire) (g.W.Wire.calls c.run-status.new.net.wire) c.wire-kept.ensures.agree list told in
-    let promised = c.run-status.ensures.promises.1.1.1 address (steps_of list) fresh steps words in
-    always_taken _ connects_none (fixed_due address) (fixed_silent address) list
+    let promised = c.run-status.ensures.promises.3 address (steps_of list) fresh steps words in
+    always_taken _ (λ hook flow old old_files new new_files reply is. chain_connects_none _ _ _ hook flow _ _ old_files _ _ new_files reply is) (fixed_due address) (fixed_silent address) list
     (kept_obeys c.run-status.new.net.is_spent c.run-status.new.net.table (g.W.Wire.calls c.run-status.new.net.wire) c.wire-kept.ensures.keeps list told)
     (always_counts (fixed_due address) (fixed_counts address) (steps_of list) promised.served.within) promised.served.met promised.served.within
 
