@@ -4,3 +4,4 @@ pub mod Chain
 pub mod Counter
 pub mod Quiet
 pub mod QuietLaws
+pub mod Numbering

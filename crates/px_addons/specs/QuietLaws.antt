@@ -1,5 +1,5 @@
 -- A chain that changes nothing answers so, and stays such a chain.
-use Rattle.std.proofs.Common.{◌≡◌, ℕ, Bool, true, false, List, [], ◌∷◌, Option, None, refl, sym, ap, subst, ◌∙◌}
+use Rattle.std.proofs.Common.{◌≡◌, ℕ, List, [], refl, sym, ap, subst, ◌∙◌}
 use Rattle.std.proofs.lemmas.List.Elements.{All-nil}
 use Rattle.px_message.specs.declared.flow.Flow.{Flow}
 use Rattle.px_event.specs.declared.ask.Hook.{Hook}
@@ -9,11 +9,10 @@ use Rattle.px_core.specs.declared.answerer.Answer.TheVariants as answers
 use Rattle.px_core.specs.declared.answerer.Draft.{Draft}
 use Rattle.px_rule.proofs.LawLemmas.{headers_hold_nowhere}
 use Rattle.px_rule.specs.Body.{body_rules}
-use Rattle.px_rule.specs.Header.{header_rules, with_fields}
-use Rattle.px_rule.specs.Requests.{uncached, uncoded}
+use Rattle.px_rule.specs.Header.{header_rules}
 use Rattle.px_addons.specs.Moving.{KeepsDrafts, Moves}
 use Rattle.px_addons.specs.Parts.{content_of, is_of_response, made_by, parts}
-use Rattle.px_addons.specs.Chain.{SameAddon, AddonMoves, by_addon, past_addon, AddonsMove, no_addon, next_addon, PartMoves, PartInTurn, by_part, past_part, PartsMove, no_part, next_part, begun, reply_of, ChainAnswers}
+use Rattle.px_addons.specs.Chain.{AddonMoves, by_addon, past_addon, AddonsMove, no_addon, next_addon, PartMoves, PartInTurn, by_part, past_part, PartsMove, no_part, next_part, begun, reply_of, ChainAnswers}
 use Rattle.px_addons.specs.Quiet.{AllKeepDrafts, ChangesNothing, NoRules, goes_on_unchanged}
 use Rattle.px_addons.specs.declared.parts.Part.{Part}
 use Rattle.px_addons.specs.declared.parts.Part.TheVariants as part

@@ -1,4 +1,4 @@
-use Rattle.std.proofs.Common.{length, ap, ◌∙◌}
+use Rattle.std.proofs.Common.{◌∙◌}
 use Rattle.px_addons.proofs.TurnLemmas.{answered}
 use Rattle.px_addons.proofs.chain.ChainAnswerer.answer.Goals as goal
 
