@@ -1,7 +1,7 @@
 -- The first addon of a name, by the place where it is.
-use Rattle.std.proofs.Common.{◌≡◌, ℕ, zero, suc, ◌+◌, ◌<◌, Bool, true, false, List, [], ◌∷◌, length, map, refl, sym, ap, subst, ◌∙◌, arith}
+use Rattle.std.proofs.Common.{◌≡◌, ℕ, suc, ◌+◌, true, false, List, [], ◌∷◌, length, map, refl, sym, ap, subst, ◌∙◌, arith}
 use Rattle.std.specs.Prelude.{bytes_eq, remove}
-use Rattle.px_core.specs.Addons.{has_name, has_name_by, without_first, without_first_by}
+use Rattle.px_core.specs.Addons.{has_name, has_name_by, without_first}
 use Rattle.px_core.proofs.AddonLemmas.{has_name_of_names, names_without_first}
 use Rattle.px_addons.specs.Chain.{IsFirstOfName}
 

@@ -1,6 +1,5 @@
 -- Addons and parts that were asked in turn, up to one of them.
-use Rattle.std.proofs.Common.{◌≡◌, Bool, true, ℕ, zero, suc, ◌+◌, ◌<◌, ◌≤◌, List, [], ◌∷◌, ◌++◌, length, take, drop, slice_index_or, slice_set, refl, sym, ap, subst, ◌∙◌, arith}
-use Rattle.std.proofs.lemmas.List.{append-nil}
+use Rattle.std.proofs.Common.{◌≡◌, true, ℕ, zero, suc, ◌+◌, ◌<◌, ◌≤◌, List, [], ◌∷◌, ◌++◌, length, take, drop, slice_index_or, slice_set, refl, sym, ap, subst, arith}
 use Rattle.std.proofs.Math.Seq.{drop-cons}
 use Rattle.px_event.specs.declared.ask.Hook.{Hook}
 use Rattle.px_core.specs.declared.answerer.Draft.{Draft}
@@ -145,11 +144,11 @@ module _ {B : Type 0} (title state : B → List ℕ) (moves : B → Moves) where
       PartsMove title state moves rules hook asked (begun flow rules.stream) lent end new → asked ≡ parts hook → lent ≡ addons → length new ≡ len → reply ≡ reply_of end →
       ChainAnswers title state moves hook flow rules addons files rules (take len (new ++ drop (length new) addons)) files (answers.Reply reply)
   answered rules hook flow files addons lent asked end new len reply moved table same counted replied = record {
-      end = end;
-      moved = subst (λ l. PartsMove title state moves rules hook (parts hook) (begun flow rules.stream) addons end l) (sym (written_back new addons len counted))
+    end = end;
+    moved = subst (λ l. PartsMove title state moves rules hook (parts hook) (begun flow rules.stream) addons end l) (sym (written_back new addons len counted))
         (subst (λ l. PartsMove title state moves rules hook (parts hook) (begun flow rules.stream) l end new) same
-          (subst (λ l. PartsMove title state moves rules hook l (begun flow rules.stream) lent end new) table moved));
-      answered = ap (λ r. answers.Reply r) replied;
-      rules = refl;
-      files = refl
-    }
+        (subst (λ l. PartsMove title state moves rules hook l (begun flow rules.stream) lent end new) table moved));
+    answered = ap (λ r. answers.Reply r) replied;
+    rules = refl;
+    files = refl;
+  }

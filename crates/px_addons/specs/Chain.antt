@@ -1,7 +1,7 @@
 -- What a chain makes of a flow and of itself, and what it answers.
 --
 -- An addon stands here as a value of any type B, with a name, a state and a relation for each.
-use Rattle.std.specs.Prelude.{◌≡◌, ℕ, Bool, true, false, List, [], ◌∷◌, Option, None, ◌<◌, length, remove}
+use Rattle.std.specs.Prelude.{◌≡◌, ℕ, Bool, true, false, List, [], ◌∷◌, Option, ◌<◌, length, remove}
 use Rattle.px_message.specs.declared.flow.Flow.{Flow}
 use Rattle.px_event.specs.declared.ask.Hook.{Hook}
 use Rattle.px_event.specs.declared.reply.Reply.{Reply}
@@ -46,6 +46,13 @@ module _ {B : Type 0} (title state : B → List ℕ) (moves : B → Moves) where
     pub titled : title new ≡ title old
     pub moving : SameMoves (moves old) (moves new)
 
+  -- the same addons in the same order, each with a state of its own
+  abbrev pub SameAddons : List B → List B → Type 0
+  SameAddons [] [] = Unit {0}
+  SameAddons [] (_ ∷ _) = ⊥
+  SameAddons (_ ∷ _) [] = ⊥
+  SameAddons (old ∷ olds) (new ∷ news) = SameAddon old new × SameAddons olds news
+
   -- One addon in its turn: it is asked about the draft that those before it left, and moves the draft and itself by its own
   -- relation. Behind a verdict that is not Go it is passed over, and stays exactly as it was.
   pub data AddonMoves (hook : Hook) : Draft → B → Draft → B → Type 0 where
@@ -58,6 +65,15 @@ module _ {B : Type 0} (title state : B → List ℕ) (moves : B → Moves) where
     no_addon : (draft : Draft) → AddonsMove hook draft [] draft []
     next_addon : (draft after end : Draft) (old new : B) (olds news : List B) → AddonMoves hook draft old after new → AddonsMove hook after olds end news →
         AddonsMove hook draft (old ∷ olds) end (new ∷ news)
+
+  -- two addons in turn: the draft that the second is asked about is the one that the first left
+  pub record TwoInTurn (hook : Hook) (draft : Draft) (one other : B) (end : Draft) (addons : List B) : Type 0 where
+    pub left : Draft
+    pub new_one : B
+    pub new_other : B
+    pub first : AddonMoves hook draft one left new_one
+    pub second : AddonMoves hook left other end new_other
+    pub news : addons ≡ new_one ∷ new_other ∷ []
 
   -- what a part that is asked makes of the draft and of the addons
   abbrev pub PartMoves : Rules → Hook → Part → Draft → List B → Draft → List B → Type 0

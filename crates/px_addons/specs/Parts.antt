@@ -1,5 +1,5 @@
 -- The parts that are asked at each hook, in their order, and what rules make of a flow.
-use Rattle.std.specs.Prelude.{ℕ, Bool, true, false, List, [], ◌∷◌, if◌then◌else◌}
+use Rattle.std.specs.Prelude.{Bool, true, false, List, [], ◌∷◌, if◌then◌else◌}
 use Rattle.px_message.specs.declared.flow.Flow.{Flow}
 use Rattle.px_event.specs.declared.ask.Hook.{Hook}
 use Rattle.px_event.specs.declared.ask.Hook.TheVariants as hooks

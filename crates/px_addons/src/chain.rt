@@ -6,7 +6,7 @@ ghost use Rattle.px_core.specs.Addons.{has_name_by};
 
 use crate::parts::parts;
 use crate::{Addon, Part, Rules};
-use px_core::{Answer, Answerer, Draft, NoSuchAddon, Verdict};
+use px_core::{Answer, Answerer, Draft, Kind, NoSuchAddon, Verdict};
 use px_event::{Hook, Reply};
 use px_message::Flow;
 use px_outside::Files;
@@ -85,6 +85,31 @@ impl Answerer for Chain {
             }
         }
     }
+}
+
+impl Kind for Chain {
+    ghost use Rattle.px_addons.specs.Chain.{ChainAnswers};
+    ghost use Rattle.px_addons.specs.Quiet.{ChangesNothing, goes_on_unchanged};
+    ghost use Rattle.px_addons.specs.QuietLaws.{answers_unchanged, stays_quiet};
+
+    ghost State = { Self };
+
+    ghost answers = { λ hook flow old old_files new new_files answer.
+        ChainAnswers (λ b. (Addon-box b).title b.value) (λ b. (Addon-box b).state b.value) (λ b. (Addon-box b).moves b.value)
+        hook flow old.rules old.addons.items old_files new.rules new.addons.items new_files answer };
+
+    ghost is_so = { λ c. ChangesNothing (λ b. (Addon-box b).moves b.value) c.rules c.addons.items };
+
+    ghost gives = { goes_on_unchanged };
+
+    ghost keeps = { record {
+      stays = λ hook flow old old_files new new_files given quiet by.
+          stays_quiet (λ b. (Addon-box b).title b.value) (λ b. (Addon-box b).state b.value) (λ b. (Addon-box b).moves b.value)
+          hook flow old.rules old.addons.items old_files new.rules new.addons.items new_files given quiet by;
+      gives_so = λ hook flow old old_files new new_files given quiet by.
+          answers_unchanged (λ b. (Addon-box b).title b.value) (λ b. (Addon-box b).state b.value) (λ b. (Addon-box b).moves b.value)
+          hook flow old.rules old.addons.items old_files new.rules new.addons.items new_files given quiet by;
+    } };
 }
 
 // Asks the parts in their order.

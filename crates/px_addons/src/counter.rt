@@ -1,10 +1,12 @@
 //! An addon that counts requests.
+ghost use Rattle.std.specs.Prelude.{◌≡◌, [], ◌∷◌};
+
 use crate::Addon;
 use px_core::Draft;
 use px_event::Hook;
 use px_text::NoMemory;
 
-/// Counts requests.
+/// Counts the requests whose head was asked about, up to 2^64 - 1, and changes no draft. Its name is `counter`.
 #[derive(Debug, Drop)]
 pub struct FlowCounter {
     count: u64,
@@ -12,7 +14,9 @@ pub struct FlowCounter {
 
 impl FlowCounter {
     /// No request yet.
-    pub fn new() -> FlowCounter {
+    pub fn new() -> FlowCounter
+        ensures counted { ⟦<FlowCounter as Addon>⟧.state result ≡ 0 ∷ [] }
+    {
         FlowCounter { count: 0 }
     }
 }

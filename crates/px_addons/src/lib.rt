@@ -1,15 +1,52 @@
-//! Addons.
+//! Addons, rules, and the chain of both that answers hooks.
+//!
+//! An addon is someone who is asked about flows. What one is, its author states as a relation (`Addon::moves`): a hook, its state and
+//! the draft of the flow before, its state and the draft after. Nothing else has to be stated; that the code keeps the relation is
+//! what the check of the author's `impl` proves. Addons are handed in as boxes, in a list.
+//!
+//! At each hook parts are asked in an order: rules of px_rule first, then the addons in the order of their list. Which parts, and
+//! in which order, is a table with a line for each hook (`specs/Parts.antt`, `parts`):
+//!
+//! - the request's head: header rules, `anticache`, `anticomp`, addons;
+//! - the whole request: body rules, addons;
+//! - the response's head: header rules, addons;
+//! - the whole response: body rules, addons;
+//! - a message of a WebSocket: body rules on its payload, addons.
+//!
+//! What a rule makes of a flow is px_rule's own function, so what the parts in front of the addons do is a function of rules, hook and
+//! flow (`made_by`). What the addons make of it is told by their relations, one behind the other: each is about the draft that those
+//! before it left. An addon moves itself by its relation too, and stays the addon that it was: its name and its relation are as
+//! before (`specs/Chain.antt`, `AddonMoves`, `SameAddon`). The first verdict that is not Go ends the order: no part and no addon behind it
+//! is asked, and each of them is exactly as it was.
+//!
+//! So an answer is one relation between a hook, a flow, the rules and the addons before and after, and the reply (`ChainAnswers`). It
+//! leaves nothing open but what the addons' own relations leave open. Rules at another hook, an addon that is skipped or asked twice, one
+//! that gets the flow as it was before the rules, or a part that runs behind one that ended the order: each is another relation.
+//! `Chain` is a px_core `Answerer` whose state is the chain itself; so that relation stands, hook by hook, in what px_core promises of
+//! every trace.
+//!
+//! A chain without rules whose addons leave every draft as it is changes nothing (`specs/Quiet.antt`). It stays such a chain, and each of its
+//! answers lets the flow go on as it was asked about: so `Chain` is a px_core `Kind` too, and px_core's law says it of whole traces.
+//!
+//! All functions that lend a boxed addon stand here. Those above hand a list of boxes over, and no more.
 #![tactic(auto)]
 
 mod addon;
 mod chain;
 mod counter;
+mod laws;
+mod numbering;
 mod parts;
 mod rules;
 
 pub use addon::Addon;
 pub use chain::Chain;
 pub use counter::FlowCounter;
+pub use laws::{
+    a_chain_that_changes_nothing, a_flow_counter_changes_no_draft,
+    addons_see_what_those_before_did, an_answer_keeps_its_addons,
+};
+pub use numbering::Numbering;
 pub use parts::Part;
 pub use px_core::{Draft, Verdict};
 pub use rules::Rules;

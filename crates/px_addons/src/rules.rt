@@ -114,7 +114,8 @@ fn uncoded(alloc: Global, request: &Request) -> Result<Shared<Request>, NoMemory
     Shared::new(alloc, put_in(request.try_clone()?, fields))
 }
 
-fn put_in(request: Request, fields: Fields) -> Request
+// The request with these fields.
+pub(crate) fn put_in(request: Request, fields: Fields) -> Request
     ensures { result ≡ record request { fields = fields } }
 {
     let mut changed = request;

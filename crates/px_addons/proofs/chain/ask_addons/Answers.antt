@@ -1,4 +1,4 @@
-use Rattle.std.proofs.Common.{length-set, sym, subst, length, ◌∙◌, ◌<◌, ◌≤◌}
+use Rattle.std.proofs.Common.{length-set, sym, subst, ◌∙◌, ◌<◌, ◌≤◌}
 use Rattle.px_addons.proofs.TurnLemmas.{all_asked, next_asked}
 use Rattle.px_addons.proofs.chain.ask_addons.Goals as goal
 

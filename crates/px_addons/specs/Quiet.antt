@@ -1,0 +1,32 @@
+-- Chains that change nothing: no rule, and each addon's relation leaves every draft as it is.
+use Rattle.std.specs.Prelude.{◌≡◌, false, List, [], ◌∷◌, None}
+use Rattle.px_message.specs.declared.flow.Flow.{Flow}
+use Rattle.px_event.specs.declared.ask.Hook.{Hook}
+use Rattle.px_event.specs.declared.reply.Reply.TheVariants as replies
+use Rattle.px_core.specs.declared.answerer.Answer.{Answer}
+use Rattle.px_core.specs.declared.answerer.Answer.TheVariants as answers
+use Rattle.px_rule.specs.View.{body_views, header_views}
+use Rattle.px_addons.specs.Moving.{KeepsDrafts, Moves}
+use Rattle.px_addons.specs.declared.rules.Rules.{Rules}
+
+-- no rule, no wish, and nothing is streamed
+pub record NoRules (rules : Rules) : Type 0 where
+  pub headers : header_views rules.headers ≡ []
+  pub bodies : body_views rules.bodies ≡ []
+  pub anticache : rules.anticache ≡ false
+  pub anticomp : rules.anticomp ≡ false
+  pub stream : rules.stream ≡ None
+
+-- each of the addons leaves every draft as it is
+abbrev pub AllKeepDrafts : {B : Type 0} → (B → Moves) → List B → Type 0
+AllKeepDrafts moves [] = Unit {0}
+AllKeepDrafts moves (addon ∷ others) = KeepsDrafts (moves addon) × AllKeepDrafts moves others
+
+-- a chain of these rules and addons changes nothing
+pub record ChangesNothing {B : Type 0} (moves : B → Moves) (rules : Rules) (addons : List B) : Type 0 where
+  pub no_rules : NoRules rules
+  pub keep : AllKeepDrafts moves addons
+
+-- the flow goes on as it was asked about, and nothing is streamed
+abbrev pub goes_on_unchanged : Hook → Flow → Answer → Type 0
+goes_on_unchanged hook flow answer = answer ≡ answers.Reply (replies.Go flow None)
