@@ -1,4 +1,4 @@
-use Rattle.std.proofs.Common.{ℕ, List, ◌∙◌, ◌≡◌, ◌<◌, ◌+◌, ◌-◌, ◌^◌, min, ap, sym, refl, length, arith}
+use Rattle.std.proofs.Common.{ℕ, List, ◌∙◌, ◌≡◌, ◌<◌, ◌+◌, ◌-◌, ◌^◌, min, ap, refl, length, arith}
 use Rattle.std.proofs.lemmas.List.{take_all}
 use Rattle.px_read.specs.Kept.{fields_keep}
 use Rattle.px_read.proofs.KeptLemmas.{keeps_more}
