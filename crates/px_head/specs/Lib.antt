@@ -1,3 +1,4 @@
+pub mod Bound
 pub mod Front
 pub mod Heads
 pub mod Laws

@@ -1,9 +1,11 @@
 //! A reader that is fed the bytes of a connection and gives the heads that stand in them, one after the other.
 //!
 //! It keeps the bytes that were fed and not yet used. A head that was taken is not moved out of the buffer at once: the
-//! place behind it is kept, and the buffer is moved to its front when what was used is no shorter than what is left.
-//! So each byte is moved a bounded number of times, and many heads in one piece cost no more than their bytes.
+//! place behind it is kept, and what is left is moved to the buffer's front as soon as more was used than is left. So the
+//! buffer never holds more than twice what waits in it (`specs/Bound.antt`), and each move is of fewer bytes than were
+//! used since the one before: many heads in one piece cost no more than their bytes.
 ghost use Rattle.std.specs.Prelude.{◌≡◌, ◌≤◌, ◌++◌, [], None, IfOk, OnErr, OnOk, drop, length};
+ghost use Rattle.px_head.specs.Bound.{IsBounded};
 
 use crate::front::{Found, Front, Kind, Refusal, read_front};
 use crate::place::Marks;
@@ -13,7 +15,7 @@ use std::marker::Model;
 
 /// A reader of heads. In a contract it is the bytes that were fed and not used, and what it has failed with, if it has.
 ///
-/// After `NoMemory` it is as it was before the call.
+/// Its buffer holds at most twice as many bytes as `unused` tells. After `NoMemory` it is as it was before the call.
 #[derive(Debug, Drop)]
 pub struct HeadReader {
     buffer: Vec<u8>,
@@ -23,7 +25,8 @@ pub struct HeadReader {
 }
 
 impl Model for HeadReader {
-    ghost use Rattle.std.specs.Prelude.{◌≤◌, drop, length};
+    ghost use Rattle.std.specs.Prelude.{drop};
+    ghost use Rattle.px_head.specs.Bound.{IsBounded};
     ghost use Rattle.px_head.specs.Marks.{AreMarks};
     ghost use Rattle.px_head.specs.Reader.{Reader};
 
@@ -31,7 +34,7 @@ impl Model for HeadReader {
 
     ghost view = { λ r. record { rest = drop r.used r.buffer.items; failed = r.refusal } };
 
-    ghost invariant = { λ r. (r.used ≤ length r.buffer.items) × AreMarks (drop r.used r.buffer.items) r.marks };
+    ghost invariant = { λ r. IsBounded r.used r.buffer.items × AreMarks (drop r.used r.buffer.items) r.marks };
 }
 
 impl HeadReader {
@@ -54,7 +57,6 @@ impl HeadReader {
         ensures ok { OnOk result (self.new ≡ record self.old { rest = self.old.rest ++ bytes.now }) }
         ensures err { OnErr result (self.new ≡ self.old) }
     {
-        self.used = compact(&mut self.buffer, self.used);
         self.buffer.extend_from_slice(bytes)?;
         Ok(())
     }
@@ -132,7 +134,7 @@ impl HeadReader {
                 Ok(Found::BadHead)
             }
             Front::Stands(raw, used) => {
-                self.used += used;
+                self.used = compact(&mut self.buffer, self.used + used);
                 self.marks = Marks::NONE;
                 Ok(Found::Head(raw))
             }
@@ -140,13 +142,13 @@ impl HeadReader {
     }
 }
 
-// Moves what is left to the front of the buffer where it is no longer than what was used, and says where it begins.
+// Moves what is left to the front of the buffer where it is shorter than what was used, and says where it begins.
 fn compact(buffer: &mut Vec<u8>, used: usize) -> usize
     requires { used ≤ length buffer.old.items }
     ensures rest { drop result buffer.new.items ≡ drop used buffer.old.items }
-    ensures within { result ≤ length buffer.new.items }
+    ensures bound { IsBounded result buffer.new.items }
 {
-    if used < buffer.len() - used {
+    if used <= buffer.len() - used {
         return used;
     }
     move_to_front(buffer, used);

@@ -13,7 +13,7 @@ use Rattle.px_read.specs.ChunkSteps.{Gives, Hears, UsesFor, Steps}
 use Rattle.px_read.specs.Chunks.{Place, Turn, GoesOn, hear_all, chunks_from, Finish, goes_on, whole, fails, Reading}
 use Rattle.px_read.specs.Readings.{only, behind_bytes, counted_reading, closing_reading}
 use Rattle.px_read.specs.Reader.{MessagePlace, in_counted, in_chunks, up_to_close, behind_end, refused, State, as_sent, has_shut, reading_from, MayFollow, behind_marks, Tells, has_stopped, IsTurn}
-use Rattle.px_read.specs.Stages.{IsStage, chunk_place, state_at, seen_as, cut_off, fault_of}
+use Rattle.px_read.specs.Stages.{IsStage, StandOnce, chunk_place, state_at, seen_as, cut_off, fault_of}
 use Rattle.px_read.specs.Waits.{waited, given}
 use Rattle.px_read.specs.declared.message_reader.stage.Sender.{Sender}
 use Rattle.px_read.specs.declared.message_reader.stage.Sender.TheVariants.{Client, Server}
@@ -335,3 +335,13 @@ chunk-refused from (chunking.reads place) rest closed after fault going steps is
     (chunk_fails from place rest closed steps.0)
 chunk-refused from (chunking.ended trailers) rest closed after fault going steps is = absurd (let e = going.1 in cc)
 chunk-refused from chunking.refused rest closed after fault going steps is = absurd (let e = going.1 in cc)
+
+-- behind a step no reader of heads stands
+pub chunk-once : (told : Option ChunkPart) (from : Sender) (after : Chunking) (left : List ℕ) (cut : Bool)
+    → StandOnce (given told (stage.Chunked from after) left cut).stage (given told (stage.Chunked from after) left cut).rest
+chunk-once None from after left false = tt
+chunk-once None from after left true = tt
+chunk-once (Some (chunk_part.Size size)) from after left cut = tt
+chunk-once (Some (chunk_part.Piece bytes)) from after left cut = tt
+chunk-once (Some chunk_part.EndOfChunk) from after left cut = tt
+chunk-once (Some (chunk_part.Trailers trailers)) from after left cut = tt

@@ -7,6 +7,7 @@ pub mod GrowthLemmas
 pub mod HeadLemmas
 pub mod HearLemmas
 pub mod ItemLemmas
+pub mod KeptLemmas
 pub mod LawLemmas
 pub mod LineTurnLemmas
 pub mod PartLemmas

@@ -165,7 +165,7 @@ trailers_done reader count behind bytes raw trailers kept within end pairs same 
     record {
       some = omega arith;
       within = omega arith;
-      stage = tt;
+      stage = refl;
       gives = (
         decided_by (in_trailers reader.rest) count bytes (whole trailers (count - behind)) (λ e. cc) read,
         ap (λ (t : List (List ℕ × List ℕ)). ended t) same,

@@ -1,5 +1,6 @@
 -- A reader of a chunked body as its callers see it.
 use Rattle.std.specs.Prelude.{ℕ, List, length}
+use Rattle.px_read.specs.Kept.{fields_keep}
 use Rattle.px_read.specs.Chunks.{Place, in_line, in_content, at_cr, at_lf, in_trailers, broken}
 
 pub data Chunking : Type 0 where
@@ -19,7 +20,8 @@ place_keeps at_lf = 0
 place_keeps (in_trailers block) = length block
 place_keeps broken = 0
 
+-- how many bytes a reader keeps: those at its place, or the trailers with which the body ended
 abbrev pub chunking_keeps : Chunking → ℕ
 chunking_keeps (reads place) = place_keeps place
-chunking_keeps (ended trailers) = 0
+chunking_keeps (ended trailers) = fields_keep trailers
 chunking_keeps refused = 0

@@ -1,5 +1,5 @@
-pub mod ChunkLine
 pub mod ChunkLaws
+pub mod ChunkLine
 pub mod ChunkLoops
 pub mod ChunkStages
 pub mod ChunkSteps
@@ -9,6 +9,7 @@ pub mod Chunking
 pub mod Chunks
 pub mod Heads
 pub mod Items
+pub mod Kept
 pub mod Laws
 pub mod Marks
 pub mod Reader

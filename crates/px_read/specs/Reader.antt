@@ -1,11 +1,12 @@
 -- A reader of one message as its callers see it: where in the message the next byte stands, the bytes that were fed and not
 -- used, and whether the sender has closed. What it gave and what it has to come are together what the bytes tell, however
 -- they were cut.
-use Rattle.std.specs.Prelude.{◌≡◌, ℕ, ◌+◌, ◌<◌, Bool, true, false, List, [], ◌++◌, length, ⊤}
+use Rattle.std.specs.Prelude.{◌≡◌, ℕ, ◌+◌, ◌<◌, Bool, true, false, List, [], ◌++◌, length, min, ⊤}
 use Rattle.px_text.specs.Prefix.{IsPrefixOf}
 use Rattle.px_message.specs.declared.fault.Fault.{Fault}
 use Rattle.px_read.specs.Marks.{Mark, marks_of}
 use Rattle.px_read.specs.Chunking.{place_keeps}
+use Rattle.px_read.specs.Kept.{fields_keep}
 use Rattle.px_read.specs.Chunks.{Place, goes_on, whole, fails, Reading, chunks_from}
 use Rattle.px_read.specs.Readings.{only, behind_bytes, counted_reading, closing_reading, as_response, request_reading, response_reading}
 use Rattle.px_read.specs.declared.message_reader.stage.Sender.{Sender}
@@ -130,10 +131,25 @@ pub record IsTurn (old : State) (given : Part) (new : State) : Type 0 where
 
 -- ---- what is kept
 
+-- of what was used: a chunk line or trailers that have begun, and the trailers of a whole message
 abbrev pub place_of_message_keeps : MessagePlace → ℕ
+place_of_message_keeps (at_head message) = 0
+place_of_message_keeps (in_counted side left) = 0
 place_of_message_keeps (in_chunks side place) = place_keeps place
-place_of_message_keeps place = 0
+place_of_message_keeps (up_to_close side) = 0
+place_of_message_keeps (behind_end trailers) = fields_keep trailers
+place_of_message_keeps (refused fault) = 0
 
--- how many bytes a reader keeps: those that were fed and not used, and those of a chunk line or of trailers that have begun
+-- of what was not used: all but the bytes that wait, which are those behind the message. Behind a counted body they are told
+-- by its length; where the end of a head or of a chunked body is still to be found, all that was fed counts until it was looked at
+abbrev pub rest_keeps : MessagePlace → List ℕ → ℕ
+rest_keeps (at_head message) rest = length rest
+rest_keeps (in_counted side left) rest = min left (length rest)
+rest_keeps (in_chunks side place) rest = length rest
+rest_keeps (up_to_close side) rest = length rest
+rest_keeps (behind_end trailers) rest = 0
+rest_keeps (refused fault) rest = length rest
+
+-- how many bytes a reader keeps
 abbrev pub keeps : State → ℕ
-keeps state = place_of_message_keeps state.place + length state.rest
+keeps state = place_of_message_keeps state.place + rest_keeps state.place state.rest

@@ -47,6 +47,12 @@ IsStage (stage.Response asked_head reader) = reader.failed ≡ None
 IsStage (stage.Chunked side reader) = (place : Place) × (reader ≡ reads place)
 IsStage _ = ⊤
 
+-- a reader of heads has all bytes that were fed: none stand beside it
+abbrev pub StandOnce : Stage → List ℕ → Type 0
+StandOnce (stage.Request reader) rest = rest ≡ []
+StandOnce (stage.Response asked_head reader) rest = rest ≡ []
+StandOnce _ rest = ⊤
+
 -- the place behind a head, at a body of this length
 abbrev pub body_place : Sender → Length → MessagePlace
 body_place side lengths.None = behind_end []

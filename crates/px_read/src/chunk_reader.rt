@@ -5,7 +5,7 @@
 //! the bytes go, its CR, its LF, the trailers a line at a time. Each stage is a function of what it has and of the bytes,
 //! so the definition is met stage by stage (`specs/Chunks.antt`): where the bytes of a stage end, those behind them are
 //! heard from the place that it led to.
-ghost use Rattle.std.specs.Prelude.{◌≡◌, ◌<◌, ◌≤◌, ◌^◌, [], IfOk, drop, length};
+ghost use Rattle.std.specs.Prelude.{◌≡◌, ◌<◌, ◌≤◌, ◌^◌, ◌-◌, min, [], IfOk, drop, length};
 
 mod content;
 mod line;
@@ -13,6 +13,7 @@ mod stage;
 mod trailers;
 
 use crate::ChunkPart;
+use crate::kept::fields_kept;
 use px_text::{Bytes, NoMemory};
 use stage::{Stage, Turn, hear};
 use std::alloc::{AllocError, AllocFailed, Global};
@@ -66,7 +67,7 @@ pub struct ChunkStep {
     pub part: Option<ChunkPart>,
 }
 
-/// A reader of one chunked body. In a contract it is the place in the body where the next byte stands, or the trailers
+/// A reader of one chunked body. It holds no more than `kept` tells, and of trailers that have begun at most twice that. In a contract it is the place in the body where the next byte stands, or the trailers
 /// with which the body ended, or that it was refused (`specs/Chunking.antt`).
 ///
 /// After `NoMemory` it may only be dropped.
@@ -104,16 +105,17 @@ impl ChunkReader {
         }
     }
 
-    /// How many bytes it keeps: those of a chunk line or of trailers that have begun.
+    /// How many bytes it keeps, or 2^64 - 1 where that is more: those of a chunk line or of trailers that have begun, or of
+    /// the trailers with which the body ended.
     pub fn kept(&self) -> usize
-        ensures { result ≡ chunking_keeps self.now }
+        ensures { result ≡ min (chunking_keeps self.now) (2 ^ 64 - 1) }
     {
         match &self.stage {
             Stage::Line => self.line.len(),
             Stage::Content(_) => 0,
             Stage::LineFeed => 0,
             Stage::Trailers(reader) => reader.unused(),
-            Stage::Ended(_) => 0,
+            Stage::Ended(trailers) => fields_kept(trailers),
             Stage::Refused => 0,
         }
     }
@@ -193,7 +195,13 @@ impl ChunkReader {
     {
         let rest = bytes_from(bytes, at)?;
         let stage = mem::replace(&mut self.stage, Stage::Refused);
-        let turn = hear(stage, &mut self.line, &rest)?;
+        let turn = match hear(stage, &mut self.line, &rest) {
+            Ok(turn) => turn,
+            Err(error) => {
+                self.line.clear();
+                return Err(error);
+            }
+        };
         self.stage = turn.stage;
         Ok(ChunkStep {
             used: turn.used,

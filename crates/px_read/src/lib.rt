@@ -10,6 +10,7 @@
 pub mod chunk_laws;
 mod chunk_reader;
 mod head;
+mod kept;
 pub mod laws;
 mod message_reader;
 mod part;

@@ -13,6 +13,7 @@ mod pending;
 mod stage;
 
 use crate::Part;
+use crate::kept::fields_kept;
 use pending::Pending;
 use px_head::HeadReader;
 use px_message::Fault;
@@ -38,13 +39,13 @@ pub struct MessageReader {
 
 impl Model for MessageReader {
     ghost use Rattle.px_read.specs.Reader.{State};
-    ghost use Rattle.px_read.specs.Stages.{IsStage, seen_as};
+    ghost use Rattle.px_read.specs.Stages.{IsStage, StandOnce, seen_as};
 
     ghost Value = { State };
 
     ghost view = { λ r. seen_as r.stage r.rest r.closed };
 
-    ghost invariant = { λ r. IsStage r.stage };
+    ghost invariant = { λ r. IsStage r.stage × StandOnce r.stage r.rest };
 }
 
 impl MessageReader {
@@ -120,18 +121,23 @@ impl MessageReader {
         Ok(turn.part)
     }
 
-    /// How many bytes it keeps, or 2^64 - 1 where that is more: those that were fed and not used, and those of a chunk line or of
-    /// trailers that have begun.
+    /// How many bytes it keeps, or 2^64 - 1 where that is more: all that it holds but the bytes behind the message, which wait
+    /// for whoever reads on.
+    ///
+    /// Those are the bytes that were fed and not used, and those of a chunk line or of trailers that have begun; of a body by
+    /// length no more of them than are to come; and of a whole message its trailers alone. While it is not known where the
+    /// message ends, because a head or a chunked body goes on, all that was fed and not used counts; so where bytes behind the
+    /// message came together with it, they count until `next` has told `End`.
     pub fn kept(&self) -> usize
         ensures { result ≡ min (keeps self.now) (2 ^ 64 - 1) }
     {
         match &self.stage {
             Stage::Request(reader) => reader.unused(),
             Stage::Response { reader, .. } => reader.unused(),
-            Stage::Counted { .. } => self.rest.len(),
+            Stage::Counted { left, .. } => least(*left, self.rest.len()),
             Stage::Chunked { reader, .. } => reader.kept().saturating_add(self.rest.len()),
             Stage::ToClose { .. } => self.rest.len(),
-            Stage::Ended(_) => self.rest.len(),
+            Stage::Ended(trailers) => fields_kept(trailers),
             Stage::Refused(_) => self.rest.len(),
         }
     }
@@ -146,5 +152,16 @@ impl MessageReader {
             Stage::Response { reader, .. } => Bytes::new(reader.into_rest()),
             _ => Ok(rest.into_bytes()),
         }
+    }
+}
+
+// How many bytes of a body are there, of those that are to come.
+fn least(left: u64, there: usize) -> usize
+    ensures { result ≡ min left there }
+{
+    if there as u64 <= left {
+        there
+    } else {
+        left as usize
     }
 }

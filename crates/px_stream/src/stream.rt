@@ -139,8 +139,8 @@ impl Stream {
         self.phase.waiting()
     }
 
-    /// How many bytes it keeps, or 2^64 - 1 where that is more: those that its readers did not use, and the content that
-    /// has come of the body that it reads.
+    /// How many bytes it keeps, or 2^64 - 1 where that is more: what its readers keep, and the content that has come of the
+    /// body that it reads. The flow does not count, nor do bytes that wait behind a message.
     pub(crate) fn size(&self) -> usize
         ensures { result ≡ min (stream_keeps self.now) (2 ^ 64 - 1) }
     {

@@ -3,7 +3,7 @@ ghost use Rattle.std.specs.Prelude.{◌≡◌, ◌≤◌, ◌<◌, take, drop, l
 ghost use Rattle.px_read.specs.Chunking.{reads};
 ghost use Rattle.px_read.specs.Chunks.{Place};
 ghost use Rattle.px_read.specs.Reader.{IsTurn, has_shut, in_counted, in_chunks, up_to_close};
-ghost use Rattle.px_read.specs.Stages.{IsStage, chunk_place, fault_of, seen_as, state_at};
+ghost use Rattle.px_read.specs.Stages.{IsStage, StandOnce, chunk_place, fault_of, seen_as, state_at};
 ghost use Rattle.px_read.specs.Waits.{given};
 ghost use Rattle.px_message.specs.declared.fault.Fault.TheVariants.{BadChunk};
 
@@ -25,6 +25,7 @@ pub fn take_counted(
 ) -> Result<Turn, NoMemory>
     ensures turn { IfOk result (λ turn. IsTurn (state_at (in_counted sender left) rest closed) turn.part (seen_as turn.stage turn.rest closed)) }
     ensures stage { IfOk result (λ turn. IsStage turn.stage) }
+    ensures once { IfOk result (λ turn. StandOnce turn.stage turn.rest) }
 {
     if left == 0 {
         return end(Fields::new(alloc), rest);
@@ -50,6 +51,7 @@ pub fn take_to_close(
 ) -> Result<Turn, NoMemory>
     ensures turn { IfOk result (λ turn. IsTurn (state_at (up_to_close sender) rest closed) turn.part (seen_as turn.stage turn.rest closed)) }
     ensures stage { IfOk result (λ turn. IsStage turn.stage) }
+    ensures once { IfOk result (λ turn. StandOnce turn.stage turn.rest) }
 {
     let count = rest.len();
     if count > 0 {
@@ -111,6 +113,7 @@ pub fn take_chunk(
     requires { (place : Place) × (reader ≡ reads place) }
     ensures turn { IfOk result (λ turn. IsTurn (state_at (chunk_place sender reader) rest closed) turn.part (seen_as turn.stage turn.rest closed)) }
     ensures stage { IfOk result (λ turn. IsStage turn.stage) }
+    ensures once { IfOk result (λ turn. StandOnce turn.stage turn.rest) }
 {
     match reader.step(rest.bytes()) {
         Ok(step) => {

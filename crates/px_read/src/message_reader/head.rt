@@ -1,8 +1,8 @@
 //! Heads, and what follows each of them by its length (RFC 9112 section 6.3).
-ghost use Rattle.std.specs.Prelude.{◌≡◌, ℕ, Bool, List, None, IfOk};
+ghost use Rattle.std.specs.Prelude.{◌≡◌, ℕ, Bool, List, [], None, IfOk};
 ghost use Rattle.px_message.specs.Length.{response_length};
 ghost use Rattle.px_read.specs.Reader.{IsTurn, at_head, request, response};
-ghost use Rattle.px_read.specs.Stages.{answered, IsStage, body_place, request_place, seen_as, state_at};
+ghost use Rattle.px_read.specs.Stages.{answered, IsStage, StandOnce, body_place, request_place, seen_as, state_at};
 
 use super::pending::Pending;
 use super::stage::{Sender, Stage, Turn, refuse};
@@ -20,9 +20,11 @@ pub fn take_request(
     rest: Pending,
     closed: bool,
 ) -> Result<Turn, NoMemory>
-    requires { reader.failed ≡ None }
+    requires going { reader.failed ≡ None }
+    requires once { rest ≡ [] }
     ensures turn { IfOk result (λ turn. IsTurn (state_at (at_head request) reader.rest closed) turn.part (seen_as turn.stage turn.rest closed)) }
     ensures stage { IfOk result (λ turn. IsStage turn.stage) }
+    ensures once { IfOk result (λ turn. StandOnce turn.stage turn.rest) }
 {
     match reader.take_request()? {
         Found::Partial => Ok(Turn {
@@ -60,9 +62,11 @@ pub fn take_response(
     rest: Pending,
     closed: bool,
 ) -> Result<Turn, NoMemory>
-    requires { reader.failed ≡ None }
+    requires going { reader.failed ≡ None }
+    requires once { rest ≡ [] }
     ensures turn { IfOk result (λ turn. IsTurn (state_at (at_head (response asked_head)) reader.rest closed) turn.part (seen_as turn.stage turn.rest closed)) }
     ensures stage { IfOk result (λ turn. IsStage turn.stage) }
+    ensures once { IfOk result (λ turn. StandOnce turn.stage turn.rest) }
 {
     match reader.take_response()? {
         Found::Partial if closed => Ok(refuse(Fault::ServerClosed, rest_of(reader)?)),
@@ -92,6 +96,7 @@ fn refuse_response(reader: HeadReader) -> Result<Turn, NoMemory>
 fn give_response(alloc: Global, asked_head: bool, head: ResponseHead, rest: Pending) -> Turn
     ensures turn { (closed : Bool) → (result.part, seen_as result.stage result.rest closed) ≡ answered (response_length head.code asked_head head.fields) head rest closed }
     ensures stage { IsStage result.stage }
+    ensures once { StandOnce result.stage result.rest }
 {
     match length_of_response(head.code, asked_head, &head.fields) {
         Err(_) => refuse(Fault::BadResponse, rest),
@@ -107,6 +112,7 @@ fn give_response(alloc: Global, asked_head: bool, head: ResponseHead, rest: Pend
 fn behind_request(alloc: Global, length: Result<Length, Fault>) -> Stage
     ensures seen { (rest : List ℕ) (closed : Bool) → seen_as result rest closed ≡ state_at (request_place length) rest closed }
     ensures stage { IsStage result }
+    ensures once { (rest : List ℕ) → StandOnce result rest }
 {
     match length {
         Ok(length) => behind_head(alloc, Sender::Client, length),
@@ -118,6 +124,7 @@ fn behind_request(alloc: Global, length: Result<Length, Fault>) -> Stage
 fn behind_head(alloc: Global, sender: Sender, length: Length) -> Stage
     ensures seen { (rest : List ℕ) (closed : Bool) → seen_as result rest closed ≡ state_at (body_place sender length) rest closed }
     ensures stage { IsStage result }
+    ensures once { (rest : List ℕ) → StandOnce result rest }
 {
     match length {
         Length::None => Stage::Ended(Fields::new(alloc)),

@@ -1,7 +1,7 @@
 //! Where a reader is in its message, and one turn of it: the next part, and where it is behind it.
 ghost use Rattle.std.specs.Prelude.{◌≡◌, IfOk};
 ghost use Rattle.px_read.specs.Reader.{IsTurn};
-ghost use Rattle.px_read.specs.Stages.{IsStage, seen_as};
+ghost use Rattle.px_read.specs.Stages.{IsStage, StandOnce, seen_as};
 ghost use Rattle.px_read.specs.Waits.{waited};
 
 use super::body::{take_chunk, take_counted, take_to_close};
@@ -60,9 +60,11 @@ pub struct Turn {
 
 /// The next part of the bytes.
 pub fn take_turn(alloc: Global, stage: Stage, rest: Pending, closed: bool) -> Result<Turn, NoMemory>
-    requires { IsStage stage }
+    requires stage { IsStage stage }
+    requires once { StandOnce stage rest }
     ensures turn { IfOk result (λ turn. IsTurn (seen_as stage rest closed) turn.part (seen_as turn.stage turn.rest closed)) }
     ensures stage { IfOk result (λ turn. IsStage turn.stage) }
+    ensures once { IfOk result (λ turn. StandOnce turn.stage turn.rest) }
 {
     match stage {
         Stage::Request(reader) => take_request(alloc, reader, rest, closed),

@@ -1,4 +1,4 @@
-use Rattle.std.proofs.Common.{ℕ, List, ◌∙◌, ◌++◌, ap, sym, subst, length, drop, arith, length-append}
+use Rattle.std.proofs.Common.{ℕ, List, ◌∙◌, ap, sym, subst, length, drop, arith, length-append}
 use Rattle.std.proofs.lemmas.List.{drop-append-le}
 use Rattle.px_head.specs.Marks.{AreMarks}
 use Rattle.px_head.proofs.PlaceLemmas.{AreMarks-append}
@@ -6,13 +6,12 @@ use Rattle.px_head.proofs.reader.HeadReader.feed.Goals as goal
 
 pub invariant_of-self-2 : goal.invariant_of-self-2
 invariant_of-self-2 c =
-    let at = c.compact-self-inside.result in
-    let old = c.compact-self-inside.new.buffer.items in
-    let within = c.compact-self-inside.ensures.within in
+    let at = c.self.inside.used in
+    let old = c.self.inside.buffer.items in
+    let bound = c.self.invariant.0 in
     let grown = c.in_ok-extend_from_slice.ensures.items in
     let size = ap (λ (l : List ℕ). length l) grown ∙ length-append old c.args.bytes.now in
-    let rest = ap (λ (l : List ℕ). drop at l) grown ∙ drop-append-le at old c.args.bytes.now within
-    ∙ ap (λ (l : List ℕ). l ++ c.args.bytes.now) c.compact-self-inside.ensures.rest in (
+    let rest = ap (λ (l : List ℕ). drop at l) grown ∙ drop-append-le at old c.args.bytes.now (omega arith) in (
       omega arith,
       subst (λ (l : List ℕ). AreMarks l c.self.inside.marks) (sym rest)
           (AreMarks-append _ c.args.bytes.now c.self.inside.marks c.self.invariant.1),

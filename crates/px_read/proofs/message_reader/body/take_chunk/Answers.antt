@@ -2,12 +2,12 @@ use Rattle.std.proofs.Common.{List, ℕ, ◌≡◌, Bool, Ok, Err, IfOk, drop, a
 use Rattle.std.proofs.lemmas.Result.{IfOk-weaker}
 use Rattle.px_read.specs.ChunkSteps.{Steps}
 use Rattle.px_read.specs.Reader.{IsTurn, has_shut}
-use Rattle.px_read.specs.Stages.{IsStage, chunk_place, seen_as, state_at}
+use Rattle.px_read.specs.Stages.{IsStage, StandOnce, chunk_place, seen_as, state_at}
 use Rattle.px_read.specs.Waits.{given}
 use Rattle.px_read.specs.declared.chunk_reader.ChunkError.TheVariants as chunk_error
 use Rattle.px_read.specs.declared.message_reader.stage.Stage.TheVariants as stage
 use Rattle.px_read.specs.declared.message_reader.stage.Turn.{Turn}
-use Rattle.px_read.proofs.BodyLemmas.{chunk-turn, chunk-stage, chunk-refused}
+use Rattle.px_read.proofs.BodyLemmas.{chunk-turn, chunk-stage, chunk-once, chunk-refused}
 use Rattle.px_read.proofs.ReaderLemmas.{turn-made}
 use Rattle.px_read.proofs.message_reader.body.take_chunk.Goals as goal
 
@@ -35,6 +35,16 @@ returns-in-Ok-clause-stage c =
     IfOk-weaker c.give.result (λ (turn : Turn). turn ≡ made) (λ (turn : Turn). IsStage turn.stage)
     (λ turn is. subst (λ (t : Turn). IsStage t.stage) (sym is)
     (chunk-stage c.args.sender c.args.reader c.bytes.result.now c.skip.new.self c.is_shut.result step after c.requires c.in-Ok.ensures.step))
+    c.give.ensures
+
+pub returns-in-Ok-clause-once : goal.returns-in-Ok-clause-once
+returns-in-Ok-clause-once c =
+    let step = c.in-Ok.step in
+    let after = c.step.new.self in
+    let made = given step.part (stage.Chunked c.args.sender after) c.skip.new.self c.is_shut.result in
+    IfOk-weaker c.give.result (λ (turn : Turn). turn ≡ made) (λ (turn : Turn). StandOnce turn.stage turn.rest)
+    (λ turn is. subst (λ (t : Turn). StandOnce t.stage t.rest) (sym is)
+    (chunk-once step.part c.args.sender after c.skip.new.self c.is_shut.result))
     c.give.ensures
 
 pub returns-in-Err-BadChunk-clause-turn : goal.returns-in-Err-BadChunk-clause-turn

@@ -14,13 +14,13 @@ use Rattle.px_read.proofs.message_reader.head.take_request.Goals as goal
 pub read_request_head-requires : goal.read_request_head-requires
 read_request_head-requires c =
     request-parts c.args.reader c.take_request.new.self c.in-Head.raw
-    (finds kind.Request c.args.reader c.take_request.new.self c.in-Head.raw c.requires
+    (finds kind.Request c.args.reader c.take_request.new.self c.in-Head.raw c.requires.going
     (sym c.in-Head.is ∙ c.in_ok-take_request.ensures.found) c.in_ok-take_request.ensures.state)
 
 pub returns-in-Partial-clause-turn : goal.returns-in-Partial-clause-turn
 returns-in-Partial-clause-turn c =
     request-waits c.args.reader c.take_request.new.self c.args.closed
-    (waits kind.Request c.args.reader c.take_request.new.self c.requires
+    (waits kind.Request c.args.reader c.take_request.new.self c.requires.going
     (sym c.in-Partial.is ∙ c.in_ok-take_request.ensures.found) c.in_ok-take_request.ensures.state)
 
 pub returns-in_ok-rest_of-in-TooLong-clause-turn : goal.returns-in_ok-rest_of-in-TooLong-clause-turn
@@ -29,7 +29,7 @@ returns-in_ok-rest_of-in-TooLong-clause-turn c =
     (λ (t : Turn). IsTurn (state_at (at_head request) c.args.reader.rest c.args.closed) t.part (seen_as t.stage t.rest c.args.closed))
     (sym c.refuse.ensures)
     (request-too_long c.args.reader c.take_request.new.self c.in_ok-rest_of-in-TooLong.field-0 c.args.closed
-    (is_too_long kind.Request c.args.reader c.take_request.new.self c.requires
+    (is_too_long kind.Request c.args.reader c.take_request.new.self c.requires.going
     (sym c.in-TooLong.is ∙ c.in_ok-take_request.ensures.found) c.in_ok-take_request.ensures.state)
     c.in_ok-rest_of-in-TooLong.ensures)
 
@@ -39,7 +39,7 @@ returns-in_ok-rest_of-in-BadHead-clause-turn c =
     (λ (t : Turn). IsTurn (state_at (at_head request) c.args.reader.rest c.args.closed) t.part (seen_as t.stage t.rest c.args.closed))
     (sym c.refuse-in-BadHead.ensures)
     (request-bad c.args.reader c.take_request.new.self c.in_ok-rest_of-in-BadHead.field-0 c.args.closed
-    (is_bad kind.Request c.args.reader c.take_request.new.self c.requires
+    (is_bad kind.Request c.args.reader c.take_request.new.self c.requires.going
     (sym c.in-BadHead.is ∙ c.in_ok-take_request.ensures.found) c.in_ok-take_request.ensures.state)
     c.in_ok-rest_of-in-BadHead.ensures)
 
@@ -57,6 +57,6 @@ returns-in_ok-head-in-Head-clause-turn c =
     (λ (h : RequestHead). IsTurn (state_at (at_head request) c.args.reader.rest c.args.closed) (part.Request h) (state_at (request_place (request_length raw.pairs)) rest c.args.closed))
     (sym c.in_ok-head-in-Head.ensures)
     (request-gives c.args.reader c.take_request.new.self raw rest c.args.closed
-    (finds kind.Request c.args.reader c.take_request.new.self raw c.requires
+    (finds kind.Request c.args.reader c.take_request.new.self raw c.requires.going
     (sym c.in-Head.is ∙ c.in_ok-take_request.ensures.found) c.in_ok-take_request.ensures.state)
     c.in_ok-rest-in-Head.ensures))

@@ -17,7 +17,7 @@ use Rattle.px_read.proofs.message_reader.head.take_response.Goals as goal
 pub read_response_head-requires : goal.read_response_head-requires
 read_response_head-requires c =
     response-parts c.args.reader c.take_response.new.self c.in-Head.raw
-    (finds kind.Response c.args.reader c.take_response.new.self c.in-Head.raw c.requires
+    (finds kind.Response c.args.reader c.take_response.new.self c.in-Head.raw c.requires.going
     (sym c.in-Head.is ∙ c.in_ok-take_response.ensures.found) c.in_ok-take_response.ensures.state)
 
 pub returns-in_ok-rest_of-in-Partial-clause-turn : goal.returns-in_ok-rest_of-in-Partial-clause-turn
@@ -26,14 +26,14 @@ returns-in_ok-rest_of-in-Partial-clause-turn c =
     (λ (t : Turn). IsTurn (state_at (at_head (response c.args.asked_head)) c.args.reader.rest c.args.closed) t.part (seen_as t.stage t.rest c.args.closed))
     (sym c.refuse.ensures)
     (response-cut c.args.reader c.take_response.new.self c.in_ok-rest_of-in-Partial.field-0 c.args.asked_head c.args.closed
-    (waits kind.Response c.args.reader c.take_response.new.self c.requires
+    (waits kind.Response c.args.reader c.take_response.new.self c.requires.going
     (sym c.in-Partial.is ∙ c.in_ok-take_response.ensures.found) c.in_ok-take_response.ensures.state)
     c.if-closed.true c.in_ok-rest_of-in-Partial.ensures)
 
 pub returns-in-Partial-2-clause-turn : goal.returns-in-Partial-2-clause-turn
 returns-in-Partial-2-clause-turn c =
     response-waits c.args.reader c.take_response.new.self c.args.asked_head c.args.closed
-    (waits kind.Response c.args.reader c.take_response.new.self c.requires
+    (waits kind.Response c.args.reader c.take_response.new.self c.requires.going
     (sym c.in-Partial-2.is ∙ c.in_ok-take_response.ensures.found) c.in_ok-take_response.ensures.state)
     c.if-closed.false
 
@@ -44,7 +44,7 @@ returns-in-TooLong-clause-turn c =
     (record { part = part.Bad BadResponse; stage = stage.Refused BadResponse; rest = rest })
     (state_at (at_head (response c.args.asked_head)) c.args.reader.rest c.args.closed) c.args.closed
     (response-too_long c.args.reader c.take_response.new.self rest c.args.asked_head c.args.closed
-    (is_too_long kind.Response c.args.reader c.take_response.new.self c.requires
+    (is_too_long kind.Response c.args.reader c.take_response.new.self c.requires.going
     (sym c.in-TooLong.is ∙ c.in_ok-take_response.ensures.found) c.in_ok-take_response.ensures.state) refl)
     c.refuse_response.ensures
 
@@ -55,7 +55,7 @@ returns-in-BadHead-clause-turn c =
     (record { part = part.Bad BadResponse; stage = stage.Refused BadResponse; rest = rest })
     (state_at (at_head (response c.args.asked_head)) c.args.reader.rest c.args.closed) c.args.closed
     (response-bad c.args.reader c.take_response.new.self rest c.args.asked_head c.args.closed
-    (is_bad kind.Response c.args.reader c.take_response.new.self c.requires
+    (is_bad kind.Response c.args.reader c.take_response.new.self c.requires.going
     (sym c.in-BadHead.is ∙ c.in_ok-take_response.ensures.found) c.in_ok-take_response.ensures.state) refl)
     c.refuse_response-in-BadHead.ensures
 
@@ -70,6 +70,6 @@ returns-in_ok-head-in-Head-clause-turn c =
     ∙ ap (λ (h : ResponseHead). answered (response_length h.code c.args.asked_head h.fields) h rest c.args.closed) c.in_ok-head-in-Head.ensures in
     subst (λ (p : Part × State). IsTurn (state_at (at_head (response c.args.asked_head)) c.args.reader.rest c.args.closed) p.0 p.1) (sym gave)
     (response-gives c.args.reader c.take_response.new.self raw rest c.args.asked_head c.args.closed
-    (finds kind.Response c.args.reader c.take_response.new.self raw c.requires
+    (finds kind.Response c.args.reader c.take_response.new.self raw c.requires.going
     (sym c.in-Head.is ∙ c.in_ok-take_response.ensures.found) c.in_ok-take_response.ensures.state)
     c.in_ok-rest-in-Head.ensures)
