@@ -1,0 +1,4 @@
+pub mod CountLemmas
+pub mod NotedLemmas
+pub mod ScriptLemmas
+pub mod WordLemmas
