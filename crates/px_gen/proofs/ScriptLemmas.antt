@@ -11,7 +11,7 @@ range_more a zero j is = let same : a ≡ j = omega arith in ap (λ m. m ∷ [])
 range_more a (suc n) j is = ap (λ l. a ∷ l) (range_more (a + 1) n j (omega arith))
 
 -- each number with a list of its own
-all_of_more : {A : Type 0} (f : ℕ → List A) (n : ℕ) → flat_map f (numbers_below (n + 1)) ≡ flat_map f (numbers_below n) ++ f n
+pub all_of_more : {A : Type 0} (f : ℕ → List A) (n : ℕ) → flat_map f (numbers_below (n + 1)) ≡ flat_map f (numbers_below n) ++ f n
 all_of_more f n =
     let next : n + 1 ≡ suc n = omega arith in
     ap (λ m. flat_map f (numbers_below m)) next

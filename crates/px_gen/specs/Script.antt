@@ -1,8 +1,8 @@
 -- What is heard of generated flows: one client at the proxy's door, and for each flow its request, the dial of its server and
 -- the server's answer in pieces. All moments are 0.
-use Rattle.std.specs.Prelude.{ℕ, ◌+◌, ◌*◌, ◌%◌, true, List, [], ◌∷◌, ◌++◌, length, take, drop, map, codes, decimal}
+use Rattle.std.specs.Prelude.{◌≡◌, ℕ, ◌+◌, ◌*◌, ◌%◌, ◌<◌, ◌≤◌, true, List, [], ◌∷◌, ◌++◌, length, slice_index_or, take, drop, map, codes, decimal}
 use Rattle.std.specs.Int.{div_ceil}
-use Rattle.std.specs.List.{flat_map, range_with_len}
+use Rattle.std.specs.List.{concat, flat_map, range_with_len}
 use Rattle.px_event.specs.declared.heard.Heard.{Heard}
 use Rattle.px_event.specs.declared.heard.Heard.TheVariants.{Accepted, Piece, Closed, Dialled}
 use Rattle.px_event.specs.declared.side.Door.TheVariants.{Proxy}
@@ -63,6 +63,13 @@ cut most text = map (piece_at most text) (numbers_below (div_ceil (length text) 
 -- a text in pieces of 1,000 bytes
 unfoldable pub pieces_of : List ℕ → List (List ℕ)
 pieces_of text = cut 1000 text
+
+-- the pieces are the text, one behind the other; each has a byte and 1,000 at most, and each but the last has 1,000
+pub record ArePiecesOf (text : List ℕ) (pieces : List (List ℕ)) : Type 0 where
+  pub joined : concat pieces ≡ text
+  pub some : (k : ℕ) → k < length pieces → 0 < length (slice_index_or pieces k [])
+  pub most : (k : ℕ) → k < length pieces → length (slice_index_or pieces k []) ≤ 1000
+  pub full : (k : ℕ) → k + 1 < length pieces → length (slice_index_or pieces k []) ≡ 1000
 
 -- a piece from this side, at moment 0
 abbrev pub heard_from : Side → List ℕ → ℕ × Heard

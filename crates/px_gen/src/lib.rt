@@ -4,7 +4,8 @@
 //! A client comes to the proxy's door, asks for N things one behind the other, and closes; each thing comes from a server of its own
 //! that is connected as soon as it is dialled. All of it follows from N alone (`specs/Script.antt`), so a run over `px_outside::ScriptNet`
 //! needs no socket, no clock and no file, and two runs of one N are one run. The sizes of the bodies go up and down by a sum modulo 1,000, so
-//! empty and full ones come in every order, and an answer is cut where the texts of sockets are cut: anywhere.
+//! empty and full ones come in every order, and an answer is cut after every 1,000 bytes, wherever in its head or
+//! its body that is.
 //!
 //! The counts are those of the steps of a run (`specs/Counts.antt`), whoever made it. Where one conversation alone is served, the bytes
 //! counted to the client are those of px_event's `sent`, on which what is promised of a run is said; that is a law.
@@ -18,10 +19,12 @@ mod counting;
 mod flows;
 mod laws;
 mod notes;
+#[cfg(test)]
+mod tests;
 mod word;
 
 pub use counting::{Counts, counts_of, counts_text};
 pub use flows::script;
-pub use laws::client_bytes_are_those_sent;
+pub use laws::{client_bytes_are_those_sent, pieces_are_the_text};
 pub use notes::note_all;
 pub use word::read_count;
