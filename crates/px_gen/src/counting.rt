@@ -17,9 +17,9 @@ pub struct Counts {
     pub to_client: u64,
 }
 
-/// The counts of a run's steps: of all its conversations, and of no step twice.
+/// The counts of a run's steps. Each step counts, whichever conversation it is of. It takes no memory.
 pub fn counts_of(steps: &[Step]) -> Counts
-    ensures { result ≡ counts_in steps.now }
+    ensures counts { result ≡ counts_in steps.now }
 {
     let flows = steps.iter().filter(|step| is_done(step)).count();
     Counts {

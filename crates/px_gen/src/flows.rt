@@ -11,9 +11,9 @@ use std::alloc::Global;
 
 /// What is heard of so many generated flows, each with its moment: a client at the proxy's door, as conversation 0; for each flow its
 /// request, the dial of its server and the pieces of the answer; and the client's close. The client is 127.0.0.1 at port 1, and every
-/// moment is 0.
+/// moment is 0. After `NoMemory` nothing is left of it.
 pub fn script(alloc: Global, count: u64) -> Result<Vec<(u64, Heard)>, NoMemory>
-    requires { count ≤ 10000 }
+    requires count { count ≤ 10000 }
     ensures script { IfOk result (λ made. made.items ≡ script count) }
 {
     let mut made = Vec::new(alloc);

@@ -3,9 +3,9 @@
 //!
 //! A client comes to the proxy's door, asks for N things one behind the other, and closes; each thing comes from a server of its own
 //! that is connected as soon as it is dialled. All of it follows from N alone (`specs/Script.antt`), so a run over `px_outside::ScriptNet`
-//! needs no socket, no clock and no file, and two runs of one N are one run. The sizes of the bodies go up and down by a sum modulo 1,000, so
-//! empty and full ones come in every order, and an answer is cut after every 1,000 bytes, wherever in its head or
-//! its body that is.
+//! needs no socket, no clock and no file, and hears the same each time. Sizes are a sum modulo 1,000 whose step has no factor in common with
+//! 1,000: so 1,000 flows have each size below 1,000 once. An answer is cut after every 1,000 bytes of head and body, and no piece is empty;
+//! that is a law.
 //!
 //! The counts are those of the steps of a run (`specs/Counts.antt`), whoever made it. Where one conversation alone is served, the bytes
 //! counted to the client are those of px_event's `sent`, on which what is promised of a run is said; that is a law.

@@ -9,7 +9,7 @@ const MOST_FLOWS: u64 = 10_000;
 
 /// The number that the word is: decimal digits without a sign and without leading zeros, 10,000 at most. None for every other word.
 pub fn read_count(word: &[u8]) -> Option<u64>
-    ensures { MatchOption result ((n : ℕ) → ¬ (IsCount word.now n)) (λ n. IsCount word.now n) }
+    ensures read { MatchOption result ((n : ℕ) → ¬ (IsCount word.now n)) (λ n. IsCount word.now n) }
 {
     let Some(count) = read_decimal(word) else {
         return None;
