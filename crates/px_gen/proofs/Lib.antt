@@ -1,0 +1,5 @@
+pub mod CountLemmas
+pub mod NotedLemmas
+pub mod PieceLemmas
+pub mod ScriptLemmas
+pub mod WordLemmas

@@ -1,0 +1,123 @@
+//! What is heard of generated flows.
+ghost use Rattle.std.specs.Prelude.{◌≡◌, ℕ, ◌≤◌, ◌∷◌, [], ◌++◌, IfOk, OnOk, codes, map, true};
+ghost use Rattle.px_gen.specs.Peer.{peer};
+ghost use Rattle.px_gen.specs.Script.{heard_from, heard_of, pieces_of, script};
+
+use crate::answers::{PIECE, answer, piece_at, request};
+use px_event::{Door, Heard, Side};
+use px_message::{Address, BadHost, Host};
+use px_text::{Bytes, NoMemory};
+use std::alloc::Global;
+
+/// What is heard of so many generated flows, each with its moment: a client at the proxy's door, as conversation 0; for each flow its
+/// request, the dial of its server and the pieces of the answer; and the client's close. The client is 127.0.0.1 at port 1, and every
+/// moment is 0. After `NoMemory` nothing is left of it.
+pub fn script(alloc: Global, count: u64) -> Result<Vec<(u64, Heard)>, NoMemory>
+    requires count { count ≤ 10000 }
+    ensures script { IfOk result (λ made. made.items ≡ script count) }
+{
+    let mut made = Vec::new(alloc);
+    push_accepted(alloc, &mut made)?;
+    for flow in 0..count as u32 {
+        push_flow(alloc, flow, &mut made)?;
+    }
+    push_closed(&mut made)?;
+    Ok(made)
+}
+
+fn push_accepted(alloc: Global, made: &mut Vec<(u64, Heard)>) -> Result<(), NoMemory>
+    ensures { OnOk result (made.new.items ≡ made.old.items ++ (0, Heard.Accepted 0 Door.Proxy peer) ∷ []) }
+{
+    let peer = peer(alloc)?;
+    let heard = Heard::Accepted {
+        conv: 0,
+        door: Door::Proxy,
+        peer,
+    };
+    made.push((0, heard))?;
+    Ok(())
+}
+
+fn push_closed(made: &mut Vec<(u64, Heard)>) -> Result<(), NoMemory>
+    ensures { OnOk result (made.new.items ≡ made.old.items ++ (0, Heard.Closed 0 Side.Client) ∷ []) }
+{
+    let heard = Heard::Closed {
+        conv: 0,
+        side: Side::Client,
+    };
+    made.push((0, heard))?;
+    Ok(())
+}
+
+// Where the client is.
+fn peer(alloc: Global) -> Result<Address, NoMemory>
+    ensures { IfOk result (λ address. address ≡ peer) }
+{
+    let host = host(alloc)?;
+    Ok(Address { host, port: 1 })
+}
+
+fn host(alloc: Global) -> Result<Host, NoMemory>
+    ensures { IfOk result (λ host. host ≡ codes "127.0.0.1") }
+{
+    match Host::try_new(alloc, Vec::from_slice(alloc, b"127.0.0.1")?) {
+        Ok(host) => Ok(host),
+        Err(BadHost::NoMemory) => Err(NoMemory),
+        Err(BadHost::Malformed(_)) => unreachable!(),
+    }
+}
+
+fn push_flow(alloc: Global, flow: u32, made: &mut Vec<(u64, Heard)>) -> Result<(), NoMemory>
+    requires { flow ≤ 10000 }
+    ensures { OnOk result (made.new.items ≡ made.old.items ++ heard_of flow) }
+{
+    let request = request(alloc, flow)?;
+    push_piece(alloc, Side::Client, &request, made)?;
+    push_dialled(flow, made)?;
+    let answer = answer(alloc, flow)?;
+    push_pieces(alloc, Side::Server(flow), &answer, made)
+}
+
+fn push_dialled(server: u32, made: &mut Vec<(u64, Heard)>) -> Result<(), NoMemory>
+    ensures { OnOk result (made.new.items ≡ made.old.items ++ (0, Heard.Dialled 0 server true) ∷ []) }
+{
+    let heard = Heard::Dialled {
+        conv: 0,
+        server,
+        ok: true,
+    };
+    made.push((0, heard))?;
+    Ok(())
+}
+
+fn push_pieces(
+    alloc: Global,
+    side: Side,
+    text: &[u8],
+    made: &mut Vec<(u64, Heard)>,
+) -> Result<(), NoMemory>
+    ensures { OnOk result (made.new.items ≡ made.old.items ++ map (heard_from side) (pieces_of text.now)) }
+{
+    for place in 0..text.len().div_ceil(PIECE) {
+        push_piece(alloc, side, piece_at(text, place), made)?;
+    }
+    Ok(())
+}
+
+fn push_piece(
+    alloc: Global,
+    side: Side,
+    bytes: &[u8],
+    made: &mut Vec<(u64, Heard)>,
+) -> Result<(), NoMemory>
+    ensures { OnOk result (made.new.items ≡ made.old.items ++ heard_from side bytes.now ∷ []) }
+{
+    let bytes = Bytes::copied(alloc, bytes)?;
+    let heard = Heard::Piece {
+        conv: 0,
+        side,
+        bytes,
+    };
+    made.push((0, heard))?;
+    Ok(())
+}
