@@ -1,0 +1,4 @@
+pub mod AddressLemmas
+pub mod TextLemmas
+pub mod RuleLemmas
+pub mod GatherLemmas
