@@ -2,3 +2,4 @@ pub mod AddressLemmas
 pub mod TextLemmas
 pub mod RuleLemmas
 pub mod GatherLemmas
+pub mod LawLemmas

@@ -47,7 +47,7 @@ first_bad key read n (t ∷ ts) (suc i) text cause (r ∷ rs) are bad at =
     let there : map read (take i ts) ≡ map Ok rs = cc in
     let place : (n + 1) + i ≡ n + suc i = omega arith in
     put_refusal key n t (read t) (rules_from key read (n + 1) ts) r _ here
-        (first_bad key read (n + 1) ts i text cause rs there bad at ∙ ap (λ k. Err (error.BadRule (name_of key) k text cause)) place)
+    (first_bad key read (n + 1) ts i text cause rs there bad at ∙ ap (λ k. Err (error.BadRule (name_of key) k text cause)) place)
 
 pub listed : {R : Type 0} (key : Key) (read : List ℕ → Result R RuleCause) (o : Option (List (List ℕ))) (texts : List (List ℕ)) (rules : List R)
     → o ≡ Some texts → map read texts ≡ map Ok rules → rules_of key read o ≡ Ok rules
@@ -68,7 +68,7 @@ told_of key read o texts index cause e is (inl full) want said = inl (want full)
 told_of key read o texts index cause e is (inr bad) want (inl full) = inl full
 told_of key read o texts index cause e is (inr ((rules, are), bad)) want (inr (text, at, told)) =
     inr (rw is (first_bad key read 0 texts index text cause rules are bad at
-        ∙ ap (λ n. Err (error.BadRule (name_of key) n text cause)) (zero_first index) ∙ ap Err (sym told)))
+    ∙ ap (λ n. Err (error.BadRule (name_of key) n text cause)) (zero_first index) ∙ ap Err (sym told)))
 
 -- a refusal of px_rule, as it is told
 pub told_bad : {R : Type 0} (key : Key) (read : List ℕ → Result R RuleCause) (o : Option (List (List ℕ))) (texts named : List (List ℕ)) (index : ℕ)

@@ -9,3 +9,4 @@ pub mod Parts
 pub mod Refused
 pub mod Steps
 pub mod Gathered
+pub mod Laws

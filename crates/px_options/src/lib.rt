@@ -14,13 +14,20 @@ mod count;
 mod draft;
 mod error;
 mod key;
+mod laws;
 mod mode;
 mod options;
 mod put;
 mod rules;
 mod table;
+#[cfg(test)]
+mod tests;
 mod truth;
 
 pub use error::OptionsError;
+pub use laws::{
+    a_bad_key_is_refused, a_table_is_a_table, an_empty_table_has_no_mode, an_unknown_key_is_bad,
+    bytes_say_one_thing, the_first_bad_key_decides,
+};
 pub use mode::Mode;
 pub use options::{Options, read_options};

@@ -12,4 +12,4 @@ returns-in-Err-clause-err c =
 pub loop-value-preserved : goal.loop-value-preserved
 loop-value-preserved c =
     one_text c.args.values.now c.loop-value.value-index c.value-item.result (map string_bytes c.loop-value.texts.items) _ c.loop-value-test.true c.value-item.is
-        c.loop-value.invariant c.in-Ok.ensures.ok
+    c.loop-value.invariant c.in-Ok.ensures.ok
