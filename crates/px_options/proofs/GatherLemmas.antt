@@ -1,16 +1,16 @@
 -- What is gathered key by key is what the definitions say of the whole table, since its keys ascend.
-use Rattle.std.proofs.Common.{◌≡◌, ℕ, Bool, true, false, List, [], ◌∷◌, codes, bytes_eq, Option, Some, None, Result, Ok, Err, IfOk, IfErr, if◌then◌else◌, String, Global, Less, string_bytes, refl, sym, ap, subst, ◌∙◌}
+use Rattle.std.proofs.Common.{◌≡◌, ℕ, Bool, true, false, List, [], ◌∷◌, bytes_eq, Option, Some, None, Result, Ok, Err, IfOk, IfErr, if◌then◌else◌, String, Global, Less, string_bytes, refl, sym, ap, subst, ◌∙◌}
 use Rattle.std.proofs.lemmas.Slice.Eq.{bytes_eq-Decides}
 use Rattle.std.specs.List.{AllByRecursion}
 use Rattle.std.specs.List.Sorted.{IsStrictlySortedBy}
 use Rattle.std.specs.Map.{keys_of}
 use Rattle.std.specs.String.{string_cmp}
 use Rattle.px_rule.specs.Rule.{Rule}
-use Rattle.toml.specs.Data.{Data, Members, no_members, member, get_member}
+use Rattle.toml.specs.Data.{Data, Members, member, get_member}
 use Rattle.toml.specs.View.{view, members_view}
 use Rattle.toml.proofs.Views.{Entry}
 use Rattle.px_options.specs.Gathered.{and_then, gathered}
-use Rattle.px_options.specs.Keys.{key_of, name_of, or_key}
+use Rattle.px_options.specs.Keys.{key_of, name_of}
 use Rattle.px_options.specs.Lines as lines
 use Rattle.px_options.specs.Lines.{Line}
 use Rattle.px_options.specs.Mode.{ModeIs}

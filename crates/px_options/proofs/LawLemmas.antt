@@ -1,14 +1,14 @@
 -- The laws.
 use Rattle.std.proofs.Common.{◌≡◌, ◌≢◌, ℕ, ◌+◌, Bool, true, false, List, [], ◌∷◌, Option, Some, None, Result, Ok, Err, IfErr, IfSome, IsErr, if◌then◌else◌, is_some, refl, sym, ap, subst, ◌∙◌}
-use Rattle.px_rule.specs.Rule.{Rule, body_rule, header_rule}
+use Rattle.px_rule.specs.Rule.{body_rule, header_rule}
 use Rattle.px_rule.specs.declared.cause.RuleCause.{RuleCause}
 use Rattle.toml.specs.Data.{Data, Members, no_members, member, as_array, as_bool, as_integer, as_str}
 use Rattle.toml.specs.Parse.{parse_document}
-use Rattle.px_options.specs.Keys.{key_of, name_of}
+use Rattle.px_options.specs.Keys.{key_of}
 use Rattle.px_options.specs.Laws.{followed}
 use Rattle.px_options.specs.Lines as lines
 use Rattle.px_options.specs.Mode.{ModeIs, mode_in, mode_of, or_bad_mode}
-use Rattle.px_options.specs.Options.{IsNoTable, Says, Settings, first_refusal, options_by, options_of, or_others, refusal_at, refusal_of, refusal_of_key, settings_of, why, with_mode}
+use Rattle.px_options.specs.Options.{IsNoTable, Says, Settings, first_refusal, options_by, options_of, or_others, refusal_at, refusal_of, refusal_of_key, settings_of, why}
 use Rattle.px_options.specs.Rules.{rule_and, rules_from, rules_of, texts_of, with_rule}
 use Rattle.px_options.specs.Values.{address_in, from_one, or_wrong}
 use Rattle.px_options.specs.declared.error.OptionsError.{OptionsError}

@@ -4,7 +4,7 @@ use Rattle.px_rule.specs.declared.cause.RuleCause.{RuleCause}
 use Rattle.px_rule.specs.declared.cause.RuleCause.TheVariants as causes
 use Rattle.px_options.specs.Keys.{name_of}
 use Rattle.px_options.specs.Refused.{IsBadRule}
-use Rattle.px_options.specs.Rules.{rule_and, rules_from, rules_of, with_rule}
+use Rattle.px_options.specs.Rules.{rule_and, rules_from, rules_of}
 use Rattle.px_options.specs.Values.{wrong}
 use Rattle.px_options.specs.declared.error.OptionsError.{OptionsError}
 use Rattle.px_options.specs.declared.error.OptionsError.TheVariants as error

@@ -1,6 +1,6 @@
 -- Words of the laws.
-use Rattle.std.specs.Prelude.{ℕ, Bool, true, false, List, [], ◌∷◌}
-use Rattle.toml.specs.Data.{Data, Members, no_members, member}
+use Rattle.std.specs.Prelude.{ℕ, List, [], ◌∷◌}
+use Rattle.toml.specs.Data.{Data, Members, member}
 
 -- a table of these keys, with more of them behind
 abbrev pub followed : List (List ℕ × Data) → Members → Members

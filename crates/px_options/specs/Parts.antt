@@ -1,5 +1,5 @@
 -- What the code finds on its way.
-use Rattle.std.specs.Prelude.{ℕ, Option, Some, None}
+use Rattle.std.specs.Prelude.{Option, Some, None}
 use Rattle.px_message.specs.Target.{Form, authority}
 use Rattle.px_options.specs.Values.{Place}
 

@@ -1,6 +1,6 @@
 -- One key more: how the code gathers options from a table.
-use Rattle.std.specs.Prelude.{ℕ, List, [], Option, Some, None, Result, Ok, Err}
-use Rattle.toml.specs.Data.{Data, Members, no_members, member}
+use Rattle.std.specs.Prelude.{ℕ, List, Option, Some, None, Result, Ok, Err}
+use Rattle.toml.specs.Data.{Data}
 use Rattle.px_options.specs.Keys.{key_of}
 use Rattle.px_options.specs.Lines as lines
 use Rattle.px_options.specs.Options.{Settings}

@@ -1,5 +1,5 @@
 -- What the code holds.
-use Rattle.std.specs.Prelude.{ℕ, Some, option_map}
+use Rattle.std.specs.Prelude.{Some, option_map}
 use Rattle.px_message.specs.declared.address.Address.{Address}
 use Rattle.px_rule.specs.View.{body_views, header_views}
 use Rattle.px_options.specs.Mode.{ModeIs, reverse}

@@ -1,5 +1,4 @@
 use Rattle.std.proofs.Common.{◌∙◌, inl, inr}
-use Rattle.px_options.specs.View.{draft_view}
 use Rattle.px_options.proofs.GatherLemmas.{gathered_err, gathered_ok, if_err_as, if_ok_as}
 use Rattle.px_options.proofs.table.options_of.Goals as goal
 
