@@ -1,0 +1,162 @@
+-- The laws.
+use Rattle.std.proofs.Common.{◌≡◌, ◌≢◌, ℕ, ◌+◌, Bool, true, false, List, [], ◌∷◌, Option, Some, None, Result, Ok, Err, IfErr, IfSome, IsErr, if◌then◌else◌, is_some, refl, sym, ap, subst, ◌∙◌}
+use Rattle.px_rule.specs.Rule.{body_rule, header_rule}
+use Rattle.px_rule.specs.declared.cause.RuleCause.{RuleCause}
+use Rattle.toml.specs.Data.{Data, Members, no_members, member, as_array, as_bool, as_integer, as_str}
+use Rattle.toml.specs.Parse.{parse_document}
+use Rattle.px_options.specs.Keys.{key_of}
+use Rattle.px_options.specs.Laws.{followed}
+use Rattle.px_options.specs.Lines as lines
+use Rattle.px_options.specs.Mode.{ModeIs, mode_in, mode_of, or_bad_mode}
+use Rattle.px_options.specs.Options.{IsNoTable, Says, Settings, first_refusal, options_by, options_of, or_others, refusal_at, refusal_of, refusal_of_key, settings_of, why}
+use Rattle.px_options.specs.Rules.{rule_and, rules_from, rules_of, texts_of, with_rule}
+use Rattle.px_options.specs.Values.{address_in, from_one, or_wrong}
+use Rattle.px_options.specs.declared.error.OptionsError.{OptionsError}
+use Rattle.px_options.specs.declared.error.OptionsError.TheVariants as error
+use Rattle.px_options.specs.declared.key.Key.{Key}
+use Rattle.px_options.specs.declared.key.Key.TheVariants as key
+
+by_refusal : (r : Option OptionsError) (s : Settings) (e : OptionsError) → r ≡ Some e → options_by r s ≡ Err e
+by_refusal r s e is = rw is refl
+
+others_after : (r others : Option OptionsError) → or_others r None ≡ None → or_others r others ≡ others
+others_after None others e = refl
+others_after (Some x) others e = absurd (cc)
+
+others_none : (r others : Option OptionsError) → or_others r others ≡ None → r ≡ None
+others_none None others e = refl
+others_none (Some x) others e = absurd (cc)
+
+rest_none : (r others : Option OptionsError) → or_others r others ≡ None → others ≡ None
+rest_none None others e = e
+rest_none (Some x) others e = absurd (cc)
+
+goes_on : (r others : Option OptionsError) (e : OptionsError) → r ≡ None → others ≡ Some e → or_others r others ≡ Some e
+goes_on r others e a b = rw a b
+
+found_first : (r others : Option OptionsError) (e : OptionsError) → r ≡ Some e → or_others r others ≡ Some e
+found_first r others e a = rw a refl
+
+first_of : (front : List (List ℕ × Data)) (name : List ℕ) (value : Data) (behind : Members) (e : OptionsError) → first_refusal (followed front no_members) ≡ None
+    → refusal_of name value ≡ Some e → first_refusal (followed front (member name value behind)) ≡ Some e
+first_of [] name value behind e fine bad = found_first (refusal_of name value) (first_refusal behind) e bad
+first_of (pair ∷ front) name value behind e fine bad =
+    let rest = first_refusal (followed front no_members) in
+    goes_on (refusal_of pair.0 pair.1) (first_refusal (followed front (member name value behind))) e (others_none (refusal_of pair.0 pair.1) rest fine)
+    (first_of front name value behind e (rest_none (refusal_of pair.0 pair.1) rest fine) bad)
+
+pub first_bad_decides : (front : List (List ℕ × Data)) (name : List ℕ) (value : Data) (behind : Members) (e : OptionsError) →
+    first_refusal (followed front no_members) ≡ None → refusal_of name value ≡ Some e → options_of (followed front (member name value behind)) ≡ Err e
+first_bad_decides front name value behind e fine bad =
+    let table = followed front (member name value behind) in
+    by_refusal (first_refusal table) (settings_of table) e (first_of front name value behind e fine bad)
+
+-- there is a refusal
+abbrev Refused : Option OptionsError → Type 0
+Refused r = (e : OptionsError) × (r ≡ Some e)
+
+here_refused : (r others : Option OptionsError) (e : OptionsError) → r ≡ Some e → Refused (or_others r others)
+here_refused r others e is = (e, found_first r others e is)
+
+later_refused : (r others : Option OptionsError) → Refused others → Refused (or_others r others)
+later_refused None others later = later
+later_refused (Some x) others later = (x, refl)
+
+bad_refused : (front : List (List ℕ × Data)) (name : List ℕ) (value : Data) (behind : Members) (e : OptionsError) → refusal_of name value ≡ Some e
+    → Refused (first_refusal (followed front (member name value behind)))
+bad_refused [] name value behind e bad = here_refused (refusal_of name value) (first_refusal behind) e bad
+bad_refused (pair ∷ front) name value behind e bad =
+    later_refused (refusal_of pair.0 pair.1) (first_refusal (followed front (member name value behind))) (bad_refused front name value behind e bad)
+
+refused_by : (r : Option OptionsError) (s : Settings) → Refused r → IsErr (options_by r s)
+refused_by r s (e, is) = rw is refl
+
+pub bad_key_refused : (front : List (List ℕ × Data)) (name : List ℕ) (value : Data) (behind : Members) (e : OptionsError) → refusal_of name value ≡ Some e
+    → IsErr (options_of (followed front (member name value behind)))
+bad_key_refused front name value behind e bad =
+    let table = followed front (member name value behind) in
+    refused_by (first_refusal table) (settings_of table) (bad_refused front name value behind e bad)
+
+pub says_one : (bytes : List ℕ) (a b : Result Settings OptionsError) → Says bytes a → Says bytes b → a ≡ b
+says_one bytes a b (t, _, is_t, says_a) (u, _, is_u, says_b) =
+    let same : t ≡ u = cc in sym says_a ∙ ap options_of same ∙ says_b
+
+pub says_none : (bytes : List ℕ) (a : Result Settings OptionsError) → IsNoTable bytes → ¬ (Says bytes a)
+says_none bytes a none (t, utf8, is_t, says) = let no : parse_document bytes ≡ None = none utf8 in absurd (cc)
+
+-- a refusal that a table may have
+abbrev is_of_table : OptionsError → Bool
+is_of_table error.BadToml = false
+is_of_table error.NoMemory = false
+is_of_table other = true
+
+abbrev OfTable : OptionsError → Type 0
+OfTable e = is_of_table e ≡ true
+
+wrong_of_table : {A : Type 0} (key : Key) (o : Option A) → IfErr (or_wrong key o) OfTable
+wrong_of_table key None = refl
+wrong_of_table key (Some a) = tt
+
+bad_mode_of_table : (m : Option ModeIs) → IfErr (or_bad_mode m) OfTable
+bad_mode_of_table None = refl
+bad_mode_of_table (Some m) = tt
+
+mode_of_table : (key : Key) (text : Option (List ℕ)) → IfErr (mode_in key text) OfTable
+mode_of_table key None = refl
+mode_of_table key (Some text) = bad_mode_of_table (mode_of text)
+
+with_of_table : {R : Type 0} (rule : R) (others : Result (List R) OptionsError) → IfErr others OfTable → IfErr (with_rule rule others) OfTable
+with_of_table rule (Ok rules) h = tt
+with_of_table rule (Err e) h = h
+
+and_of_table : {R : Type 0} (key : Key) (n : ℕ) (text : List ℕ) (r : Result R RuleCause) (others : Result (List R) OptionsError) → IfErr others OfTable
+    → IfErr (rule_and key n text r others) OfTable
+and_of_table key n text (Ok rule) others h = with_of_table rule others h
+and_of_table key n text (Err cause) others h = refl
+
+from_of_table : {R : Type 0} (key : Key) (read : List ℕ → Result R RuleCause) (n : ℕ) (texts : List (List ℕ)) → IfErr (rules_from key read n texts) OfTable
+from_of_table key read n [] = tt
+from_of_table key read n (t ∷ ts) = and_of_table key n t (read t) (rules_from key read (n + 1) ts) (from_of_table key read (n + 1) ts)
+
+rules_of_table : {R : Type 0} (key : Key) (read : List ℕ → Result R RuleCause) (texts : Option (List (List ℕ))) → IfErr (rules_of key read texts) OfTable
+rules_of_table key read None = refl
+rules_of_table key read (Some texts) = from_of_table key read 0 texts
+
+why_of_table : {A : Type 0} (r : Result A OptionsError) → IfErr r OfTable → IfSome (why r) OfTable
+why_of_table (Ok a) h = tt
+why_of_table (Err e) h = h
+
+at_of_table : (k : Key) (d : Data) → IfSome (refusal_at k d) OfTable
+at_of_table key.Anticache d = why_of_table (lines.anticache.reads d) (wrong_of_table key.Anticache (as_bool d))
+at_of_table key.Anticomp d = why_of_table (lines.anticomp.reads d) (wrong_of_table key.Anticomp (as_bool d))
+at_of_table key.Events d = why_of_table (lines.events.reads d) (wrong_of_table key.Events (from_one (as_integer d)))
+at_of_table key.Listen d = why_of_table (lines.listen.reads d) (wrong_of_table key.Listen (address_in (as_str d)))
+at_of_table key.Mode d = why_of_table (lines.mode.reads d) (mode_of_table key.Mode (as_str d))
+at_of_table key.ModifyBody d = why_of_table (lines.modify_body.reads d) (rules_of_table key.ModifyBody body_rule (texts_of (as_array d)))
+at_of_table key.ModifyHeaders d = why_of_table (lines.modify_headers.reads d) (rules_of_table key.ModifyHeaders header_rule (texts_of (as_array d)))
+
+key_of_table : (k : Option Key) (name : List ℕ) (d : Data) → IfSome (refusal_of_key k name d) OfTable
+key_of_table None name d = refl
+key_of_table (Some k) name d = at_of_table k d
+
+others_of_table : (r others : Option OptionsError) → IfSome r OfTable → IfSome others OfTable → IfSome (or_others r others) OfTable
+others_of_table None others here later = later
+others_of_table (Some e) others here later = here
+
+first_of_table : (ms : Members) → IfSome (first_refusal ms) OfTable
+first_of_table no_members = tt
+first_of_table (member name d ms) = others_of_table (refusal_of name d) (first_refusal ms) (key_of_table (key_of name) name d) (first_of_table ms)
+
+with_mode_of_table : (b : Bool) (s : Settings) → IfErr (if b then Ok s else Err error.BadMode) OfTable
+with_mode_of_table true s = tt
+with_mode_of_table false s = refl
+
+by_of_table : (r : Option OptionsError) (s : Settings) → IfSome r OfTable → IfErr (options_by r s) OfTable
+by_of_table None s h = with_mode_of_table (is_some s.mode) s
+by_of_table (Some e) s h = h
+
+pub never : (table : Members) (e : OptionsError) → is_of_table e ≡ false → options_of table ≢ Err e
+never table e other is =
+    let P : Result Settings OptionsError → Type 0 = λ r. IfErr r OfTable in
+    let yes : is_of_table e ≡ true = subst P is (by_of_table (first_refusal table) (settings_of table) (first_of_table table)) in
+    absurd (cc)

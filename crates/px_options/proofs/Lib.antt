@@ -1,0 +1,5 @@
+pub mod AddressLemmas
+pub mod TextLemmas
+pub mod RuleLemmas
+pub mod GatherLemmas
+pub mod LawLemmas

@@ -1,0 +1,29 @@
+-- The keys of an options file, and their names.
+use Rattle.std.specs.Prelude.{ℕ, List, codes, bytes_eq, Option, Some, None, if◌then◌else◌}
+use Rattle.px_options.specs.declared.key.Key.{Key}
+use Rattle.px_options.specs.declared.key.Key.TheVariants as key
+
+abbrev pub name_of : Key → List ℕ
+name_of key.Anticache = codes "anticache"
+name_of key.Anticomp = codes "anticomp"
+name_of key.Events = codes "events"
+name_of key.Listen = codes "listen"
+name_of key.Mode = codes "mode"
+name_of key.ModifyBody = codes "modify_body"
+name_of key.ModifyHeaders = codes "modify_headers"
+
+-- the key, if it has that name, else what others say
+abbrev pub or_key : Key → List ℕ → Option Key → Option Key
+or_key key name others = if bytes_eq name (name_of key) then Some key else others
+
+-- the key of that name
+abbrev pub key_of : List ℕ → Option Key
+key_of name =
+    or_key key.Anticache name
+    (or_key key.Anticomp name
+    (or_key key.Events name
+    (or_key key.Listen name
+    (or_key key.Mode name
+    (or_key key.ModifyBody name
+    (or_key key.ModifyHeaders name
+    None))))))

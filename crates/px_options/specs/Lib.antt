@@ -1,0 +1,12 @@
+pub mod Keys
+pub mod Values
+pub mod Mode
+pub mod Rules
+pub mod Lines
+pub mod Options
+pub mod View
+pub mod Parts
+pub mod Refused
+pub mod Steps
+pub mod Gathered
+pub mod Laws

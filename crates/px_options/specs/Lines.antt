@@ -1,0 +1,43 @@
+-- The table of the options: a line for each key, with what values it takes and its default.
+use Rattle.std.specs.Prelude.{ℕ, Bool, false, List, [], codes, Option, None, Result}
+use Rattle.px_rule.specs.Rule.{Rule, body_rule, header_rule}
+use Rattle.toml.specs.Data.{Data}
+use Rattle.px_options.specs.Mode.{ModeIs, mode as mode_text}
+use Rattle.px_options.specs.Rules.{rules}
+use Rattle.px_options.specs.Values.{Place, address, count, truth}
+use Rattle.px_options.specs.declared.error.OptionsError.{OptionsError}
+use Rattle.px_options.specs.declared.key.Key.{Key}
+use Rattle.px_options.specs.declared.key.Key.TheVariants as key
+
+-- the line of an option
+pub record Line (A : Type 0) : Type 0 where
+  pub key : Key
+  -- what a value under the key is, or why it is refused
+  pub reads : Data → Result A OptionsError
+  -- what the option is without its key
+  pub default : A
+
+abbrev pub line : {A : Type 0} → Key → (Key → Data → Result A OptionsError) → A → Line A
+line key kind default = record { key = key; reads = kind key; default = default }
+
+abbrev pub anticache : Line Bool
+anticache = line key.Anticache truth false
+
+abbrev pub anticomp : Line Bool
+anticomp = line key.Anticomp truth false
+
+abbrev pub events : Line ℕ
+events = line key.Events count 9223372036854775807
+
+abbrev pub listen : Line Place
+listen = line key.Listen address (codes "127.0.0.1", 8080)
+
+-- without its key there is no mode
+abbrev pub mode : Line (Option ModeIs)
+mode = line key.Mode mode_text None
+
+abbrev pub modify_body : Line (List Rule)
+modify_body = line key.ModifyBody (rules body_rule) []
+
+abbrev pub modify_headers : Line (List Rule)
+modify_headers = line key.ModifyHeaders (rules header_rule) []

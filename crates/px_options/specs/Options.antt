@@ -1,0 +1,105 @@
+-- The options that a table is, or its refusal; and those that bytes are.
+use Rattle.std.specs.Prelude.{◌≡◌, ◌⊎◌, ℕ, Bool, List, Option, Some, None, Result, Ok, Err, is_some, if◌then◌else◌}
+use Rattle.std.specs.Str.{IsUtf8}
+use Rattle.px_rule.specs.Rule.{Rule}
+use Rattle.toml.specs.Data.{Data, Members, no_members, member, get_member}
+use Rattle.toml.specs.Parse.{parse_document}
+use Rattle.px_options.specs.Keys.{key_of, name_of}
+use Rattle.px_options.specs.Lines as lines
+use Rattle.px_options.specs.Lines.{Line}
+use Rattle.px_options.specs.Mode.{ModeIs}
+use Rattle.px_options.specs.Values.{Place}
+use Rattle.px_options.specs.declared.error.OptionsError.{OptionsError}
+use Rattle.px_options.specs.declared.error.OptionsError.TheVariants as error
+use Rattle.px_options.specs.declared.key.Key.{Key}
+use Rattle.px_options.specs.declared.key.Key.TheVariants as key
+
+-- what the options are
+pub record Settings : Type 0 where
+  pub anticache : Bool
+  pub anticomp : Bool
+  pub events : ℕ
+  pub listen : Place
+  pub mode : Option ModeIs
+  pub modify_body : List Rule
+  pub modify_headers : List Rule
+
+-- why a line refuses a value
+abbrev pub why : {A : Type 0} → Result A OptionsError → Option OptionsError
+why (Ok a) = None
+why (Err e) = Some e
+
+abbrev pub refusal_at : Key → Data → Option OptionsError
+refusal_at key.Anticache d = why (lines.anticache.reads d)
+refusal_at key.Anticomp d = why (lines.anticomp.reads d)
+refusal_at key.Events d = why (lines.events.reads d)
+refusal_at key.Listen d = why (lines.listen.reads d)
+refusal_at key.Mode d = why (lines.mode.reads d)
+refusal_at key.ModifyBody d = why (lines.modify_body.reads d)
+refusal_at key.ModifyHeaders d = why (lines.modify_headers.reads d)
+
+abbrev pub refusal_of_key : Option Key → List ℕ → Data → Option OptionsError
+refusal_of_key None name d = Some (error.UnknownOption name)
+refusal_of_key (Some key) name d = refusal_at key d
+
+-- why a key of a table is bad: it has no line, or its line refuses its value
+abbrev pub refusal_of : List ℕ → Data → Option OptionsError
+refusal_of name d = refusal_of_key (key_of name) name d
+
+abbrev pub or_others : Option OptionsError → Option OptionsError → Option OptionsError
+or_others None others = others
+or_others (Some e) others = Some e
+
+-- why the first bad key of a table is bad; a table has its keys in rising order of bytes
+abbrev pub first_refusal : Members → Option OptionsError
+first_refusal no_members = None
+first_refusal (member name d members) = or_others (refusal_of name d) (first_refusal members)
+
+-- what a line reads, where it refuses nothing
+abbrev pub read_or : {A : Type 0} → A → Result A OptionsError → A
+read_or default (Ok a) = a
+read_or default (Err e) = default
+
+abbrev pub value_or : {A : Type 0} → Line A → A → Option Data → A
+value_or line default None = default
+value_or line default (Some d) = read_or default (line.reads d)
+
+-- what stands under the key of the line, or the default
+abbrev pub option_at : {A : Type 0} → Line A → Members → A
+option_at line table = value_or line line.default (get_member (name_of line.key) table)
+
+-- each option by its line
+abbrev pub settings_of : Members → Settings
+settings_of table = record {
+  anticache = option_at lines.anticache table;
+  anticomp = option_at lines.anticomp table;
+  events = option_at lines.events table;
+  listen = option_at lines.listen table;
+  mode = option_at lines.mode table;
+  modify_body = option_at lines.modify_body table;
+  modify_headers = option_at lines.modify_headers table;
+}
+
+-- there is a mode
+abbrev pub with_mode : Settings → Result Settings OptionsError
+with_mode settings = if is_some settings.mode then Ok settings else Err error.BadMode
+
+abbrev pub options_by : Option OptionsError → Settings → Result Settings OptionsError
+options_by (Some e) settings = Err e
+options_by None settings = with_mode settings
+
+-- The options that a table is: the refusal of its first bad key; else `BadMode` without a mode; else each option by its line.
+abbrev pub options_of : Members → Result Settings OptionsError
+options_of table = options_by (first_refusal table) (settings_of table)
+
+-- the bytes are a table, and that is these options, or refused so
+abbrev pub Says : List ℕ → Result Settings OptionsError → Type 0
+Says bytes said = (table : Members) × IsUtf8 bytes × (parse_document bytes ≡ Some table) × (options_of table ≡ said)
+
+-- the bytes are no UTF-8, or no TOML
+abbrev pub IsNoTable : List ℕ → Type 0
+IsNoTable bytes = IsUtf8 bytes → parse_document bytes ≡ None
+
+-- why the bytes are no options file: they are no table, or the table is refused so; want of memory aside
+abbrev pub IsRefused : List ℕ → OptionsError → Type 0
+IsRefused bytes e = ((e ≡ error.BadToml) × IsNoTable bytes) ⊎ Says bytes (Err e)

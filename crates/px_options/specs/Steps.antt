@@ -1,0 +1,44 @@
+-- One key more: how the code gathers options from a table.
+use Rattle.std.specs.Prelude.{ℕ, List, Option, Some, None, Result, Ok, Err}
+use Rattle.toml.specs.Data.{Data}
+use Rattle.px_options.specs.Keys.{key_of}
+use Rattle.px_options.specs.Lines as lines
+use Rattle.px_options.specs.Options.{Settings}
+use Rattle.px_options.specs.declared.error.OptionsError.{OptionsError}
+use Rattle.px_options.specs.declared.error.OptionsError.TheVariants as error
+use Rattle.px_options.specs.declared.key.Key.{Key}
+use Rattle.px_options.specs.declared.key.Key.TheVariants as key
+
+-- every option is its default
+abbrev pub defaults : Settings
+defaults = record {
+  anticache = lines.anticache.default;
+  anticomp = lines.anticomp.default;
+  events = lines.events.default;
+  listen = lines.listen.default;
+  mode = lines.mode.default;
+  modify_body = lines.modify_body.default;
+  modify_headers = lines.modify_headers.default;
+}
+
+abbrev pub put_by : {A : Type 0} → (A → Settings) → Result A OptionsError → Result Settings OptionsError
+put_by put (Err e) = Err e
+put_by put (Ok a) = Ok (put a)
+
+-- the option of the key is what its line reads
+abbrev pub put : Key → Data → Settings → Result Settings OptionsError
+put key.Anticache d s = put_by (λ a. record s { anticache = a }) (lines.anticache.reads d)
+put key.Anticomp d s = put_by (λ a. record s { anticomp = a }) (lines.anticomp.reads d)
+put key.Events d s = put_by (λ a. record s { events = a }) (lines.events.reads d)
+put key.Listen d s = put_by (λ a. record s { listen = a }) (lines.listen.reads d)
+put key.Mode d s = put_by (λ a. record s { mode = a }) (lines.mode.reads d)
+put key.ModifyBody d s = put_by (λ a. record s { modify_body = a }) (lines.modify_body.reads d)
+put key.ModifyHeaders d s = put_by (λ a. record s { modify_headers = a }) (lines.modify_headers.reads d)
+
+abbrev pub put_at : Option Key → List ℕ → Data → Settings → Result Settings OptionsError
+put_at None name d s = Err (error.UnknownOption name)
+put_at (Some key) name d s = put key d s
+
+-- the option of that name
+abbrev pub put_named : List ℕ → Data → Settings → Result Settings OptionsError
+put_named name d s = put_at (key_of name) name d s

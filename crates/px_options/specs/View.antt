@@ -1,0 +1,39 @@
+-- What the code holds.
+use Rattle.std.specs.Prelude.{Some, option_map}
+use Rattle.px_message.specs.declared.address.Address.{Address}
+use Rattle.px_rule.specs.View.{body_views, header_views}
+use Rattle.px_options.specs.Mode.{ModeIs, reverse}
+use Rattle.px_options.specs.Options.{Settings}
+use Rattle.px_options.specs.Values.{Place}
+use Rattle.px_options.specs.declared.draft.Draft.{Draft}
+use Rattle.px_options.specs.declared.mode.Mode.{Mode}
+use Rattle.px_options.specs.declared.mode.Mode.TheVariants as modes
+use Rattle.px_options.specs.declared.options.Options.{Options}
+
+abbrev pub place : Address → Place
+place a = (a.host, a.port)
+
+abbrev pub mode_view : Mode → ModeIs
+mode_view (modes.Reverse a) = reverse (place a)
+
+abbrev pub draft_view : Draft → Settings
+draft_view d = record {
+  anticache = d.anticache;
+  anticomp = d.anticomp;
+  events = d.events;
+  listen = place d.listen;
+  mode = option_map mode_view d.mode;
+  modify_body = body_views d.modify_body;
+  modify_headers = header_views d.modify_headers;
+}
+
+abbrev pub settings : Options → Settings
+settings o = record {
+  anticache = o.anticache;
+  anticomp = o.anticomp;
+  events = o.events;
+  listen = place o.listen;
+  mode = Some (mode_view o.mode);
+  modify_body = body_views o.modify_body;
+  modify_headers = header_views o.modify_headers;
+}

@@ -1,0 +1,58 @@
+//! The keys of an options file.
+ghost use Rattle.std.specs.Prelude.{◌≡◌};
+ghost use Rattle.px_options.specs.Keys.{key_of, name_of};
+
+/// A key of an options file.
+#[derive(Clone, Copy, Debug, PartialEq, Eq)]
+pub(crate) enum Key {
+    Anticache,
+    Anticomp,
+    Events,
+    Listen,
+    Mode,
+    ModifyBody,
+    ModifyHeaders,
+}
+
+/// The key's name in a file.
+pub(crate) fn name_of(key: Key) -> &'static [u8]
+    ensures { result.now ≡ name_of key }
+{
+    match key {
+        Key::Anticache => b"anticache",
+        Key::Anticomp => b"anticomp",
+        Key::Events => b"events",
+        Key::Listen => b"listen",
+        Key::Mode => b"mode",
+        Key::ModifyBody => b"modify_body",
+        Key::ModifyHeaders => b"modify_headers",
+    }
+}
+
+/// The key of that name.
+pub(crate) fn key_of(name: &[u8]) -> Option<Key>
+    ensures { result ≡ key_of name.now }
+{
+    if name == b"anticache".as_slice() {
+        return Some(Key::Anticache);
+    }
+    if name == b"anticomp".as_slice() {
+        return Some(Key::Anticomp);
+    }
+    if name == b"events".as_slice() {
+        return Some(Key::Events);
+    }
+    if name == b"listen".as_slice() {
+        return Some(Key::Listen);
+    }
+    if name == b"mode".as_slice() {
+        return Some(Key::Mode);
+    }
+    if name == b"modify_body".as_slice() {
+        return Some(Key::ModifyBody);
+    }
+    if name == b"modify_headers".as_slice() {
+        return Some(Key::ModifyHeaders);
+    }
+    None
+}

@@ -1,0 +1,33 @@
+//! The options file: one TOML table of which each key is an option.
+//!
+//! Each key has a line (`specs/Lines.antt`): its name, what values it takes, which is a function from a value of TOML to what the
+//! option is, or the refusal, and its default. A table is refused by the first of its keys, in rising order of bytes, that has no
+//! line or whose value its line refuses. Otherwise each option is what stands under its key, or its default (`specs/Options.antt`).
+//! `mode` has no default: a table without it that is not refused otherwise is refused for it.
+//!
+//! Which table a text is, is `toml`'s own definition, and so is what a value in it is; two lines of one key are no table. What an
+//! address and a URL are is px_message's (RFC 9112 section 3.2), and which texts are rules is px_rule's.
+#![tactic(auto)]
+
+mod address;
+mod count;
+mod draft;
+mod error;
+mod key;
+mod laws;
+mod mode;
+mod options;
+mod put;
+mod rules;
+mod table;
+#[cfg(test)]
+mod tests;
+mod truth;
+
+pub use error::OptionsError;
+pub use laws::{
+    a_bad_key_is_refused, a_table_is_a_table, an_empty_table_has_no_mode, an_unknown_key_is_bad,
+    bytes_say_one_thing, the_first_bad_key_decides,
+};
+pub use mode::Mode;
+pub use options::{Options, read_options};

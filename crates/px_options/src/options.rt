@@ -1,0 +1,46 @@
+//! The options of a run.
+ghost use Rattle.std.specs.Prelude.{◌≡◌, ◌⊎◌, Ok, IfOk, IfErr};
+ghost use Rattle.px_options.specs.Options.{IsRefused, Says};
+ghost use Rattle.px_options.specs.View.{settings};
+ghost use Rattle.px_options.specs.declared.error.OptionsError.TheVariants as error;
+
+use crate::table::{options_of, read_table};
+use crate::{Mode, OptionsError};
+use px_message::Address;
+use px_rule::{BodyRules, HeaderRules};
+use std::alloc::Global;
+
+/// What an options file says: an option a field, of the key's name.
+#[derive(Debug, Drop)]
+pub struct Options {
+    /// Whether requests are to ask for an answer that is not kept elsewhere (mitmproxy's option `anticache`).
+    pub anticache: bool,
+    /// Whether requests are to ask for an answer without a coding (mitmproxy's option `anticomp`).
+    pub anticomp: bool,
+    /// After how many heard things a run ends.
+    pub events: u64,
+    /// Where the proxy listens for clients (mitmproxy's options `listen_host` and `listen_port`).
+    pub listen: Address,
+    /// Where requests go (mitmproxy's option `mode`).
+    pub mode: Mode,
+    /// Rules for bodies (mitmproxy's option `modify_body`).
+    pub modify_body: BodyRules,
+    /// Rules for fields (mitmproxy's option `modify_headers`).
+    pub modify_headers: HeaderRules,
+}
+
+/// The options that the bytes of a file are: one TOML table, an option a key. A key that is not there has its default; `mode` has
+/// none.
+///
+/// `BadToml` exactly where the bytes are no UTF-8 or no TOML, in which a key that stands there twice is none. Else the first bad key
+/// in rising order of bytes decides: `UnknownOption` where no option has its name; `WrongKind` where the value is of another kind, a
+/// number out of range or a text that is no address; `BadMode` where the mode is a text that is no mode; `BadRule` where a text of
+/// the list is no rule, for the first of them. Without a bad key `BadMode` where there is no mode. `NoMemory` may come in the place
+/// of any answer.
+pub fn read_options(alloc: Global, bytes: &[u8]) -> Result<Options, OptionsError>
+    ensures ok { IfOk result (λ o. Says bytes.now (Ok (settings o))) }
+    ensures err { IfErr result (λ e. (e ≡ error.NoMemory) ⊎ IsRefused bytes.now e) }
+{
+    let table = read_table(alloc, bytes)?;
+    options_of(alloc, &table)
+}
