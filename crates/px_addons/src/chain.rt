@@ -4,6 +4,7 @@
 ghost use Rattle.std.specs.Prelude.{◌≡◌, false, MatchOption, OnOk};
 ghost use Rattle.px_addons.specs.Chain.{AddonMoves, AddonsMove, IsFirstOfName, PartInTurn, PartsMove, is_going, reply_of};
 ghost use Rattle.px_addons.specs.Moving.{SameMoves};
+ghost use Rattle.px_addons.specs.Quiet.{AllKeepDrafts, NoRules};
 ghost use Rattle.px_core.specs.Addons.{has_name_by};
 
 use crate::parts::parts;
@@ -25,10 +26,12 @@ pub struct Chain {
 }
 
 impl Chain {
-    /// A chain of these rules and addons, the addons in the order of their list. Two may have one name.
+    /// A chain of these rules and addons, the addons in the order of their list. Two may have one name. Without rules, and where each
+    /// addon leaves every draft as it is, it changes nothing.
     pub fn new(rules: Rules, addons: Vec<Box<dyn Addon>>) -> Chain
         ensures rules { result.rules ≡ rules }
         ensures addons { result.addons ≡ addons }
+        ensures quiet { NoRules rules → AllKeepDrafts moves addons.items → ⟦<Chain as Kind>⟧.is_so result }
     {
         Chain { rules, addons }
     }

@@ -1,5 +1,6 @@
 //! The rules of a chain, and what they make of a flow.
 ghost use Rattle.std.specs.Prelude.{◌≡◌, if◌then◌else◌, [], false, None, OnOk, IfOk};
+ghost use Rattle.px_addons.specs.Quiet.{NoRules};
 ghost use Rattle.px_addons.specs.Parts.{is_of_response, made_by};
 ghost use Rattle.px_addons.specs.declared.parts.Part.TheVariants as part;
 ghost use Rattle.px_rule.specs.Header.{with_fields};
@@ -36,6 +37,7 @@ impl Rules {
         ensures anticache { result.anticache ≡ false }
         ensures anticomp { result.anticomp ≡ false }
         ensures stream { result.stream ≡ None }
+        ensures none { NoRules result }
     {
         Rules {
             headers: HeaderRules::none(alloc),
