@@ -1,7 +1,10 @@
-//! The chain.
+//! The chain of rules and addons, which answers hooks.
+//!
+//! Both loops ask all that they go over, and each turn begins with the verdict: behind one that is not Go the turn does nothing.
 ghost use Rattle.std.specs.Prelude.{◌≡◌, false, MatchOption, OnOk};
 ghost use Rattle.px_addons.specs.Chain.{AddonMoves, AddonsMove, IsFirstOfName, PartInTurn, PartsMove, is_going, reply_of};
 ghost use Rattle.px_addons.specs.Moving.{SameMoves};
+ghost use Rattle.px_addons.specs.Quiet.{AllKeepDrafts, NoRules};
 ghost use Rattle.px_core.specs.Addons.{has_name_by};
 
 use crate::parts::parts;
@@ -13,7 +16,9 @@ use px_outside::Files;
 use px_text::NoMemory;
 use std::alloc::Global;
 
-/// Rules and addons, which answer hooks.
+/// Rules and addons, which answer hooks: at each hook its parts in their order, until a verdict that is not Go ends it
+/// (`specs/Chain.antt`, `ChainAnswers`). The draft begins with the flow as it is asked about, the verdict Go and the rules' `stream`. No
+/// answer waits, and no file is touched.
 #[derive(Drop)]
 pub struct Chain {
     rules: Rules,
@@ -21,10 +26,12 @@ pub struct Chain {
 }
 
 impl Chain {
-    /// A chain of these rules and addons.
+    /// A chain of these rules and addons, the addons in the order of their list. Two may have one name. Without rules, and where each
+    /// addon leaves every draft as it is, it changes nothing.
     pub fn new(rules: Rules, addons: Vec<Box<dyn Addon>>) -> Chain
         ensures rules { result.rules ≡ rules }
         ensures addons { result.addons ≡ addons }
+        ensures quiet { NoRules rules → AllKeepDrafts moves addons.items → ⟦<Chain as Kind>⟧.is_so result }
     {
         Chain { rules, addons }
     }
@@ -87,6 +94,7 @@ impl Answerer for Chain {
     }
 }
 
+// A chain that changes nothing stays one, and each of its answers lets the flow go on unchanged.
 impl Kind for Chain {
     ghost use Rattle.px_addons.specs.Chain.{ChainAnswers};
     ghost use Rattle.px_addons.specs.Quiet.{ChangesNothing, goes_on_unchanged};
@@ -145,8 +153,8 @@ fn ask_part(
     }
     match part {
         Part::ModifyHeaders => rules.modify_headers(hook, &mut draft.flow),
-        Part::Anticache => rules.put_uncached(alloc, hook, &mut draft.flow),
-        Part::Anticomp => rules.put_uncoded(alloc, hook, &mut draft.flow),
+        Part::Anticache => rules.put_uncached(alloc, &mut draft.flow),
+        Part::Anticomp => rules.put_uncoded(alloc, &mut draft.flow),
         Part::ModifyBody => rules.modify_body(hook, &mut draft.flow),
         Part::Addons => ask_addons(addons, hook, draft),
     }

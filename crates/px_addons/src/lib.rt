@@ -38,6 +38,8 @@ mod laws;
 mod numbering;
 mod parts;
 mod rules;
+#[cfg(test)]
+mod tests;
 
 pub use addon::Addon;
 pub use chain::Chain;

@@ -1,7 +1,9 @@
 //! The rules of a chain, and what they make of a flow.
-ghost use Rattle.std.specs.Prelude.{◌≡◌, [], false, None, OnOk, IfOk};
+ghost use Rattle.std.specs.Prelude.{◌≡◌, if◌then◌else◌, [], false, None, OnOk, IfOk};
+ghost use Rattle.px_addons.specs.Quiet.{NoRules};
 ghost use Rattle.px_addons.specs.Parts.{is_of_response, made_by};
 ghost use Rattle.px_addons.specs.declared.parts.Part.TheVariants as part;
+ghost use Rattle.px_rule.specs.Header.{with_fields};
 ghost use Rattle.px_rule.specs.Requests.{uncached, uncoded};
 ghost use Rattle.px_rule.specs.View.{body_views, header_views};
 
@@ -12,13 +14,18 @@ use px_rule::{BodyRules, HeaderRules, anticache, anticomp};
 use px_text::NoMemory;
 use std::alloc::Global;
 
-/// The rules of a chain.
+/// The rules of a chain: what is made of flows in front of the addons.
 #[derive(Debug, Drop)]
 pub struct Rules {
+    /// Header rules, asked at both heads (mitmproxy's option `modify_headers`).
     pub headers: HeaderRules,
+    /// Body rules, asked where a request, a response or a WebSocket's message is whole (mitmproxy's option `modify_body`).
     pub bodies: BodyRules,
+    /// Whether requests lose the fields that ask whether a kept answer still stands (mitmproxy's option `anticache`).
     pub anticache: bool,
+    /// Whether requests wish for no coding (mitmproxy's option `anticomp`).
     pub anticomp: bool,
+    /// Above how many bytes a body may be streamed; an addon may change it for one flow (mitmproxy's option `stream_large_bodies`).
     pub stream: Option<u64>,
 }
 
@@ -30,6 +37,7 @@ impl Rules {
         ensures anticache { result.anticache ≡ false }
         ensures anticomp { result.anticomp ≡ false }
         ensures stream { result.stream ≡ None }
+        ensures none { NoRules result }
     {
         Rules {
             headers: HeaderRules::none(alloc),
@@ -48,13 +56,8 @@ impl Rules {
     }
 
     // Takes the conditions away, where that is wished.
-    pub(crate) fn put_uncached(
-        &self,
-        alloc: Global,
-        hook: Hook,
-        flow: &mut Flow,
-    ) -> Result<(), NoMemory>
-        ensures { OnOk result (flow.new ≡ made_by self.now hook part.Anticache flow.old) }
+    pub(crate) fn put_uncached(&self, alloc: Global, flow: &mut Flow) -> Result<(), NoMemory>
+        ensures { OnOk result (flow.new ≡ (if self.now.anticache then with_fields false uncached flow.old else flow.old)) }
     {
         if self.anticache {
             flow.request = uncached(alloc, flow.request.get())?;
@@ -63,13 +66,8 @@ impl Rules {
     }
 
     // Puts the wish for no coding, where that is wished.
-    pub(crate) fn put_uncoded(
-        &self,
-        alloc: Global,
-        hook: Hook,
-        flow: &mut Flow,
-    ) -> Result<(), NoMemory>
-        ensures { OnOk result (flow.new ≡ made_by self.now hook part.Anticomp flow.old) }
+    pub(crate) fn put_uncoded(&self, alloc: Global, flow: &mut Flow) -> Result<(), NoMemory>
+        ensures { OnOk result (flow.new ≡ (if self.now.anticomp then with_fields false uncoded flow.old else flow.old)) }
     {
         if self.anticomp {
             flow.request = uncoded(alloc, flow.request.get())?;
