@@ -1,4 +1,5 @@
 pub mod CountLemmas
+pub mod HostLemmas
 pub mod NotedLemmas
 pub mod PieceLemmas
 pub mod ScriptLemmas

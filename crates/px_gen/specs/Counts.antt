@@ -53,12 +53,16 @@ counts_in trace = record {
   to_client = in_word (bytes_to_client trace);
 }
 
+-- a count on a line, behind its name
+unfoldable pub line_text : List ℕ → ℕ → List ℕ
+line_text name count = name ++ decimal count ++ 10 ∷ []
+
 -- the counts on three lines
-unfoldable pub counts_text : Counts → List ℕ
+abbrev pub counts_text : Counts → List ℕ
 counts_text counts =
-    codes "flows " ++ decimal counts.flows ++ 10 ∷ []
-    ++ codes "to server " ++ decimal counts.to_servers ++ 10 ∷ []
-    ++ codes "to client " ++ decimal counts.to_client ++ 10 ∷ []
+    line_text (codes "flows ") counts.flows
+    ++ line_text (codes "to server ") counts.to_servers
+    ++ line_text (codes "to client ") counts.to_client
 
 -- the step says something in no other conversation than this one
 abbrev pub IsOfOne : ℕ → Step → Type 0

@@ -1,6 +1,6 @@
 //! What is counted of a run.
 ghost use Rattle.std.specs.Prelude.{◌≡◌, ◌++◌, OnOk, OnErr};
-ghost use Rattle.px_gen.specs.Counts.{by_said, bytes_to_client, bytes_to_servers, client_bytes, counts_in, counts_text, in_word, is_done, server_bytes};
+ghost use Rattle.px_gen.specs.Counts.{by_said, bytes_to_client, bytes_to_servers, client_bytes, counts_in, counts_text, in_word, is_done, line_text, server_bytes};
 
 use px_event::{Said, Side, Step};
 use px_text::{NoMemory, push_decimal};
@@ -41,16 +41,20 @@ pub fn counts_text(alloc: Global, counts: &Counts, out: &mut Vec<u8>) -> Result<
     Ok(())
 }
 
-#[tactic(auto, unfolding(crate::specs::Counts::counts_text))]
 fn push_counts(counts: &Counts, text: &mut Vec<u8>) -> Result<(), NoMemory>
     ensures { OnOk result (text.new.items ≡ text.old.items ++ counts_text counts.now) }
 {
-    text.extend_from_slice(b"flows ")?;
-    push_decimal(text, counts.flows)?;
-    text.extend_from_slice(b"\nto server ")?;
-    push_decimal(text, counts.to_servers)?;
-    text.extend_from_slice(b"\nto client ")?;
-    push_decimal(text, counts.to_client)?;
+    push_line(b"flows ", counts.flows, text)?;
+    push_line(b"to server ", counts.to_servers, text)?;
+    push_line(b"to client ", counts.to_client, text)
+}
+
+#[tactic(auto, unfolding(crate::specs::Counts::line_text))]
+fn push_line(name: &[u8], count: u64, text: &mut Vec<u8>) -> Result<(), NoMemory>
+    ensures { OnOk result (text.new.items ≡ text.old.items ++ line_text name.now count) }
+{
+    text.extend_from_slice(name)?;
+    push_decimal(text, count)?;
     text.push(b'\n')?;
     Ok(())
 }
