@@ -1,0 +1,5 @@
+pub mod Block
+pub mod Url
+pub mod Remote
+pub mod View
+pub mod Laws
