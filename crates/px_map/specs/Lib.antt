@@ -1,5 +1,10 @@
 pub mod Block
 pub mod Url
 pub mod Remote
+pub mod Found
+pub mod Served
+pub mod Responses
+pub mod Reads
+pub mod Tried
 pub mod View
 pub mod Laws

@@ -1,10 +1,12 @@
 -- The rules that the code holds.
-use Rattle.std.specs.Prelude.{List, map, option_map}
+use Rattle.std.specs.Prelude.{List, map, option_map, string_bytes}
 use Rattle.px_filter.specs.View.{expression}
 use Rattle.px_rule.specs.Rule.{Rule}
 use Rattle.px_map.specs.Block.{BlockRule}
 use Rattle.px_map.specs.declared.block.BlockRule as held_block
 use Rattle.px_map.specs.declared.block.BlockRules.{BlockRules}
+use Rattle.px_map.specs.declared.local.LocalRule.{LocalRule}
+use Rattle.px_map.specs.declared.local.LocalRules.{LocalRules}
 use Rattle.px_map.specs.declared.remote.RemoteRule.{RemoteRule}
 use Rattle.px_map.specs.declared.remote.RemoteRules.{RemoteRules}
 
@@ -19,3 +21,9 @@ remote_view r = record { filter = option_map expression r.filter; subject = r.re
 
 abbrev pub remote_views : RemoteRules → List Rule
 remote_views rules = map remote_view rules.rules.items
+
+abbrev pub local_view : LocalRule → Rule
+local_view r = record { filter = option_map expression r.filter; subject = r.seeking; replacement = string_bytes r.path }
+
+abbrev pub local_views : LocalRules → List Rule
+local_views rules = map local_view rules.rules.items

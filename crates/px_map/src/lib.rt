@@ -3,7 +3,11 @@
 
 mod block;
 mod laws;
+mod local;
 mod remote;
+mod responses;
+mod seeking;
+mod served;
 mod url;
 
 pub use block::{BlockRule, BlockRules};
@@ -12,4 +16,5 @@ pub use laws::{
     remote_rules_that_hold_nowhere_change_nothing,
     the_first_block_rule_that_holds_decides,
 };
+pub use local::{LocalRule, LocalRules};
 pub use remote::{RemoteRule, RemoteRules};
