@@ -5,3 +5,4 @@ pub mod RemoteLemmas
 pub mod SeekingLemmas
 pub mod ReadsLemmas
 pub mod LocalLemmas
+pub mod WithinLemmas

@@ -6,7 +6,8 @@ use Rattle.px_outside.specs.declared.files.FileCall.{FileCall}
 use Rattle.px_outside.specs.declared.files.FileCall.TheVariants.{Read, Missed, ReadFailed}
 use Rattle.px_map.specs.Reads.{Begins, IsAnswer, Serves, nothing_yet, past_one, past_absent, at_file, at_failure, none_left, leads_up, is_absent, is_there, has_failed}
 use Rattle.px_map.specs.Responses.{not_found}
-use Rattle.px_map.specs.Tried.{reads_absent}
+use Rattle.px_map.specs.Tried.{Tries, reads_absent}
+use Rattle.px_map.specs.declared.local.Tried.TheVariants as tried
 
 abbrev pub Meant : Type 0
 Meant = List (Option (List ℕ))
@@ -81,7 +82,7 @@ begins_nothing all left made matched going = subst (Begins all) (append-nil made
 
 pub begins_more : (xs ys : Meant) (made : List FileCall) → Begins xs made → Begins (xs ++ ys) made
 begins_more xs ys [] (nothing_yet files) = nothing_yet (xs ++ ys)
-begins_more xs ys made (past_one files made h) = past_one (files ++ ys) made (begins_more files ys made h)
+begins_more xs ys made (past_one files more h) = past_one (files ++ ys) more (begins_more files ys more h)
 begins_more xs ys made (past_absent path files more h) = past_absent path (files ++ ys) more (begins_more files ys more h)
 begins_more xs ys made (at_file path bytes files) = at_file path bytes (files ++ ys)
 begins_more xs ys made (at_failure path files) = at_failure path (files ++ ys)
@@ -96,3 +97,41 @@ serves_begins files made response (has_failed path others) = at_failure path oth
 pub answer_begins : (files : Meant) (made : List FileCall) (answer : Option Response) → IsAnswer files made answer → Begins files made
 answer_begins [] made answer h = subst (Begins []) (sym h.0) (nothing_yet [])
 answer_begins (file ∷ files) made answer (response, is, h) = serves_begins (file ∷ files) made response h
+
+-- ---- a rule more: the files that were left are what it means, and the rest
+
+pub step_passed : (all left names rest : Meant) (made new : List FileCall) (matched : Bool) → Going all left made matched → left ≡ names ++ rest →
+    Tries names new tried.Passed → Going all rest (made ++ new) matched
+step_passed all left names rest made new matched going is tries =
+    let same_left : left ≡ rest = is ∙ ap (λ n. n ++ rest) tries.0 in
+    let same_made : made ≡ made ++ new = sym (append-nil made) ∙ ap (λ n. made ++ n) (sym tries.1) in
+    subst (λ calls. Going all rest calls matched) same_made (subst (λ l. Going all l made matched) same_left going)
+
+pub step_absent : (all left names rest : Meant) (made new : List FileCall) (matched : Bool) → Going all left made matched → left ≡ names ++ rest →
+    Tries names new tried.Absent → Going all rest (made ++ new) true
+step_absent all left names rest made new matched going is (file, meant, calls) =
+    let same_left : left ≡ file ∷ rest = is ∙ ap (λ n. n ++ rest) meant in
+    subst (λ n. Going all rest (made ++ n) true) (sym calls) (going_absent all file rest made matched (subst (λ l. Going all l made matched) same_left going))
+
+pub step_answered : (all left names rest : Meant) (made new : List FileCall) (matched : Bool) (response : Response) → Going all left made matched →
+    left ≡ names ++ rest → Tries names new (tried.Answered response) → IsAnswer all (made ++ new) (Some response)
+step_answered all left names rest made new matched response going is (path, meant, serves) =
+    let same_left : left ≡ Some path ∷ rest = is ∙ ap (λ n. n ++ rest) meant in
+    answers all (Some path) rest made new matched response (subst (λ l. Going all l made matched) same_left going) (serves rest)
+
+pub step_stopped : (all left names rest : Meant) (made new : List FileCall) (matched : Bool) → Going all left made matched → left ≡ names ++ rest →
+    Begins names new → Begins all (made ++ new)
+step_stopped all left names rest made new matched going is begins =
+    going.begins new (subst (λ l. Begins l new) (sym is) (begins_more names rest new begins))
+
+pub ended_found_none : (all left : Meant) (made : List FileCall) (matched : Bool) (response : Response) → Going all left made matched → left ≡ [] →
+    matched ≡ true → response ≡ not_found → IsAnswer all made (Some response)
+ended_found_none all left made matched response going none was is =
+    let at_end : Going all [] made true = subst (λ m. Going all [] made m) was (subst (λ l. Going all l made matched) none going) in
+    subst (λ r. IsAnswer all made (Some r)) (sym is) (answers_not_found all made at_end)
+
+pub ended_unmatched : (all left : Meant) (made : List FileCall) (matched : Bool) → Going all left made matched → left ≡ [] →
+    matched ≡ false → IsAnswer all made None
+ended_unmatched all left made matched going none was =
+    let at_end : Going all [] made false = subst (λ m. Going all [] made m) was (subst (λ l. Going all l made matched) none going) in
+    answers_nothing all made at_end

@@ -32,7 +32,7 @@ rose_both most a b before middle now first second = omega (arith, first, second)
 -- ---- a list of calls
 
 misses_both : (xs ys : List FileCall) → misses_in (xs ++ ys) ≡ misses_in xs + misses_in ys
-misses_both [] ys = refl
+misses_both [] ys = omega arith
 misses_both (Missed path ∷ xs) ys = omega (arith, misses_both xs ys)
 misses_both (Read path bytes ∷ xs) ys = misses_both xs ys
 misses_both (ReadFailed path ∷ xs) ys = misses_both xs ys
@@ -40,7 +40,7 @@ misses_both (Appended path bytes ∷ xs) ys = misses_both xs ys
 misses_both (AppendFailed path ∷ xs) ys = misses_both xs ys
 
 faults_both : (xs ys : List FileCall) → faults_in (xs ++ ys) ≡ faults_in xs + faults_in ys
-faults_both [] ys = refl
+faults_both [] ys = omega arith
 faults_both (ReadFailed path ∷ xs) ys = omega (arith, faults_both xs ys)
 faults_both (Read path bytes ∷ xs) ys = faults_both xs ys
 faults_both (Missed path ∷ xs) ys = faults_both xs ys

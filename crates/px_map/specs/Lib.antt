@@ -6,5 +6,6 @@ pub mod Served
 pub mod Responses
 pub mod Reads
 pub mod Tried
+pub mod Within
 pub mod View
 pub mod Laws

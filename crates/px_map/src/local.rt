@@ -80,11 +80,7 @@ impl LocalRules {
     /// The response to the flow's request, or none where no rule matches: the first file of a rule that matches which is
     /// there; 500 where a read before that failed; 404 where no rule's file is there. Exactly the reads up to the one that
     /// answers are made, and no file is changed. After `NoMemory` some of the first of them were made.
-    pub fn answer<F: Files>(
-        &self,
-        flow: &Flow,
-        files: &mut F,
-    ) -> Result<Option<Response>, NoMemory>
+    pub fn answer<F: Files>(&self, flow: &Flow, files: &mut F) -> Result<Option<Response>, NoMemory>
         ensures answered { IfOk result (λ answer. (made : List FileCall) × IsAnswer (local_names (local_views self.now) flow.now) made answer
             × Made made (seen F.contents F.calls F.misses F.faults F.losses files.old) (seen F.contents F.calls F.misses F.faults F.losses files.new)) }
         ensures stopped { OnErr result ((made : List FileCall) × Begins (local_names (local_views self.now) flow.now) made

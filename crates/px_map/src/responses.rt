@@ -10,11 +10,7 @@ use px_text::{NoMemory, eq_ignore_case};
 use std::alloc::Global;
 
 // The response with the file of this path.
-pub(crate) fn file_response(
-    alloc: Global,
-    path: &str,
-    bytes: Vec<u8>,
-) -> Result<Response, NoMemory>
+pub(crate) fn file_response(alloc: Global, path: &str, bytes: Vec<u8>) -> Result<Response, NoMemory>
     ensures { IfOk result (λ response. response ≡ file_response path.now bytes.items) }
 {
     let media = media_type(extension(path.as_bytes()));
@@ -42,13 +38,7 @@ pub(crate) fn internal_error(alloc: Global) -> Result<Response, NoMemory>
     Ok(answered(alloc, failed(), reason, fields, Body::empty()))
 }
 
-fn answered(
-    alloc: Global,
-    status: Status,
-    reason: Value,
-    fields: Fields,
-    body: Body,
-) -> Response
+fn answered(alloc: Global, status: Status, reason: Value, fields: Fields, body: Body) -> Response
     ensures { result ≡ answered status reason fields body }
 {
     Response {
@@ -119,7 +109,8 @@ fn add_media(alloc: Global, fields: &mut Fields, media: &[u8]) -> Result<(), NoM
     ensures { OnOk result (fields.new ≡ fields.old ++ (codes "Content-Type", media.now) ∷ []) }
 {
     let value = Value::of_text(alloc, media)?;
-    add(alloc, fields, b"Content-Type", value)
+    add(alloc, fields, b"Content-Type", value)?;
+    Ok(())
 }
 
 // Adds a field of a text that is known to be a name.

@@ -1,4 +1,4 @@
-use Rattle.std.proofs.Common.{◌≡◌, true, codes, refl}
+use Rattle.std.proofs.Common.{◌≡◌, ◌∙◌, ◌++◌, ◌∷◌, [], ap, true, codes, refl}
 use Rattle.httparse.specs.Grammar.{is_token, is_token_byte}
 use Rattle.px_map.proofs.responses.add_media.Goals as goal
 
@@ -8,3 +8,6 @@ is_name = refl
 
 pub add-requires : goal.add-requires
 add-requires c = is_name
+
+pub returns : goal.returns
+returns c = c.in_ok-add.ensures ∙ ap (λ v. c.args.fields.now ++ (codes "Content-Type", v) ∷ []) c.in_ok-value.ensures
