@@ -1,0 +1,8 @@
+use Rattle.std.proofs.Common.{map, take, string_bytes}
+use Rattle.px_rule.specs.Rule.{AreRules, body_rule}
+use Rattle.px_map.specs.View.{remote_view}
+use Rattle.px_map.proofs.remote.RemoteRules.read.Given as goal
+
+-- the rules of the texts so far
+abbrev pub invariant-loop-index : goal.invariant-loop-index
+invariant-loop-index l = AreRules body_rule (map string_bytes (take l.index l.texts)) (map remote_view l.rules.items)

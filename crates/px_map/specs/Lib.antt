@@ -1,0 +1,11 @@
+pub mod Block
+pub mod Url
+pub mod Remote
+pub mod Found
+pub mod Served
+pub mod Responses
+pub mod Reads
+pub mod Tried
+pub mod Within
+pub mod View
+pub mod Laws
