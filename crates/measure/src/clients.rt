@@ -156,7 +156,14 @@ pub fn serve_clients(alloc: Global, count: u32) -> Result<u64, NoMemory> {
     let mut net = Clients::new(alloc, count);
     let mut files = MemFiles::new(alloc, Vec::new(alloc), Vec::new(alloc));
     let mut out = Counter { bytes: 0 };
-    match run(alloc, &words, &mut net, &mut files, &mut out, Vec::new(alloc)) {
+    match run(
+        alloc,
+        &words,
+        &mut net,
+        &mut files,
+        &mut out,
+        Vec::new(alloc),
+    ) {
         0 => Ok(out.bytes),
         _ => Err(NoMemory),
     }

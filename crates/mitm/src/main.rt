@@ -53,14 +53,7 @@ fn main(rt: HostRuntime) -> ExitCode {
     if addons.push(counter).is_err() {
         return ExitCode::from(NO_MEMORY);
     }
-    ExitCode::from(run(
-        rt.alloc(),
-        &words,
-        &mut net,
-        &mut files,
-        &mut out,
-        addons,
-    ))
+    ExitCode::from(run(rt.alloc(), &words, &mut net, &mut files, &mut out, addons))
 }
 
 // The words behind the program's name. Where one is no text there are none, which has no form.

@@ -122,7 +122,14 @@ fn status_of<N: Net, R: HostFiles + Print + AllocGlobal + Alloc<A = Global> + Co
 {
     let mut files = RealFiles::new(rt);
     let mut out = StdSink::new(rt);
-    run(rt.alloc(), words, net, &mut files, &mut out, Vec::new(rt.alloc()))
+    run(
+        rt.alloc(),
+        words,
+        net,
+        &mut files,
+        &mut out,
+        Vec::new(rt.alloc()),
+    )
 }
 
 // Sends a request and reads to the end.
