@@ -3,7 +3,6 @@ use Rattle.std.proofs.Common.{◌≡◌, ℕ, Bool, true, false, List, [], ◌�
 use Rattle.std.proofs.lemmas.List.{append_assoc}
 use Rattle.px_message.specs.declared.response.Response.{Response}
 use Rattle.px_outside.specs.declared.files.FileCall.{FileCall}
-use Rattle.px_outside.specs.declared.files.FileCall.TheVariants.{Read, Missed, ReadFailed}
 use Rattle.px_map.specs.Reads.{Begins, IsAnswer, Serves, nothing_yet, past_one, past_absent, at_file, at_failure, none_left, leads_up, is_absent, is_there, has_failed}
 use Rattle.px_map.specs.Responses.{not_found}
 use Rattle.px_map.specs.Tried.{Tries, reads_absent}

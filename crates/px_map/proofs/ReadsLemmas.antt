@@ -1,8 +1,6 @@
 -- Reads that were made, one behind the other.
 use Rattle.std.proofs.Common.{◌≡◌, ℕ, ◌+◌, ◌-◌, ◌^◌, ◌≤◌, min, List, [], ◌∷◌, ◌++◌, Option, Some, None, refl, sym, ap, ◌∙◌, subst, arith, append-nil}
 use Rattle.std.proofs.lemmas.List.{append_assoc}
-use Rattle.px_message.specs.declared.response.Response.{Response}
-use Rattle.px_outside.specs.Count.{Rose}
 use Rattle.px_outside.specs.Files.{Contents, Lists, SameContents, Stands, Told}
 use Rattle.px_outside.specs.declared.files.FileCall.{FileCall}
 use Rattle.px_outside.specs.declared.files.FileCall.TheVariants.{Read, Missed, ReadFailed, Appended, AppendFailed}

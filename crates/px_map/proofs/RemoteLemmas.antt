@@ -1,5 +1,5 @@
 -- Map remote rules, one by one.
-use Rattle.std.proofs.Common.{◌≡◌, ℕ, suc, Bool, true, false, not, List, [], ◌∷◌, ◌++◌, Option, Some, None, Result, Ok, Err, refl, sym, ap, ◌∙◌}
+use Rattle.std.proofs.Common.{◌≡◌, Bool, true, false, not, List, [], ◌∷◌, ◌++◌, Option, Some, None, Ok, Err, refl, ap, ◌∙◌}
 use Rattle.px_message.specs.declared.flow.Flow.{Flow}
 use Rattle.std.proofs.lemmas.List.Elements.{All-head, All-tail}
 use Rattle.px_rule.specs.Laws.{HoldNowhere}

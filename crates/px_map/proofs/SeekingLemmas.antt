@@ -1,5 +1,5 @@
 -- From what `regex` tells of a pattern that it built, to the pattern's text.
-use Rattle.std.proofs.Common.{◌≡◌, ℕ, ◌<◌, ◌≤◌, Bool, false, List, drop, get_or, length, Option, None, Some, IsSomeAnd, option_map, refl, sym, ap, ◌∙◌}
+use Rattle.std.proofs.Common.{◌≡◌, ℕ, ◌<◌, ◌≤◌, false, List, drop, get_or, length, Option, None, Some, IsSomeAnd, option_map, refl, ap, ◌∙◌}
 use Rattle.std.proofs.lemmas.Bool.{le-leb}
 use Rattle.std.specs.Str.{chars}
 use Rattle.regex.proofs.ForCallers.{span_alike}

@@ -1,6 +1,5 @@
 -- No read leaves a rule's directory.
-use Rattle.std.proofs.Common.{◌≡◌, ◌≢◌, ◌⊎◌, ℕ, Bool, true, false, ◌==◌, ◌||◌, if◌then◌else◌, List, [], ◌∷◌, ◌++◌, map, length, slice_index, codes, Option, Some, None, inl, inr, refl, sym, ap, ◌∙◌, subst, arith, eq-eqb}
-use Rattle.std.proofs.lemmas.Bool.Decides.{nat_tests}
+use Rattle.std.proofs.Common.{◌≡◌, ◌≢◌, ℕ, Bool, true, false, ◌==◌, if◌then◌else◌, List, [], ◌∷◌, ◌++◌, map, slice_index, codes, Option, Some, None, inl, inr, refl, sym, ◌∙◌, arith, eq-eqb}
 use Rattle.px_message.specs.declared.flow.Flow.{Flow}
 use Rattle.px_outside.specs.declared.files.FileCall.{FileCall}
 use Rattle.px_rule.specs.Rule.{Rule, applies}

@@ -1,6 +1,5 @@
 -- Block rules, and the texts that they are written as.
-use Rattle.std.specs.Prelude.{◌≡◌, ℕ, Bool, not, ◌==◌, ◌&&◌, nat_le, List, [], ◌∷◌, ◌++◌, length, map, take, slice_get, Option, Some, None, Result, Ok, Err, if◌then◌else◌}
-use Rattle.std.specs.List.{AllPass}
+use Rattle.std.specs.Prelude.{◌≡◌, ℕ, ◌==◌, ◌&&◌, nat_le, List, [], ◌∷◌, ◌++◌, length, map, take, slice_get, Option, Some, None, Result, Ok, Err, if◌then◌else◌}
 use Rattle.px_text.specs.Number.{decimal_value}
 use Rattle.px_message.specs.declared.flow.Flow.{Flow}
 use Rattle.px_filter.specs.Expression.{Expression}

@@ -3,7 +3,7 @@ use Rattle.std.specs.Prelude.{◌≡◌, ℕ, ◌+◌, ◌-◌, ◌^◌, ◌≤�
 use Rattle.px_message.specs.declared.response.Response.{Response}
 use Rattle.px_outside.specs.Files.{Contents, SameContents, Stands, Told}
 use Rattle.px_outside.specs.declared.files.FileCall.{FileCall}
-use Rattle.px_outside.specs.declared.files.FileCall.TheVariants.{Read, Missed, ReadFailed, Appended, AppendFailed}
+use Rattle.px_outside.specs.declared.files.FileCall.TheVariants.{Read, Missed, ReadFailed}
 use Rattle.px_map.specs.Responses.{file_response, internal_error, not_found}
 
 -- The reads that are made for these files in their order, and the response that they come to: the first that is there is

@@ -1,5 +1,5 @@
 -- Which files map local reads for a flow.
-use Rattle.std.specs.Prelude.{ℕ, Bool, true, ◌-◌, ◌==◌, ◌||◌, ◌&&◌, List, [], ◌∷◌, ◌++◌, length, map, nat_le, slice_index, codes, bytes_eq, Option, Some, None, if◌then◌else◌}
+use Rattle.std.specs.Prelude.{ℕ, Bool, ◌-◌, ◌==◌, ◌||◌, ◌&&◌, List, [], ◌∷◌, ◌++◌, length, map, nat_le, slice_index, codes, bytes_eq, Option, Some, None, if◌then◌else◌}
 use Rattle.std.specs.List.{list_any, slice_split}
 use Rattle.px_message.specs.declared.flow.Flow.{Flow}
 use Rattle.px_rule.specs.Rule.{Rule, applies}

@@ -1,6 +1,6 @@
 use Rattle.std.proofs.Common.{◌∷◌, [], Some, Err, refl, sym, ap, subst}
 use Rattle.px_outside.specs.declared.files.FileCall.TheVariants.{Read, Missed, ReadFailed}
-use Rattle.px_map.specs.Reads.{Serves, is_there, has_failed, at_file, at_failure, past_absent, nothing_yet}
+use Rattle.px_map.specs.Reads.{Serves, is_there, has_failed, at_file, at_failure, nothing_yet}
 use Rattle.px_map.proofs.ReadsLemmas.{lists_none, lists_one, rose_none}
 use Rattle.px_map.proofs.local.read_file.Goals as goal
 

@@ -1,5 +1,5 @@
 use borrow.Author.Tests.{tests}
-use Rattle.std.proofs.Common.{◌∙◌, ◌==◌, bytes_eq, codes, rules}
+use Rattle.std.proofs.Common.{◌==◌, bytes_eq, codes, rules}
 use Rattle.std.proofs.lemmas.Iterator.Search.{any_from_yields_List}
 use Rattle.std.proofs.lemmas.Iterator.Splits.{YieldsList-from_slice_split}
 use Rattle.px_map.proofs.served.climbs.Goals as goal

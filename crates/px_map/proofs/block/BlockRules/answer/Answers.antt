@@ -1,4 +1,4 @@
-use Rattle.std.proofs.Common.{◌≡◌, ◌∙◌, ◌∷◌, ap, sym, map, drop, length, ◌≤◌, ◌+◌, Some, None, true, false, List, option_map, arith}
+use Rattle.std.proofs.Common.{◌≡◌, ◌∙◌, ◌∷◌, ap, sym, map, drop, length, ◌≤◌, ◌+◌, Some, true, false, List, option_map, arith}
 use Rattle.std.proofs.lemmas.List.{drop_all}
 use Rattle.px_filter.specs.View.{expression}
 use Rattle.px_rule.specs.Rule.{applies}

@@ -1,4 +1,4 @@
-use Rattle.std.proofs.Common.{◌≡◌, ◌∙◌, ◌++◌, ◌+◌, ◌≤◌, ◌∷◌, [], List, Some, ap, sym, subst, map, drop, length, arith}
+use Rattle.std.proofs.Common.{◌++◌, ◌+◌, ◌≤◌, [], List, Some, ap, sym, subst, map, drop, length, arith}
 use Rattle.std.proofs.lemmas.List.{drop_all}
 use Rattle.px_rule.proofs.BodyLemmas.{on_err}
 use Rattle.px_map.specs.Reads.{Begins, IsAnswer, nothing_yet}
@@ -67,12 +67,13 @@ loop-rule-preserved g c =
 
 pub returns-in_err-not_found-clause-stopped : goal.returns-in_err-not_found-clause-stopped
 returns-in_err-not_found-clause-stopped g c =
+    let items = c.deref-rule-items.result.now in
     let flow = c.args.flow.now in
     let so_far = c.loop-rule.invariant in
     on_err c.from_residual-in_err-not_found.result _ (
       so_far.0,
       subst (λ (rules : List held.LocalRule). Begins (local_names (map local_view rules) flow) so_far.0) c.deref-rule-items.ensures.value
-          (begins_nothing _ _ so_far.0 c.loop-rule.matched so_far.1),
+          (begins_nothing (local_names (map local_view items) flow) (local_names (map local_view (drop c.loop-rule.rule-index items)) flow) so_far.0 c.loop-rule.matched so_far.1),
       so_far.2,
     )
 
@@ -85,6 +86,6 @@ returns-then-matched-clause-answered g c =
     let none = ap (λ (rules : List held.LocalRule). local_names (map local_view rules) flow) (drop_all c.loop-rule.rule-index items past) in (
       so_far.0,
       subst (λ (rules : List held.LocalRule). IsAnswer (local_names (map local_view rules) flow) so_far.0 (Some c.in_ok-not_found.field-0)) c.deref-rule-items.ensures.value
-          (ended_found_none _ _ so_far.0 c.loop-rule.matched c.in_ok-not_found.field-0 so_far.1 none c.if-matched.true c.in_ok-not_found.ensures),
+          (ended_found_none (local_names (map local_view items) flow) (local_names (map local_view (drop c.loop-rule.rule-index items)) flow) so_far.0 c.loop-rule.matched c.in_ok-not_found.field-0 so_far.1 none c.if-matched.true c.in_ok-not_found.ensures),
       so_far.2,
     )

@@ -1,5 +1,4 @@
 use Rattle.std.proofs.Common.{◌∙◌, ◌-◌, ◌≤◌, ap, Some, List, ℕ, length, drop, option_map, take_all, length-drop, arith}
-use Rattle.regex.specs.Bytes as raw
 use Rattle.regex.specs.Patterns.{Re, find, span}
 use Rattle.px_map.specs.Found.{after_match}
 use Rattle.px_map.proofs.SeekingLemmas.{behind, found_by_text}
