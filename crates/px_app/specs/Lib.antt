@@ -1,7 +1,6 @@
 pub mod Words
 pub mod Lines
 pub mod Statuses
-pub mod Going
 pub mod Files
 pub mod Listed
 pub mod Printed

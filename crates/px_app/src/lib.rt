@@ -1,7 +1,7 @@
-//! What the program does: `run` takes the words, a network, files and a sink, and answers the exit status.
+//! What the program does: `run` takes the words, a network, files, a sink and addons, and answers the exit status.
 //!
-//! Each connection at the door for clients is a conversation. Each hook is answered at once with the flow as it was asked
-//! about, and of each finished flow a line is printed.
+//! Each connection at the door for clients is a conversation. Each hook is answered at once by the chain of the addons that were
+//! handed in, and of each finished flow a line is printed.
 #![tactic(auto)]
 
 mod finished;

@@ -2,7 +2,7 @@
 //!
 //! `run` is the whole program over a network, files and a sink that are handed in. Each promise is a clause of it. What each
 //! peer of each conversation was sent is what is due to it by px_http's `fixed_due`, by where its client is and the calls that
-//! the trace has of the conversation; each hook was answered with its flow as it was asked about; what is printed is a line of
+//! the trace has of the conversation; each hook was answered by the chain of the addons alone; what is printed is a line of
 //! each finished flow of the trace, and the status's line behind them; and each status has its cause in the trace, in the words
 //! or in a count of faults. Want of memory alone has no cause; after it each peer has got a prefix of what is due, and a front
 //! of the lines is printed.
