@@ -52,7 +52,8 @@ fn a_socket_takes_an_answer_in_parts(rt: HostRuntime) -> Result<(), Fail> {
     let mut files = MemFiles::new(alloc, Vec::new(alloc), Vec::new(alloc));
     let mut out = VecSink::new(alloc, Vec::new(alloc));
     let words = words(alloc)?;
-    let status = run(alloc, &words, &mut lines, &mut files, &mut out);
+    let addons = Vec::new(alloc);
+    let status = run(alloc, &words, &mut lines, &mut files, &mut out, addons);
     assert!(rt; status == 5);
     assert!(rt; lines.wire().taken(5)?.as_slice() == ANSWER);
     Ok(())
