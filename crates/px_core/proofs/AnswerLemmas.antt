@@ -1,39 +1,99 @@
--- Files that answers alone changed.
-use Rattle.std.proofs.Common.{◌≡◌, refl, ◌∙◌}
+-- Answers one behind the other, and what becomes of files.
+use Rattle.std.proofs.Common.{◌≡◌, refl, sym, ◌∙◌, subst}
 use Rattle.px_message.specs.declared.flow.Flow.{Flow}
 use Rattle.px_event.specs.declared.ask.Hook.{Hook}
+use Rattle.px_event.specs.Trace.{Trace}
 use Rattle.px_core.specs.declared.answerer.Answer.{Answer}
-use Rattle.px_core.specs.Answers.{Answering, ByAnswers, Failing, FilesMeaning, by_answer, by_failure, by_none}
+use Rattle.px_core.specs.Answered.{Answers, LeavesFiles, Pending, at_first, at_hook, at_other, at_reply}
+use Rattle.px_core.specs.Answers.{Answering, AnswererState, ByAnswers, Failing, FilesAfter, FilesMeaning, after_answers, after_failure, by_answer, by_none}
+use Rattle.px_core.specs.Due.{Due}
+use Rattle.px_core.specs.Kind.{KeepsFiles}
 
-module _ {S : Type 0} (answers : Answering S) (fails : Failing) where
+module _ {S : Type 0} {answers : Answering S} where
   -- one behind the other
-  pub by_both : (first between last : FilesMeaning) → ByAnswers answers fails first between → ByAnswers answers fails between last → ByAnswers answers fails first last
-  by_both first between last before (by_none files) = before
-  by_both first between last before (by_answer start old hook flow state new_state new answer more is) =
-      by_answer first old hook flow state new_state last answer (by_both first between old before more) is
-  by_both first between last before (by_failure start old new more is) = by_failure first old last (by_both first between old before more) is
+  pub by_both : (first between last : AnswererState S) → ByAnswers answers first between → ByAnswers answers between last → ByAnswers answers first last
+  by_both first between last before (by_none at) = before
+  by_both first between last before (by_answer start old new hook flow given more is) =
+      by_answer first old last hook flow given (by_both first between old before more) is
 
-  pub by_one : (old : FilesMeaning) (hook : Hook) (flow : Flow) (state new_state : S) (new : FilesMeaning) (answer : Answer) →
-      answers hook flow state old new_state new answer → ByAnswers answers fails old new
-  by_one old hook flow state new_state new answer is = by_answer old old hook flow state new_state new answer (by_none old) is
+  pub by_one : (old new : AnswererState S) (hook : Hook) (flow : Flow) (given : Answer) → answers hook flow old.own old.files new.own new.files given →
+      ByAnswers answers old new
+  by_one old new hook flow given is = by_answer old old new hook flow given (by_none old) is
 
-  pub by_failed : (old new : FilesMeaning) → fails old new → ByAnswers answers fails old new
-  by_failed old new is = by_failure old old new (by_none old) is
+module _ {S : Type 0} {answers : Answering S} {fails : Failing S} where
+  pub after_none : (first : AnswererState S) → FilesAfter answers fails first first.files
+  after_none first = after_answers first (by_none first) refl
 
-  -- what holds of files as they are, of each answer and each failure, and of one behind the other, holds then
-  pub kept_by_answers : (P : FilesMeaning → FilesMeaning → Type 0) → ((files : FilesMeaning) → P files files) →
-      ((first old new : FilesMeaning) → P first old → P old new → P first new) →
-      ((old : FilesMeaning) (hook : Hook) (flow : Flow) (state new_state : S) (new : FilesMeaning) (answer : Answer) → answers hook flow state old new_state new answer → P old new) →
-      ((old new : FilesMeaning) → fails old new → P old new) →
-      (first last : FilesMeaning) → ByAnswers answers fails first last → P first last
-  kept_by_answers P same on answered failed first last (by_none files) = same files
-  kept_by_answers P same on answered failed first last (by_answer start old hook flow state new_state new answer more is) =
-      on first old last (kept_by_answers P same on answered failed first old more) (answered old hook flow state new_state last answer is)
-  kept_by_answers P same on answered failed first last (by_failure start old new more is) =
-      on first old last (kept_by_answers P same on answered failed first old more) (failed old last is)
+  pub after_given : (first last : AnswererState S) → ByAnswers answers first last → FilesAfter answers fails first last.files
+  after_given first last by = after_answers last by refl
 
-  -- where no answer and no failure changes files, they are as they were
-  pub unchanged : ((old : FilesMeaning) (hook : Hook) (flow : Flow) (state new_state : S) (new : FilesMeaning) (answer : Answer) → answers hook flow state old new_state new answer → new ≡ old) →
-      ((old new : FilesMeaning) → fails old new → new ≡ old) → (first last : FilesMeaning) → ByAnswers answers fails first last → last ≡ first
-  unchanged answered failed first last by =
-      kept_by_answers (λ old new. new ≡ old) (λ files. refl) (λ a b c ab bc. bc ∙ ab) answered failed first last by
+  pub after_failed : (first : AnswererState S) (hook : Hook) (flow : Flow) (files : FilesMeaning) → fails hook flow first.own first.files files →
+      FilesAfter answers fails first files
+  after_failed first hook flow files is = after_failure first hook flow (by_none first) is
+
+  -- behind answers that were given
+  pub after_both : (first between : AnswererState S) (files : FilesMeaning) → ByAnswers answers first between → FilesAfter answers fails between files →
+      FilesAfter answers fails first files
+  after_both first between files before (after_answers last by same) = after_answers last (by_both first between last before by) same
+  after_both first between files before (after_failure last hook flow by is) = after_failure last hook flow (by_both first between last before by) is
+
+module _ {S : Type 0} (answers : Answering S) (fails : Failing S) (is : S → Type 0) (goes : FilesMeaning → FilesMeaning → Type 0) (keeps : KeepsFiles answers fails is goes) where
+  -- from a state that is so answers lead to one that is so, and change files as the relation says
+  pub record KeptBy (first last : AnswererState S) : Type 0 where
+    pub so : is last.own
+    pub goes_so : goes first.files last.files
+
+  kept_none : (first : AnswererState S) → is first.own → KeptBy first first
+  kept_none first so = record { so = so; goes_so = keeps.same first.files }
+
+  kept_one : (first old new : AnswererState S) (hook : Hook) (flow : Flow) (given : Answer) → answers hook flow old.own old.files new.own new.files given →
+      KeptBy first old → KeptBy first new
+  kept_one first old new hook flow given answered k = record {
+    so = keeps.stays hook flow old.own old.files new.own new.files given k.so answered;
+    goes_so = keeps.on first.files old.files new.files k.goes_so (keeps.given_so hook flow old.own old.files new.own new.files given k.so answered);
+  }
+
+  pub kept_by_answers : (first last : AnswererState S) → is first.own → ByAnswers answers first last → KeptBy first last
+  kept_by_answers first last so (by_none at) = kept_none first so
+  kept_by_answers first last so (by_answer start old new hook flow given more answered) =
+      kept_one first old last hook flow given answered (kept_by_answers first old so more)
+
+  -- so they do over a trace
+  pub kept_over : (due : Due) (first : AnswererState S) → is first.own → (trace : Trace) (last : AnswererState S) (pending : Pending) → Answers answers due first trace last pending → KeptBy first last
+  kept_over due first so trace last pending at_first = kept_none first so
+  kept_over due first so whole last pending (at_hook trace next old new was conv hook flow given earlier before split free about answered) =
+      kept_one first old last hook flow given answered (kept_over due first so trace old was before)
+  kept_over due first so whole last pending (at_reply trace next now was conv ask reply before split is_given) = kept_over due first so trace last was before
+  kept_over due first so whole last pending (at_other trace next now was step before split quiet) = kept_over due first so trace last pending before
+
+  -- and where the last of them ran out of memory too
+  pub kept_after : (first : AnswererState S) (files : FilesMeaning) → is first.own → FilesAfter answers fails first files → goes first.files files
+  kept_after first files so (after_answers last by same) =
+      let P : FilesMeaning → Type 0 = goes first.files in subst P (sym same) ((kept_by_answers first last so by).goes_so)
+  kept_after first files so (after_failure last hook flow by failed) =
+      let k = kept_by_answers first last so by in
+      keeps.on first.files last.files files k.goes_so (keeps.failed_so hook flow last.own last.files files k.so failed)
+
+  pub kept_leaving : (due : Due) (first : AnswererState S) (Whole : Type 0) (files : FilesMeaning) (trace : Trace) → is first.own →
+      LeavesFiles answers fails due first Whole files trace → goes first.files files
+  kept_leaving due first Whole files trace so l =
+      let k = kept_over due first so l.front l.last l.pending l.answered in
+      keeps.on first.files l.last.files files k.goes_so (kept_after l.last files k.so l.after)
+
+-- where no answer and no failure changes files, they are as they were
+pub unchanged : {S : Type 0} (answers : Answering S) (fails : Failing S) →
+    ((hook : Hook) (flow : Flow) (old : S) (old_files : FilesMeaning) (new : S) (new_files : FilesMeaning) (given : Answer) →
+    answers hook flow old old_files new new_files given → new_files ≡ old_files) →
+    ((hook : Hook) (flow : Flow) (old : S) (old_files new_files : FilesMeaning) → fails hook flow old old_files new_files → new_files ≡ old_files) →
+    (first : AnswererState S) (files : FilesMeaning) → FilesAfter answers fails first files → files ≡ first.files
+unchanged {S} answers fails given_so failed_so first files after =
+    let is : S → Type 0 = λ state. Unit {0} in
+    let goes : FilesMeaning → FilesMeaning → Type 0 = λ old new. new ≡ old in
+    let keeps : KeepsFiles answers fails is goes = record {
+      same = λ at. refl;
+      on = λ a b c ab bc. bc ∙ ab;
+      stays = λ hook flow old old_files new new_files given so answered. tt;
+      given_so = λ hook flow old old_files new new_files given so answered. given_so hook flow old old_files new new_files given answered;
+      failed_so = λ hook flow old old_files new_files so failed. failed_so hook flow old old_files new_files failed;
+    } in
+    kept_after answers fails is goes keeps first files tt after

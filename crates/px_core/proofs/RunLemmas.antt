@@ -20,8 +20,8 @@ use Rattle.px_event.specs.Trace.{Trace}
 use Rattle.px_core.specs.declared.news.News.{News}
 use Rattle.px_core.specs.declared.news.News.TheVariants as news
 use Rattle.px_core.specs.declared.table.Table.{Table}
-use Rattle.px_core.specs.Answered.{IsAnswered, at_other}
-use Rattle.px_core.specs.Answers.{Answering, AnswererState}
+use Rattle.px_core.specs.Answered.{IsAnswered, LeavesFiles, at_other}
+use Rattle.px_core.specs.Answers.{Answering, AnswererState, Failing, FilesAfter, FilesMeaning}
 use Rattle.px_core.specs.Calls.{number_end, addressed}
 use Rattle.px_core.specs.Due.{Due, IsServed}
 use Rattle.px_core.specs.Held.{IsOf, AllOf}
@@ -311,4 +311,24 @@ tells_answered standing awaited number made_due answers due {first} {now} table 
   more = t.more;
   is = t.is;
   holds = record { last = now; pending = t.holds.pending; answered = t.holds.answered };
+}
+
+-- Behind the trace before what was heard the answerer was asked what it was asked, whatever of that was told.
+pub leaves_told : {C : Type 0} (standing : Standing C) (awaited : C → Option Ask) (number : C → ℕ) (made_due : C → List Move → List Command) {S : Type 0} (answers : Answering S)
+    (fails : Failing S) (due : Due) (first now : AnswererState S) (files : FilesMeaning) (table : Table C) (trace : Trace) (moment : ℕ) (what : Heard) (told : Option Trace) →
+    TableStands standing awaited number made_due answers due first now table trace → FilesAfter answers fails now files →
+    TellsOfHeard what (trace ++ steps.Heard moment what ∷ []) told → Tells (LeavesFiles answers fails due first ⊥ files) (trace ++ steps.Heard moment what ∷ []) told
+leaves_told standing awaited number made_due answers fails due first now files table trace moment what told stands after t = record {
+  more = t.more;
+  is = t.is;
+  holds = record {
+    front = trace;
+    rest = steps.Heard moment what ∷ t.more;
+    split = append_assoc trace (steps.Heard moment what ∷ []) t.more;
+    last = now;
+    pending = stands.pending;
+    answered = stands.answered;
+    after = after;
+    whole = λ no. absurd no;
+  };
 }

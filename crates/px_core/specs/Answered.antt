@@ -14,7 +14,7 @@ use Rattle.px_event.specs.Trace.{Trace}
 use Rattle.px_event.specs.View.{Atom, about, flows}
 use Rattle.px_core.specs.declared.answerer.Answer.{Answer}
 use Rattle.px_core.specs.declared.answerer.Answer.TheVariants as answer
-use Rattle.px_core.specs.Answers.{Answering, AnswererState}
+use Rattle.px_core.specs.Answers.{Answering, AnswererState, Failing, FilesAfter, FilesMeaning}
 use Rattle.px_core.specs.Due.{Due, due_in}
 
 -- what the answerer gave to a hook
@@ -61,3 +61,17 @@ pub record IsAnswered {S : Type 0} (answers : Answering S) (due : Due) (first : 
   pub last : AnswererState S
   pub pending : Pending
   pub answered : Answers answers due first trace last pending
+
+-- What files mean at the end of a trace, where the answerer and the files were this at first. All that was answered stands in the
+-- trace, and the files are what the last answer left; or, where that is not said, behind some front of the trace more was answered
+-- than the trace has, and the last of it may have run out of memory.
+pub record LeavesFiles {S : Type 0} (answers : Answering S) (fails : Failing S) (due : Due) (first : AnswererState S) (Whole : Type 0) (files : FilesMeaning)
+    (trace : Trace) : Type 0 where
+  pub front : Trace
+  pub rest : Trace
+  pub split : trace ≡ front ++ rest
+  pub last : AnswererState S
+  pub pending : Pending
+  pub answered : Answers answers due first front last pending
+  pub after : FilesAfter answers fails last files
+  pub whole : Whole → (rest ≡ []) × (files ≡ last.files)

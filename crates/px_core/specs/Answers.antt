@@ -1,5 +1,5 @@
 -- What an answerer's answer may be.
-use Rattle.std.specs.Prelude.{ℕ, List, Option}
+use Rattle.std.specs.Prelude.{◌≡◌, ℕ, List, Option}
 use Rattle.px_message.specs.declared.flow.Flow.{Flow}
 use Rattle.px_event.specs.declared.ask.Hook.{Hook}
 use Rattle.px_outside.specs.Files.{Contents}
@@ -33,18 +33,19 @@ state_of state contents calls misses faults losses answerer files =
 abbrev pub Answering : Type 0 → Type 1
 Answering S = Hook → Flow → S → FilesMeaning → S → FilesMeaning → Answer → Type 0
 
--- What an answer that ran out of memory does to files: these before, and these after.
-abbrev pub Failing : Type 1
-Failing = FilesMeaning → FilesMeaning → Type 0
+-- What an answer that ran out of memory does to files: the hook, the flow, the answerer's state and the files before, and the files
+-- after.
+abbrev pub Failing : Type 0 → Type 1
+Failing S = Hook → Flow → S → FilesMeaning → FilesMeaning → Type 0
 
--- Files that answers alone changed, one behind the other, each given or failed.
-pub data ByAnswers {S : Type 0} (answers : Answering S) (fails : Failing) : FilesMeaning → FilesMeaning → Type 0 where
-  by_none : (files : FilesMeaning) → ByAnswers answers fails files files
-  by_answer : (first old : FilesMeaning) (hook : Hook) (flow : Flow) (state new_state : S) (new : FilesMeaning) (answer : Answer) →
-      ByAnswers answers fails first old → answers hook flow state old new_state new answer → ByAnswers answers fails first new
-  by_failure : (first old new : FilesMeaning) → ByAnswers answers fails first old → fails old new → ByAnswers answers fails first new
+-- Answers one behind the other, each from the state and the files that the one before left.
+pub data ByAnswers {S : Type 0} (answers : Answering S) : AnswererState S → AnswererState S → Type 0 where
+  by_none : (at : AnswererState S) → ByAnswers answers at at
+  by_answer : (first old new : AnswererState S) (hook : Hook) (flow : Flow) (given : Answer) →
+      ByAnswers answers first old → answers hook flow old.own old.files new.own new.files given → ByAnswers answers first new
 
--- so are these files, by what they mean
-abbrev pub ChangedByAnswers : {F S : Type 0} → Answering S → Failing → (F → Option Contents) → (F → Option (List FileCall)) → (F → ℕ) → (F → ℕ) → (F → ℕ) → F → F → Type 0
-ChangedByAnswers answers fails contents calls misses faults losses old new =
-    ByAnswers answers fails (files_meaning contents calls misses faults losses old) (files_meaning contents calls misses faults losses new)
+-- What files mean after answers from this state on: all were given, or the last one ran out of memory.
+pub data FilesAfter {S : Type 0} (answers : Answering S) (fails : Failing S) (first : AnswererState S) (files : FilesMeaning) : Type 0 where
+  after_answers : (last : AnswererState S) → ByAnswers answers first last → files ≡ last.files → FilesAfter answers fails first files
+  after_failure : (last : AnswererState S) (hook : Hook) (flow : Flow) → ByAnswers answers first last → fails hook flow last.own last.files files →
+      FilesAfter answers fails first files

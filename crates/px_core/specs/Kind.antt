@@ -1,4 +1,4 @@
--- Answers of a kind: what holds of each answer that an answerer gives from states of one property.
+-- Answers of a kind: what holds of each answer that an answerer gives from states of one property, and what becomes of files then.
 use Rattle.std.specs.Prelude.{◌≡◌, ◌≢◌, ℕ, List, [], ◌∷◌, ◌++◌}
 use Rattle.px_message.specs.declared.flow.Flow.{Flow}
 use Rattle.px_event.specs.declared.ask.Ask.{Ask}
@@ -11,7 +11,7 @@ use Rattle.px_event.specs.Trace.{Trace}
 use Rattle.px_event.specs.View.{Atom, about, flows}
 use Rattle.px_core.specs.declared.answerer.Answer.{Answer}
 use Rattle.px_core.specs.declared.answerer.Answer.TheVariants as answer
-use Rattle.px_core.specs.Answers.{Answering, FilesMeaning}
+use Rattle.px_core.specs.Answers.{Answering, Failing, FilesMeaning}
 use Rattle.px_core.specs.Due.{Due, due_in}
 
 -- From each of its own states that is so, whatever files mean, each answer leads to one that is so, and is of this kind.
@@ -20,6 +20,18 @@ pub record KeepsKind {S : Type 0} (answers : Answering S) (is : S → Type 0) (g
       is old → answers hook flow old old_files new new_files given → is new
   pub gives_so : (hook : Hook) (flow : Flow) (old : S) (old_files : FilesMeaning) (new : S) (new_files : FilesMeaning) (given : Answer) →
       is old → answers hook flow old old_files new new_files given → gives hook flow given
+
+-- A property of its own states, and a relation of files that holds of files as they are and from files to files. From each state that
+-- is so each answer leads to one that is so, and each answer and each failure changes files as the relation says.
+pub record KeepsFiles {S : Type 0} (answers : Answering S) (fails : Failing S) (is : S → Type 0) (goes : FilesMeaning → FilesMeaning → Type 0) : Type 0 where
+  pub same : (files : FilesMeaning) → goes files files
+  pub on : (first between last : FilesMeaning) → goes first between → goes between last → goes first last
+  pub stays : (hook : Hook) (flow : Flow) (old : S) (old_files : FilesMeaning) (new : S) (new_files : FilesMeaning) (given : Answer) →
+      is old → answers hook flow old old_files new new_files given → is new
+  pub given_so : (hook : Hook) (flow : Flow) (old : S) (old_files : FilesMeaning) (new : S) (new_files : FilesMeaning) (given : Answer) →
+      is old → answers hook flow old old_files new new_files given → goes old_files new_files
+  pub failed_so : (hook : Hook) (flow : Flow) (old : S) (old_files new_files : FilesMeaning) →
+      is old → fails hook flow old old_files new_files → goes old_files new_files
 
 -- the step asks no hook of this conversation, and answers none
 abbrev pub LeavesAlone : ℕ → Step → Type 0

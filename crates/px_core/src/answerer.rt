@@ -55,8 +55,8 @@ pub trait Answerer {
     /// Which answers it gives: a hook, its flow, the state and the files before and after, and the answer.
     ghost answers: { Answering State };
 
-    /// What an answer that ran out of memory does to files.
-    ghost fails: { Failing };
+    /// What an answer that ran out of memory does to files: a hook, its flow, the state and the files before, and the files after.
+    ghost fails: { Failing State };
 
     /// The names of its addons, in their order, by its state.
     ghost names: { State → List (List ℕ) };
@@ -75,8 +75,8 @@ pub trait Answerer {
             (state self.old) (record { contents = F.contents files.old; calls = F.calls files.old; misses = F.misses files.old; faults = F.faults files.old; losses = F.losses files.old })
             (state self.new) (record { contents = F.contents files.new; calls = F.calls files.new; misses = F.misses files.new; faults = F.faults files.new; losses = F.losses files.new })
             answer) }
-        ensures fails { OnErr result (fails
-            (record { contents = F.contents files.old; calls = F.calls files.old; misses = F.misses files.old; faults = F.faults files.old; losses = F.losses files.old })
+        ensures fails { OnErr result (fails hook flow
+            (state self.old) (record { contents = F.contents files.old; calls = F.calls files.old; misses = F.misses files.old; faults = F.faults files.old; losses = F.losses files.old })
             (record { contents = F.contents files.new; calls = F.calls files.new; misses = F.misses files.new; faults = F.faults files.new; losses = F.losses files.new })) };
 
     /// Takes the first addon of this name away, and leaves the others as they are, in their order. `NoSuchAddon` exactly where

@@ -7,7 +7,7 @@ ghost use Rattle.std.specs.Prelude.{◌≡◌, ◌==◌, ◌<◌, true, ◌++◌
 ghost use Rattle.std.specs.List.{list_any};
 ghost use Rattle.px_event.specs.Layer.{IsSound, IsNews, MayAnswer, Took, Replied};
 ghost use Rattle.px_event.specs.declared.ask.Ask.TheVariants.{Hook as AsksHook, Dial as AsksDial};
-ghost use Rattle.px_core.specs.Answers.{ChangedByAnswers, state_of};
+ghost use Rattle.px_core.specs.Answers.{ByAnswers, FilesAfter, files_meaning, state_of};
 ghost use Rattle.px_core.specs.Calls.{dial_reply, connected_by, is_connected, is_dialling};
 ghost use Rattle.px_core.specs.Conversation.{AllNamed};
 ghost use Rattle.px_core.specs.Held.{step_of, question_about, question_by, question_in, asked_from, dial_of, Replies, Gives, Works, Takes, Hears, IsHeardNews, Asks, IsNext, IsReady, IsSettled, turns_left};
@@ -60,7 +60,8 @@ impl<C: Owes> Held<C> {
         requires settled { IsSettled C.awaited self.old }
         requires news { IsHeardNews news }
         ensures hears { OnOk result (Hears C.stands C.awaited C.number C.due A.answers call.conv call.moment news self.old self.new (state_of A.state F.contents F.calls F.misses F.faults F.losses answerer.old files.old) (state_of A.state F.contents F.calls F.misses F.faults F.losses answerer.new files.new) steps.old.items steps.new.items) }
-        ensures files { ChangedByAnswers A.answers A.fails F.contents F.calls F.misses F.faults F.losses files.old files.new }
+        ensures files { FilesAfter A.answers A.fails (state_of A.state F.contents F.calls F.misses F.faults F.losses answerer.old files.old) (files_meaning F.contents F.calls F.misses F.faults F.losses files.new) }
+        ensures given { OnOk result (ByAnswers A.answers (state_of A.state F.contents F.calls F.misses F.faults F.losses answerer.old files.old) (state_of A.state F.contents F.calls F.misses F.faults F.losses answerer.new files.new)) }
     {
         match news {
             News::Begun { peer: _peer } => Ok(()),
@@ -95,7 +96,8 @@ impl<C: Owes> Held<C> {
         requires settled { IsSettled C.awaited self.old }
         requires news { IsNews event }
         ensures takes { OnOk result (Takes C.stands C.awaited C.number C.due A.answers call.conv call.moment (Took call.moment event) (dial_of (C.awaited self.old.conversation)) self.old.connected.items self.old self.new (state_of A.state F.contents F.calls F.misses F.faults F.losses answerer.old files.old) (state_of A.state F.contents F.calls F.misses F.faults F.losses answerer.new files.new) steps.old.items steps.new.items) }
-        ensures files { ChangedByAnswers A.answers A.fails F.contents F.calls F.misses F.faults F.losses files.old files.new }
+        ensures files { FilesAfter A.answers A.fails (state_of A.state F.contents F.calls F.misses F.faults F.losses answerer.old files.old) (files_meaning F.contents F.calls F.misses F.faults F.losses files.new) }
+        ensures given { OnOk result (ByAnswers A.answers (state_of A.state F.contents F.calls F.misses F.faults F.losses answerer.old files.old) (state_of A.state F.contents F.calls F.misses F.faults F.losses answerer.new files.new)) }
     {
         let commands = self.take_event(call, event)?;
         self.work_off(call, commands, answerer, files, steps)
@@ -115,7 +117,8 @@ impl<C: Owes> Held<C> {
         requires number { C.number self.old.conversation ≡ call.conv }
         requires awaited { C.awaited self.old.conversation ≡ Some (AsksDial server) }
         ensures takes { OnOk result (Takes C.stands C.awaited C.number C.due A.answers call.conv call.moment (Replied call.moment (dial_reply ok)) None (connected_by server ok self.old.connected.items) self.old self.new (state_of A.state F.contents F.calls F.misses F.faults F.losses answerer.old files.old) (state_of A.state F.contents F.calls F.misses F.faults F.losses answerer.new files.new) steps.old.items steps.new.items) }
-        ensures files { ChangedByAnswers A.answers A.fails F.contents F.calls F.misses F.faults F.losses files.old files.new }
+        ensures files { FilesAfter A.answers A.fails (state_of A.state F.contents F.calls F.misses F.faults F.losses answerer.old files.old) (files_meaning F.contents F.calls F.misses F.faults F.losses files.new) }
+        ensures given { OnOk result (ByAnswers A.answers (state_of A.state F.contents F.calls F.misses F.faults F.losses answerer.old files.old) (state_of A.state F.contents F.calls F.misses F.faults F.losses answerer.new files.new)) }
     {
         self.connect(server, ok)?;
         let commands = self.take_end(call, server, ok)?;
@@ -136,7 +139,7 @@ impl<C: Owes> Held<C> {
     fn has_server(&self, number: u32) -> bool
         ensures { result ≡ list_any (λ other. other == number) self.now.connected.items }
     {
-        self.connected.iter().any(|other| *other == number)
+        self.connected.iter().rev().any(|other| *other == number)
     }
 
     /// Whether the end of the dial of this server is awaited.
@@ -218,7 +221,8 @@ impl<C: Owes> Held<C> {
         ensures works { OnOk result (Works C.stands C.awaited C.number C.due A.answers call.conv call.moment commands.items self.old self.new (state_of A.state F.contents F.calls F.misses F.faults F.losses answerer.old files.old) (state_of A.state F.contents F.calls F.misses F.faults F.losses answerer.new files.new) None steps.old.items steps.new.items) }
         ensures sound { OnOk result (IsSound C.stands self.new.conversation) }
         ensures number { OnOk result (C.number self.new.conversation ≡ call.conv) }
-        ensures files { ChangedByAnswers A.answers A.fails F.contents F.calls F.misses F.faults F.losses files.old files.new }
+        ensures files { FilesAfter A.answers A.fails (state_of A.state F.contents F.calls F.misses F.faults F.losses answerer.old files.old) (files_meaning F.contents F.calls F.misses F.faults F.losses files.new) }
+        ensures given { OnOk result (ByAnswers A.answers (state_of A.state F.contents F.calls F.misses F.faults F.losses answerer.old files.old) (state_of A.state F.contents F.calls F.misses F.faults F.losses answerer.new files.new)) }
     {
         let mut open = tell(call.conv, commands, steps)?;
         while let Some(question) = open {
@@ -243,7 +247,8 @@ impl<C: Owes> Held<C> {
         ensures sound { OnOk result (IsSound C.stands self.new.conversation) }
         ensures number { OnOk result (C.number self.new.conversation ≡ call.conv) }
         ensures left { IfOk result (λ now_open. turns_left (C.left self.new.conversation) now_open < turns_left (C.left self.old.conversation) (Some question)) }
-        ensures files { ChangedByAnswers A.answers A.fails F.contents F.calls F.misses F.faults F.losses files.old files.new }
+        ensures files { FilesAfter A.answers A.fails (state_of A.state F.contents F.calls F.misses F.faults F.losses answerer.old files.old) (files_meaning F.contents F.calls F.misses F.faults F.losses files.new) }
+        ensures given { OnOk result (ByAnswers A.answers (state_of A.state F.contents F.calls F.misses F.faults F.losses answerer.old files.old) (state_of A.state F.contents F.calls F.misses F.faults F.losses answerer.new files.new)) }
     {
         let Question { ask, hook, flow } = question;
         match answerer.answer(hook, flow, files)? {

@@ -9,8 +9,9 @@
 //!
 //! One answerer answers the hooks of all conversations, and what it is goes along the trace: it moves at each hook that is
 //! asked, once, by its own relation, and at nothing else (`specs/Answered.antt`). So each answer follows from what the answerer
-//! was at first and from all that it was asked before, in every exit too. And what holds of each answer from states of one
-//! property holds of each reply in the trace, for the flow with which its hook was asked (`specs/Kind.antt`).
+//! was at first and from all that it was asked before, in every exit too, and so does what becomes of files (`specs/Answers.antt`).
+//! And what holds of each answer from states of one property holds of each reply in the trace, for the flow with which its hook
+//! was asked (`specs/Kind.antt`).
 //!
 //! An answerer may have addons, each with a name (`specs/Addons.antt`). `drop_addon` takes the first of a name away, and leaves the
 //! others as they are; what that makes of its state is its own relation, as its answers are.

@@ -11,7 +11,7 @@ ghost use Rattle.slab.specs.Slab.{get as held_under};
 ghost use Rattle.px_message.specs.declared.address.Address.{Address as PeerAddress};
 ghost use Rattle.px_event.specs.Layer.{IsSound};
 ghost use Rattle.px_event.specs.declared.event.Event.TheVariants.{Begun as HasBegun};
-ghost use Rattle.px_core.specs.Answers.{ChangedByAnswers, FilesMeaning, state_of};
+ghost use Rattle.px_core.specs.Answers.{ByAnswers, FilesAfter, FilesMeaning, files_meaning, state_of};
 ghost use Rattle.px_core.specs.Due.{Due};
 ghost use Rattle.px_core.specs.Held.{IsHeardNews, IsSettled};
 ghost use Rattle.px_core.specs.Router.{found, HoldsNoEnded, is_known, kept_in, place_of, IsTabled, RouterStands, IsRouted, IsAtKey, HearsAt, Hands, Admits, Routes, BeginsNone};
@@ -89,7 +89,8 @@ impl<C: Owes, A: Answerer> Router<C, A> {
         ensures spent { self.old.spent ≡ true → IsErr result }
         ensures err { OnErr result ((self.new.spent ≡ true) × (out.new.items ≡ out.old.items)) }
         ensures ok { OnOk result (self.new.spent ≡ false) }
-        ensures files { ChangedByAnswers A.answers A.fails F.contents F.calls F.misses F.faults F.losses files.old files.new }
+        ensures files { FilesAfter A.answers A.fails (state_of A.state F.contents F.calls F.misses F.faults F.losses self.old.answerer files.old) (files_meaning F.contents F.calls F.misses F.faults F.losses files.new) }
+        ensures given { OnOk result (ByAnswers A.answers (state_of A.state F.contents F.calls F.misses F.faults F.losses self.old.answerer files.old) (state_of A.state F.contents F.calls F.misses F.faults F.losses self.new.answerer files.new)) }
         ensures goes_on { HoldsNoEnded C.ended self.old.table → OnOk result (HoldsNoEnded C.ended self.new.table) }
     {
         if self.spent {
@@ -124,7 +125,8 @@ impl<C: Owes, A: Answerer> Router<C, A> {
         ensures spent { self.old.spent ≡ true → IsErr result }
         ensures err { OnErr result ((self.new.spent ≡ true) × (out.new.items ≡ out.old.items)) }
         ensures ok { OnOk result (self.new.spent ≡ false) }
-        ensures files { ChangedByAnswers A.answers A.fails F.contents F.calls F.misses F.faults F.losses files.old files.new }
+        ensures files { FilesAfter A.answers A.fails (state_of A.state F.contents F.calls F.misses F.faults F.losses self.old.answerer files.old) (files_meaning F.contents F.calls F.misses F.faults F.losses files.new) }
+        ensures given { OnOk result (ByAnswers A.answers (state_of A.state F.contents F.calls F.misses F.faults F.losses self.old.answerer files.old) (state_of A.state F.contents F.calls F.misses F.faults F.losses self.new.answerer files.new)) }
         ensures goes_on { HoldsNoEnded C.ended self.old.table → OnOk result (HoldsNoEnded C.ended self.new.table) }
     {
         if self.spent {
@@ -158,7 +160,8 @@ impl<C: Owes, A: Answerer> Router<C, A> {
         requires begins { BeginsNone self.old heard }
         ensures routes { OnOk result (Routes C.stands C.awaited C.number C.due A.answers moment heard self.old.table self.new.table (state_of A.state F.contents F.calls F.misses F.faults F.losses self.old.answerer files.old) (state_of A.state F.contents F.calls F.misses F.faults F.losses self.new.answerer files.new) steps.old.items steps.new.items) }
         ensures spent { self.new.spent ≡ self.old.spent }
-        ensures files { ChangedByAnswers A.answers A.fails F.contents F.calls F.misses F.faults F.losses files.old files.new }
+        ensures files { FilesAfter A.answers A.fails (state_of A.state F.contents F.calls F.misses F.faults F.losses self.old.answerer files.old) (files_meaning F.contents F.calls F.misses F.faults F.losses files.new) }
+        ensures given { OnOk result (ByAnswers A.answers (state_of A.state F.contents F.calls F.misses F.faults F.losses self.old.answerer files.old) (state_of A.state F.contents F.calls F.misses F.faults F.losses self.new.answerer files.new)) }
         ensures goes_on { HoldsNoEnded C.ended self.old.table → OnOk result (HoldsNoEnded C.ended self.new.table) }
     {
         match news_of(heard) {
@@ -187,7 +190,8 @@ impl<C: Owes, A: Answerer> Router<C, A> {
         requires news { IsHeardNews news }
         ensures hands { OnOk result (Hands C.stands C.awaited C.number C.due A.answers call.conv call.moment news self.old.table self.new.table (state_of A.state F.contents F.calls F.misses F.faults F.losses self.old.answerer files.old) (state_of A.state F.contents F.calls F.misses F.faults F.losses self.new.answerer files.new) steps.old.items steps.new.items) }
         ensures spent { self.new.spent ≡ self.old.spent }
-        ensures files { ChangedByAnswers A.answers A.fails F.contents F.calls F.misses F.faults F.losses files.old files.new }
+        ensures files { FilesAfter A.answers A.fails (state_of A.state F.contents F.calls F.misses F.faults F.losses self.old.answerer files.old) (files_meaning F.contents F.calls F.misses F.faults F.losses files.new) }
+        ensures given { OnOk result (ByAnswers A.answers (state_of A.state F.contents F.calls F.misses F.faults F.losses self.old.answerer files.old) (state_of A.state F.contents F.calls F.misses F.faults F.losses self.new.answerer files.new)) }
         ensures goes_on { HoldsNoEnded C.ended self.old.table → OnOk result (HoldsNoEnded C.ended self.new.table) }
     {
         match self.table.place(call.conv) {
@@ -217,7 +221,8 @@ impl<C: Owes, A: Answerer> Router<C, A> {
         requires news { IsHeardNews news }
         ensures hears { IfOk result (λ over. HearsAt C.stands C.awaited C.number C.due A.answers C.ended call.conv call.moment news key self.old.table self.new.table (state_of A.state F.contents F.calls F.misses F.faults F.losses self.old.answerer files.old) (state_of A.state F.contents F.calls F.misses F.faults F.losses self.new.answerer files.new) over steps.old.items steps.new.items) }
         ensures spent { self.new.spent ≡ self.old.spent }
-        ensures files { ChangedByAnswers A.answers A.fails F.contents F.calls F.misses F.faults F.losses files.old files.new }
+        ensures files { FilesAfter A.answers A.fails (state_of A.state F.contents F.calls F.misses F.faults F.losses self.old.answerer files.old) (files_meaning F.contents F.calls F.misses F.faults F.losses files.new) }
+        ensures given { OnOk result (ByAnswers A.answers (state_of A.state F.contents F.calls F.misses F.faults F.losses self.old.answerer files.old) (state_of A.state F.contents F.calls F.misses F.faults F.losses self.new.answerer files.new)) }
     {
         let Some(held) = self.table.live.get_mut(key) else {
             unreachable!()
@@ -241,7 +246,8 @@ impl<C: Owes, A: Answerer> Router<C, A> {
         requires free { C.awaited conversation ≡ None }
         ensures admits { OnOk result (Admits C.stands C.awaited C.number C.due A.answers call.conv call.moment conversation self.old.table self.new.table (state_of A.state F.contents F.calls F.misses F.faults F.losses self.old.answerer files.old) (state_of A.state F.contents F.calls F.misses F.faults F.losses self.new.answerer files.new) steps.old.items steps.new.items) }
         ensures spent { self.new.spent ≡ self.old.spent }
-        ensures files { ChangedByAnswers A.answers A.fails F.contents F.calls F.misses F.faults F.losses files.old files.new }
+        ensures files { FilesAfter A.answers A.fails (state_of A.state F.contents F.calls F.misses F.faults F.losses self.old.answerer files.old) (files_meaning F.contents F.calls F.misses F.faults F.losses files.new) }
+        ensures given { OnOk result (ByAnswers A.answers (state_of A.state F.contents F.calls F.misses F.faults F.losses self.old.answerer files.old) (state_of A.state F.contents F.calls F.misses F.faults F.losses self.new.answerer files.new)) }
         ensures goes_on { HoldsNoEnded C.ended self.old.table → OnOk result (HoldsNoEnded C.ended self.new.table) }
     {
         let mut held = Held {

@@ -10,8 +10,8 @@ ghost use Rattle.px_event.specs.Layer.{Move};
 ghost use Rattle.px_event.specs.Trace.{Trace};
 ghost use Rattle.px_event.specs.declared.step.Step.TheVariants.{Heard as WasHeard};
 ghost use Rattle.px_outside.specs.Net.{IsNote};
-ghost use Rattle.px_core.specs.Answered.{IsAnswered};
-ghost use Rattle.px_core.specs.Answers.{AnswererState, ChangedByAnswers, files_meaning};
+ghost use Rattle.px_core.specs.Answered.{IsAnswered, LeavesFiles};
+ghost use Rattle.px_core.specs.Answers.{AnswererState, ByAnswers, FilesAfter, files_meaning, state_of};
 ghost use Rattle.px_core.specs.Due.{Due, IsServed};
 ghost use Rattle.px_core.specs.Router.{HoldsNoEnded, RouterStands, IsRouted, BeginsNone, is_known, found};
 ghost use Rattle.px_core.specs.Calls.{addressed};
@@ -29,7 +29,8 @@ use std::alloc::Global;
 /// Works off one thing that the network has just told: makes and admits the conversation that it begins, or hands it to
 /// its own; then says and notes each step in its order, and hands on each finished flow. Each step is of the conversation
 /// that was heard alone, and nothing changes of another. In every exit the answerer came over the trace that is told by its
-/// own relation, from what it was at first.
+/// own relation, from what it was at first; and files are what its answers made of them, each from the state that the one
+/// before left.
 ///
 /// `NoMemory` where memory ran out: in the router, the maker, the network or the taker. The trace is served all the same,
 /// the flows that were handed on are a front of those that it finishes, and the router is spent: it answers want of memory
@@ -66,7 +67,11 @@ pub fn work_off<C: Owes, A: Answerer, M: Maker<C>, F: Files, N: Net, T: Taker>(
         N.trace net.old ≡ Some (trace ++ WasHeard moment heard ∷ []) → Tells (IsAnswered A.answers due first) (trace ++ WasHeard moment heard ∷ []) (N.trace net.new) }
     ensures spent { OnErr result (router.new.spent ≡ true) }
     ensures again { router.old.spent ≡ true → IsErr result × (N.trace net.new ≡ N.trace net.old) × (T.taken taker.new ≡ T.taken taker.old) }
-    ensures files { ChangedByAnswers A.answers A.fails F.contents F.calls F.misses F.faults F.losses files.old files.new }
+    ensures files { FilesAfter A.answers A.fails (state_of A.state F.contents F.calls F.misses F.faults F.losses router.old.answerer files.old) (files_meaning F.contents F.calls F.misses F.faults F.losses files.new) }
+    ensures given { OnOk result (ByAnswers A.answers (state_of A.state F.contents F.calls F.misses F.faults F.losses router.old.answerer files.old) (state_of A.state F.contents F.calls F.misses F.faults F.losses router.new.answerer files.new)) }
+    ensures leaves { (due : Due) (first : AnswererState A.State) (trace : Trace) → IsDueOf (M.due maker.old) due → RouterStands C.stands C.awaited C.number C.due A.answers A.state due first (files_meaning F.contents F.calls F.misses F.faults F.losses files.old) router.old trace →
+        N.trace net.old ≡ Some (trace ++ WasHeard moment heard ∷ []) →
+        OnErr result (Tells (LeavesFiles A.answers A.fails due first ⊥ (files_meaning F.contents F.calls F.misses F.faults F.losses files.new)) (trace ++ WasHeard moment heard ∷ []) (N.trace net.new)) }
     ensures goes_on { HoldsNoEnded C.ended router.old.table → OnOk result (HoldsNoEnded C.ended router.new.table) }
 {
     match follow(alloc, router, maker, files, net, taker, moment, heard) {
@@ -111,7 +116,8 @@ fn follow<C: Owes, A: Answerer, M: Maker<C>, F: Files, N: Net, T: Taker>(
     ensures taken_part { (trace : Trace) → N.trace net.old ≡ Some (trace ++ WasHeard moment heard ∷ []) → T.taken taker.old ≡ flat_map done_of trace →
         OnErr result (Tells (λ told. IsPrefixOf (T.taken taker.new) (flat_map done_of told)) (trace ++ WasHeard moment heard ∷ []) (N.trace net.new)) }
     ensures again { router.old.spent ≡ true → IsErr result × (N.trace net.new ≡ N.trace net.old) × (T.taken taker.new ≡ T.taken taker.old) }
-    ensures files { ChangedByAnswers A.answers A.fails F.contents F.calls F.misses F.faults F.losses files.old files.new }
+    ensures files { FilesAfter A.answers A.fails (state_of A.state F.contents F.calls F.misses F.faults F.losses router.old.answerer files.old) (files_meaning F.contents F.calls F.misses F.faults F.losses files.new) }
+    ensures given { OnOk result (ByAnswers A.answers (state_of A.state F.contents F.calls F.misses F.faults F.losses router.old.answerer files.old) (state_of A.state F.contents F.calls F.misses F.faults F.losses router.new.answerer files.new)) }
     ensures goes_on { HoldsNoEnded C.ended router.old.table → OnOk result (HoldsNoEnded C.ended router.new.table) }
 {
     let steps = route(alloc, router, maker, files, moment, heard)?;
@@ -135,7 +141,8 @@ fn route<C: Owes, A: Answerer, M: Maker<C>, F: Files>(
     ensures others { OnOk result (KeepsOthers heard router.old router.new) }
     ensures spent { router.old.spent ≡ true → IsErr result }
     ensures due { (number : ℕ) (at : PeerAddress) (moves : List Move) → M.due maker.new number at moves ≡ M.due maker.old number at moves }
-    ensures files { ChangedByAnswers A.answers A.fails F.contents F.calls F.misses F.faults F.losses files.old files.new }
+    ensures files { FilesAfter A.answers A.fails (state_of A.state F.contents F.calls F.misses F.faults F.losses router.old.answerer files.old) (files_meaning F.contents F.calls F.misses F.faults F.losses files.new) }
+    ensures given { OnOk result (ByAnswers A.answers (state_of A.state F.contents F.calls F.misses F.faults F.losses router.old.answerer files.old) (state_of A.state F.contents F.calls F.misses F.faults F.losses router.new.answerer files.new)) }
     ensures goes_on { HoldsNoEnded C.ended router.old.table → OnOk result (HoldsNoEnded C.ended router.new.table) }
 {
     if let Some(conv) = fresh(router, &heard) {
@@ -165,7 +172,8 @@ fn begin<C: Owes, A: Answerer, M: Maker<C>, F: Files>(
     ensures others { (other : ℕ) → conv ≢ other → OnOk result (found router.new.table other ≡ found router.old.table other) }
     ensures spent { router.old.spent ≡ true → IsErr result }
     ensures due { (number : ℕ) (at : PeerAddress) (moves : List Move) → M.due maker.new number at moves ≡ M.due maker.old number at moves }
-    ensures files { ChangedByAnswers A.answers A.fails F.contents F.calls F.misses F.faults F.losses files.old files.new }
+    ensures files { FilesAfter A.answers A.fails (state_of A.state F.contents F.calls F.misses F.faults F.losses router.old.answerer files.old) (files_meaning F.contents F.calls F.misses F.faults F.losses files.new) }
+    ensures given { OnOk result (ByAnswers A.answers (state_of A.state F.contents F.calls F.misses F.faults F.losses router.old.answerer files.old) (state_of A.state F.contents F.calls F.misses F.faults F.losses router.new.answerer files.new)) }
     ensures goes_on { HoldsNoEnded C.ended router.old.table → OnOk result (HoldsNoEnded C.ended router.new.table) }
 {
     let Heard::Accepted { peer, .. } = heard else {

@@ -2,7 +2,7 @@ use Rattle.std.proofs.Common.{Some, ap, sym, ◌∙◌}
 use Rattle.px_core.proofs.RunLemmas.{admitted, admitted_own, peer_is}
 use Rattle.px_core.specs.declared.news.News.TheVariants as news
 use Rattle.px_core.specs.Calls.{addressed}
-use Rattle.px_core.specs.Answers.{by_none}
+use Rattle.px_core.proofs.AnswerLemmas.{after_none}
 use Rattle.px_core.proofs.work.begin.Goals as goal
 
 pub returns-clause-stands : goal.returns-clause-stands
@@ -18,4 +18,4 @@ returns-clause-own g c =
     c.in_ok-admit.ensures.admits
 
 pub returns-in_err-conversation-clause-files : goal.returns-in_err-conversation-clause-files
-returns-in_err-conversation-clause-files g c = by_none _
+returns-in_err-conversation-clause-files g c = after_none _

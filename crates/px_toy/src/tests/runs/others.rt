@@ -26,7 +26,7 @@ impl Answerer for Turns {
 
     ghost answers = { λ hook flow old old_files new new_files answer. IsByTurn flow old new answer × (new_files ≡ old_files) };
 
-    ghost fails = { λ old new. new ≡ old };
+    ghost fails = { λ hook flow state old_files new_files. new_files ≡ old_files };
 
     ghost names = { λ _. [] };
 

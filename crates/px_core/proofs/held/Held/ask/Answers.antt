@@ -1,8 +1,8 @@
 use Rattle.std.proofs.Common.{refl}
 use Rattle.std.proofs.lemmas.Result.{IfOk-weaker}
-use Rattle.px_core.proofs.ResultLemmas.{if_ok_both}
+use Rattle.px_core.proofs.ResultLemmas.{if_ok_both, on_ok_of}
 use Rattle.px_core.proofs.WorkLemmas.{wait_works, reply_works, turns_less}
-use Rattle.px_core.proofs.AnswerLemmas.{by_failed, by_one}
+use Rattle.px_core.proofs.AnswerLemmas.{after_failed, after_given, by_one}
 use Rattle.px_core.proofs.held.Held.ask.Goals as goal
 
 pub returns-in-Wait-clause-asks : goal.returns-in-Wait-clause-asks
@@ -21,10 +21,16 @@ pub returns-in-Reply-clause-left : goal.returns-in-Reply-clause-left
 returns-in-Reply-clause-left g c = IfOk-weaker c.reply.result _ _ (λ now_open less. turns_less _ _ now_open less) c.reply.ensures.left
 
 pub returns-in_err-draft-clause-files : goal.returns-in_err-draft-clause-files
-returns-in_err-draft-clause-files g c = by_failed g.A.Answerer.answers g.A.Answerer.fails _ _ c.in_err-draft.ensures.fails
+returns-in_err-draft-clause-files g c = after_failed _ _ _ _ c.in_err-draft.ensures.fails
 
 pub returns-in-Wait-clause-files : goal.returns-in-Wait-clause-files
-returns-in-Wait-clause-files g c = by_one g.A.Answerer.answers g.A.Answerer.fails _ _ _ _ _ _ _ c.in_ok-draft.ensures.answers
+returns-in-Wait-clause-files g c = after_given _ _ (by_one _ _ _ _ _ c.in_ok-draft.ensures.answers)
+
+pub returns-in-Wait-clause-given : goal.returns-in-Wait-clause-given
+returns-in-Wait-clause-given g c = by_one _ _ _ _ _ c.in_ok-draft.ensures.answers
 
 pub returns-in-Reply-clause-files : goal.returns-in-Reply-clause-files
-returns-in-Reply-clause-files g c = by_one g.A.Answerer.answers g.A.Answerer.fails _ _ _ _ _ _ _ c.in_ok-draft.ensures.answers
+returns-in-Reply-clause-files g c = after_given _ _ (by_one _ _ _ _ _ c.in_ok-draft.ensures.answers)
+
+pub returns-in-Reply-clause-given : goal.returns-in-Reply-clause-given
+returns-in-Reply-clause-given g c = on_ok_of c.reply.result (by_one _ _ _ _ _ c.in_ok-draft.ensures.answers)

@@ -1,7 +1,7 @@
 use Rattle.std.proofs.Common.{ap, sym, ◌∙◌}
 use Rattle.std.proofs.lemmas.Result.{on_ok_weaker}
 use Rattle.px_core.proofs.HearLemmas.{works_end}
-use Rattle.px_core.specs.Answers.{by_none}
+use Rattle.px_core.proofs.AnswerLemmas.{after_none}
 use Rattle.px_core.proofs.held.Held.end_dial.Goals as goal
 
 pub returns : goal.returns
@@ -13,10 +13,11 @@ returns g c = record {
       (c.in_ok-commands.ensures.draft ∙ c.in_ok-connect.ensures.draft) works)
       c.work_off.ensures.works;
   files = c.work_off.ensures.files;
+  given = c.work_off.ensures.given;
 }
 
 pub returns-in_err-connect-clause-files : goal.returns-in_err-connect-clause-files
-returns-in_err-connect-clause-files g c = by_none _
+returns-in_err-connect-clause-files g c = after_none _
 
 pub returns-in_err-commands-clause-files : goal.returns-in_err-commands-clause-files
-returns-in_err-commands-clause-files g c = by_none _
+returns-in_err-commands-clause-files g c = after_none _

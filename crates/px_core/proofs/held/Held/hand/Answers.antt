@@ -1,7 +1,7 @@
 use Rattle.std.proofs.Common.{ap, sym}
 use Rattle.std.proofs.lemmas.Result.{on_ok_weaker}
 use Rattle.px_core.proofs.HearLemmas.{works_taken}
-use Rattle.px_core.specs.Answers.{by_none}
+use Rattle.px_core.proofs.AnswerLemmas.{after_none}
 use Rattle.px_core.proofs.held.Held.hand.Goals as goal
 
 pub returns : goal.returns
@@ -11,7 +11,8 @@ returns g c = record {
       c.in_ok-commands.ensures.number c.in_ok-commands.ensures.gives (sym (ap (λ s. s.items) c.in_ok-commands.ensures.connected)) c.in_ok-commands.ensures.draft works)
       c.work_off.ensures.works;
   files = c.work_off.ensures.files;
+  given = c.work_off.ensures.given;
 }
 
 pub returns-in_err-commands-clause-files : goal.returns-in_err-commands-clause-files
-returns-in_err-commands-clause-files g c = by_none _
+returns-in_err-commands-clause-files g c = after_none _

@@ -1,6 +1,6 @@
 use Rattle.std.proofs.Common.{◌≡◌}
 use Rattle.px_event.specs.Layer.{IsSound}
-use Rattle.px_core.specs.Answers.{ChangedByAnswers, state_of}
+use Rattle.px_core.specs.Answers.{ByAnswers, state_of}
 use Rattle.px_core.specs.Held.{Works, turns_left}
 use Rattle.px_core.proofs.held.Held.work_off.Given as goal
 
@@ -10,7 +10,7 @@ invariant-loop-open g l = record {
   works : Works g.C.Conversation.stands g.C.Conversation.awaited g.C.Conversation.number g.C.Owes.due g.A.Answerer.answers l.fn.call.conv l.fn.call.moment l.fn.commands.items l.fn.self l.self (state_of g.A.Answerer.state g.F.Files.contents g.F.Files.calls g.F.Files.misses g.F.Files.faults g.F.Files.losses l.fn.answerer l.fn.files) (state_of g.A.Answerer.state g.F.Files.contents g.F.Files.calls g.F.Files.misses g.F.Files.faults g.F.Files.losses l.answerer l.files) l.open l.fn.steps.items l.steps.items;
   sound : IsSound g.C.Conversation.stands l.self.conversation;
   number : g.C.Conversation.number l.self.conversation ≡ l.fn.call.conv;
-  files : ChangedByAnswers g.A.Answerer.answers g.A.Answerer.fails g.F.Files.contents g.F.Files.calls g.F.Files.misses g.F.Files.faults g.F.Files.losses l.fn.files l.files;
+  given : ByAnswers g.A.Answerer.answers (state_of g.A.Answerer.state g.F.Files.contents g.F.Files.calls g.F.Files.misses g.F.Files.faults g.F.Files.losses l.fn.answerer l.fn.files) (state_of g.A.Answerer.state g.F.Files.contents g.F.Files.calls g.F.Files.misses g.F.Files.faults g.F.Files.losses l.answerer l.files);
 }
 
 abbrev pub decreases-loop-open : goal.decreases-loop-open

@@ -2,6 +2,7 @@ use Rattle.std.proofs.Common.{sym, refl, None}
 use Rattle.std.proofs.lemmas.Result.{on_ok_weaker}
 use Rattle.px_core.proofs.RouteLemmas.{admits_added, admits_ended, ended_stays}
 use Rattle.px_core.proofs.LiveLemmas.{updated, same_live}
+use Rattle.px_core.proofs.ResultLemmas.{on_ok_of}
 use Rattle.px_core.proofs.router.Router.begin.Goals as goal
 
 pub returns-then-ended-clause-admits : goal.returns-then-ended-clause-admits
@@ -23,3 +24,6 @@ returns-then-ended-clause-goes_on g c = λ all. on_ok_weaker c.note_end.result
 pub returns-in_ok-add-clause-goes_on : goal.returns-in_ok-add-clause-goes_on
 returns-in_ok-add-clause-goes_on g c = λ all.
     updated g.C.Conversation.ended c.args.self.now.table c.add.new.self _ c.hand.new.self c.in_ok-add.ensures.live (sym c.if-ended.ensures) all
+
+pub returns-then-ended-clause-given : goal.returns-then-ended-clause-given
+returns-then-ended-clause-given g c = on_ok_of c.note_end.result c.in_ok-hand.ensures.given

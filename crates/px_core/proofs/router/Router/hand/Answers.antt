@@ -2,6 +2,7 @@ use Rattle.std.proofs.Common.{◌≡◌, Some, sym, ◌∙◌, ap, true, false, 
 use Rattle.px_core.proofs.ResultLemmas.{on_ok_both}
 use Rattle.px_core.specs.Router.{found_by}
 use Rattle.px_core.proofs.RouteLemmas.{at_key, ended_stays, hands_live, hands_ended, over_hands, unknown_hands}
+use Rattle.px_core.proofs.AnswerLemmas.{after_none}
 use Rattle.px_core.specs.Answers.{by_none}
 use Rattle.std.proofs.lemmas.Result.{on_ok_weaker}
 use Rattle.px_core.proofs.LiveLemmas.{updated, removed}
@@ -32,10 +33,16 @@ returns-in-None-clause-hands g c =
     (λ peer begun. let no : false ≡ true = ap is_some (sym (sym c.place.ensures ∙ c.in-None.is)) ∙ c.requires.begins peer begun in cc)
 
 pub returns-in-Some-Ended-clause-files : goal.returns-in-Some-Ended-clause-files
-returns-in-Some-Ended-clause-files g c = by_none _
+returns-in-Some-Ended-clause-files g c = after_none _
+
+pub returns-in-Some-Ended-clause-given : goal.returns-in-Some-Ended-clause-given
+returns-in-Some-Ended-clause-given g c = by_none _
 
 pub returns-in-None-clause-files : goal.returns-in-None-clause-files
-returns-in-None-clause-files g c = by_none _
+returns-in-None-clause-files g c = after_none _
+
+pub returns-in-None-clause-given : goal.returns-in-None-clause-given
+returns-in-None-clause-given g c = by_none _
 
 pub returns-then-over-clause-goes_on : goal.returns-then-over-clause-goes_on
 returns-then-over-clause-goes_on g c = λ all. on_ok_weaker c.end.result

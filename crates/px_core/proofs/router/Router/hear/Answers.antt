@@ -1,6 +1,7 @@
 use Rattle.std.proofs.Common.{sym, ◌∙◌}
 use Rattle.std.proofs.lemmas.Result.{on_ok_weaker}
 use Rattle.px_core.proofs.RouteLemmas.{routes_of, routes_none}
+use Rattle.px_core.proofs.AnswerLemmas.{after_none}
 use Rattle.px_core.specs.Answers.{by_none}
 use Rattle.px_core.proofs.router.Router.hear.Goals as goal
 
@@ -15,4 +16,7 @@ returns-in-None-clause-routes g c =
     c.args.moment c.args.heard c.args.self.now.table _ (sym c.news_of.ensures ∙ c.in-None.is)
 
 pub returns-in-None-clause-files : goal.returns-in-None-clause-files
-returns-in-None-clause-files g c = by_none _
+returns-in-None-clause-files g c = after_none _
+
+pub returns-in-None-clause-given : goal.returns-in-None-clause-given
+returns-in-None-clause-given g c = by_none _
