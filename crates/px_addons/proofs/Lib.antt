@@ -1,3 +1,6 @@
 pub mod TurnLemmas
 pub mod NameLemmas
 pub mod SameLemmas
+pub mod FilesLemmas
+pub mod BlockLemmas
+pub mod RunLemmas

@@ -4,7 +4,8 @@ use Rattle.std.proofs.Math.Seq.{drop-cons}
 use Rattle.px_event.specs.declared.ask.Hook.{Hook}
 use Rattle.px_core.specs.declared.answerer.Draft.{Draft}
 use Rattle.px_addons.specs.Moving.{Moves}
-use Rattle.px_addons.specs.Chain.{AddonMoves, AddonsMove, no_addon, next_addon, PartInTurn, by_part, PartsMove, no_part, next_part, is_going, begun, reply_of, ChainAnswers}
+use Rattle.px_addons.specs.Chain.{AddonMoves, AddonsMove, no_addon, next_addon, PartMoves, PartInTurn, by_part, PartsMove, no_part, next_part, PartFails, PartsFail, fails_here, fails_later, is_going, begun, reply_of, ChainAnswers, ChainFails}
+use Rattle.px_addons.specs.Mapped.{MapsLocal}
 use Rattle.px_addons.specs.Parts.{made_by, parts}
 use Rattle.px_event.specs.declared.reply.Reply.{Reply}
 use Rattle.px_core.specs.Answers.{FilesMeaning}
@@ -43,7 +44,8 @@ take_front (x ∷ xs) ys = ap (λ l. x ∷ l) (take_front xs ys)
 written_back : {X : Type 0} (new old : List X) (len : ℕ) → length new ≡ len → take len (new ++ drop (length new) old) ≡ new
 written_back new old len counted = subst (λ n. take n (new ++ drop (length new) old) ≡ new) counted (take_front new (drop (length new) old))
 
-abbrev the_draft : Flow → Draft → Draft
+-- the draft with this flow
+abbrev pub the_draft : Flow → Draft → Draft
 the_draft flow draft = record draft { flow = flow }
 
 the_next : (i : ℕ) → suc i ≡ i + 1
@@ -80,75 +82,112 @@ module _ {B : Type 0} (title state : B → List ℕ) (moves : B → Moves) where
       subst (λ l. AddonsMove title state moves hook first olds draft l) (take_all addons i all)
       (before draft [] (subst (λ l. AddonsMove title state moves hook draft l draft []) (sym (drop_all addons i all)) (no_addon draft)))
 
-  -- the first of the parts were asked: whatever the others make, follows
-  abbrev pub AskedParts : Rules → Hook → List Part → Draft → List B → ℕ → Draft → List B → Type 0
-  AskedParts rules hook parts first olds i draft addons =
-      (end : Draft) (news : List B) → PartsMove title state moves rules hook (drop i parts) draft addons end news → PartsMove title state moves rules hook parts first olds end news
+  -- the first of the parts were asked: whatever the others make, follows, and so does what is left where one of them runs out of memory
+  pub record AskedParts (rules : Rules) (hook : Hook) (parts : List Part) (first : Draft) (olds : List B) (before : FilesMeaning)
+      (i : ℕ) (draft : Draft) (addons : List B) (files : FilesMeaning) : Type 0 where
+    pub going_on : (end : Draft) (news : List B) (after : FilesMeaning) → PartsMove title state moves rules hook (drop i parts) draft addons files end news after →
+        PartsMove title state moves rules hook parts first olds before end news after
+    pub failing : (after : FilesMeaning) → PartsFail title state moves rules hook (drop i parts) draft addons files after →
+        PartsFail title state moves rules hook parts first olds before after
 
-  next_part_by : (rules : Rules) (hook : Hook) (parts : List Part) (first : Draft) (olds : List B) (i : ℕ) (draft after : Draft) (old mid : List B) (d : Part) →
-      AskedParts rules hook parts first olds i draft old → i < length parts → PartInTurn title state moves rules hook (slice_index_or parts i d) draft old after mid →
-      AskedParts rules hook parts first olds (suc i) after mid
-  next_part_by rules hook parts first olds i draft after old mid d before within moved end news behind =
+  pub none_asked : (rules : Rules) (hook : Hook) (parts : List Part) (draft : Draft) (addons : List B) (files : FilesMeaning) →
+      AskedParts rules hook parts draft addons files 0 draft addons files
+  none_asked rules hook parts draft addons files = record { going_on = λ end news after moved. moved; failing = λ after failed. failed }
+
+  next_part_by : (rules : Rules) (hook : Hook) (parts : List Part) (first : Draft) (olds : List B) (before : FilesMeaning) (i : ℕ) (draft after : Draft) (old mid : List B)
+      (files mid_files : FilesMeaning) (d : Part) → AskedParts rules hook parts first olds before i draft old files → i < length parts →
+      PartInTurn title state moves rules hook (slice_index_or parts i d) draft old files after mid mid_files → AskedParts rules hook parts first olds before (suc i) after mid mid_files
+  next_part_by rules hook parts first olds before i draft after old mid files mid_files d asked within moved =
+      let one = slice_index_or parts i d in
+      let here : drop i parts ≡ one ∷ drop (suc i) parts = drop-cons parts i d within in record {
+        going_on = λ end news last behind. asked.going_on end news last
+            (subst (λ l. PartsMove title state moves rules hook l draft old files end news last) (sym here)
+            (next_part one (drop (suc i) parts) draft after end old mid news files mid_files last moved behind));
+        failing = λ last behind. asked.failing last
+            (subst (λ l. PartsFail title state moves rules hook l draft old files last) (sym here)
+            (fails_later one (drop (suc i) parts) draft after old mid files mid_files last moved behind));
+      }
+
+  pub next_part_asked : (rules : Rules) (hook : Hook) (parts : List Part) (first : Draft) (olds : List B) (before : FilesMeaning) (i : ℕ) (draft after : Draft) (old mid : List B)
+      (files mid_files : FilesMeaning) (d : Part) → AskedParts rules hook parts first olds before i draft old files → i < length parts →
+      PartInTurn title state moves rules hook (slice_index_or parts i d) draft old files after mid mid_files → AskedParts rules hook parts first olds before (i + 1) after mid mid_files
+  next_part_asked rules hook parts first olds before i draft after old mid files mid_files d asked within moved =
+      subst (λ n. AskedParts rules hook parts first olds before n after mid mid_files) (the_next i)
+      (next_part_by rules hook parts first olds before i draft after old mid files mid_files d asked within moved)
+
+  pub next_part_failed : (rules : Rules) (hook : Hook) (parts : List Part) (first : Draft) (olds : List B) (before : FilesMeaning) (i : ℕ) (draft : Draft) (old : List B)
+      (files after : FilesMeaning) (d : Part) → AskedParts rules hook parts first olds before i draft old files → i < length parts →
+      (is_going draft.verdict ≡ true) × PartFails rules (slice_index_or parts i d) draft files after → PartsFail title state moves rules hook parts first olds before after
+  next_part_failed rules hook parts first olds before i draft old files after d asked within failed =
       let one = slice_index_or parts i d in
       let here : drop i parts ≡ one ∷ drop (suc i) parts = drop-cons parts i d within in
-      before end news (subst (λ l. PartsMove title state moves rules hook l draft old end news) (sym here)
-      (next_part one (drop (suc i) parts) draft after end old mid news moved behind))
+      asked.failing after (subst (λ l. PartsFail title state moves rules hook l draft old files after) (sym here)
+      (fails_here one (drop (suc i) parts) draft old files after failed.0 failed.1))
 
-  pub next_part_asked : (rules : Rules) (hook : Hook) (parts : List Part) (first : Draft) (olds : List B) (i : ℕ) (draft after : Draft) (old mid : List B) (d : Part) →
-      AskedParts rules hook parts first olds i draft old → i < length parts → PartInTurn title state moves rules hook (slice_index_or parts i d) draft old after mid →
-      AskedParts rules hook parts first olds (i + 1) after mid
-  next_part_asked rules hook parts first olds i draft after old mid d before within moved =
-      subst (λ n. AskedParts rules hook parts first olds n after mid) (the_next i)
-      (next_part_by rules hook parts first olds i draft after old mid d before within moved)
+  pub all_parts_asked : (rules : Rules) (hook : Hook) (parts : List Part) (first : Draft) (olds : List B) (before : FilesMeaning) (i : ℕ) (draft : Draft) (addons : List B)
+      (files : FilesMeaning) → AskedParts rules hook parts first olds before i draft addons files → length parts ≤ i →
+      PartsMove title state moves rules hook parts first olds before draft addons files
+  all_parts_asked rules hook parts first olds before i draft addons files asked all =
+      asked.going_on draft addons files
+      (subst (λ l. PartsMove title state moves rules hook l draft addons files draft addons files) (sym (drop_all parts i all)) (no_part draft addons files))
 
-  pub all_parts_asked : (rules : Rules) (hook : Hook) (parts : List Part) (first : Draft) (olds : List B) (i : ℕ) (draft : Draft) (addons : List B) →
-      AskedParts rules hook parts first olds i draft addons → length parts ≤ i → PartsMove title state moves rules hook parts first olds draft addons
-  all_parts_asked rules hook parts first olds i draft addons before all =
-      before draft addons (subst (λ l. PartsMove title state moves rules hook l draft addons draft addons) (sym (drop_all parts i all)) (no_part draft addons))
+  -- the parts whose meaning is a function of the draft
+  abbrev pub IsFunction : Part → Type 0
+  IsFunction part.Block = Unit {0}
+  IsFunction part.MapLocal = ⊥
+  IsFunction part.MapRemote = Unit {0}
+  IsFunction part.ModifyHeaders = Unit {0}
+  IsFunction part.Anticache = Unit {0}
+  IsFunction part.Anticomp = Unit {0}
+  IsFunction part.ModifyBody = Unit {0}
+  IsFunction part.Addons = ⊥
 
-  pub by_headers : (rules : Rules) (hook : Hook) (one : Part) (draft : Draft) (addons : List B) (flow : Flow) → one ≡ part.ModifyHeaders → is_going draft.verdict ≡ true →
-      flow ≡ made_by rules hook part.ModifyHeaders draft.flow → PartInTurn title state moves rules hook one draft addons (record draft { flow = flow }) addons
-  by_headers rules hook one draft addons flow named going made =
-      let whole : Draft = record draft { flow = flow } in
-      subst (λ p. PartInTurn title state moves rules hook p draft addons whole addons) (sym named)
-      (by_part draft whole addons addons going (ap (λ f. the_draft f draft) made, refl))
+  by_function : (rules : Rules) (hook : Hook) (one : Part) (draft after : Draft) (addons : List B) (files : FilesMeaning) → IsFunction one →
+      after ≡ made_by rules hook one draft → PartMoves title state moves rules hook one draft addons files after addons files
+  by_function rules hook part.Block draft after addons files is made = (made, refl, refl)
+  by_function rules hook part.MapLocal draft after addons files is made = absurd is
+  by_function rules hook part.MapRemote draft after addons files is made = (made, refl, refl)
+  by_function rules hook part.ModifyHeaders draft after addons files is made = (made, refl, refl)
+  by_function rules hook part.Anticache draft after addons files is made = (made, refl, refl)
+  by_function rules hook part.Anticomp draft after addons files is made = (made, refl, refl)
+  by_function rules hook part.ModifyBody draft after addons files is made = (made, refl, refl)
+  by_function rules hook part.Addons draft after addons files is made = absurd is
 
-  pub by_anticache : (rules : Rules) (hook : Hook) (one : Part) (draft : Draft) (addons : List B) (flow : Flow) → one ≡ part.Anticache → is_going draft.verdict ≡ true →
-      flow ≡ made_by rules hook part.Anticache draft.flow → PartInTurn title state moves rules hook one draft addons (record draft { flow = flow }) addons
-  by_anticache rules hook one draft addons flow named going made =
-      let whole : Draft = record draft { flow = flow } in
-      subst (λ p. PartInTurn title state moves rules hook p draft addons whole addons) (sym named)
-      (by_part draft whole addons addons going (ap (λ f. the_draft f draft) made, refl))
+  pub by_rules : (rules : Rules) (hook : Hook) (one named : Part) (draft after : Draft) (addons : List B) (files : FilesMeaning) → IsFunction named → one ≡ named →
+      is_going draft.verdict ≡ true → after ≡ made_by rules hook named draft → PartInTurn title state moves rules hook one draft addons files after addons files
+  by_rules rules hook one named draft after addons files is same going made =
+      subst (λ p. PartInTurn title state moves rules hook p draft addons files after addons files) (sym same)
+      (by_part draft after addons addons files files going (by_function rules hook named draft after addons files is made))
 
-  pub by_anticomp : (rules : Rules) (hook : Hook) (one : Part) (draft : Draft) (addons : List B) (flow : Flow) → one ≡ part.Anticomp → is_going draft.verdict ≡ true →
-      flow ≡ made_by rules hook part.Anticomp draft.flow → PartInTurn title state moves rules hook one draft addons (record draft { flow = flow }) addons
-  by_anticomp rules hook one draft addons flow named going made =
-      let whole : Draft = record draft { flow = flow } in
-      subst (λ p. PartInTurn title state moves rules hook p draft addons whole addons) (sym named)
-      (by_part draft whole addons addons going (ap (λ f. the_draft f draft) made, refl))
+  pub by_local : (rules : Rules) (hook : Hook) (one : Part) (draft after : Draft) (addons : List B) (files new_files : FilesMeaning) → one ≡ part.MapLocal →
+      is_going draft.verdict ≡ true → MapsLocal rules draft files after new_files → PartInTurn title state moves rules hook one draft addons files after addons new_files
+  by_local rules hook one draft after addons files new_files same going maps =
+      subst (λ p. PartInTurn title state moves rules hook p draft addons files after addons new_files) (sym same)
+      (by_part draft after addons addons files new_files going (maps, refl))
 
-  pub by_body : (rules : Rules) (hook : Hook) (one : Part) (draft : Draft) (addons : List B) (flow : Flow) → one ≡ part.ModifyBody → is_going draft.verdict ≡ true →
-      flow ≡ made_by rules hook part.ModifyBody draft.flow → PartInTurn title state moves rules hook one draft addons (record draft { flow = flow }) addons
-  by_body rules hook one draft addons flow named going made =
-      let whole : Draft = record draft { flow = flow } in
-      subst (λ p. PartInTurn title state moves rules hook p draft addons whole addons) (sym named)
-      (by_part draft whole addons addons going (ap (λ f. the_draft f draft) made, refl))
-
-  pub by_addons : (rules : Rules) (hook : Hook) (one : Part) (draft after : Draft) (old new : List B) → one ≡ part.Addons → is_going draft.verdict ≡ true →
-      AddonsMove title state moves hook draft old after new → PartInTurn title state moves rules hook one draft old after new
-  by_addons rules hook one draft after old new named going moved =
-      subst (λ p. PartInTurn title state moves rules hook p draft old after new) (sym named) (by_part draft after old new going moved)
+  pub by_addons : (rules : Rules) (hook : Hook) (one : Part) (draft after : Draft) (old new : List B) (files : FilesMeaning) → one ≡ part.Addons → is_going draft.verdict ≡ true →
+      AddonsMove title state moves hook draft old after new → PartInTurn title state moves rules hook one draft old files after new files
+  by_addons rules hook one draft after old new files same going moved =
+      subst (λ p. PartInTurn title state moves rules hook p draft old files after new files) (sym same) (by_part draft after old new files files going (moved, refl))
 
   -- what a chain answers, from what its parts made of a lent list
-  pub answered : (rules : Rules) (hook : Hook) (flow : Flow) (files : FilesMeaning) (addons lent : List B) (asked : List Part) (end : Draft) (new : List B) (len : ℕ) (reply : Reply) →
-      PartsMove title state moves rules hook asked (begun flow rules.stream) lent end new → asked ≡ parts hook → lent ≡ addons → length new ≡ len → reply ≡ reply_of end →
-      ChainAnswers title state moves hook flow rules addons files rules (take len (new ++ drop (length new) addons)) files (answers.Reply reply)
-  answered rules hook flow files addons lent asked end new len reply moved table same counted replied = record {
+  pub answered : (rules : Rules) (hook : Hook) (flow : Flow) (files new_files : FilesMeaning) (addons lent : List B) (asked : List Part) (end : Draft) (new : List B) (len : ℕ)
+      (reply : Reply) → PartsMove title state moves rules hook asked (begun flow rules.stream) lent files end new new_files → asked ≡ parts hook → lent ≡ addons → length new ≡ len →
+      reply ≡ reply_of end →
+      ChainAnswers title state moves hook flow rules addons files rules (take len (new ++ drop (length new) addons)) new_files (answers.Reply reply)
+  answered rules hook flow files new_files addons lent asked end new len reply moved table same counted replied = record {
     end = end;
-    moved = subst (λ l. PartsMove title state moves rules hook (parts hook) (begun flow rules.stream) addons end l) (sym (written_back new addons len counted))
-        (subst (λ l. PartsMove title state moves rules hook (parts hook) (begun flow rules.stream) l end new) same
-        (subst (λ l. PartsMove title state moves rules hook l (begun flow rules.stream) lent end new) table moved));
+    moved = subst (λ l. PartsMove title state moves rules hook (parts hook) (begun flow rules.stream) addons files end l new_files) (sym (written_back new addons len counted))
+        (subst (λ l. PartsMove title state moves rules hook (parts hook) (begun flow rules.stream) l files end new new_files) same
+        (subst (λ l. PartsMove title state moves rules hook l (begun flow rules.stream) lent files end new new_files) table moved));
     answered = ap (λ r. answers.Reply r) replied;
     rules = refl;
-    files = refl;
   }
+
+  -- and what it did to files where one of them ran out of memory
+  pub failed : (rules : Rules) (hook : Hook) (flow : Flow) (files new_files : FilesMeaning) (addons lent : List B) (asked : List Part) →
+      PartsFail title state moves rules hook asked (begun flow rules.stream) lent files new_files → asked ≡ parts hook → lent ≡ addons →
+      ChainFails title state moves hook flow rules addons files new_files
+  failed rules hook flow files new_files addons lent asked ran_out table same =
+      subst (λ l. PartsFail title state moves rules hook (parts hook) (begun flow rules.stream) l files new_files) same
+      (subst (λ l. PartsFail title state moves rules hook l (begun flow rules.stream) lent files new_files) table ran_out)

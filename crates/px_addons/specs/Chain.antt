@@ -1,4 +1,4 @@
--- What a chain makes of a flow and of itself, and what it answers.
+-- What a chain makes of a flow, of itself and of files, and what it answers.
 --
 -- An addon stands here as a value of any type B, with a name, a state and a relation for each.
 use Rattle.std.specs.Prelude.{◌≡◌, ℕ, Bool, true, false, List, [], ◌∷◌, Option, ◌<◌, length, remove}
@@ -13,6 +13,7 @@ use Rattle.px_core.specs.declared.answerer.Answer.TheVariants as answers
 use Rattle.px_core.specs.declared.answerer.Draft.{Draft}
 use Rattle.px_core.specs.declared.answerer.Verdict.{Verdict}
 use Rattle.px_core.specs.declared.answerer.Verdict.TheVariants as verdicts
+use Rattle.px_addons.specs.Mapped.{LocalFails, MapsLocal}
 use Rattle.px_addons.specs.Moving.{Moves, SameMoves}
 use Rattle.px_addons.specs.Parts.{made_by, parts}
 use Rattle.px_addons.specs.declared.parts.Part.{Part}
@@ -39,6 +40,17 @@ reply_by verdicts.Discard flow stream = replies.Discard
 
 abbrev pub reply_of : Draft → Reply
 reply_of draft = reply_by draft.verdict draft.flow draft.stream
+
+-- what a part that was asked and ran out of memory did to files: map local made some of its reads, and no other part touches a file
+abbrev pub PartFails : Rules → Part → Draft → FilesMeaning → FilesMeaning → Type 0
+PartFails rules part.Block draft files new_files = new_files ≡ files
+PartFails rules part.MapLocal draft files new_files = LocalFails rules draft files new_files
+PartFails rules part.MapRemote draft files new_files = new_files ≡ files
+PartFails rules part.ModifyHeaders draft files new_files = new_files ≡ files
+PartFails rules part.Anticache draft files new_files = new_files ≡ files
+PartFails rules part.Anticomp draft files new_files = new_files ≡ files
+PartFails rules part.ModifyBody draft files new_files = new_files ≡ files
+PartFails rules part.Addons draft files new_files = new_files ≡ files
 
 module _ {B : Type 0} (title state : B → List ℕ) (moves : B → Moves) where
   -- the same addon, with a state of its own
@@ -75,34 +87,54 @@ module _ {B : Type 0} (title state : B → List ℕ) (moves : B → Moves) where
     pub second : AddonMoves hook left other end new_other
     pub news : addons ≡ new_one ∷ new_other ∷ []
 
-  -- what a part that is asked makes of the draft and of the addons
-  abbrev pub PartMoves : Rules → Hook → Part → Draft → List B → Draft → List B → Type 0
-  PartMoves rules hook part.Addons draft old after new = AddonsMove hook draft old after new
-  PartMoves rules hook part.ModifyHeaders draft old after new = (after ≡ record draft { flow = made_by rules hook part.ModifyHeaders draft.flow }) × (new ≡ old)
-  PartMoves rules hook part.Anticache draft old after new = (after ≡ record draft { flow = made_by rules hook part.Anticache draft.flow }) × (new ≡ old)
-  PartMoves rules hook part.Anticomp draft old after new = (after ≡ record draft { flow = made_by rules hook part.Anticomp draft.flow }) × (new ≡ old)
-  PartMoves rules hook part.ModifyBody draft old after new = (after ≡ record draft { flow = made_by rules hook part.ModifyBody draft.flow }) × (new ≡ old)
+  -- a part whose meaning is a function of the draft leaves addons and files as they are
+  abbrev pub ByRules : Rules → Hook → Part → Draft → List B → FilesMeaning → Draft → List B → FilesMeaning → Type 0
+  ByRules rules hook one draft old files after new new_files = (after ≡ made_by rules hook one draft) × (new ≡ old) × (new_files ≡ files)
+
+  -- what a part that is asked makes of the draft, of the addons and of files
+  abbrev pub PartMoves : Rules → Hook → Part → Draft → List B → FilesMeaning → Draft → List B → FilesMeaning → Type 0
+  PartMoves rules hook part.Block draft old files after new new_files = ByRules rules hook part.Block draft old files after new new_files
+  PartMoves rules hook part.MapLocal draft old files after new new_files = MapsLocal rules draft files after new_files × (new ≡ old)
+  PartMoves rules hook part.MapRemote draft old files after new new_files = ByRules rules hook part.MapRemote draft old files after new new_files
+  PartMoves rules hook part.ModifyHeaders draft old files after new new_files = ByRules rules hook part.ModifyHeaders draft old files after new new_files
+  PartMoves rules hook part.Anticache draft old files after new new_files = ByRules rules hook part.Anticache draft old files after new new_files
+  PartMoves rules hook part.Anticomp draft old files after new new_files = ByRules rules hook part.Anticomp draft old files after new new_files
+  PartMoves rules hook part.ModifyBody draft old files after new new_files = ByRules rules hook part.ModifyBody draft old files after new new_files
+  PartMoves rules hook part.Addons draft old files after new new_files = AddonsMove hook draft old after new × (new_files ≡ files)
 
   -- one part in its turn; behind a verdict that is not Go it is passed over
-  pub data PartInTurn (rules : Rules) (hook : Hook) (one : Part) : Draft → List B → Draft → List B → Type 0 where
-    by_part : (draft after : Draft) (old new : List B) → is_going draft.verdict ≡ true → PartMoves rules hook one draft old after new → PartInTurn rules hook one draft old after new
-    past_part : (draft : Draft) (addons : List B) → is_going draft.verdict ≡ false → PartInTurn rules hook one draft addons draft addons
+  pub data PartInTurn (rules : Rules) (hook : Hook) (one : Part) : Draft → List B → FilesMeaning → Draft → List B → FilesMeaning → Type 0 where
+    by_part : (draft after : Draft) (old new : List B) (files new_files : FilesMeaning) → is_going draft.verdict ≡ true →
+        PartMoves rules hook one draft old files after new new_files → PartInTurn rules hook one draft old files after new new_files
+    past_part : (draft : Draft) (addons : List B) (files : FilesMeaning) → is_going draft.verdict ≡ false → PartInTurn rules hook one draft addons files draft addons files
 
   -- parts in their order
-  pub data PartsMove (rules : Rules) (hook : Hook) : List Part → Draft → List B → Draft → List B → Type 0 where
-    no_part : (draft : Draft) (addons : List B) → PartsMove rules hook [] draft addons draft addons
-    next_part : (one : Part) (others : List Part) (draft after end : Draft) (old mid new : List B) → PartInTurn rules hook one draft old after mid →
-        PartsMove rules hook others after mid end new → PartsMove rules hook (one ∷ others) draft old end new
+  pub data PartsMove (rules : Rules) (hook : Hook) : List Part → Draft → List B → FilesMeaning → Draft → List B → FilesMeaning → Type 0 where
+    no_part : (draft : Draft) (addons : List B) (files : FilesMeaning) → PartsMove rules hook [] draft addons files draft addons files
+    next_part : (one : Part) (others : List Part) (draft after end : Draft) (old mid new : List B) (files mid_files new_files : FilesMeaning) →
+        PartInTurn rules hook one draft old files after mid mid_files → PartsMove rules hook others after mid mid_files end new new_files →
+        PartsMove rules hook (one ∷ others) draft old files end new new_files
 
   -- The answer to a hook about a flow, by rules, addons and files before and after: what the draft is when all parts of the hook
   -- were asked, or one ended the order.
   pub record ChainAnswers (hook : Hook) (flow : Flow) (old_rules : Rules) (old : List B) (old_files : FilesMeaning)
       (new_rules : Rules) (new : List B) (new_files : FilesMeaning) (answer : Answer) : Type 0 where
     pub end : Draft
-    pub moved : PartsMove old_rules hook (parts hook) (begun flow old_rules.stream) old end new
+    pub moved : PartsMove old_rules hook (parts hook) (begun flow old_rules.stream) old old_files end new new_files
     pub answered : answer ≡ answers.Reply (reply_of end)
     pub rules : new_rules ≡ old_rules
-    pub files : new_files ≡ old_files
+
+  -- Parts in their order, of which one that was asked ran out of memory: what those before it, and it, did to files.
+  pub data PartsFail (rules : Rules) (hook : Hook) : List Part → Draft → List B → FilesMeaning → FilesMeaning → Type 0 where
+    fails_here : (one : Part) (others : List Part) (draft : Draft) (addons : List B) (files new_files : FilesMeaning) → is_going draft.verdict ≡ true →
+        PartFails rules one draft files new_files → PartsFail rules hook (one ∷ others) draft addons files new_files
+    fails_later : (one : Part) (others : List Part) (draft after : Draft) (old mid : List B) (files mid_files new_files : FilesMeaning) →
+        PartInTurn rules hook one draft old files after mid mid_files → PartsFail rules hook others after mid mid_files new_files →
+        PartsFail rules hook (one ∷ others) draft old files new_files
+
+  -- What an answer to a hook about a flow that ran out of memory did to files.
+  abbrev pub ChainFails : Hook → Flow → Rules → List B → FilesMeaning → FilesMeaning → Type 0
+  ChainFails hook flow rules addons files new_files = PartsFail rules hook (parts hook) (begun flow rules.stream) addons files new_files
 
 module _ {B : Type 0} (title : B → List ℕ) where
   -- What taking the first addon of a name away makes of a chain.

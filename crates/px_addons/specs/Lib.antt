@@ -1,4 +1,6 @@
 pub mod Moving
+pub mod Blocked
+pub mod Mapped
 pub mod Parts
 pub mod Chain
 pub mod Counter

@@ -5,12 +5,16 @@ use Rattle.px_event.specs.declared.ask.Hook.{Hook}
 use Rattle.px_event.specs.declared.reply.Reply.TheVariants as replies
 use Rattle.px_core.specs.declared.answerer.Answer.{Answer}
 use Rattle.px_core.specs.declared.answerer.Answer.TheVariants as answers
+use Rattle.px_map.specs.View.{block_views, local_views, remote_views}
 use Rattle.px_rule.specs.View.{body_views, header_views}
 use Rattle.px_addons.specs.Moving.{KeepsDrafts, Moves}
 use Rattle.px_addons.specs.declared.rules.Rules.{Rules}
 
 -- no rule, no wish, and nothing is streamed
 pub record NoRules (rules : Rules) : Type 0 where
+  pub block : block_views rules.block ≡ []
+  pub local : local_views rules.local ≡ []
+  pub remote : remote_views rules.remote ≡ []
   pub headers : header_views rules.headers ≡ []
   pub bodies : body_views rules.bodies ≡ []
   pub anticache : rules.anticache ≡ false

@@ -1,11 +1,12 @@
 //! The chain of rules and addons, which answers hooks.
 //!
 //! Both loops ask all that they go over, and each turn begins with the verdict: behind one that is not Go the turn does nothing.
-ghost use Rattle.std.specs.Prelude.{◌≡◌, false, MatchOption, OnOk};
-ghost use Rattle.px_addons.specs.Chain.{AddonMoves, AddonsMove, IsFirstOfName, PartInTurn, PartsMove, is_going, reply_of};
+ghost use Rattle.std.specs.Prelude.{◌≡◌, true, false, MatchOption, OnErr, OnOk};
+ghost use Rattle.px_addons.specs.Chain.{AddonMoves, AddonsMove, IsFirstOfName, PartFails, PartInTurn, PartsFail, PartsMove, is_going, reply_of};
 ghost use Rattle.px_addons.specs.Moving.{SameMoves};
 ghost use Rattle.px_addons.specs.Quiet.{AllKeepDrafts, NoRules};
 ghost use Rattle.px_core.specs.Addons.{has_name_by};
+ghost use Rattle.px_core.specs.Answers.{files_meaning};
 
 use crate::parts::parts;
 use crate::{Addon, Part, Rules};
@@ -18,7 +19,7 @@ use std::alloc::Global;
 
 /// Rules and addons, which answer hooks: at each hook its parts in their order, until a verdict that is not Go ends it
 /// (`specs/Chain.antt`, `ChainAnswers`). The draft begins with the flow as it is asked about, the verdict Go and the rules' `stream`. No
-/// answer waits, and no file is touched.
+/// answer waits. Files are read for map local rules that match the flow, and for nothing else.
 #[derive(Drop)]
 pub struct Chain {
     rules: Rules,
@@ -39,7 +40,7 @@ impl Chain {
 
 impl Answerer for Chain {
     ghost use Rattle.std.specs.Prelude.{◌≡◌, map};
-    ghost use Rattle.px_addons.specs.Chain.{ChainAnswers, ChainDrops};
+    ghost use Rattle.px_addons.specs.Chain.{ChainAnswers, ChainDrops, ChainFails};
 
     ghost State = { Self };
 
@@ -49,7 +50,9 @@ impl Answerer for Chain {
         ChainAnswers (λ b. (Addon-box b).title b.value) (λ b. (Addon-box b).state b.value) (λ b. (Addon-box b).moves b.value)
         hook flow old.rules old.addons.items old_files new.rules new.addons.items new_files answer };
 
-    ghost fails = { λ old new. new ≡ old };
+    ghost fails = { λ hook flow old old_files new_files.
+        ChainFails (λ b. (Addon-box b).title b.value) (λ b. (Addon-box b).state b.value) (λ b. (Addon-box b).moves b.value)
+        hook flow old.rules old.addons.items old_files new_files };
 
     ghost names = { λ c. map (λ b. (Addon-box b).title b.value) c.addons.items };
 
@@ -59,7 +62,7 @@ impl Answerer for Chain {
         &mut self,
         hook: Hook,
         flow: Flow,
-        _files: &mut F,
+        files: &mut F,
     ) -> Result<Answer, NoMemory> {
         let alloc = *self.addons.allocator();
         let mut draft = Draft {
@@ -74,6 +77,7 @@ impl Answerer for Chain {
             parts(hook),
             hook,
             &mut draft,
+            files,
         ) {
             Ok(()) => Ok(Answer::Reply(reply_of(draft))),
             Err(e) => {
@@ -121,37 +125,52 @@ impl Kind for Chain {
 }
 
 // Asks the parts in their order.
-fn ask_parts(
+fn ask_parts<F: Files>(
     alloc: Global,
     rules: &Rules,
     addons: &mut [Box<dyn Addon>],
     parts: &[Part],
     hook: Hook,
     draft: &mut Draft,
+    files: &mut F,
 ) -> Result<(), NoMemory>
-    ensures { OnOk result (PartsMove title state moves rules.now hook parts.now draft.old addons.old draft.new addons.new) }
+    ensures moved { OnOk result (PartsMove title state moves rules.now hook parts.now
+        draft.old addons.old (files_meaning F.contents F.calls F.misses F.faults F.losses files.old)
+        draft.new addons.new (files_meaning F.contents F.calls F.misses F.faults F.losses files.new)) }
+    ensures failed { OnErr result (PartsFail title state moves rules.now hook parts.now draft.old addons.old
+        (files_meaning F.contents F.calls F.misses F.faults F.losses files.old)
+        (files_meaning F.contents F.calls F.misses F.faults F.losses files.new)) }
 {
     for i in 0..parts.len() {
-        ask_part(alloc, rules, addons, parts[i], hook, draft)?;
+        ask_part(alloc, rules, addons, parts[i], hook, draft, files)?;
     }
     Ok(())
 }
 
 // Asks one part, in its turn.
-fn ask_part(
+fn ask_part<F: Files>(
     alloc: Global,
     rules: &Rules,
     addons: &mut [Box<dyn Addon>],
     part: Part,
     hook: Hook,
     draft: &mut Draft,
+    files: &mut F,
 ) -> Result<(), NoMemory>
-    ensures { OnOk result (PartInTurn title state moves rules.now hook part draft.old addons.old draft.new addons.new) }
+    ensures moved { OnOk result (PartInTurn title state moves rules.now hook part
+        draft.old addons.old (files_meaning F.contents F.calls F.misses F.faults F.losses files.old)
+        draft.new addons.new (files_meaning F.contents F.calls F.misses F.faults F.losses files.new)) }
+    ensures failed { OnErr result ((is_going draft.old.verdict ≡ true) × PartFails rules.now part draft.old
+        (files_meaning F.contents F.calls F.misses F.faults F.losses files.old)
+        (files_meaning F.contents F.calls F.misses F.faults F.losses files.new)) }
 {
     if !is_going(&draft.verdict) {
         return Ok(());
     }
     match part {
+        Part::Block => rules.ask_block(alloc, draft),
+        Part::MapLocal => rules.ask_map_local(draft, files),
+        Part::MapRemote => rules.ask_map_remote(alloc, draft),
         Part::ModifyHeaders => rules.modify_headers(hook, &mut draft.flow),
         Part::Anticache => rules.put_uncached(alloc, &mut draft.flow),
         Part::Anticomp => rules.put_uncoded(alloc, &mut draft.flow),

@@ -1,28 +1,77 @@
 //! Laws of chains and addons. Each function does nothing; what it ensures is the law.
-ghost use Rattle.std.specs.Prelude.{◌≡◌, ℕ, List, [], ◌∷◌, map, None};
-ghost use Rattle.px_addons.specs.Chain.{AddonsMove, ChainAnswers, SameAddons, TwoInTurn};
+ghost use Rattle.std.specs.Prelude.{◌≡◌, ◌==◌, ℕ, List, [], ◌∷◌, map, None, Some, if◌then◌else◌};
+ghost use Rattle.px_addons.specs.Chain.{AddonsMove, ChainAnswers, ChainFails, SameAddons, TwoInTurn};
 ghost use Rattle.px_addons.specs.Counter.{counted, counts};
+ghost use Rattle.px_addons.specs.Mapped.{ReadsOfRules};
 ghost use Rattle.px_addons.specs.Moving.{KeepsDrafts};
 ghost use Rattle.px_addons.specs.Quiet.{NoRules};
 ghost use Rattle.px_addons.specs.declared.rules.Rules.{Rules};
-ghost use Rattle.px_core.specs.Answers.{FilesMeaning};
+ghost use Rattle.px_core.specs.Answers.{AnswererState, FilesAfter, FilesMeaning};
 ghost use Rattle.px_core.specs.declared.answerer.Answer.{Answer};
 ghost use Rattle.px_core.specs.declared.answerer.Answer.TheVariants as answers;
 ghost use Rattle.px_core.specs.declared.answerer.Draft.{Draft};
 ghost use Rattle.px_event.specs.declared.ask.Hook.{Hook as AskedHook};
+ghost use Rattle.px_event.specs.declared.ask.Hook.TheVariants as hooks;
 ghost use Rattle.px_event.specs.declared.reply.Reply.TheVariants as replies;
+ghost use Rattle.px_map.specs.Block.{block_status};
+ghost use Rattle.px_map.specs.Responses.{internal_error, not_found};
+ghost use Rattle.px_map.specs.View.{block_views, local_views};
 ghost use Rattle.px_message.specs.declared.flow.Flow.{Flow};
+ghost use Rattle.px_write.specs.Short.{short_response};
 
-use crate::Addon;
+use crate::{Addon, Chain};
+use px_core::Answerer;
 
 /// A chain without rules that has this addon alone, which leaves every draft as it is, answers every hook with the flow as it was
-/// asked about and streams nothing; and it is such a chain still, without rules and with the same addon alone. Of chains of many
-/// addons, or of none, px_core's law `answers_are_of_their_kind` says it, at `Chain`.
+/// asked about, streams nothing and leaves files as they are; and it is such a chain still, without rules and with the same addon
+/// alone. Of chains of many addons, or of none, px_core's law `answers_are_of_their_kind` says it, at `Chain`, and of files the next law.
 pub fn a_chain_that_changes_nothing(addon: &Box<dyn Addon>)
     ensures { (hook : AskedHook) (flow : Flow) (rules new_rules : Rules) (files new_files : FilesMeaning) (new : _) (answer : Answer) →
         NoRules rules → KeepsDrafts (moves addon.now) →
         ChainAnswers title state moves hook flow rules (addon.now ∷ []) files new_rules new new_files answer →
-        (answer ≡ answers.Reply (replies.Go flow None)) × NoRules new_rules × SameAddons title state moves (addon.now ∷ []) new }
+        (answer ≡ answers.Reply (replies.Go flow None)) × NoRules new_rules × SameAddons title state moves (addon.now ∷ []) new × (new_files ≡ files) }
+{}
+
+/// A chain without map local rules leaves files as they are, whatever its other rules and its addons: in each answer, where memory ran
+/// out, and over any number of answers one behind the other.
+pub fn a_chain_without_map_local_reads_nothing(addon: &Box<dyn Addon>)
+    ensures given { (hook : AskedHook) (flow : Flow) (rules new_rules : Rules) (files new_files : FilesMeaning) (old new : _) (answer : Answer) →
+        local_views rules.local ≡ [] → ChainAnswers title state moves hook flow rules old files new_rules new new_files answer → new_files ≡ files }
+    ensures failed { (hook : AskedHook) (flow : Flow) (rules : Rules) (files new_files : FilesMeaning) (old : _) →
+        local_views rules.local ≡ [] → ChainFails title state moves hook flow rules old files new_files → new_files ≡ files }
+    ensures run { (first : AnswererState ⟦<Chain as Answerer>⟧.State) (files : FilesMeaning) → local_views first.own.rules.local ≡ [] →
+        FilesAfter ⟦<Chain as Answerer>⟧.answers ⟦<Chain as Answerer>⟧.fails first files → files ≡ first.files }
+{}
+
+/// No request has a file read that the map local rules do not name. All that an answer does to files, also one that ran out of
+/// memory, is to read: each call is a read of a rule's own file, or of a path that is the rule's directory followed by a name of which
+/// no segment is `..` and which does not begin with a slash. So it is of any number of answers one behind the other.
+pub fn map_local_reads_only_what_rules_name(addon: &Box<dyn Addon>)
+    ensures given { (hook : AskedHook) (flow : Flow) (rules new_rules : Rules) (files new_files : FilesMeaning) (old new : _) (answer : Answer) →
+        ChainAnswers title state moves hook flow rules old files new_rules new new_files answer → ReadsOfRules (local_views rules.local) files new_files }
+    ensures failed { (hook : AskedHook) (flow : Flow) (rules : Rules) (files new_files : FilesMeaning) (old : _) →
+        ChainFails title state moves hook flow rules old files new_files → ReadsOfRules (local_views rules.local) files new_files }
+    ensures run { (first : AnswererState ⟦<Chain as Answerer>⟧.State) (files : FilesMeaning) →
+        FilesAfter ⟦<Chain as Answerer>⟧.answers ⟦<Chain as Answerer>⟧.fails first files → ReadsOfRules (local_views first.own.rules.local) first.files files }
+{}
+
+/// Block rules come first. Where one of them holds at a request's head, the answer is the status of the first that does, whatever the
+/// other rules and the addons: 444 closes the connection, and any other status is the response that says no more. No addon is
+/// asked and no file is read, also where memory ran out.
+pub fn a_block_rule_comes_first(addon: &Box<dyn Addon>)
+    ensures given { (flow : Flow) (status : ℕ) (rules new_rules : Rules) (files new_files : FilesMeaning) (old new : _) (answer : Answer) →
+        block_status (block_views rules.block) flow ≡ Some status →
+        ChainAnswers title state moves hooks.RequestHead flow rules old files new_rules new new_files answer →
+        (answer ≡ answers.Reply (if status == 444 then replies.Kill else replies.Respond (short_response status))) × (new ≡ old) × (new_files ≡ files) }
+    ensures failed { (flow : Flow) (status : ℕ) (rules : Rules) (files new_files : FilesMeaning) (old : _) →
+        block_status (block_views rules.block) flow ≡ Some status →
+        ChainFails title state moves hooks.RequestHead flow rules old files new_files → new_files ≡ files }
+{}
+
+/// What map local answers where no file is there, or where a read failed, is the response that says no more than its status.
+pub fn map_local_answers_with_short_responses()
+    ensures absent { not_found ≡ short_response 404 }
+    ensures failed { internal_error ≡ short_response 500 }
 {}
 
 /// An answer leaves the same addons in the same order, each with the name and the relation that it had.

@@ -4,26 +4,33 @@
 //! the draft of the flow before, its state and the draft after. Nothing else has to be stated; that the code keeps the relation is
 //! what the check of the author's `impl` proves. Addons are handed in as boxes, in a list.
 //!
-//! At each hook parts are asked in an order: rules of px_rule first, then the addons in the order of their list. Which parts, and
-//! in which order, is a table with a line for each hook (`specs/Parts.antt`, `parts`):
+//! At each hook parts are asked in an order: rules of px_map and px_rule first, then the addons in the order of their list. Which parts,
+//! and in which order, is a table with a line for each hook (`specs/Parts.antt`, `parts`):
 //!
-//! - the request's head: header rules, `anticache`, `anticomp`, addons;
+//! - the request's head: block rules, map local, map remote, header rules, `anticache`, `anticomp`, addons;
 //! - the whole request: body rules, addons;
 //! - the response's head: header rules, addons;
 //! - the whole response: body rules, addons;
 //! - a message of a WebSocket: body rules on its payload, addons.
 //!
-//! What a rule makes of a flow is px_rule's own function, so what the parts in front of the addons do is a function of rules, hook and
-//! flow (`made_by`). What the addons make of it is told by their relations, one behind the other: each is about the draft that those
+//! What a rule makes of a flow is px_rule's or px_map's own function, so what a part that reads no file does is a function of rules, hook
+//! and draft (`made_by`). Three of them answer in the place of a server, and so end the order: a block rule that holds answers with its
+//! status, or closes the connection where that is 444 (`specs/Blocked.antt`); map remote answers 502 where a rule makes a text that is no
+//! URL of the scheme `http`; and map local answers with a file (`specs/Mapped.antt`). What map local reads, and what it answers by that, is
+//! px_map's relation; no other part touches a file.
+//!
+//! What the addons make of a draft is told by their relations, one behind the other: each is about the draft that those
 //! before it left. An addon moves itself by its relation too, and stays the addon that it was: its name and its relation are as
 //! before (`specs/Chain.antt`, `AddonMoves`, `SameAddon`). The first verdict that is not Go ends the order: no part and no addon behind it
 //! is asked, and each of them is exactly as it was.
 //!
-//! So an answer is one relation between a hook, a flow, the rules and the addons before and after, and the reply (`ChainAnswers`). It
-//! leaves nothing open but what the addons' own relations leave open. Rules at another hook, an addon that is skipped or asked twice, one
-//! that gets the flow as it was before the rules, or a part that runs behind one that ended the order: each is another relation.
-//! `Chain` is a px_core `Answerer` whose state is the chain itself; so that relation stands, hook by hook, in what px_core promises of
-//! every trace.
+//! So an answer is one relation between a hook, a flow, the rules, the addons and files before and after, and the reply (`ChainAnswers`).
+//! It leaves nothing open but what the addons' own relations leave open. Rules at another hook, an addon that is skipped or asked twice,
+//! one that gets the flow as it was before the rules, a part that runs behind one that ended the order, or a read that no rule asks for:
+//! each is another relation. `Chain` is a px_core `Answerer` whose state is the chain itself; so that relation stands, hook by hook, in what
+//! px_core promises of every trace. Where memory runs out, `ChainFails` says which reads were made until then. So laws say of all
+//! answers, and of those that failed: a block rule that holds decides before all else, no file is read but those that map local rules name, and
+//! without such rules none is touched.
 //!
 //! A chain without rules whose addons leave every draft as it is changes nothing (`specs/Quiet.antt`). It stays such a chain, and each of its
 //! answers lets the flow go on as it was asked about: so `Chain` is a px_core `Kind` too, and px_core's law says it of whole traces.
@@ -32,9 +39,11 @@
 #![tactic(auto)]
 
 mod addon;
+mod blocking;
 mod chain;
 mod counter;
 mod laws;
+mod mapping;
 mod numbering;
 mod parts;
 mod rules;
@@ -45,8 +54,10 @@ pub use addon::Addon;
 pub use chain::Chain;
 pub use counter::FlowCounter;
 pub use laws::{
-    a_chain_that_changes_nothing, a_flow_counter_changes_no_draft,
+    a_block_rule_comes_first, a_chain_that_changes_nothing,
+    a_chain_without_map_local_reads_nothing, a_flow_counter_changes_no_draft,
     addons_see_what_those_before_did, an_answer_keeps_its_addons,
+    map_local_answers_with_short_responses, map_local_reads_only_what_rules_name,
 };
 pub use numbering::Numbering;
 pub use parts::Part;

@@ -7,6 +7,12 @@ use px_event::Hook;
 /// A part of a chain.
 #[derive(Clone, Copy, Debug, PartialEq, Eq)]
 pub enum Part {
+    /// The block rules.
+    Block,
+    /// The map local rules.
+    MapLocal,
+    /// The map remote rules.
+    MapRemote,
     /// The header rules.
     ModifyHeaders,
     /// The wish for an answer that is not kept elsewhere.
@@ -25,6 +31,9 @@ pub(crate) fn parts(hook: Hook) -> &'static [Part]
 {
     match hook {
         Hook::RequestHead => &[
+            Part::Block,
+            Part::MapLocal,
+            Part::MapRemote,
             Part::ModifyHeaders,
             Part::Anticache,
             Part::Anticomp,

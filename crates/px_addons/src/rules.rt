@@ -1,14 +1,15 @@
 //! The rules of a chain, and what they make of a flow.
 ghost use Rattle.std.specs.Prelude.{◌≡◌, if◌then◌else◌, [], false, None, OnOk, IfOk};
 ghost use Rattle.px_addons.specs.Quiet.{NoRules};
-ghost use Rattle.px_addons.specs.Parts.{is_of_response, made_by};
-ghost use Rattle.px_addons.specs.declared.parts.Part.TheVariants as part;
-ghost use Rattle.px_rule.specs.Header.{with_fields};
+ghost use Rattle.px_addons.specs.Parts.{content_of, is_of_response};
+ghost use Rattle.px_map.specs.View.{block_views, local_views, remote_views};
+ghost use Rattle.px_rule.specs.Body.{body_rules};
+ghost use Rattle.px_rule.specs.Header.{header_rules, with_fields};
 ghost use Rattle.px_rule.specs.Requests.{uncached, uncoded};
 ghost use Rattle.px_rule.specs.View.{body_views, header_views};
 
-use crate::Part;
 use px_event::Hook;
+use px_map::{BlockRules, LocalRules, RemoteRules};
 use px_message::{Fields, Flow, Request, Shared};
 use px_rule::{BodyRules, HeaderRules, anticache, anticomp};
 use px_text::NoMemory;
@@ -17,6 +18,12 @@ use std::alloc::Global;
 /// The rules of a chain: what is made of flows in front of the addons.
 #[derive(Debug, Drop)]
 pub struct Rules {
+    /// Block rules, asked at a request's head in front of all else (mitmproxy's option `block_list`).
+    pub block: BlockRules,
+    /// Map local rules, asked at a request's head (mitmproxy's option `map_local`).
+    pub local: LocalRules,
+    /// Map remote rules, asked at a request's head (mitmproxy's option `map_remote`).
+    pub remote: RemoteRules,
     /// Header rules, asked at both heads (mitmproxy's option `modify_headers`).
     pub headers: HeaderRules,
     /// Body rules, asked where a request, a response or a WebSocket's message is whole (mitmproxy's option `modify_body`).
@@ -32,6 +39,9 @@ pub struct Rules {
 impl Rules {
     /// No rule, and nothing is streamed. It takes no memory.
     pub fn none(alloc: Global) -> Rules
+        ensures block { block_views result.block ≡ [] }
+        ensures local { local_views result.local ≡ [] }
+        ensures remote { remote_views result.remote ≡ [] }
         ensures headers { header_views result.headers ≡ [] }
         ensures bodies { body_views result.bodies ≡ [] }
         ensures anticache { result.anticache ≡ false }
@@ -40,6 +50,9 @@ impl Rules {
         ensures none { NoRules result }
     {
         Rules {
+            block: BlockRules::none(alloc),
+            local: LocalRules::none(alloc),
+            remote: RemoteRules::none(alloc),
             headers: HeaderRules::none(alloc),
             bodies: BodyRules::none(alloc),
             anticache: false,
@@ -50,7 +63,7 @@ impl Rules {
 
     // Applies the header rules.
     pub(crate) fn modify_headers(&self, hook: Hook, flow: &mut Flow) -> Result<(), NoMemory>
-        ensures { OnOk result (flow.new ≡ made_by self.now hook part.ModifyHeaders flow.old) }
+        ensures { OnOk result (flow.new ≡ header_rules (is_of_response hook) (header_views self.now.headers) flow.old) }
     {
         self.headers.apply(flow, is_of_response(hook))
     }
@@ -77,7 +90,7 @@ impl Rules {
 
     // Applies the body rules to the bytes that the hook is about.
     pub(crate) fn modify_body(&self, hook: Hook, flow: &mut Flow) -> Result<(), NoMemory>
-        ensures { OnOk result (flow.new ≡ made_by self.now hook part.ModifyBody flow.old) }
+        ensures { OnOk result (flow.new ≡ body_rules (content_of hook) (body_views self.now.bodies) flow.old) }
     {
         match hook {
             Hook::RequestHead | Hook::RequestBody => self.bodies.apply(flow, false),

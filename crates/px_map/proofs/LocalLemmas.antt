@@ -1,10 +1,13 @@
 -- Map local rules, one by one.
 use Rattle.std.proofs.Common.{◌≡◌, ℕ, Bool, true, false, List, [], ◌∷◌, ◌++◌, Option, Some, None, refl, sym, ap, ◌∙◌, subst, append-nil}
 use Rattle.std.proofs.lemmas.List.{append_assoc}
+use Rattle.px_message.specs.declared.flow.Flow.{Flow}
 use Rattle.px_message.specs.declared.response.Response.{Response}
 use Rattle.px_outside.specs.declared.files.FileCall.{FileCall}
 use Rattle.px_map.specs.Reads.{Begins, IsAnswer, Serves, nothing_yet, past_one, past_absent, at_file, at_failure, none_left, leads_up, is_absent, is_there, has_failed}
+use Rattle.px_rule.specs.Rule.{Rule}
 use Rattle.px_map.specs.Responses.{not_found}
+use Rattle.px_map.specs.Served.{local_names, rule_names}
 use Rattle.px_map.specs.Tried.{Tries, reads_absent}
 use Rattle.px_map.specs.declared.local.Tried.TheVariants as tried
 
@@ -51,6 +54,22 @@ going_absent all file left made matched going = record {
   unmatched = λ e. absurd (let no : true ≡ false = e in cc);
   is_matched = λ _. some_meant all file left made matched going;
 }
+
+-- ---- rules that do not match
+
+no_last : (xs ys : Meant) → xs ++ ys ≡ [] → ys ≡ []
+no_last [] ys none = none
+no_last (x ∷ xs) ys none = absurd cc
+
+no_first : (xs ys : Meant) → xs ++ ys ≡ [] → xs ≡ []
+no_first [] ys none = refl
+no_first (x ∷ xs) ys none = absurd cc
+
+-- where no rule matches, none of them does
+pub matches_not : (before after : List Rule) (rule : Rule) (flow : Flow) → local_names (before ++ rule ∷ after) flow ≡ [] → rule_names rule flow ≡ []
+matches_not [] after rule flow none = no_first (rule_names rule flow) (local_names after flow) none
+matches_not (first ∷ before) after rule flow none =
+    matches_not before after rule flow (no_last (rule_names first flow) (local_names (before ++ rule ∷ after) flow) none)
 
 -- ---- answers
 

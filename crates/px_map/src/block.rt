@@ -3,7 +3,7 @@
 //! The rules are taken in their order, and the first whose filter holds on the flow decides. A rule's text has a filter, which
 //! may be missing, and a status from 200 to 999. The status 444 means that the connection is closed without a response; it is
 //! told like any other.
-ghost use Rattle.std.specs.Prelude.{◌≡◌, ◌⊎◌, true, map, option_map, string_bytes, Some, None, Ok, Err, IfOk, IfErr, IfSome, OnOk, OnErr, MatchOption};
+ghost use Rattle.std.specs.Prelude.{◌≡◌, ◌⊎◌, [], true, map, option_map, string_bytes, Some, None, Ok, Err, IfOk, IfErr, IfSome, OnOk, OnErr, MatchOption};
 ghost use Rattle.px_filter.specs.Parsing.{parse};
 ghost use Rattle.px_filter.specs.View.{expression};
 ghost use Rattle.px_message.specs.Status.{is_status};
@@ -32,6 +32,15 @@ pub struct BlockRules {
 }
 
 impl BlockRules {
+    /// No rule. It takes no memory.
+    pub fn none(alloc: Global) -> BlockRules
+        ensures none { block_views result ≡ [] }
+    {
+        BlockRules {
+            rules: Vec::new(alloc),
+        }
+    }
+
     /// The rules of these texts, each `/status` or `/filter/status`. Refused with the first that is no rule, at its first
     /// cause.
     pub fn read(alloc: Global, texts: &[String]) -> Result<BlockRules, RuleError>

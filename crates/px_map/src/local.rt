@@ -60,6 +60,16 @@ pub(crate) enum Tried {
 }
 
 impl LocalRules {
+    /// No rule. It takes no memory.
+    pub fn none(alloc: Global) -> LocalRules
+        ensures none { local_views result ≡ [] }
+    {
+        LocalRules {
+            alloc,
+            rules: Vec::new(alloc),
+        }
+    }
+
     /// The rules of these texts, each `/pattern/path` or `/filter/pattern/path`, with the patterns of px_rule's body rules.
     /// Refused with the first that is no rule, at its first cause. Any text is a path; whether a file is there is told by
     /// each read, and an empty path names none.
@@ -79,12 +89,14 @@ impl LocalRules {
 
     /// The response to the flow's request, or none where no rule matches: the first file of a rule that matches which is
     /// there; 500 where a read before that failed; 404 where no rule's file is there. Exactly the reads up to the one that
-    /// answers are made, and no file is changed. After `NoMemory` some of the first of them were made.
+    /// answers are made, and no file is changed. After `NoMemory` some of the first of them were made. Where no rule matches, files are
+    /// not touched.
     pub fn answer<F: Files>(&self, flow: &Flow, files: &mut F) -> Result<Option<Response>, NoMemory>
         ensures answered { IfOk result (λ answer. (made : List FileCall) × IsAnswer (local_names (local_views self.now) flow.now) made answer
             × Made made (seen F.contents F.calls F.misses F.faults F.losses files.old) (seen F.contents F.calls F.misses F.faults F.losses files.new)) }
         ensures stopped { OnErr result ((made : List FileCall) × Begins (local_names (local_views self.now) flow.now) made
             × Made made (seen F.contents F.calls F.misses F.faults F.losses files.old) (seen F.contents F.calls F.misses F.faults F.losses files.new)) }
+        ensures unread { local_names (local_views self.now) flow.now ≡ [] → files.new ≡ files.old }
     {
         let url = flow.request.get().url()?;
         let mut matched = false;
@@ -116,6 +128,7 @@ fn try_rule<F: Files>(
         × Made made (seen F.contents F.calls F.misses F.faults F.losses files.old) (seen F.contents F.calls F.misses F.faults F.losses files.new)) }
     ensures stopped { OnErr result ((made : List FileCall) × Begins (rule_names (local_view rule.now) flow.now) made
         × Made made (seen F.contents F.calls F.misses F.faults F.losses files.old) (seen F.contents F.calls F.misses F.faults F.losses files.new)) }
+    ensures unread { rule_names (local_view rule.now) flow.now ≡ [] → files.new ≡ files.old }
 {
     match name(alloc, rule, flow, url)? {
         Named::Other => Ok(Tried::Passed),

@@ -3,7 +3,7 @@
 //! The rules are taken in their order, and each is asked of the flow as those before it left it. Where its filter holds, all
 //! matches in the request's URL are replaced. Where this changed the URL, the request's host, port and path are set to those of
 //! the new one, and so is its `Host` field, if it has one.
-ghost use Rattle.std.specs.Prelude.{◌≡◌, ◌⊎◌, ◌≢◌, ℕ, map, take, string_bytes, Some, None, Ok, Err, IfOk, IfErr, OnOk, OnErr, MatchOption};
+ghost use Rattle.std.specs.Prelude.{◌≡◌, ◌⊎◌, ◌≢◌, ℕ, [], map, take, string_bytes, Some, None, Ok, Err, IfOk, IfErr, OnOk, OnErr, MatchOption};
 ghost use Rattle.px_rule.specs.Pattern.{replaced_all};
 ghost use Rattle.px_rule.specs.Rule.{AreRules, IsFirstBad, IsNext, applies, body_rule};
 ghost use Rattle.px_rule.specs.declared.cause.RuleCause.TheVariants as causes;
@@ -33,6 +33,16 @@ pub struct RemoteRules {
 }
 
 impl RemoteRules {
+    /// No rule. It takes no memory.
+    pub fn none(alloc: Global) -> RemoteRules
+        ensures none { remote_views result ≡ [] }
+    {
+        RemoteRules {
+            alloc,
+            rules: Vec::new(alloc),
+        }
+    }
+
     /// The rules of these texts, each `/pattern/template` or `/filter/pattern/template`, with the patterns and templates of
     /// px_rule's body rules. Refused with the first that is no rule, at its first cause.
     pub fn read(alloc: Global, texts: &[String]) -> Result<RemoteRules, RuleError>
