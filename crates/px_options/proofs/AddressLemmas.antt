@@ -1,5 +1,6 @@
--- The authority form, as the target of CONNECT.
-use Rattle.std.proofs.Common.{◌≡◌, ℕ, List, codes, Option, Some, None, IfSome, option_map, refl, sym, subst, ◌∙◌}
+-- The authority form, as the target of CONNECT; and the host that the proxy listens at where no other is named.
+use Rattle.std.proofs.Common.{◌≡◌, ℕ, List, codes, Option, Some, None, IfSome, option_map, refl, sym, subst, ◌∙◌, rules}
+use Rattle.px_message.specs.Host.{IsHost}
 use Rattle.px_message.specs.Target.{Form, authority, authority_form, form_of, target_form}
 use Rattle.px_message.specs.declared.target.Target.{Target}
 use Rattle.px_options.specs.Parts.{authority_in}
@@ -25,3 +26,7 @@ connect_said text t e = said (authority_form text) (form_of t) (sym (connect_for
 
 pub connect_unsaid : (text : List ℕ) → target_form (codes "CONNECT") text ≡ None → authority_form text ≡ None
 connect_unsaid text e = unsaid (authority_form text) (sym (connect_form text) ∙ e)
+
+-- the text of the loopback address is a host
+pub loopback_is_host : IsHost (codes "127.0.0.1")
+loopback_is_host = search rules

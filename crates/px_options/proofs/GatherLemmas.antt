@@ -5,6 +5,7 @@ use Rattle.std.specs.List.{AllByRecursion}
 use Rattle.std.specs.List.Sorted.{IsStrictlySortedBy}
 use Rattle.std.specs.Map.{keys_of}
 use Rattle.std.specs.String.{string_cmp}
+use Rattle.px_map.specs.Block.{BlockRule}
 use Rattle.px_rule.specs.Rule.{Rule}
 use Rattle.toml.specs.Data.{Data, Members, member, get_member}
 use Rattle.toml.specs.View.{view, members_view}
@@ -31,8 +32,11 @@ abbrev settings_from : Settings → Members → Settings
 settings_from s table = record {
   anticache = value_or lines.anticache s.anticache (get_member (name_of key.Anticache) table);
   anticomp = value_or lines.anticomp s.anticomp (get_member (name_of key.Anticomp) table);
+  block_list = value_or lines.block_list s.block_list (get_member (name_of key.BlockList) table);
   events = value_or lines.events s.events (get_member (name_of key.Events) table);
   listen = value_or lines.listen s.listen (get_member (name_of key.Listen) table);
+  map_local = value_or lines.map_local s.map_local (get_member (name_of key.MapLocal) table);
+  map_remote = value_or lines.map_remote s.map_remote (get_member (name_of key.MapRemote) table);
   mode = value_or lines.mode s.mode (get_member (name_of key.Mode) table);
   modify_body = value_or lines.modify_body s.modify_body (get_member (name_of key.ModifyBody) table);
   modify_headers = value_or lines.modify_headers s.modify_headers (get_member (name_of key.ModifyHeaders) table);
@@ -59,6 +63,13 @@ anticomp_more d ms s (Ok a) is none ih =
     ih (record s { anticomp = a })
     ∙ ap (λ v. told (first_refusal ms) (record (settings_from s ms) { anticomp = v })) (line_more lines.anticomp a s.anticomp (get_member (name_of key.Anticomp) ms) d none is)
 
+block_list_more : (d : Data) (ms : Members) (s : Settings) (r : Result (List BlockRule) OptionsError) → r ≡ lines.block_list.reads d → get_member (name_of key.BlockList) ms ≡ None → IsGathered ms
+    → and_then (gathered ms) (put_by (λ a. record s { block_list = a }) r) ≡ told (or_others (why r) (first_refusal ms)) (settings_from s (member (name_of key.BlockList) d ms))
+block_list_more d ms s (Err e) is none ih = refl
+block_list_more d ms s (Ok a) is none ih =
+    ih (record s { block_list = a })
+    ∙ ap (λ v. told (first_refusal ms) (record (settings_from s ms) { block_list = v })) (line_more lines.block_list a s.block_list (get_member (name_of key.BlockList) ms) d none is)
+
 events_more : (d : Data) (ms : Members) (s : Settings) (r : Result ℕ OptionsError) → r ≡ lines.events.reads d → get_member (name_of key.Events) ms ≡ None → IsGathered ms
     → and_then (gathered ms) (put_by (λ a. record s { events = a }) r) ≡ told (or_others (why r) (first_refusal ms)) (settings_from s (member (name_of key.Events) d ms))
 events_more d ms s (Err e) is none ih = refl
@@ -72,6 +83,20 @@ listen_more d ms s (Err e) is none ih = refl
 listen_more d ms s (Ok a) is none ih =
     ih (record s { listen = a })
     ∙ ap (λ v. told (first_refusal ms) (record (settings_from s ms) { listen = v })) (line_more lines.listen a s.listen (get_member (name_of key.Listen) ms) d none is)
+
+map_local_more : (d : Data) (ms : Members) (s : Settings) (r : Result (List Rule) OptionsError) → r ≡ lines.map_local.reads d → get_member (name_of key.MapLocal) ms ≡ None → IsGathered ms
+    → and_then (gathered ms) (put_by (λ a. record s { map_local = a }) r) ≡ told (or_others (why r) (first_refusal ms)) (settings_from s (member (name_of key.MapLocal) d ms))
+map_local_more d ms s (Err e) is none ih = refl
+map_local_more d ms s (Ok a) is none ih =
+    ih (record s { map_local = a })
+    ∙ ap (λ v. told (first_refusal ms) (record (settings_from s ms) { map_local = v })) (line_more lines.map_local a s.map_local (get_member (name_of key.MapLocal) ms) d none is)
+
+map_remote_more : (d : Data) (ms : Members) (s : Settings) (r : Result (List Rule) OptionsError) → r ≡ lines.map_remote.reads d → get_member (name_of key.MapRemote) ms ≡ None → IsGathered ms
+    → and_then (gathered ms) (put_by (λ a. record s { map_remote = a }) r) ≡ told (or_others (why r) (first_refusal ms)) (settings_from s (member (name_of key.MapRemote) d ms))
+map_remote_more d ms s (Err e) is none ih = refl
+map_remote_more d ms s (Ok a) is none ih =
+    ih (record s { map_remote = a })
+    ∙ ap (λ v. told (first_refusal ms) (record (settings_from s ms) { map_remote = v })) (line_more lines.map_remote a s.map_remote (get_member (name_of key.MapRemote) ms) d none is)
 
 mode_more : (d : Data) (ms : Members) (s : Settings) (r : Result (Option ModeIs) OptionsError) → r ≡ lines.mode.reads d → get_member (name_of key.Mode) ms ≡ None → IsGathered ms
     → and_then (gathered ms) (put_by (λ a. record s { mode = a }) r) ≡ told (or_others (why r) (first_refusal ms)) (settings_from s (member (name_of key.Mode) d ms))
@@ -107,12 +132,15 @@ named : (name : List ℕ) (found : Key) → key_of name ≡ Some found → name 
 named name found is =
     or_named (bytes_eq name (name_of key.Anticache)) key.Anticache found name _ (λ same. (bytes_eq-Decides _ _).0 same) is (λ e.
     or_named (bytes_eq name (name_of key.Anticomp)) key.Anticomp found name _ (λ same. (bytes_eq-Decides _ _).0 same) e (λ e.
+    or_named (bytes_eq name (name_of key.BlockList)) key.BlockList found name _ (λ same. (bytes_eq-Decides _ _).0 same) e (λ e.
     or_named (bytes_eq name (name_of key.Events)) key.Events found name _ (λ same. (bytes_eq-Decides _ _).0 same) e (λ e.
     or_named (bytes_eq name (name_of key.Listen)) key.Listen found name _ (λ same. (bytes_eq-Decides _ _).0 same) e (λ e.
+    or_named (bytes_eq name (name_of key.MapLocal)) key.MapLocal found name _ (λ same. (bytes_eq-Decides _ _).0 same) e (λ e.
+    or_named (bytes_eq name (name_of key.MapRemote)) key.MapRemote found name _ (λ same. (bytes_eq-Decides _ _).0 same) e (λ e.
     or_named (bytes_eq name (name_of key.Mode)) key.Mode found name _ (λ same. (bytes_eq-Decides _ _).0 same) e (λ e.
     or_named (bytes_eq name (name_of key.ModifyBody)) key.ModifyBody found name _ (λ same. (bytes_eq-Decides _ _).0 same) e (λ e.
     or_named (bytes_eq name (name_of key.ModifyHeaders)) key.ModifyHeaders found name _ (λ same. (bytes_eq-Decides _ _).0 same) e (λ e.
-    absurd (nothing found e))))))))
+    absurd (nothing found e)))))))))))
 
 -- one member more, by its key
 abbrev More : Option Key → Members → Data → Settings → List ℕ → Type 0
@@ -126,10 +154,16 @@ by_key (Some key.Anticache) name d ms s is ih =
     subst (More (Some key.Anticache) ms d s) (sym (named name key.Anticache is)) (λ none. anticache_more d ms s (lines.anticache.reads d) refl none ih)
 by_key (Some key.Anticomp) name d ms s is ih =
     subst (More (Some key.Anticomp) ms d s) (sym (named name key.Anticomp is)) (λ none. anticomp_more d ms s (lines.anticomp.reads d) refl none ih)
+by_key (Some key.BlockList) name d ms s is ih =
+    subst (More (Some key.BlockList) ms d s) (sym (named name key.BlockList is)) (λ none. block_list_more d ms s (lines.block_list.reads d) refl none ih)
 by_key (Some key.Events) name d ms s is ih =
     subst (More (Some key.Events) ms d s) (sym (named name key.Events is)) (λ none. events_more d ms s (lines.events.reads d) refl none ih)
 by_key (Some key.Listen) name d ms s is ih =
     subst (More (Some key.Listen) ms d s) (sym (named name key.Listen is)) (λ none. listen_more d ms s (lines.listen.reads d) refl none ih)
+by_key (Some key.MapLocal) name d ms s is ih =
+    subst (More (Some key.MapLocal) ms d s) (sym (named name key.MapLocal is)) (λ none. map_local_more d ms s (lines.map_local.reads d) refl none ih)
+by_key (Some key.MapRemote) name d ms s is ih =
+    subst (More (Some key.MapRemote) ms d s) (sym (named name key.MapRemote is)) (λ none. map_remote_more d ms s (lines.map_remote.reads d) refl none ih)
 by_key (Some key.Mode) name d ms s is ih =
     subst (More (Some key.Mode) ms d s) (sym (named name key.Mode is)) (λ none. mode_more d ms s (lines.mode.reads d) refl none ih)
 by_key (Some key.ModifyBody) name d ms s is ih =

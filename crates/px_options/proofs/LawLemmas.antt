@@ -1,5 +1,6 @@
 -- The laws.
 use Rattle.std.proofs.Common.{◌≡◌, ◌≢◌, ℕ, ◌+◌, Bool, true, false, List, [], ◌∷◌, Option, Some, None, Result, Ok, Err, IfErr, IfSome, IsErr, if◌then◌else◌, is_some, refl, sym, ap, subst, ◌∙◌}
+use Rattle.px_map.specs.Block.{block_rule}
 use Rattle.px_rule.specs.Rule.{body_rule, header_rule}
 use Rattle.px_rule.specs.declared.cause.RuleCause.{RuleCause}
 use Rattle.toml.specs.Data.{Data, Members, no_members, member, as_array, as_bool, as_integer, as_str}
@@ -129,8 +130,11 @@ why_of_table (Err e) h = h
 at_of_table : (k : Key) (d : Data) → IfSome (refusal_at k d) OfTable
 at_of_table key.Anticache d = why_of_table (lines.anticache.reads d) (wrong_of_table key.Anticache (as_bool d))
 at_of_table key.Anticomp d = why_of_table (lines.anticomp.reads d) (wrong_of_table key.Anticomp (as_bool d))
+at_of_table key.BlockList d = why_of_table (lines.block_list.reads d) (rules_of_table key.BlockList block_rule (texts_of (as_array d)))
 at_of_table key.Events d = why_of_table (lines.events.reads d) (wrong_of_table key.Events (from_one (as_integer d)))
 at_of_table key.Listen d = why_of_table (lines.listen.reads d) (wrong_of_table key.Listen (address_in (as_str d)))
+at_of_table key.MapLocal d = why_of_table (lines.map_local.reads d) (rules_of_table key.MapLocal body_rule (texts_of (as_array d)))
+at_of_table key.MapRemote d = why_of_table (lines.map_remote.reads d) (rules_of_table key.MapRemote body_rule (texts_of (as_array d)))
 at_of_table key.Mode d = why_of_table (lines.mode.reads d) (mode_of_table key.Mode (as_str d))
 at_of_table key.ModifyBody d = why_of_table (lines.modify_body.reads d) (rules_of_table key.ModifyBody body_rule (texts_of (as_array d)))
 at_of_table key.ModifyHeaders d = why_of_table (lines.modify_headers.reads d) (rules_of_table key.ModifyHeaders header_rule (texts_of (as_array d)))

@@ -3,3 +3,4 @@ pub mod TextLemmas
 pub mod RuleLemmas
 pub mod GatherLemmas
 pub mod LawLemmas
+pub mod ShownLemmas

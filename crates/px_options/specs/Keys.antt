@@ -6,8 +6,11 @@ use Rattle.px_options.specs.declared.key.Key.TheVariants as key
 abbrev pub name_of : Key → List ℕ
 name_of key.Anticache = codes "anticache"
 name_of key.Anticomp = codes "anticomp"
+name_of key.BlockList = codes "block_list"
 name_of key.Events = codes "events"
 name_of key.Listen = codes "listen"
+name_of key.MapLocal = codes "map_local"
+name_of key.MapRemote = codes "map_remote"
 name_of key.Mode = codes "mode"
 name_of key.ModifyBody = codes "modify_body"
 name_of key.ModifyHeaders = codes "modify_headers"
@@ -21,9 +24,12 @@ abbrev pub key_of : List ℕ → Option Key
 key_of name =
     or_key key.Anticache name
     (or_key key.Anticomp name
+    (or_key key.BlockList name
     (or_key key.Events name
     (or_key key.Listen name
+    (or_key key.MapLocal name
+    (or_key key.MapRemote name
     (or_key key.Mode name
     (or_key key.ModifyBody name
     (or_key key.ModifyHeaders name
-    None))))))
+    None)))))))))

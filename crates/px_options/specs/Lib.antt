@@ -10,3 +10,4 @@ pub mod Refused
 pub mod Steps
 pub mod Gathered
 pub mod Laws
+pub mod Shown

@@ -1,5 +1,6 @@
 -- The table of the options: a line for each key, with what values it takes and its default.
 use Rattle.std.specs.Prelude.{ℕ, Bool, false, List, [], codes, Option, None, Result}
+use Rattle.px_map.specs.Block.{BlockRule, block_rule}
 use Rattle.px_rule.specs.Rule.{Rule, body_rule, header_rule}
 use Rattle.toml.specs.Data.{Data}
 use Rattle.px_options.specs.Mode.{ModeIs, mode as mode_text}
@@ -26,11 +27,21 @@ anticache = line key.Anticache truth false
 abbrev pub anticomp : Line Bool
 anticomp = line key.Anticomp truth false
 
+abbrev pub block_list : Line (List BlockRule)
+block_list = line key.BlockList (rules block_rule) []
+
 abbrev pub events : Line ℕ
 events = line key.Events count 9223372036854775807
 
 abbrev pub listen : Line Place
 listen = line key.Listen address (codes "127.0.0.1", 8080)
+
+-- of a path any text serves, so its rules are read as those of bodies are
+abbrev pub map_local : Line (List Rule)
+map_local = line key.MapLocal (rules body_rule) []
+
+abbrev pub map_remote : Line (List Rule)
+map_remote = line key.MapRemote (rules body_rule) []
 
 -- without its key there is no mode
 abbrev pub mode : Line (Option ModeIs)

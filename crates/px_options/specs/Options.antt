@@ -1,6 +1,7 @@
 -- The options that a table is, or its refusal; and those that bytes are.
 use Rattle.std.specs.Prelude.{◌≡◌, ◌⊎◌, ℕ, Bool, List, Option, Some, None, Result, Ok, Err, is_some, if◌then◌else◌}
 use Rattle.std.specs.Str.{IsUtf8}
+use Rattle.px_map.specs.Block.{BlockRule}
 use Rattle.px_rule.specs.Rule.{Rule}
 use Rattle.toml.specs.Data.{Data, Members, no_members, member, get_member}
 use Rattle.toml.specs.Parse.{parse_document}
@@ -18,8 +19,11 @@ use Rattle.px_options.specs.declared.key.Key.TheVariants as key
 pub record Settings : Type 0 where
   pub anticache : Bool
   pub anticomp : Bool
+  pub block_list : List BlockRule
   pub events : ℕ
   pub listen : Place
+  pub map_local : List Rule
+  pub map_remote : List Rule
   pub mode : Option ModeIs
   pub modify_body : List Rule
   pub modify_headers : List Rule
@@ -32,8 +36,11 @@ why (Err e) = Some e
 abbrev pub refusal_at : Key → Data → Option OptionsError
 refusal_at key.Anticache d = why (lines.anticache.reads d)
 refusal_at key.Anticomp d = why (lines.anticomp.reads d)
+refusal_at key.BlockList d = why (lines.block_list.reads d)
 refusal_at key.Events d = why (lines.events.reads d)
 refusal_at key.Listen d = why (lines.listen.reads d)
+refusal_at key.MapLocal d = why (lines.map_local.reads d)
+refusal_at key.MapRemote d = why (lines.map_remote.reads d)
 refusal_at key.Mode d = why (lines.mode.reads d)
 refusal_at key.ModifyBody d = why (lines.modify_body.reads d)
 refusal_at key.ModifyHeaders d = why (lines.modify_headers.reads d)
@@ -73,8 +80,11 @@ abbrev pub settings_of : Members → Settings
 settings_of table = record {
   anticache = option_at lines.anticache table;
   anticomp = option_at lines.anticomp table;
+  block_list = option_at lines.block_list table;
   events = option_at lines.events table;
   listen = option_at lines.listen table;
+  map_local = option_at lines.map_local table;
+  map_remote = option_at lines.map_remote table;
   mode = option_at lines.mode table;
   modify_body = option_at lines.modify_body table;
   modify_headers = option_at lines.modify_headers table;

@@ -1,5 +1,5 @@
 -- What the code finds on its way.
-use Rattle.std.specs.Prelude.{Option, Some, None}
+use Rattle.std.specs.Prelude.{ℕ, ◌-◌, ◌^◌, min, Option, Some, None}
 use Rattle.px_message.specs.Target.{Form, authority}
 use Rattle.px_options.specs.Values.{Place}
 
@@ -7,3 +7,7 @@ use Rattle.px_options.specs.Values.{Place}
 abbrev pub authority_in : Form → Option Place
 authority_in (authority host port) = Some (host, port)
 authority_in _ = None
+
+-- the number, or the largest that 64 bits hold
+abbrev pub capped : ℕ → ℕ
+capped n = min n (2 ^ 64 - 1)

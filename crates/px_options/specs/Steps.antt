@@ -14,8 +14,11 @@ abbrev pub defaults : Settings
 defaults = record {
   anticache = lines.anticache.default;
   anticomp = lines.anticomp.default;
+  block_list = lines.block_list.default;
   events = lines.events.default;
   listen = lines.listen.default;
+  map_local = lines.map_local.default;
+  map_remote = lines.map_remote.default;
   mode = lines.mode.default;
   modify_body = lines.modify_body.default;
   modify_headers = lines.modify_headers.default;
@@ -29,8 +32,11 @@ put_by put (Ok a) = Ok (put a)
 abbrev pub put : Key → Data → Settings → Result Settings OptionsError
 put key.Anticache d s = put_by (λ a. record s { anticache = a }) (lines.anticache.reads d)
 put key.Anticomp d s = put_by (λ a. record s { anticomp = a }) (lines.anticomp.reads d)
+put key.BlockList d s = put_by (λ a. record s { block_list = a }) (lines.block_list.reads d)
 put key.Events d s = put_by (λ a. record s { events = a }) (lines.events.reads d)
 put key.Listen d s = put_by (λ a. record s { listen = a }) (lines.listen.reads d)
+put key.MapLocal d s = put_by (λ a. record s { map_local = a }) (lines.map_local.reads d)
+put key.MapRemote d s = put_by (λ a. record s { map_remote = a }) (lines.map_remote.reads d)
 put key.Mode d s = put_by (λ a. record s { mode = a }) (lines.mode.reads d)
 put key.ModifyBody d s = put_by (λ a. record s { modify_body = a }) (lines.modify_body.reads d)
 put key.ModifyHeaders d s = put_by (λ a. record s { modify_headers = a }) (lines.modify_headers.reads d)

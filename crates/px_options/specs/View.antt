@@ -1,13 +1,14 @@
 -- What the code holds.
 use Rattle.std.specs.Prelude.{Some, option_map}
 use Rattle.px_message.specs.declared.address.Address.{Address}
+use Rattle.px_http.specs.declared.mode.Mode.{Mode}
+use Rattle.px_http.specs.declared.mode.Mode.TheVariants as modes
+use Rattle.px_map.specs.View.{block_views, local_views, remote_views}
 use Rattle.px_rule.specs.View.{body_views, header_views}
 use Rattle.px_options.specs.Mode.{ModeIs, reverse}
 use Rattle.px_options.specs.Options.{Settings}
 use Rattle.px_options.specs.Values.{Place}
 use Rattle.px_options.specs.declared.draft.Draft.{Draft}
-use Rattle.px_options.specs.declared.mode.Mode.{Mode}
-use Rattle.px_options.specs.declared.mode.Mode.TheVariants as modes
 use Rattle.px_options.specs.declared.options.Options.{Options}
 
 abbrev pub place : Address → Place
@@ -20,8 +21,11 @@ abbrev pub draft_view : Draft → Settings
 draft_view d = record {
   anticache = d.anticache;
   anticomp = d.anticomp;
+  block_list = block_views d.block_list;
   events = d.events;
   listen = place d.listen;
+  map_local = local_views d.map_local;
+  map_remote = remote_views d.map_remote;
   mode = option_map mode_view d.mode;
   modify_body = body_views d.modify_body;
   modify_headers = header_views d.modify_headers;
@@ -31,8 +35,11 @@ abbrev pub settings : Options → Settings
 settings o = record {
   anticache = o.anticache;
   anticomp = o.anticomp;
+  block_list = block_views o.block_list;
   events = o.events;
   listen = place o.listen;
+  map_local = local_views o.map_local;
+  map_remote = remote_views o.map_remote;
   mode = Some (mode_view o.mode);
   modify_body = body_views o.modify_body;
   modify_headers = header_views o.modify_headers;

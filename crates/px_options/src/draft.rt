@@ -4,9 +4,10 @@ ghost use Rattle.px_options.specs.Steps.{defaults};
 ghost use Rattle.px_options.specs.View.{draft_view};
 ghost use Rattle.px_options.specs.declared.error.OptionsError.TheVariants as error;
 
+use crate::OptionsError;
 use crate::address::default_address;
-use crate::rules::{no_body_rules, no_header_rules};
-use crate::{Mode, OptionsError};
+use px_http::Mode;
+use px_map::{BlockRules, LocalRules, RemoteRules};
 use px_message::Address;
 use px_rule::{BodyRules, HeaderRules};
 use std::alloc::Global;
@@ -16,8 +17,11 @@ use std::alloc::Global;
 pub(crate) struct Draft {
     pub anticache: bool,
     pub anticomp: bool,
+    pub block_list: BlockRules,
     pub events: u64,
     pub listen: Address,
+    pub map_local: LocalRules,
+    pub map_remote: RemoteRules,
     pub mode: Option<Mode>,
     pub modify_body: BodyRules,
     pub modify_headers: HeaderRules,
@@ -29,15 +33,16 @@ pub(crate) fn new_draft(alloc: Global) -> Result<Draft, OptionsError>
     ensures err { IfErr result (λ e. e ≡ error.NoMemory) }
 {
     let listen = default_address(alloc)?;
-    let modify_body = no_body_rules(alloc)?;
-    let modify_headers = no_header_rules(alloc)?;
     Ok(Draft {
         anticache: false,
         anticomp: false,
+        block_list: BlockRules::none(alloc),
         events: 9223372036854775807,
         listen,
+        map_local: LocalRules::none(alloc),
+        map_remote: RemoteRules::none(alloc),
         mode: None,
-        modify_body,
-        modify_headers,
+        modify_body: BodyRules::none(alloc),
+        modify_headers: HeaderRules::none(alloc),
     })
 }

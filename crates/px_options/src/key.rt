@@ -7,8 +7,11 @@ ghost use Rattle.px_options.specs.Keys.{key_of, name_of};
 pub(crate) enum Key {
     Anticache,
     Anticomp,
+    BlockList,
     Events,
     Listen,
+    MapLocal,
+    MapRemote,
     Mode,
     ModifyBody,
     ModifyHeaders,
@@ -21,8 +24,11 @@ pub(crate) fn name_of(key: Key) -> &'static [u8]
     match key {
         Key::Anticache => b"anticache",
         Key::Anticomp => b"anticomp",
+        Key::BlockList => b"block_list",
         Key::Events => b"events",
         Key::Listen => b"listen",
+        Key::MapLocal => b"map_local",
+        Key::MapRemote => b"map_remote",
         Key::Mode => b"mode",
         Key::ModifyBody => b"modify_body",
         Key::ModifyHeaders => b"modify_headers",
@@ -39,11 +45,20 @@ pub(crate) fn key_of(name: &[u8]) -> Option<Key>
     if name == b"anticomp".as_slice() {
         return Some(Key::Anticomp);
     }
+    if name == b"block_list".as_slice() {
+        return Some(Key::BlockList);
+    }
     if name == b"events".as_slice() {
         return Some(Key::Events);
     }
     if name == b"listen".as_slice() {
         return Some(Key::Listen);
+    }
+    if name == b"map_local".as_slice() {
+        return Some(Key::MapLocal);
+    }
+    if name == b"map_remote".as_slice() {
+        return Some(Key::MapRemote);
     }
     if name == b"mode".as_slice() {
         return Some(Key::Mode);

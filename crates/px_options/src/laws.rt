@@ -1,9 +1,12 @@
 //! Laws of options files. Each function does nothing; what it ensures is the law.
-ghost use Rattle.std.specs.Prelude.{◌≡◌, ◌≢◌, ℕ, List, None, Some, Ok, Err, Result, IsErr};
+ghost use Rattle.std.specs.Prelude.{◌≡◌, ◌≢◌, ℕ, List, None, Some, Ok, Err, Result, IsErr, drop, length, slice_get, take};
+ghost use Rattle.std.specs.Str.{IsUtf8};
+ghost use Rattle.px_rule.specs.Spec.{spec_parts};
 ghost use Rattle.toml.specs.Data.{Data, Members, no_members, member};
 ghost use Rattle.px_options.specs.Keys.{key_of};
 ghost use Rattle.px_options.specs.Laws.{followed};
 ghost use Rattle.px_options.specs.Options.{IsNoTable, Says, Settings, first_refusal, options_of, refusal_of};
+ghost use Rattle.px_options.specs.Shown.{behind_parts, separator_length};
 ghost use Rattle.px_options.specs.declared.error.OptionsError.{OptionsError};
 ghost use Rattle.px_options.specs.declared.error.OptionsError.TheVariants as error;
 
@@ -41,4 +44,10 @@ pub fn bytes_say_one_thing()
 pub fn a_table_is_a_table()
     ensures toml { (table : Members) → options_of table ≢ Err error.BadToml }
     ensures memory { (table : Members) → options_of table ≢ Err error.NoMemory }
+{}
+
+/// Each part of a rule's text stands behind the parts in front of it. So a mark at such a place stands under the part that is meant.
+pub fn a_part_stands_behind_those_in_front()
+    ensures { (most n : ℕ) (text part : List ℕ) → IsUtf8 text → slice_get (spec_parts most text) n ≡ Some part →
+        take (length part) (drop (behind_parts (separator_length text) (take n (spec_parts most text))) text) ≡ part }
 {}

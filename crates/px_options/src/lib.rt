@@ -6,7 +6,9 @@
 //! `mode` has no default: a table without it that is not refused otherwise is refused for it.
 //!
 //! Which table a text is, is `toml`'s own definition, and so is what a value in it is; two lines of one key are no table. What an
-//! address and a URL are is px_message's (RFC 9112 section 3.2), and which texts are rules is px_rule's.
+//! address and a URL are is px_message's (RFC 9112 section 3.2), and which texts are rules is px_rule's and px_map's.
+//!
+//! Of a refusal a person is shown a line, and of a rule its text with a mark under the place that is meant (`specs/Shown.antt`).
 #![tactic(auto)]
 
 mod address;
@@ -15,10 +17,12 @@ mod draft;
 mod error;
 mod key;
 mod laws;
+mod lists;
 mod mode;
 mod options;
 mod put;
 mod rules;
+mod shown;
 mod table;
 #[cfg(test)]
 mod tests;
@@ -26,8 +30,10 @@ mod truth;
 
 pub use error::OptionsError;
 pub use laws::{
-    a_bad_key_is_refused, a_table_is_a_table, an_empty_table_has_no_mode, an_unknown_key_is_bad,
-    bytes_say_one_thing, the_first_bad_key_decides,
+    a_bad_key_is_refused, a_part_stands_behind_those_in_front, a_table_is_a_table,
+    an_empty_table_has_no_mode, an_unknown_key_is_bad, bytes_say_one_thing,
+    the_first_bad_key_decides,
 };
-pub use mode::Mode;
 pub use options::{Options, read_options};
+pub use px_http::Mode;
+pub use shown::{refusal_line, refusal_note};

@@ -10,16 +10,10 @@ ghost use Rattle.px_options.specs.declared.error.OptionsError.TheVariants as err
 use crate::OptionsError;
 use crate::error::wrong_kind;
 use crate::key::Key;
+use px_http::Mode;
 use px_message::{Address, Target, TargetError, read_target};
 use std::alloc::Global;
 use toml::Value;
-
-/// Where requests go. It stands here for the options; a crate of HTTP that takes it may come to own it.
-#[derive(Debug, Drop, PartialEq, Eq)]
-pub enum Mode {
-    /// All requests go to this server, as if the proxy were that server (mitmproxy's mode `reverse:http://HOST:PORT`).
-    Reverse(Address),
-}
 
 /// The mode that a value is.
 pub(crate) fn read_mode(alloc: Global, key: Key, value: &Value) -> Result<Mode, OptionsError>

@@ -4,8 +4,10 @@ ghost use Rattle.px_options.specs.Options.{IsRefused, Says};
 ghost use Rattle.px_options.specs.View.{settings};
 ghost use Rattle.px_options.specs.declared.error.OptionsError.TheVariants as error;
 
+use crate::OptionsError;
 use crate::table::{options_of, read_table};
-use crate::{Mode, OptionsError};
+use px_http::Mode;
+use px_map::{BlockRules, LocalRules, RemoteRules};
 use px_message::Address;
 use px_rule::{BodyRules, HeaderRules};
 use std::alloc::Global;
@@ -17,10 +19,16 @@ pub struct Options {
     pub anticache: bool,
     /// Whether requests are to ask for an answer without a coding (mitmproxy's option `anticomp`).
     pub anticomp: bool,
+    /// Rules for flows that are answered with a status alone, or not at all (mitmproxy's option `block_list`).
+    pub block_list: BlockRules,
     /// After how many heard things a run ends.
     pub events: u64,
     /// Where the proxy listens for clients (mitmproxy's options `listen_host` and `listen_port`).
     pub listen: Address,
+    /// Rules for flows that are answered with files (mitmproxy's option `map_local`).
+    pub map_local: LocalRules,
+    /// Rules for the URLs of requests (mitmproxy's option `map_remote`).
+    pub map_remote: RemoteRules,
     /// Where requests go (mitmproxy's option `mode`).
     pub mode: Mode,
     /// Rules for bodies (mitmproxy's option `modify_body`).

@@ -13,7 +13,7 @@ use crate::draft::Draft;
 use crate::error::unknown_option;
 use crate::key::{Key, key_of};
 use crate::mode::read_mode;
-use crate::rules::{read_body_rules, read_header_rules};
+use crate::rules::read_rules;
 use crate::truth::read_truth;
 use std::alloc::Global;
 use toml::Value;
@@ -41,8 +41,11 @@ fn put(alloc: Global, draft: &mut Draft, key: Key, value: &Value) -> Result<(), 
     match key {
         Key::Anticache => put_anticache(alloc, draft, value),
         Key::Anticomp => put_anticomp(alloc, draft, value),
+        Key::BlockList => put_block_list(alloc, draft, value),
         Key::Events => put_events(alloc, draft, value),
         Key::Listen => put_listen(alloc, draft, value),
+        Key::MapLocal => put_map_local(alloc, draft, value),
+        Key::MapRemote => put_map_remote(alloc, draft, value),
         Key::Mode => put_mode(alloc, draft, value),
         Key::ModifyBody => put_modify_body(alloc, draft, value),
         Key::ModifyHeaders => put_modify_headers(alloc, draft, value),
@@ -65,6 +68,14 @@ fn put_anticomp(alloc: Global, draft: &mut Draft, value: &Value) -> Result<(), O
     Ok(())
 }
 
+fn put_block_list(alloc: Global, draft: &mut Draft, value: &Value) -> Result<(), OptionsError>
+    ensures ok { OnOk result (put keys.BlockList (view value.now) (draft_view draft.old) ≡ Ok (draft_view draft.new)) }
+    ensures err { IfErr result (λ e. (e ≡ error.NoMemory) ⊎ (put keys.BlockList (view value.now) (draft_view draft.old) ≡ Err e)) }
+{
+    draft.block_list = read_rules(alloc, Key::BlockList, value)?;
+    Ok(())
+}
+
 fn put_events(alloc: Global, draft: &mut Draft, value: &Value) -> Result<(), OptionsError>
     ensures ok { OnOk result (put keys.Events (view value.now) (draft_view draft.old) ≡ Ok (draft_view draft.new)) }
     ensures err { IfErr result (λ e. (e ≡ error.NoMemory) ⊎ (put keys.Events (view value.now) (draft_view draft.old) ≡ Err e)) }
@@ -81,6 +92,22 @@ fn put_listen(alloc: Global, draft: &mut Draft, value: &Value) -> Result<(), Opt
     Ok(())
 }
 
+fn put_map_local(alloc: Global, draft: &mut Draft, value: &Value) -> Result<(), OptionsError>
+    ensures ok { OnOk result (put keys.MapLocal (view value.now) (draft_view draft.old) ≡ Ok (draft_view draft.new)) }
+    ensures err { IfErr result (λ e. (e ≡ error.NoMemory) ⊎ (put keys.MapLocal (view value.now) (draft_view draft.old) ≡ Err e)) }
+{
+    draft.map_local = read_rules(alloc, Key::MapLocal, value)?;
+    Ok(())
+}
+
+fn put_map_remote(alloc: Global, draft: &mut Draft, value: &Value) -> Result<(), OptionsError>
+    ensures ok { OnOk result (put keys.MapRemote (view value.now) (draft_view draft.old) ≡ Ok (draft_view draft.new)) }
+    ensures err { IfErr result (λ e. (e ≡ error.NoMemory) ⊎ (put keys.MapRemote (view value.now) (draft_view draft.old) ≡ Err e)) }
+{
+    draft.map_remote = read_rules(alloc, Key::MapRemote, value)?;
+    Ok(())
+}
+
 fn put_mode(alloc: Global, draft: &mut Draft, value: &Value) -> Result<(), OptionsError>
     ensures ok { OnOk result (put keys.Mode (view value.now) (draft_view draft.old) ≡ Ok (draft_view draft.new)) }
     ensures err { IfErr result (λ e. (e ≡ error.NoMemory) ⊎ (put keys.Mode (view value.now) (draft_view draft.old) ≡ Err e)) }
@@ -93,7 +120,7 @@ fn put_modify_body(alloc: Global, draft: &mut Draft, value: &Value) -> Result<()
     ensures ok { OnOk result (put keys.ModifyBody (view value.now) (draft_view draft.old) ≡ Ok (draft_view draft.new)) }
     ensures err { IfErr result (λ e. (e ≡ error.NoMemory) ⊎ (put keys.ModifyBody (view value.now) (draft_view draft.old) ≡ Err e)) }
 {
-    draft.modify_body = read_body_rules(alloc, Key::ModifyBody, value)?;
+    draft.modify_body = read_rules(alloc, Key::ModifyBody, value)?;
     Ok(())
 }
 
@@ -101,6 +128,6 @@ fn put_modify_headers(alloc: Global, draft: &mut Draft, value: &Value) -> Result
     ensures ok { OnOk result (put keys.ModifyHeaders (view value.now) (draft_view draft.old) ≡ Ok (draft_view draft.new)) }
     ensures err { IfErr result (λ e. (e ≡ error.NoMemory) ⊎ (put keys.ModifyHeaders (view value.now) (draft_view draft.old) ≡ Err e)) }
 {
-    draft.modify_headers = read_header_rules(alloc, Key::ModifyHeaders, value)?;
+    draft.modify_headers = read_rules(alloc, Key::ModifyHeaders, value)?;
     Ok(())
 }

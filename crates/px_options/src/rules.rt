@@ -1,9 +1,7 @@
 //! Lists of rules.
-ghost use Rattle.std.specs.Prelude.{◌≡◌, ◌⊎◌, ℕ, None, Some, Ok, Err, IfOk, IfErr, OnOk, map, option_map, string_bytes, []};
-ghost use Rattle.px_rule.specs.Rule.{AreRules, IsFirstBad, Rule, body_rule, header_rule};
-ghost use Rattle.px_rule.specs.View.{body_views, header_views};
+ghost use Rattle.std.specs.Prelude.{◌≡◌, ◌⊎◌, None, Some, Ok, Err, IfOk, IfErr, OnOk, map, string_bytes};
 ghost use Rattle.px_rule.specs.declared.cause.RuleCause.TheVariants as causes;
-ghost use Rattle.toml.specs.View.{array_view, items_view, view};
+ghost use Rattle.toml.specs.View.{items_view, view};
 ghost use Rattle.toml.specs.Data.{as_array, as_str};
 ghost use Rattle.px_options.specs.Keys.{name_of};
 ghost use Rattle.px_options.specs.Rules.{rules, texts_in, texts_of};
@@ -13,62 +11,25 @@ ghost use Rattle.px_options.specs.declared.error.OptionsError.TheVariants as err
 use crate::OptionsError;
 use crate::error::wrong_kind;
 use crate::key::{Key, name_of};
-use px_rule::{BodyRules, HeaderRules, RuleCause, RuleError};
+use crate::lists::RuleList;
+use px_rule::{RuleCause, RuleError};
 use px_text::Bytes;
 use std::alloc::Global;
 use toml::Value;
 
-/// The header rules that a value is.
-pub(crate) fn read_header_rules(
+/// The rules that a value is.
+pub(crate) fn read_rules<L: RuleList>(
     alloc: Global,
     key: Key,
     value: &Value,
-) -> Result<HeaderRules, OptionsError>
-    ensures ok { IfOk result (λ r. rules header_rule key (view value.now) ≡ Ok (header_views r)) }
-    ensures err { IfErr result (λ e. (e ≡ error.NoMemory) ⊎ (rules header_rule key (view value.now) ≡ Err e)) }
+) -> Result<L, OptionsError>
+    ensures ok { IfOk result (λ list. rules L.reads key (view value.now) ≡ Ok (L.says list)) }
+    ensures err { IfErr result (λ e. (e ≡ error.NoMemory) ⊎ (rules L.reads key (view value.now) ≡ Err e)) }
 {
     let texts = read_texts(alloc, key, value)?;
-    match HeaderRules::read(alloc, &texts) {
-        Ok(rules) => Ok(rules),
+    match L::read_all(alloc, &texts) {
+        Ok(list) => Ok(list),
         Err(e) => Err(bad_rule(alloc, key, &texts, e)),
-    }
-}
-
-/// The body rules that a value is.
-pub(crate) fn read_body_rules(
-    alloc: Global,
-    key: Key,
-    value: &Value,
-) -> Result<BodyRules, OptionsError>
-    ensures ok { IfOk result (λ r. rules body_rule key (view value.now) ≡ Ok (body_views r)) }
-    ensures err { IfErr result (λ e. (e ≡ error.NoMemory) ⊎ (rules body_rule key (view value.now) ≡ Err e)) }
-{
-    let texts = read_texts(alloc, key, value)?;
-    match BodyRules::read(alloc, &texts) {
-        Ok(rules) => Ok(rules),
-        Err(e) => Err(bad_rule(alloc, key, &texts, e)),
-    }
-}
-
-/// No header rules.
-pub(crate) fn no_header_rules(alloc: Global) -> Result<HeaderRules, OptionsError>
-    ensures ok { IfOk result (λ r. header_views r ≡ []) }
-    ensures err { IfErr result (λ e. e ≡ error.NoMemory) }
-{
-    match HeaderRules::read(alloc, &[]) {
-        Ok(rules) => Ok(rules),
-        Err(_) => Err(OptionsError::NoMemory),
-    }
-}
-
-/// No body rules.
-pub(crate) fn no_body_rules(alloc: Global) -> Result<BodyRules, OptionsError>
-    ensures ok { IfOk result (λ r. body_views r ≡ []) }
-    ensures err { IfErr result (λ e. e ≡ error.NoMemory) }
-{
-    match BodyRules::read(alloc, &[]) {
-        Ok(rules) => Ok(rules),
-        Err(_) => Err(OptionsError::NoMemory),
     }
 }
 

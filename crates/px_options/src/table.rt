@@ -68,8 +68,11 @@ fn finish(draft: Draft) -> Result<Options, OptionsError>
     let Draft {
         anticache,
         anticomp,
+        block_list,
         events,
         listen,
+        map_local,
+        map_remote,
         mode,
         modify_body,
         modify_headers,
@@ -78,8 +81,11 @@ fn finish(draft: Draft) -> Result<Options, OptionsError>
         Some(mode) => Ok(Options {
             anticache,
             anticomp,
+            block_list,
             events,
             listen,
+            map_local,
+            map_remote,
             mode,
             modify_body,
             modify_headers,

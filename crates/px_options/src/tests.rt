@@ -1,7 +1,9 @@
 //! Worked rows: each call once with ample memory.
-use crate::{Mode, OptionsError, read_options};
+use crate::{Mode, OptionsError, read_options, refusal_line, refusal_note};
+use px_rule::RuleCause;
 use std::alloc::Global;
 use std::rt::HostRuntime;
+use std::test::Fail;
 
 // What comes of a text, in a word.
 fn word(alloc: Global, text: &[u8]) -> &'static str {
@@ -17,14 +19,23 @@ fn refusal(e: &OptionsError) -> &'static str {
         OptionsError::UnknownOption(_) => "unknown",
         OptionsError::WrongKind(_) => "wrong",
         OptionsError::BadMode => "bad mode",
-        OptionsError::BadRule { .. } => "bad rule",
+        OptionsError::BadRule { cause, .. } => why(cause),
         OptionsError::NoMemory => "no memory",
+    }
+}
+
+fn why(cause: &RuleCause) -> &'static str {
+    match cause {
+        RuleCause::Pattern => "bad pattern",
+        RuleCause::Spec(_) => "bad spec",
+        RuleCause::Status => "bad status",
+        _ => "bad rule",
     }
 }
 
 #[test]
 fn texts_are_options_or_refused(rt: HostRuntime) {
-    let rows: [(&[u8], &str); 14] = [
+    let rows: [(&[u8], &str); 17] = [
         (b"mode = \"reverse:http://h:81/\"", "options"),
         (b"mode = \"reverse:HTTP://[::1]\"", "options"),
         (b"", "bad mode"),
@@ -36,8 +47,11 @@ fn texts_are_options_or_refused(rt: HostRuntime) {
         (b"x = 1", "unknown"),
         (b"mode = \"socks\"\nlisten = \"h\"", "wrong"),
         (b"events = 0", "wrong"),
-        (b"modify_body = [\"/(/\"]", "bad rule"),
-        (b"modify_headers = [\"/Server/\", \"\"]", "bad rule"),
+        (b"block_list = [\"/100\"]", "bad status"),
+        (b"map_local = [\"/(/x\"]", "bad pattern"),
+        (b"map_remote = [\"/a\"]", "bad spec"),
+        (b"modify_body = [\"/(/\"]", "bad pattern"),
+        (b"modify_headers = [\"/Server/\", \"\"]", "bad spec"),
         (b"modify_headers = [\"\", 1]", "wrong"),
     ];
     for (text, want) in rows {
@@ -56,4 +70,45 @@ fn defaults_are_taken(rt: HostRuntime) {
     assert!(rt; !options.anticache && !options.anticomp);
     let Mode::Reverse(address) = &options.mode;
     assert_eq!(rt; address.port, 80);
+}
+
+// What is shown of the refusal of a text.
+fn shown(alloc: Global, text: &[u8]) -> Result<Vec<u8>, Fail> {
+    let mut out = Vec::new(alloc);
+    if let Err(e) = read_options(alloc, text) {
+        refusal_line(&e, &mut out)?;
+        refusal_note(&e, &mut out)?;
+    }
+    Ok(out)
+}
+
+#[test]
+fn refusals_are_shown(rt: HostRuntime) -> Result<(), Fail> {
+    let rows: [(&[u8], &[u8]); 6] = [
+        (b"x = 1", b"bad option x\n"),
+        (
+            b"modify_body = [\"/(/x\"]",
+            b"bad rule modify_body 0\n/(/x\n ^\n",
+        ),
+        (
+            b"modify_headers = [\"/~q/a b/1\"]",
+            b"bad rule modify_headers 0\n/~q/a b/1\n    ^\n",
+        ),
+        (
+            b"block_list = [\"/~zz/403\"]",
+            b"bad rule block_list 0\n/~zz/403\n ^\n",
+        ),
+        (
+            b"block_list = [\"/404\", \"/100\"]",
+            b"bad rule block_list 1\n/100\n ^\n",
+        ),
+        (
+            b"map_remote = [\"/a\"]",
+            b"bad rule map_remote 0\n/a\n  ^\n",
+        ),
+    ];
+    for (text, want) in rows {
+        assert!(rt; shown(rt.alloc(), text)?.as_slice() == want, "at {text:?}");
+    }
+    Ok(())
 }
