@@ -1,6 +1,10 @@
 pub mod CountLemmas
+pub mod GeneratedLemmas
+pub mod HeardLemmas
 pub mod HostLemmas
+pub mod LengthLemmas
 pub mod NotedLemmas
 pub mod PieceLemmas
+pub mod RuleLemmas
 pub mod ScriptLemmas
 pub mod WordLemmas

@@ -1,11 +1,11 @@
 //! What is heard of generated flows.
-ghost use Rattle.std.specs.Prelude.{◌≡◌, ℕ, ◌≤◌, ◌∷◌, [], ◌++◌, IfOk, OnOk, codes, map, true};
+ghost use Rattle.std.specs.Prelude.{◌≡◌, ℕ, ◌≤◌, ◌∷◌, [], ◌++◌, IfOk, OnOk, map, true};
 ghost use Rattle.px_gen.specs.Peer.{peer};
 ghost use Rattle.px_gen.specs.Script.{heard_from, heard_of, pieces_of, script};
 
 use crate::answers::{PIECE, answer, piece_at, request};
+use crate::places::peer;
 use px_event::{Door, Heard, Side};
-use px_message::{Address, BadHost, Host};
 use px_text::{Bytes, NoMemory};
 use std::alloc::Global;
 
@@ -47,24 +47,6 @@ fn push_closed(made: &mut Vec<(u64, Heard)>) -> Result<(), NoMemory>
     };
     made.push((0, heard))?;
     Ok(())
-}
-
-// Where the client is.
-fn peer(alloc: Global) -> Result<Address, NoMemory>
-    ensures { IfOk result (λ address. address ≡ peer) }
-{
-    let host = host(alloc)?;
-    Ok(Address { host, port: 1 })
-}
-
-fn host(alloc: Global) -> Result<Host, NoMemory>
-    ensures { IfOk result (λ host. host ≡ codes "127.0.0.1") }
-{
-    match Host::try_new(alloc, Vec::from_slice(alloc, b"127.0.0.1")?) {
-        Ok(host) => Ok(host),
-        Err(BadHost::NoMemory) => Err(NoMemory),
-        Err(BadHost::Malformed(_)) => unreachable!(),
-    }
 }
 
 fn push_flow(alloc: Global, flow: u32, made: &mut Vec<(u64, Heard)>) -> Result<(), NoMemory>
