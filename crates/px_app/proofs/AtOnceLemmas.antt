@@ -1,24 +1,18 @@
--- Answerers that let no hook wait, and that touch no file.
+-- Answerers that let no hook wait.
 use Rattle.std.proofs.Common.{◌≡◌, Option, Some, None, refl}
 use Rattle.px_message.specs.declared.flow.Flow.{Flow}
 use Rattle.px_event.specs.declared.ask.Ask.{Ask}
 use Rattle.px_event.specs.declared.ask.Hook.{Hook}
 use Rattle.px_event.specs.Trace.{Trace, BeforeEachHeard}
-use Rattle.px_core.specs.declared.answerer.Answer.{Answer}
 use Rattle.px_core.specs.declared.answerer.Answer.TheVariants as answer
 use Rattle.px_core.specs.declared.answerer.Draft.{Draft}
-use Rattle.px_core.specs.Answers.{Answering, Failing, ByAnswers, FilesMeaning}
+use Rattle.px_core.specs.Answers.{Answering, FilesMeaning}
 use Rattle.px_core.specs.Due.{Due, OpenOnesWait, IsServed}
 use Rattle.px_core.specs.Hooks.{open_hook, IsAllAnswered}
-use Rattle.px_core.proofs.AnswerLemmas.{unchanged}
 
 -- no answer lets a hook wait
 abbrev pub NeverWaits : {S : Type 0} → Answering S → Type 0
 NeverWaits {S} answers = (hook : Hook) (flow : Flow) (old : S) (old_files : FilesMeaning) (new : S) (new_files : FilesMeaning) (draft : Draft) → answers hook flow old old_files new new_files (answer.Wait draft) → ⊥
-
--- no answer touches a file
-abbrev pub LeavesFiles : {S : Type 0} → Answering S → Type 0
-LeavesFiles {S} answers = (hook : Hook) (flow : Flow) (old : S) (old_files : FilesMeaning) (new : S) (new_files : FilesMeaning) (given : Answer) → answers hook flow old old_files new new_files given → new_files ≡ old_files
 
 module _ {S : Type 0} {answers : Answering S} (due : Due) where
   -- no hook is open where those that are open wait
@@ -34,9 +28,3 @@ module _ {S : Type 0} {answers : Answering S} (due : Due) where
 
   pub none_waits_within : (trace : Trace) → IsServed answers due trace → NeverWaits answers → BeforeEachHeard IsAllAnswered trace
   none_waits_within trace served never = record { at = λ front rest moment heard is. none_waits front (served.waits.at front rest moment heard is) never }
-
--- files that such answers alone changed are as they were
-pub untouched : {S : Type 0} {answers : Answering S} {fails : Failing} {first last : FilesMeaning} → ByAnswers answers fails first last →
-    LeavesFiles answers → ((old new : FilesMeaning) → fails old new → new ≡ old) → last ≡ first
-untouched {S} {answers} {fails} {first} {last} by leaves fails_so =
-    unchanged answers fails (λ old hook flow state new_state new given is. leaves hook flow state old new_state new given is) fails_so first last by

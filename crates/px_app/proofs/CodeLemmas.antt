@@ -3,7 +3,7 @@ use Rattle.std.proofs.Common.{◌≡◌, ◌≢◌, ◌⊎◌, inl, inr, ℕ, re
 use Rattle.px_app.specs.declared.printing.Printing.{Printing}
 use Rattle.px_app.specs.declared.printing.Printing.TheVariants.{Whole, Failed}
 use Rattle.px_app.specs.declared.status.Status.{Status}
-use Rattle.px_app.specs.declared.status.Status.TheVariants.{Ended, Usage, NetFault, BudgetSpent, OutputFailed, NoMemory}
+use Rattle.px_app.specs.declared.status.Status.TheVariants.{Ended, NetFault, BudgetSpent, OutputFailed, NoMemory}
 use Rattle.px_app.specs.Printed.{at_end}
 use Rattle.px_app.specs.Statuses.{code_of}
 
@@ -17,7 +17,6 @@ module _ (printing : Printing) (status : Status) (code : ℕ) (is : (code ≡ co
   zero_at : (s : Status) (p : Printing) → code_of (at_end p s) ≡ 0 → (s ≡ Ended) × (p ≡ Whole)
   zero_at Ended Whole e = (refl, refl)
   zero_at Ended Failed e = absurd (omega arith)
-  zero_at Usage p e = absurd (omega arith)
   zero_at NetFault p e = absurd (omega arith)
   zero_at BudgetSpent p e = absurd (omega arith)
   zero_at OutputFailed p e = absurd (omega arith)
@@ -26,22 +25,9 @@ module _ (printing : Printing) (status : Status) (code : ℕ) (is : (code ≡ co
   pub zero_says : code ≡ 0 → (status ≡ Ended) × (printing ≡ Whole)
   zero_says zero = elim is [ inl e ↦ zero_at status printing (sym e ∙ zero) | inr e ↦ absurd (omega arith) ]
 
-  one_at : (s : Status) (p : Printing) → code_of (at_end p s) ≡ 1 → s ≡ Usage
-  one_at Ended Whole e = absurd (omega arith)
-  one_at Ended Failed e = absurd (omega arith)
-  one_at Usage p e = refl
-  one_at NetFault p e = absurd (omega arith)
-  one_at BudgetSpent p e = absurd (omega arith)
-  one_at OutputFailed p e = absurd (omega arith)
-  one_at NoMemory p e = absurd (omega arith)
-
-  pub one_says : code ≡ 1 → status ≡ Usage
-  one_says one = elim is [ inl e ↦ one_at status printing (sym e ∙ one) | inr e ↦ absurd (omega arith) ]
-
   five_at : (s : Status) (p : Printing) → code_of (at_end p s) ≡ 5 → s ≡ NetFault
   five_at Ended Whole e = absurd (omega arith)
   five_at Ended Failed e = absurd (omega arith)
-  five_at Usage p e = absurd (omega arith)
   five_at NetFault p e = refl
   five_at BudgetSpent p e = absurd (omega arith)
   five_at OutputFailed p e = absurd (omega arith)
@@ -53,7 +39,6 @@ module _ (printing : Printing) (status : Status) (code : ℕ) (is : (code ≡ co
   six_at : (s : Status) (p : Printing) → code_of (at_end p s) ≡ 6 → s ≡ BudgetSpent
   six_at Ended Whole e = absurd (omega arith)
   six_at Ended Failed e = absurd (omega arith)
-  six_at Usage p e = absurd (omega arith)
   six_at NetFault p e = absurd (omega arith)
   six_at BudgetSpent p e = refl
   six_at OutputFailed p e = absurd (omega arith)
@@ -65,7 +50,6 @@ module _ (printing : Printing) (status : Status) (code : ℕ) (is : (code ≡ co
   seven_at : (s : Status) (p : Printing) → s ≢ OutputFailed → code_of (at_end p s) ≡ 7 → (s ≡ Ended) × (p ≡ Failed)
   seven_at Ended Whole not e = absurd (omega arith)
   seven_at Ended Failed not e = (refl, refl)
-  seven_at Usage p not e = absurd (omega arith)
   seven_at NetFault p not e = absurd (omega arith)
   seven_at BudgetSpent p not e = absurd (omega arith)
   seven_at OutputFailed p not e = absurd (not refl)
@@ -82,7 +66,6 @@ module _ (printing : Printing) (status : Status) (code : ℕ) (is : (code ≡ co
   ended_at : (s : Status) (p : Printing) → s ≡ Ended → code ≡ code_of (at_end p s) → (code ≡ 0) ⊎ ((code ≡ 7) ⊎ (code ≡ 8))
   ended_at Ended Whole same e = inl e
   ended_at Ended Failed same e = inr (inl e)
-  ended_at Usage p same e = absurd (cc)
   ended_at NetFault p same e = absurd (cc)
   ended_at BudgetSpent p same e = absurd (cc)
   ended_at OutputFailed p same e = absurd (cc)
@@ -90,9 +73,6 @@ module _ (printing : Printing) (status : Status) (code : ℕ) (is : (code ≡ co
 
   pub ended_gives : status ≡ Ended → (code ≡ 0) ⊎ ((code ≡ 7) ⊎ (code ≡ 8))
   ended_gives same = elim is [ inl e ↦ ended_at status printing same e | inr e ↦ inr (inr e) ]
-
-  pub usage_gives : status ≡ Usage → (code ≡ 1) ⊎ (code ≡ 8)
-  usage_gives same = elim is [ inl e ↦ inl (e ∙ ap (λ (s : Status). code_of (at_end printing s)) same) | inr e ↦ inr e ]
 
   pub spent_gives : status ≡ BudgetSpent → (code ≡ 6) ⊎ (code ≡ 8)
   spent_gives same = elim is [ inl e ↦ inl (e ∙ ap (λ (s : Status). code_of (at_end printing s)) same) | inr e ↦ inr e ]
@@ -104,17 +84,16 @@ module _ (printing : Printing) (status : Status) (code : ℕ) (is : (code ≡ co
   pub other_says : code ≢ 8 → status ≢ NoMemory
   other_says other same = other (memory_gives same)
 
-  one_of : (s : Status) (p : Printing) → code ≡ code_of (at_end p s) → (code ≡ 0) ⊎ ((code ≡ 1) ⊎ ((code ≡ 5) ⊎ ((code ≡ 6) ⊎ ((code ≡ 7) ⊎ (code ≡ 8)))))
+  one_of : (s : Status) (p : Printing) → code ≡ code_of (at_end p s) → (code ≡ 0) ⊎ ((code ≡ 5) ⊎ ((code ≡ 6) ⊎ ((code ≡ 7) ⊎ (code ≡ 8))))
   one_of Ended Whole e = inl e
-  one_of Ended Failed e = inr (inr (inr (inr (inl e))))
-  one_of Usage p e = inr (inl e)
-  one_of NetFault p e = inr (inr (inl e))
-  one_of BudgetSpent p e = inr (inr (inr (inl e)))
-  one_of OutputFailed p e = inr (inr (inr (inr (inl e))))
-  one_of NoMemory p e = inr (inr (inr (inr (inr e))))
+  one_of Ended Failed e = inr (inr (inr (inl e)))
+  one_of NetFault p e = inr (inl e)
+  one_of BudgetSpent p e = inr (inr (inl e))
+  one_of OutputFailed p e = inr (inr (inr (inl e)))
+  one_of NoMemory p e = inr (inr (inr (inr e)))
 
-  pub all_codes : (code ≡ 0) ⊎ ((code ≡ 1) ⊎ ((code ≡ 5) ⊎ ((code ≡ 6) ⊎ ((code ≡ 7) ⊎ (code ≡ 8)))))
-  all_codes = elim is [ inl e ↦ one_of status printing e | inr e ↦ inr (inr (inr (inr (inr e)))) ]
+  pub all_codes : (code ≡ 0) ⊎ ((code ≡ 5) ⊎ ((code ≡ 6) ⊎ ((code ≡ 7) ⊎ (code ≡ 8))))
+  all_codes = elim is [ inl e ↦ one_of status printing e | inr e ↦ inr (inr (inr (inr e))) ]
 
 -- where the run ended well, or not for want of memory, the number is not 8
 pub not_eight : (code : ℕ) (Q : Type 0) → (code ≡ 0) ⊎ ((code ≢ 8) × Q) → code ≢ 8
@@ -123,7 +102,6 @@ not_eight code Q (inr (other, q)) eight = other eight
 
 zero_is : (shown : Status) → code_of shown ≡ 0 → shown ≡ Ended
 zero_is Ended e = refl
-zero_is Usage e = absurd (omega arith)
 zero_is NetFault e = absurd (omega arith)
 zero_is BudgetSpent e = absurd (omega arith)
 zero_is OutputFailed e = absurd (omega arith)
@@ -134,12 +112,11 @@ pub ended_or : (shown : Status) (code : ℕ) (Q : Type 0) → code ≡ code_of s
 ended_or shown code Q is (inl zero) = inl (zero_is shown (sym is ∙ zero))
 ended_or shown code Q is (inr (other, q)) = inr q
 
--- without a cause of 1, 5 and 7
-pub complete_by : (code : ℕ) → (code ≡ 0) ⊎ ((code ≡ 1) ⊎ ((code ≡ 5) ⊎ ((code ≡ 6) ⊎ ((code ≡ 7) ⊎ (code ≡ 8))))) →
-    (code ≡ 1 → ⊥) → (code ≡ 5 → ⊥) → (code ≡ 7 → ⊥) → (code ≡ 0) ⊎ ((code ≡ 6) ⊎ (code ≡ 8))
-complete_by code (inl zero) one five seven = inl zero
-complete_by code (inr (inl is)) one five seven = absurd (one is)
-complete_by code (inr (inr (inl is))) one five seven = absurd (five is)
-complete_by code (inr (inr (inr (inl six)))) one five seven = inr (inl six)
-complete_by code (inr (inr (inr (inr (inl is))))) one five seven = absurd (seven is)
-complete_by code (inr (inr (inr (inr (inr eight))))) one five seven = inr (inr eight)
+-- without a cause of 5 and 7
+pub complete_by : (code : ℕ) → (code ≡ 0) ⊎ ((code ≡ 5) ⊎ ((code ≡ 6) ⊎ ((code ≡ 7) ⊎ (code ≡ 8)))) →
+    (code ≡ 5 → ⊥) → (code ≡ 7 → ⊥) → (code ≡ 0) ⊎ ((code ≡ 6) ⊎ (code ≡ 8))
+complete_by code (inl zero) five seven = inl zero
+complete_by code (inr (inl is)) five seven = absurd (five is)
+complete_by code (inr (inr (inl six))) five seven = inr (inl six)
+complete_by code (inr (inr (inr (inl is)))) five seven = absurd (seven is)
+complete_by code (inr (inr (inr (inr eight)))) five seven = inr (inr eight)

@@ -9,7 +9,7 @@ use Rattle.px_app.specs.Statuses.{code_of}
 use Rattle.px_app.specs.declared.printing.Printing.{Printing}
 use Rattle.px_app.specs.declared.printing.Printing.TheVariants.{Whole, Failed}
 use Rattle.px_app.specs.declared.status.Status.{Status}
-use Rattle.px_app.specs.declared.status.Status.TheVariants.{Ended, Usage, NetFault, BudgetSpent, OutputFailed, NoMemory}
+use Rattle.px_app.specs.declared.status.Status.TheVariants.{Ended, NetFault, BudgetSpent, OutputFailed, NoMemory}
 use Rattle.px_app.proofs.PrintLemmas.{has_still, has_part, part_longer}
 
 -- ---- statuses without a line
@@ -63,7 +63,6 @@ ends_line before printing text line start new old later status is other has fail
 
 memory_or : (status : Status) → (status ≡ NoMemory) ⊎ (status ≢ NoMemory)
 memory_or Ended = inr (λ (e : Ended ≡ NoMemory). cc)
-memory_or Usage = inr (λ (e : Usage ≡ NoMemory). cc)
 memory_or NetFault = inr (λ (e : NetFault ≡ NoMemory). cc)
 memory_or BudgetSpent = inr (λ (e : BudgetSpent ≡ NoMemory). cc)
 memory_or OutputFailed = inr (λ (e : OutputFailed ≡ NoMemory). cc)
@@ -99,14 +98,3 @@ printed_whole shown printing lines start mid new first old later has ends low wa
 pub writes_none : (start now : Option (List ℕ)) → now ≡ start → Writes [] start now
 writes_none None now same = same
 writes_none (Some text) now same = same ∙ ap Some (sym (append-nil text))
-
-line_by : (printing : Printing) (line : List ℕ) (start new : Option (List ℕ)) (first later : ℕ) → (printing ≡ Failed → Rose first later) → Has printing line start new →
-    Writes line start new ⊎ (Rose first later × WritesPart line start new)
-line_by Whole line start new first later failed has = inl has
-line_by Failed line start new first later failed has = inr (failed refl, has)
-
--- a line alone is printed, or a front of it where a write failed
-pub printed_line : (shown : Status) (printing : Printing) (line : List ℕ) (start new : Option (List ℕ)) (first old later : ℕ) → printing ≡ Whole → first ≤ old →
-    Ends printing line start new old later shown → Writes line start new ⊎ (Rose first later × WritesPart line start new)
-printed_line shown printing line start new first old later whole low e =
-    line_by e.printing line start new first later (e.failed first low (λ was. absurd (not_failed printing whole was))) e.has

@@ -23,7 +23,6 @@ use Rattle.px_stream.specs.declared.ending.Used.{Used}
 use Rattle.px_stream.specs.declared.taken.Taken.{Taken}
 use Rattle.px_stream.specs.declared.taken.Taken.TheVariants.{GoesOn, Responds, Kills}
 use Rattle.px_stream.specs.declared.terms.Terms.{Terms}
-use Rattle.px_stream.specs.Chain
 use Rattle.px_stream.specs.Chain.{http_chain, sequence, look, leaving, or_leaves, pass, pass_body, so_far, turn, set_out, turn_taken_head, turn_judged, turn_head, turn_taken_body, turn_body, dial_leads, turn_taken_answer, turn_answer, turn_taken_returned, turn_response, turn_returned, turn_taken_given, look_judged, look_head, look_body, look_answer_head, look_answer, look_returned, request_over, answers_over, is_relayed, ask_of, response_of, used_server, with_answer, with_end, with_returned, with_start}
 use Rattle.px_stream.specs.Endings.{behind_flow}
 use Rattle.px_stream.specs.Quiet.{AllQuiet, LooksQuiet, any_flow}

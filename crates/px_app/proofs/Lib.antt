@@ -1,5 +1,8 @@
+pub mod TextLemmas
 pub mod WordLemmas
 pub mod NetLemmas
+pub mod ToldLemmas
+pub mod OpenLemmas
 pub mod PrintLemmas
 pub mod ListedLemmas
 pub mod OwnLemmas
@@ -12,3 +15,4 @@ pub mod CodeLemmas
 pub mod EndLemmas
 pub mod ServerLemmas
 pub mod HttpServers
+pub mod GenerateLemmas

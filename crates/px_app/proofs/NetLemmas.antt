@@ -1,15 +1,15 @@
 -- A network that tells its trace, and where it listens.
-use Rattle.std.proofs.Common.{◌≡◌, ℕ, List, [], ◌∷◌, ◌++◌, Option, Some, None, Result, Ok, Err, OnOk, OnErr, ap, ◌∙◌}
+use Rattle.std.proofs.Common.{◌≡◌, [], ◌∷◌, ◌++◌, Option, Some, None, Result, Ok, Err, OnOk, OnErr, refl, ap, ◌∙◌}
 use Rattle.px_message.specs.declared.address.Address.{Address}
 use Rattle.px_event.specs.declared.step.Step.{Step}
 use Rattle.px_event.specs.Trace.{Trace}
 use Rattle.px_outside.specs.Net.{Adds, Listening, at}
 use Rattle.px_app.specs.Run.{ListensAt}
 
-pub listens_at : {E : Type 0} (result : Result (Unit {0}) E) (host : List ℕ) (listening : Listening) (address : Address) → address.host ≡ host → address.port ≡ 8080 →
-    OnOk result (listening ≡ at address None) → OnOk result (ListensAt host 8080 listening)
-listens_at (Ok _) host listening address same port here = record { proxy = address; here = here; at_host = same; at_port = port }
-listens_at (Err _) host listening address same port here = tt
+-- it listens where it was asked to
+pub listens_at : {E : Type 0} (result : Result (Unit {0}) E) (listening : Listening) (proxy : Address) → OnOk result (listening ≡ at proxy None) → OnOk result (ListensAt (proxy.host, proxy.port) listening)
+listens_at (Ok _) listening proxy here = record { proxy = proxy; here = here; at_place = refl }
+listens_at (Err _) listening proxy here = tt
 
 -- a trace that is told is told with one step more
 pub adds_told : (old new : Option Trace) (step : Step) (trace : Trace) → old ≡ Some trace → Adds old new step → new ≡ Some (trace ++ step ∷ [])

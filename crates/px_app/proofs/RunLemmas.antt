@@ -6,9 +6,12 @@ use Rattle.px_message.proofs.AddressLemmas.{address_eq}
 use Rattle.px_event.specs.Trace.{Trace}
 use Rattle.px_outside.specs.declared.net.NetError.{NetError}
 use Rattle.px_outside.specs.declared.net.NetError.TheVariants as net
-use Rattle.px_core.specs.Answered.{IsAnswered}
-use Rattle.px_core.specs.Answers.{Answering, AnswererState}
+use Rattle.std.proofs.lemmas.List.{append-nil}
+use Rattle.px_core.specs.Answered.{Answers, IsAnswered, LeavesFiles, Pending}
+use Rattle.px_core.specs.Answers.{Answering, AnswererState, Failing, FilesMeaning, after_answers, by_none}
 use Rattle.px_core.specs.Due.{Due, IsServed, IsAllTold, OpenOnesWait}
+use Rattle.px_http.specs.Fixed.{fixed_due}
+use Rattle.px_options.specs.Mode.{ModeIs, reverse}
 use Rattle.px_app.specs.Own.{IsOwn}
 use Rattle.px_app.specs.Run.{IsRun, Told}
 use Rattle.px_app.specs.Statuses.{status_of, heard_count, ends_heard}
@@ -19,13 +22,42 @@ not_both : (b : Bool) → b ≡ true → b ≡ false → ⊥
 not_both true is other = absurd (cc)
 not_both false is other = absurd (cc)
 
-module _ {S : Type 0} (answers : Answering S) (due : Due) (first : AnswererState S) (budget : ℕ) (trace : Trace) (served : IsServed answers due trace)
+-- the files are what the answerer, which came over the whole trace, left
+pub leaves_all : {S : Type 0} (answers : Answering S) (fails : Failing S) (due : Due) (first now : AnswererState S) (pending : Pending) (files : FilesMeaning) (trace : Trace) →
+    Answers answers due first trace now pending → files ≡ now.files → (W : Type 0) → LeavesFiles answers fails due first W files trace
+leaves_all answers fails due first now pending files trace answered same W = record {
+  front = trace;
+  rest = [];
+  split = sym (append-nil trace);
+  last = now;
+  pending = pending;
+  answered = answered;
+  after = after_answers now (by_none now) same;
+  whole = λ _. (refl, same);
+}
+
+-- and where that is not said, they are so for whatever is not so
+pub leaves_part : {S : Type 0} (answers : Answering S) (fails : Failing S) (due : Due) (first : AnswererState S) (files : FilesMeaning) (trace : Trace) (W V : Type 0) →
+    LeavesFiles answers fails due first W files trace → (V → W) → LeavesFiles answers fails due first V files trace
+leaves_part answers fails due first files trace W V leaves weaker = record {
+  front = leaves.front;
+  rest = leaves.rest;
+  split = leaves.split;
+  last = leaves.last;
+  pending = leaves.pending;
+  answered = leaves.answered;
+  after = leaves.after;
+  whole = λ v. leaves.whole (weaker v);
+}
+
+module _ {S : Type 0} (answers : Answering S) (fails : Failing S) (due : Due) (first : AnswererState S) (budget : ℕ) (files : FilesMeaning) (trace : Trace) (served : IsServed answers due trace)
     (follows : IsAnswered answers due first trace) (own : IsOwn trace) where
   -- want of memory, at any moment
-  pub memory_run : IsRun answers due first budget NoMemory trace
-  memory_run = record {
+  pub memory_run : LeavesFiles answers fails due first ⊥ files trace → IsRun answers fails due first budget NoMemory files trace
+  memory_run leaves = record {
     served = served;
     follows = follows;
+    leaves = leaves_part answers fails due first files trace ⊥ (NoMemory ≢ NoMemory) leaves (λ other. other refl);
     whole = λ other. absurd (other refl);
     waits = λ other. absurd (other refl);
     own = own;
@@ -34,16 +66,17 @@ module _ {S : Type 0} (answers : Answering S) (due : Due) (first : AnswererState
       ends = λ is. inr refl;
       count = λ (e : NoMemory ≡ BudgetSpent). absurd (cc);
       goes_on = λ (e : NoMemory ≡ BudgetSpent). absurd (cc);
-      spent = λ _ _. inr refl;
+      spent = λ _ _ _. inr refl;
     };
   }
 
-  module _ (all : IsAllTold due trace) (waiting : OpenOnesWait answers due trace) where
+  module _ (leaves : (W : Type 0) → LeavesFiles answers fails due first W files trace) (all : IsAllTold due trace) (waiting : OpenOnesWait answers due trace) where
     -- the end was heard
-    pub ended_run : ends_heard trace ≡ true → IsRun answers due first budget Ended trace
+    pub ended_run : ends_heard trace ≡ true → IsRun answers fails due first budget Ended files trace
     ended_run last = record {
       served = served;
       follows = follows;
+      leaves = leaves (Ended ≢ NoMemory);
       whole = λ _. all;
       waits = λ _. waiting;
       own = own;
@@ -52,15 +85,16 @@ module _ {S : Type 0} (answers : Answering S) (due : Due) (first : AnswererState
         ends = λ is. inl refl;
         count = λ (e : Ended ≡ BudgetSpent). absurd (cc);
         goes_on = λ (e : Ended ≡ BudgetSpent). absurd (cc);
-        spent = λ _ other. absurd (not_both (ends_heard trace) last other);
+        spent = λ _ _ other. absurd (not_both (ends_heard trace) last other);
       };
     }
 
     -- the net failed, where more might be heard
-    pub fault_run : ends_heard trace ≡ false → heard_count trace < budget → IsRun answers due first budget NetFault trace
+    pub fault_run : ends_heard trace ≡ false → (0 < budget → heard_count trace < budget) → IsRun answers fails due first budget NetFault files trace
     fault_run goes_on below = record {
       served = served;
       follows = follows;
+      leaves = leaves (NetFault ≢ NoMemory);
       whole = λ _. all;
       waits = λ _. waiting;
       own = own;
@@ -69,15 +103,16 @@ module _ {S : Type 0} (answers : Answering S) (due : Due) (first : AnswererState
         ends = λ is. absurd (not_both (ends_heard trace) is goes_on);
         count = λ (e : NetFault ≡ BudgetSpent). absurd (cc);
         goes_on = λ (e : NetFault ≡ BudgetSpent). absurd (cc);
-        spent = λ (e : heard_count trace ≡ budget) _. absurd (omega arith);
+        spent = λ some (e : heard_count trace ≡ budget) _. let less : heard_count trace < budget = below some in absurd (omega arith);
       };
     }
 
     -- all that may be heard was heard
-    pub spent_run : ends_heard trace ≡ false → heard_count trace ≡ budget → IsRun answers due first budget BudgetSpent trace
+    pub spent_run : ends_heard trace ≡ false → heard_count trace ≡ budget → IsRun answers fails due first budget BudgetSpent files trace
     spent_run goes_on count = record {
       served = served;
       follows = follows;
+      leaves = leaves (BudgetSpent ≢ NoMemory);
       whole = λ _. all;
       waits = λ _. waiting;
       own = own;
@@ -86,23 +121,27 @@ module _ {S : Type 0} (answers : Answering S) (due : Due) (first : AnswererState
         ends = λ is. absurd (not_both (ends_heard trace) is goes_on);
         count = λ _. count;
         goes_on = λ _. goes_on;
-        spent = λ _ _. inl refl;
+        spent = λ _ _ _. inl refl;
       };
     }
 
     -- nothing was heard, for this error
-    pub error_run : (error : NetError) → ends_heard trace ≡ false → heard_count trace < budget → IsRun answers due first budget (status_of error) trace
+    pub error_run : (error : NetError) → ends_heard trace ≡ false → (0 < budget → heard_count trace < budget) → IsRun answers fails due first budget (status_of error) files trace
     error_run net.Fault goes_on below = fault_run goes_on below
-    error_run net.NoMemory goes_on below = memory_run
+    error_run net.NoMemory goes_on below = memory_run (leaves ⊥)
 
-some_pair : (p q : List ℕ × ℕ) → Some p ≡ Some q → p ≡ q
-some_pair p q e = cc
+same_place : (p q : List ℕ × ℕ) → Some (reverse p) ≡ Some (reverse q) → p ≡ q
+same_place p q e = cc
 
--- the address in the words is the one that is read
-pub same_address : (read wanted : Address) (found : Option (List ℕ × ℕ)) → Some (read.host, read.port) ≡ found → found ≡ Some (wanted.host, wanted.port) → read ≡ wanted
-same_address read wanted found is wants =
-    let same = some_pair (read.host, read.port) (wanted.host, wanted.port) (is ∙ wants) in
+-- the address of a mode is the one that is wanted
+pub same_address : (read wanted : Address) → Some (reverse (read.host, read.port)) ≡ Some (reverse (wanted.host, wanted.port)) → read ≡ wanted
+same_address read wanted is =
+    let same = same_place (read.host, read.port) (wanted.host, wanted.port) is in
     address_eq read wanted (ap (λ (p : List ℕ × ℕ). p.0) same) (ap (λ (p : List ℕ × ℕ). p.1) same)
+
+-- the server of a mode
+pub same_server : (mode : ModeIs) (server wanted : Address) → mode ≡ reverse (server.host, server.port) → Some mode ≡ Some (reverse (wanted.host, wanted.port)) → server ≡ wanted
+same_server mode server wanted is wants = same_address server wanted (ap Some (sym is) ∙ wants)
 
 pub one_trace : (a b : Trace) → Some a ≡ Some b → a ≡ b
 one_trace a b e = cc
@@ -122,3 +161,13 @@ listens_where_heard old new trace P (inr h) empty tells heard_some = h
 pub if_err_by : {T : Type 0} (result : Result T Status) (Q P : Status → Type 0) → IsErrAnd result Q → ((status : Status) → Q status → P status) → IfErr result P
 if_err_by (Ok _) Q P is f = tt
 if_err_by (Err status) Q P is f = f status is
+
+-- the status is that of the end
+pub ended_told : {S : Type 0} {answers : Answering S} {fails : Failing S} {due : Due} {first : AnswererState S} {budget : ℕ} {files : FilesMeaning} {told : Option Trace} {status : Status} →
+    status ≡ Ended → Told (IsRun answers fails due first budget status files) told → Told (IsRun answers fails due first budget Ended files) told
+ended_told {S} {answers} {fails} {due} {first} {budget} {files} {told} is run = subst (λ (s : Status). Told (IsRun answers fails due first budget s files) told) is run
+
+-- so it is at an address that is the same
+pub at_address : {S : Type 0} {answers : Answering S} {fails : Failing S} {first : AnswererState S} {budget : ℕ} {files : FilesMeaning} {told : Option Trace} {status : Status} (server address : Address) →
+    server ≡ address → Told (IsRun answers fails (fixed_due server) first budget status files) told → Told (IsRun answers fails (fixed_due address) first budget status files) told
+at_address {S} {answers} {fails} {first} {budget} {files} {told} {status} server address is run = subst (λ (a : Address). Told (IsRun answers fails (fixed_due a) first budget status files) told) is run

@@ -1,80 +1,76 @@
 -- The words of the command line, case by case.
-use Rattle.std.proofs.Common.{◌≡◌, ◌≢◌, ◌⊎◌, inl, inr, ℕ, ◌+◌, ◌*◌, ◌<◌, ◌≤◌, Bool, true, false, List, [], ◌∷◌, length, get_or, Option, Some, None, refl, sym, ap, ◌∙◌, arith, rules}
-use Rattle.std.specs.Prelude.{◌==◌, if◌then◌else◌, not, nat_lt, codes, bytes_eq}
-use Rattle.std.specs.Char.{digit_value}
-use Rattle.std.specs.Str.Parse.{digits_value_after, digits_value}
-use Rattle.std.proofs.lemmas.Bool.Decides.{nat_tests}
-use Rattle.px_text.specs.Number.{is_number, number_value}
-use Rattle.px_message.specs.Host.{IsHost}
-use Rattle.px_message.specs.TellHost.{tell_host}
-use Rattle.px_app.specs.Words.{port_below, port_in_words, by_host, served_at}
+use Rattle.std.proofs.Common.{◌≡◌, ◌≢◌, ◌⊎◌, inl, inr, ℕ, ◌<◌, ◌≤◌, Bool, true, false, List, [], ◌∷◌, length, get_or, Option, Some, None, refl, sym, ap, ◌∙◌, subst, arith}
+use Rattle.std.specs.Prelude.{bytes_eq, codes, not, MatchOption}
+use Rattle.std.proofs.lemmas.Slice.Eq.{bytes_eq-Decides}
+use Rattle.std.specs.Str.Parse.{digits_value}
+use Rattle.px_gen.specs.Word.{IsCount}
+use Rattle.px_gen.proofs.WordLemmas.{is_the_number}
+use Rattle.px_app.specs.Words.{IsGen, IsServe}
 
-grows_after : (cs : List ℕ) (n : ℕ) → n ≤ digits_value_after 10 n cs
-grows_after [] n = omega arith
-grows_after (c ∷ cs) n = let more = grows_after cs (n * 10 + digit_value c) in omega arith
+-- a list of two is its elements
+pub two_are : {A : Type 0} (xs : List A) (a b : A) → 2 ≤ length xs → length xs < 3 → a ≡ get_or xs 0 a → b ≡ get_or xs 1 b → xs ≡ a ∷ b ∷ []
+two_are [] a b low high ea eb = absurd (omega arith)
+two_are (x ∷ []) a b low high ea eb = absurd (omega arith)
+two_are (x ∷ y ∷ []) a b low high ea eb = cc
+two_are (x ∷ y ∷ z ∷ xs) a b low high ea eb = absurd (omega arith)
 
-digit_not_zero : (c : ℕ) → (c == 48) ≡ false → digit_value c ≡ 0 → ⊥
-digit_not_zero c other zero_digit = grind (arith, nat_tests)
+same_first : (a b x y : List ℕ) → a ∷ b ∷ [] ≡ x ∷ y ∷ [] → a ≡ x
+same_first a b x y e = cc
 
-below_is : (n port : ℕ) (small : Bool) → Some port ≡ (if small then Some n else None) → port ≡ n
-below_is n port true e = cc
-below_is n port false e = absurd (cc)
+same_second : (a b x y : List ℕ) → a ∷ b ∷ [] ≡ x ∷ y ∷ [] → b ≡ y
+same_second a b x y e = cc
 
-number_is : (c : ℕ) (cs : List ℕ) (port : ℕ) (is : Bool) →
-    Some port ≡ port_below (if is then Some (digits_value 10 (c ∷ cs)) else None) → port ≡ digits_value 10 (c ∷ cs)
-number_is c cs port true e = below_is (digits_value 10 (c ∷ cs)) port (nat_lt (digits_value 10 (c ∷ cs)) 65536) e
-number_is c cs port false e = absurd (cc)
+-- two words
+abbrev pub AreTwo : List (List ℕ) → Type 0
+AreTwo words = (a : List ℕ) × (b : List ℕ) × (words ≡ a ∷ b ∷ [])
 
-port_by : (c : ℕ) (cs : List ℕ) (port : ℕ) (zero_first : Bool) → (c == 48) ≡ zero_first →
-    Some port ≡ (if zero_first then None else port_below (number_value 10 (c ∷ cs))) → port ≢ 0
-port_by c cs port true is e = absurd (cc)
-port_by c cs port false is e =
-    let same = number_is c cs port (is_number 10 (c ∷ cs)) e in
-    let more = grows_after cs (0 * 10 + digit_value c) in
-    λ (none : port ≡ 0). digit_not_zero c is (omega arith)
-
--- a port in words is not 0
-pub port_not_zero : (word : List ℕ) (port : ℕ) → Some port ≡ port_in_words word → port ≢ 0
-port_not_zero [] port e = absurd (cc)
-port_not_zero (c ∷ cs) port e = port_by c cs port (c == 48) refl e
-
--- a list of three is its elements
-pub three_are : {A : Type 0} (xs : List A) (a b c : A) → 3 ≤ length xs → length xs < 4 →
-    a ≡ get_or xs 0 a → b ≡ get_or xs 1 b → c ≡ get_or xs 2 c → xs ≡ a ∷ b ∷ c ∷ []
-three_are [] a b c low high ea eb ec = absurd (omega arith)
-three_are (x ∷ []) a b c low high ea eb ec = absurd (omega arith)
-three_are (x ∷ y ∷ []) a b c low high ea eb ec = absurd (omega arith)
-three_are (x ∷ y ∷ z ∷ []) a b c low high ea eb ec = cc
-three_are (x ∷ y ∷ z ∷ w ∷ xs) a b c low high ea eb ec = absurd (omega arith)
-
-other_count : (words : List (List ℕ)) → (length words < 3) ⊎ (4 ≤ length words) → served_at words ≡ None
-other_count [] h = refl
-other_count (a ∷ []) h = refl
-other_count (a ∷ b ∷ []) h = refl
-other_count (a ∷ b ∷ c ∷ []) (inl h) = absurd (omega arith)
-other_count (a ∷ b ∷ c ∷ []) (inr h) = absurd (omega arith)
-other_count (a ∷ b ∷ c ∷ d ∷ words) h = refl
+not_two : (words : List (List ℕ)) → (length words < 2) ⊎ (3 ≤ length words) → AreTwo words → ⊥
+not_two words other (a, b, is) = let two : length words ≡ 2 = ap length is in no two other
+  where
+    no : length words ≡ 2 → (length words < 2) ⊎ (3 ≤ length words) → ⊥
+    no two (inl less) = omega arith
+    no two (inr more) = omega arith
 
 -- fewer words, or more, have no form
-pub served_other_count : (words : List (List ℕ)) → (length words < 3) ⊎ (4 ≤ length words) → None ≡ served_at words
-served_other_count words h = sym (other_count words h)
+pub no_serve_count : (words : List (List ℕ)) → (length words < 2) ⊎ (3 ≤ length words) → (path : List ℕ) → ¬ (IsServe words path)
+no_serve_count words other path is = not_two words other (_, path, is)
 
-good_host : (host : List ℕ) (told : IsHost host ⊎ (IsHost host → ⊥)) (port : ℕ) → IsHost host → Some (host, port) ≡ by_host told (Some port)
-good_host host (inl _) port valid = refl
-good_host host (inr fails) port valid = absurd (fails valid)
+pub no_gen_count : (words : List (List ℕ)) → (length words < 2) ⊎ (3 ≤ length words) → (count : ℕ) → ¬ (IsGen words count)
+no_gen_count words other count is = not_two words other (_, is.0, is.1)
 
--- the words have the form
-pub served_form : (command host port : List ℕ) (n : ℕ) → bytes_eq command (codes "serve") ≡ true → IsHost host → Some n ≡ port_in_words port →
-    Some (host, n) ≡ served_at (command ∷ host ∷ port ∷ [])
-served_form command host port n same valid e =
-    good_host host (tell_host host) n valid
-    ∙ ap (λ (p : Option ℕ). by_host (tell_host host) p) e
-    ∙ ap (λ (b : Bool). if b then by_host (tell_host host) (port_in_words port) else None) (sym same)
+-- the path and the number are the only ones
+pub one_path : (words : List (List ℕ)) (path other : List ℕ) → IsServe words path → IsServe words other → path ≡ other
+one_path words path other is too = same_second _ path _ other (sym is ∙ too)
 
-pub not_false : (b result : Bool) → result ≡ false → result ≡ not b → b ≡ true
-not_false true result is e = refl
-not_false false result is e = absurd (cc)
+pub one_count : (words : List (List ℕ)) (count other : ℕ) → IsGen words count → IsGen words other → count ≡ other
+one_count words count other is too =
+    let same : is.0 ≡ too.0 = same_second _ is.0 _ too.0 (sym is.1 ∙ too.1) in
+    sym (is_the_number is.0 count is.2) ∙ (ap (λ (w : List ℕ). value w) same ∙ is_the_number too.0 other too.2)
+  where
+    value : List ℕ → ℕ
+    value word = digits_value 10 word
 
--- the text of the loopback address is a host
-pub loopback_is_host : IsHost (codes "127.0.0.1")
-loopback_is_host = search rules
+other_words : codes "serve" ≡ codes "gen" → ⊥
+other_words e = cc
+
+-- no words are both
+pub not_both_forms : (words : List (List ℕ)) (path : List ℕ) (count : ℕ) → IsServe words path → IsGen words count → ⊥
+not_both_forms words path count is too = other_words (same_first _ path _ too.0 (sym is ∙ too.1))
+
+-- the first word is another
+pub other_command : (words : List (List ℕ)) (command path name : List ℕ) → words ≡ command ∷ path ∷ [] → command ≢ name → (word : List ℕ) → words ≡ name ∷ word ∷ [] → ⊥
+other_command words command path name are other word is = other (same_first command path name word (sym are ∙ is))
+
+-- a word that is compared, and is not another
+pub same_word : (word text name : List ℕ) (other : Bool) → text ≡ word → other ≡ false → other ≡ not (bytes_eq text name) → word ≡ name
+same_word word text name other same is compared = sym same ∙ (bytes_eq-Decides text name).0 (by (bytes_eq text name) (sym is ∙ compared))
+  where
+    by : (b : Bool) → false ≡ not b → b ≡ true
+    by true e = refl
+    by false e = absurd (cc)
+
+-- the number in the words is that of the second word
+pub counted_by : (words : List (List ℕ)) (word : List ℕ) → words ≡ codes "gen" ∷ word ∷ [] → (read : Option ℕ) →
+    MatchOption read ((n : ℕ) → ¬ (IsCount word n)) (λ n. IsCount word n) → MatchOption read ((count : ℕ) → ¬ (IsGen words count)) (λ count. IsGen words count)
+counted_by words word are None none = λ count is. none count (let P : List ℕ → Type 0 = λ w. IsCount w count in subst P (same_second _ is.0 _ word (sym is.1 ∙ are)) is.2)
+counted_by words word are (Some count) counts = (word, are, counts)

@@ -1,11 +1,14 @@
 pub mod Words
 pub mod Lines
 pub mod Statuses
-pub mod Files
+pub mod Outside
+pub mod Opened
 pub mod Listed
 pub mod Printed
 pub mod Own
 pub mod Servers
 pub mod Run
 pub mod Promises
+pub mod Serves
+pub mod Generates
 pub mod Serving

@@ -1,9 +1,35 @@
--- The lines that a run prints.
-use Rattle.std.specs.Prelude.{ℕ, ◌==◌, if◌then◌else◌, List, [], codes}
+-- The lines and notes of a run, but for the lines of flows.
+use Rattle.std.specs.Prelude.{ℕ, ◌==◌, if◌then◌else◌, List, [], ◌∷◌, ◌++◌, codes, decimal, Option, Some, None}
+use Rattle.px_message.specs.Url.{port_suffix}
+use Rattle.px_options.specs.Mode.{ModeIs, reverse}
+use Rattle.px_options.specs.Values.{Place}
 
--- the line of a status, or none
+-- where the words have no form
+abbrev pub usage : List ℕ
+usage = codes "usage: mitm serve OPTIONS | gen N\n"
+
+-- where the file of this path was not read
+unfoldable pub cannot_read : List ℕ → List ℕ
+cannot_read path = codes "cannot read " ++ path ++ 10 ∷ []
+
+-- the line of a status with which a run that served ends, or none
 unfoldable pub line_of : ℕ → List ℕ
 line_of status =
-    if status == 1 then codes "usage: mitm serve HOST PORT\n"
-    else (if status == 5 then codes "network fault\n"
-    else (if status == 6 then codes "event budget spent\n" else []))
+    if status == 5 then codes "network fault\n"
+    else (if status == 6 then codes "event budget spent\n" else [])
+
+-- where clients connect
+unfoldable pub proxy_text : List ℕ → ℕ → List ℕ
+proxy_text host port = codes "listening at " ++ (host ++ (58 ∷ decimal port))
+
+-- and to which server their requests go
+unfoldable pub server_text : List ℕ → ℕ → List ℕ
+server_text host port = codes ", for http://" ++ (host ++ (port_suffix port ++ (10 ∷ [])))
+
+abbrev pub start_text : Place → Place → List ℕ
+start_text proxy server = proxy_text proxy.0 proxy.1 ++ server_text server.0 server.1
+
+-- the note at a run's start
+abbrev pub start_note : Place → Option ModeIs → List ℕ
+start_note proxy None = []
+start_note proxy (Some (reverse server)) = start_text proxy server

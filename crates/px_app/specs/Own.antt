@@ -2,7 +2,6 @@
 -- its own steps alone.
 use Rattle.std.specs.Prelude.{◌≡◌, ℕ, ◌==◌, Bool, false, [], ◌∷◌, Option, Some, None}
 use Rattle.std.specs.List.{filter}
-use Rattle.px_event.specs.declared.heard.Heard.{Heard}
 use Rattle.px_event.specs.declared.step.Step.{Step}
 use Rattle.px_event.specs.declared.step.Step.TheVariants as steps
 use Rattle.px_event.specs.Trace.{Trace}

@@ -1,11 +1,10 @@
--- What a run promises, in four records: of its trace, of its status by what is outside, of its status by its trace, and of what is
--- printed.
-use Rattle.std.specs.Prelude.{◌≡◌, ◌≢◌, ◌⊎◌, ℕ, true, false, List, ◌++◌, Option, None}
+-- What a run promises of its trace, of its status and of what is printed.
+use Rattle.std.specs.Prelude.{◌≡◌, ◌≢◌, ◌⊎◌, ◌<◌, ℕ, true, false, List, ◌++◌, Option}
 use Rattle.px_message.specs.declared.address.Address.{Address}
 use Rattle.px_event.specs.Trace.{Trace, BeforeEachHeard}
 use Rattle.px_outside.specs.Sink.{Writes, WritesPart}
-use Rattle.px_core.specs.Answered.{IsAnswered}
-use Rattle.px_core.specs.Answers.{Answering, AnswererState}
+use Rattle.px_core.specs.Answered.{IsAnswered, LeavesFiles}
+use Rattle.px_core.specs.Answers.{Answering, AnswererState, Failing, FilesMeaning}
 use Rattle.px_core.specs.Due.{IsServed, IsAllTold}
 use Rattle.px_core.specs.Hooks.{IsAllAnswered}
 use Rattle.px_http.specs.Fixed.{fixed_due}
@@ -15,14 +14,16 @@ use Rattle.px_app.specs.Own.{IsOwn}
 use Rattle.px_app.specs.Statuses.{heard_count, ends_heard}
 
 -- The trace of a run whose requests go to this address, whose answerer answers so, which with the files was this at first, and that
--- ended with this status.
-pub record Promises {S : Type 0} (answers : Answering S) (address : Address) (first : AnswererState S) (status : ℕ) (trace : Trace) : Type 0 where
+-- ended with this status and with these files.
+pub record Promises {S : Type 0} (answers : Answering S) (fails : Failing S) (address : Address) (first : AnswererState S) (files : FilesMeaning) (status : ℕ) (trace : Trace) : Type 0 where
   -- At every moment, in each conversation and each view, it has a beginning of what is due, and before each thing heard all of it.
   -- A hook is asked only where none is open in its conversation, and an answer is to the hook that is open.
   pub served : IsServed answers (fixed_due address) trace
   -- From what it was at first the answerer came over the whole trace: it moved at each hook that was asked, once, in the order of the
   -- trace, and a reply that it gave is that hook's answer.
   pub follows : IsAnswered answers (fixed_due address) first trace
+  -- and so the files are what its last answer left; but for want of memory, where more may have been answered than the trace has
+  pub leaves : LeavesFiles answers fails (fixed_due address) first (status ≢ 8) files trace
   -- before each thing heard no hook is open
   pub hooks : BeforeEachHeard IsAllAnswered trace
   -- and at the end all of it is there and no hook is open, but for want of memory
@@ -31,21 +32,19 @@ pub record Promises {S : Type 0} (answers : Answering S) (address : Address) (fi
   -- each step is of the conversation that was heard last
   pub own : IsOwn trace
 
--- The status of a run with words of this form, by whether the faults of its network and of its sink rose.
-pub record HasCause (form : Option (List ℕ × ℕ)) (net_failed sink_failed : Type 0) (status : ℕ) : Type 0 where
-  pub usage : status ≡ 1 → form ≡ None
-  pub refused : form ≡ None → (status ≡ 1) ⊎ (status ≡ 8)
+-- The status of a run that serves, by whether its network and its sink failed.
+pub record HasCause (net_failed sink_failed : Type 0) (status : ℕ) : Type 0 where
   pub fault : status ≡ 5 → net_failed
   pub lost : status ≡ 7 → sink_failed
-  pub statuses : (status ≡ 0) ⊎ ((status ≡ 1) ⊎ ((status ≡ 5) ⊎ ((status ≡ 6) ⊎ ((status ≡ 7) ⊎ (status ≡ 8)))))
-  pub complete : form ≢ None → ¬ net_failed → ¬ sink_failed → (status ≡ 0) ⊎ ((status ≡ 6) ⊎ (status ≡ 8))
+  pub statuses : (status ≡ 0) ⊎ ((status ≡ 5) ⊎ ((status ≡ 6) ⊎ ((status ≡ 7) ⊎ (status ≡ 8))))
+  pub complete : ¬ net_failed → ¬ sink_failed → (status ≡ 0) ⊎ ((status ≡ 6) ⊎ (status ≡ 8))
 
--- The status by the trace: whether the end was heard, and how many things were.
-pub record EndsSo (status : ℕ) (trace : Trace) : Type 0 where
+-- The status by the trace, where so many things may be heard, from one on: whether the end was heard, and how many things were.
+pub record EndsSo (most status : ℕ) (trace : Trace) : Type 0 where
   pub ended : (status ≡ 0) ⊎ (status ≡ 7) → ends_heard trace ≡ true
   pub ends : ends_heard trace ≡ true → (status ≡ 0) ⊎ ((status ≡ 7) ⊎ (status ≡ 8))
-  pub budget : status ≡ 6 → (heard_count trace ≡ 9223372036854775807) × (ends_heard trace ≡ false)
-  pub spent : heard_count trace ≡ 9223372036854775807 → ends_heard trace ≡ false → (status ≡ 6) ⊎ (status ≡ 8)
+  pub budget : status ≡ 6 → (heard_count trace ≡ most) × (ends_heard trace ≡ false)
+  pub spent : 0 < most → heard_count trace ≡ most → ends_heard trace ≡ false → (status ≡ 6) ⊎ (status ≡ 8)
 
 -- What a sink that began so has got: a beginning of the lines of the finished flows with the status's line behind them. It is all
 -- of them with status 0, and but for want of memory wherever the sink's faults did not rise.

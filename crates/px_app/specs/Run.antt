@@ -1,10 +1,10 @@
 -- What a run promises by its status.
-use Rattle.std.specs.Prelude.{◌≡◌, ◌≢◌, ◌⊎◌, ℕ, ◌+◌, true, false, List, Option, Some, None}
+use Rattle.std.specs.Prelude.{◌≡◌, ◌≢◌, ◌⊎◌, ◌<◌, ℕ, ◌+◌, true, false, List, Option, Some, None}
 use Rattle.px_event.specs.Trace.{Trace}
 use Rattle.px_message.specs.declared.address.Address.{Address}
 use Rattle.px_outside.specs.Net.{Listening, at}
-use Rattle.px_core.specs.Answered.{IsAnswered}
-use Rattle.px_core.specs.Answers.{Answering, AnswererState}
+use Rattle.px_core.specs.Answered.{IsAnswered, LeavesFiles}
+use Rattle.px_core.specs.Answers.{Answering, AnswererState, Failing, FilesMeaning}
 use Rattle.px_core.specs.Due.{Due, IsServed, IsAllTold, OpenOnesWait}
 use Rattle.px_app.specs.Own.{IsOwn}
 use Rattle.px_app.specs.Statuses.{heard_count, ends_heard}
@@ -17,12 +17,13 @@ pub record IsEnd (budget : ℕ) (status : Status) (trace : Trace) : Type 0 where
   pub ends : ends_heard trace ≡ true → (status ≡ Ended) ⊎ (status ≡ NoMemory)
   pub count : status ≡ BudgetSpent → heard_count trace ≡ budget
   pub goes_on : status ≡ BudgetSpent → ends_heard trace ≡ false
-  pub spent : heard_count trace ≡ budget → ends_heard trace ≡ false → (status ≡ BudgetSpent) ⊎ (status ≡ NoMemory)
+  pub spent : 0 < budget → heard_count trace ≡ budget → ends_heard trace ≡ false → (status ≡ BudgetSpent) ⊎ (status ≡ NoMemory)
 
--- the trace of a run that ended with this status, where so many things may be heard and the answerer was this at first
-pub record IsRun {S : Type 0} (answers : Answering S) (due : Due) (first : AnswererState S) (budget : ℕ) (status : Status) (trace : Trace) : Type 0 where
+-- the trace of a run that ended with this status and these files, where so many things may be heard and the answerer was this at first
+pub record IsRun {S : Type 0} (answers : Answering S) (fails : Failing S) (due : Due) (first : AnswererState S) (budget : ℕ) (status : Status) (files : FilesMeaning) (trace : Trace) : Type 0 where
   pub served : IsServed answers due trace
   pub follows : IsAnswered answers due first trace
+  pub leaves : LeavesFiles answers fails due first (status ≢ NoMemory) files trace
   pub whole : status ≢ NoMemory → IsAllTold due trace
   pub waits : status ≢ NoMemory → OpenOnesWait answers due trace
   pub own : IsOwn trace
@@ -42,8 +43,7 @@ pub record ToldNext (P : Trace → Type 0) (before : Trace) (told : Option Trace
   pub holds : P after
 
 -- it listens for clients at this host and port, and for no operators
-pub record ListensAt (host : List ℕ) (port : ℕ) (listening : Listening) : Type 0 where
+pub record ListensAt (place : List ℕ × ℕ) (listening : Listening) : Type 0 where
   pub proxy : Address
   pub here : listening ≡ at proxy None
-  pub at_host : proxy.host ≡ host
-  pub at_port : proxy.port ≡ port
+  pub at_place : (proxy.host, proxy.port) ≡ place

@@ -9,16 +9,23 @@ use Rattle.px_event.specs.Trace.{Trace}
 use Rattle.px_outside.specs.declared.net.NetError.{NetError}
 use Rattle.px_outside.specs.declared.net.NetError.TheVariants as net
 use Rattle.px_app.specs.declared.status.Status.{Status}
-use Rattle.px_app.specs.declared.status.Status.TheVariants.{Ended, Usage, NetFault, BudgetSpent, OutputFailed, NoMemory}
+use Rattle.px_app.specs.declared.stop.Stop.{Stop}
+use Rattle.px_app.specs.declared.stop.Stop.TheVariants as stops
+use Rattle.px_app.specs.declared.status.Status.TheVariants.{Ended, NetFault, BudgetSpent, OutputFailed, NoMemory}
 
--- the number that the program ends with
+-- the number with which a run that served ends
 abbrev pub code_of : Status → ℕ
 code_of Ended = 0
-code_of Usage = 1
 code_of NetFault = 5
 code_of BudgetSpent = 6
 code_of OutputFailed = 7
 code_of NoMemory = 8
+
+-- the number with which a run that did not serve ends
+abbrev pub stop_code : Stop → ℕ
+stop_code stops.Usage = 1
+stop_code stops.Refused = 2
+stop_code stops.NotRead = 3
 
 -- the status of a net that failed
 abbrev pub status_of : NetError → Status

@@ -1,17 +1,19 @@
-//! What the program does: `run` takes the words, a network, files, a sink and addons, and answers the exit status.
+//! What the program does: `run` takes the words, a network, files, sinks and addons, and answers the exit status.
 //!
-//! Each connection at the door for clients is a conversation. Each hook is answered at once by the chain of the addons that were
-//! handed in, and of each finished flow a line is printed.
+//! Each connection at the door for clients is a conversation. Each hook is answered at once by the chain of the options' rules and the
+//! addons that were handed in, and of each finished flow a line is printed.
 #![tactic(auto)]
 
 mod finished;
+mod generate;
 pub mod laws;
-mod local;
+mod opening;
 mod printing;
 mod program;
 mod reverse;
 mod serving;
 mod status;
+mod stop;
 mod words;
 
 pub use program::run;

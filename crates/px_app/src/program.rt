@@ -1,129 +1,221 @@
-//! What the program does: the words, then the run, then the status's line.
+//! What the program does: the words, then the run that they ask for.
 //!
-//! `run` is the whole program over a network, files and a sink that are handed in. Each promise is a clause of it. What each
-//! peer of each conversation was sent is what is due to it by px_http's `fixed_due`, by where its client is and the calls that
-//! the trace has of the conversation; each hook was answered by the chain of the addons alone; what is printed is a line of
-//! each finished flow of the trace, and the status's line behind them; and each status has its cause in the trace, in the words
-//! or in a count of faults. Want of memory alone has no cause; after it each peer has got a prefix of what is due, and a front
-//! of the lines is printed.
-ghost use Rattle.std.specs.Prelude.{◌≡◌, ◌≢◌, ◌⊎◌, ◌++◌, ◌≤◌, ℕ, List, [], Option, Some, None, codes, map};
+//! `run` is the whole program over a network, files, two sinks and addons that are handed in. Each promise is in a clause of it.
+//!
+//! With the words `serve OPTIONS` the options file is read, once and first, and what came of that is told (`specs/Opened.antt`). Where it
+//! says options, what each peer of each conversation was sent is what is due to it by px_http's `fixed_due`, by where its client is and
+//! the calls that the trace has of the conversation; each hook was answered by the chain of the options' rules and the addons alone;
+//! what is printed is a line of each finished flow of the trace, and the status's line behind them; and each status has its cause in the
+//! trace or in a count of faults (`specs/Serves.antt`). With the words `gen N` it is a run over what px_gen makes of that number
+//! (`specs/Generates.antt`). Want of memory alone has no cause; after it each peer has got a prefix of what is due, and a front of the
+//! lines is printed.
+ghost use Rattle.std.specs.Prelude.{◌≡◌, ◌≤◌, ◌⊎◌, ◌++◌, ℕ, List, [], Option, map};
 ghost use Rattle.std.specs.String.{string_bytes};
-ghost use Rattle.px_event.specs.Trace.{Trace};
-ghost use Rattle.px_message.specs.declared.address.Address.{Address as Place};
 ghost use Rattle.px_outside.specs.Count.{Rose};
 ghost use Rattle.px_outside.specs.Net.{idle};
-ghost use Rattle.px_outside.specs.Sink.{Writes, WritesPart};
-ghost use Rattle.px_http.specs.Fixed.{fixed_due};
-ghost use Rattle.px_core.specs.Answers.{ChangedByAnswers, files_meaning};
-ghost use Rattle.px_app.specs.Files.{IsUntouched};
-ghost use Rattle.px_app.specs.Lines.{line_of};
-ghost use Rattle.px_app.specs.Listed.{listed};
-ghost use Rattle.px_app.specs.Own.{IsOwn};
+ghost use Rattle.px_core.specs.Answers.{files_meaning};
+ghost use Rattle.px_options.specs.Shown.{refusal_line, refusal_note};
+ghost use Rattle.px_options.specs.Mode.{reverse};
+ghost use Rattle.px_options.specs.View.{mode_view, settings};
+ghost use Rattle.px_app.specs.Generates.{Generates};
+ghost use Rattle.px_app.specs.Lines.{line_of, usage};
+ghost use Rattle.px_app.specs.Opened.{Opened, AreRulesOf};
+ghost use Rattle.px_app.specs.Outside.{IsTold, outside};
 ghost use Rattle.px_app.specs.Printed.{Has, Ends, at_end};
-ghost use Rattle.px_app.specs.Promises.{Promises, HasCause, EndsSo, Prints};
-ghost use Rattle.px_app.specs.Run.{IsEnd, IsRun, Told, ListensAt};
+ghost use Rattle.px_app.specs.Opened.{error_code, error_line, error_note};
+ghost use Rattle.px_app.specs.Serves.{Serves, ServesFile, Stops};
 ghost use Rattle.px_app.specs.Statuses.{code_of};
-ghost use Rattle.px_app.specs.Words.{served_at};
-ghost use Rattle.px_addons.specs.Quiet.{NoRules};
+ghost use Rattle.px_app.specs.Words.{HasNoForm, IsGen, IsServe};
 
+use crate::generate::generate;
+use crate::opening::{OpenError, read_file};
 use crate::printing::Printing;
 use crate::reverse::{Ending, serve};
 use crate::status::Status;
-use crate::words::read_words;
+use crate::stop::{NO_MEMORY, Stop, cannot_read, stop_with};
+use crate::words::{flow_count, options_path};
 use px_addons::{Addon, Chain, Rules};
 use px_core::Answerer;
+use px_message::Address;
+use px_options::{Mode, Options, OptionsError, refusal_line, refusal_note};
 use px_outside::{Files, Net, Sink};
 use px_text::NoMemory;
 use std::alloc::Global;
 
-// How many things may be heard.
-const BUDGET: u64 = 9_223_372_036_854_775_807;
+// What is printed where the words have no form.
+const USAGE: &str = "usage: mitm serve OPTIONS | gen N\n";
 
-/// Runs the program with these words: `serve HOST PORT` listens at 127.0.0.1, port 8080, serves each connection with that
-/// server, and prints a line of each finished flow. Answers the exit status: 0 at the net's end, 1 where the words have no
-/// form, 5 where the net failed, 6 where 9,223,372,036,854,775,807 things were heard and the last was not the end, 7 at the
-/// net's end where a line was not printed whole, 8 where memory ran out. The lines of 1, 5 and 6 are printed behind those of
-/// the flows. After a write that failed nothing more is printed, and the run goes on to its end; so a sink that fails to take
-/// a status's line changes no status.
-pub fn run<N: Net, F: Files, S: Sink>(
+/// Runs the program with these words, and answers the exit status.
+///
+/// `serve OPTIONS` reads the options file of that path, listens where it says, tells a note of that, serves each connection with the
+/// server that it names by its rules and these addons, and prints a line of each finished flow. `gen N` runs N generated flows over a
+/// network in memory, tells `net` what was asked, answered and finished, and prints three counts.
+///
+/// The status is 0 at the net's end, or where the counts are printed; 1 where the words have no form; 2 where the options file is none; 3
+/// where it was not read; 5 where the net failed; 6 where as many things were heard as the options allow and the last was not the end; 7
+/// where a line was not printed whole and else it were 0; 8 where memory ran out. The lines of 1, 2, 3, 5 and 6 are printed behind those
+/// of the flows; where a rule is refused, a note shows its text with a mark under the place. After a write to `out` that failed nothing
+/// more is printed, and the run goes on to its end; a sink that fails to take a status's line, or a note, changes no status.
+pub fn run<N: Net, F: Files, S: Sink, T: Sink>(
     alloc: Global,
     words: &[String],
     net: &mut N,
     files: &mut F,
     out: &mut S,
+    notes: &mut T,
     addons: Vec<Box<dyn Addon>>,
 ) -> u8
     requires idle { N.listening net.old ≡ idle }
 
-    // Of the trace: every peer gets what is due to it, and each hook is answered once, at once, by the chain of these addons alone.
-    ensures promises { (chain : ⟦<Chain as Answerer>⟧.State) × NoRules chain.rules × (chain.addons ≡ addons) × ((address : Place) (trace : Trace) → N.trace net.old ≡ Some [] → N.trace net.new ≡ Some trace → served_at (map string_bytes words.now) ≡ Some (address.host, address.port) → Promises ⟦<Chain as Answerer>⟧.answers address (record { own = chain; files = files_meaning F.contents F.calls F.misses F.faults F.losses files.old }) result trace) }
+    // With the words `serve OPTIONS`: the file is read, and the run is as what came of that says.
+    ensures serves { (path : List ℕ) → IsServe (map string_bytes words.now) path → (opened : Opened) × ServesFile ⟦<Chain as Answerer>⟧.answers ⟦<Chain as Answerer>⟧.fails
+        (λ settings chain. AreRulesOf settings chain.rules × (chain.addons ≡ addons)) (net.new ≡ net.old) (Rose (N.faults net.old) (N.faults net.new)) (Rose (S.faults out.old) (S.faults out.new)) (Rose (T.faults notes.old) (T.faults notes.new)) path opened
+        (outside N.trace N.listening F.contents F.calls F.misses F.faults F.losses S.written T.written net.old files.old out.old notes.old)
+        (outside N.trace N.listening F.contents F.calls F.misses F.faults F.losses S.written T.written net.new files.new out.new notes.new) result }
 
-    // Where the words have no form nothing is asked of the net. Else it listens before anything is heard.
-    ensures nothing_heard { served_at (map string_bytes words.now) ≡ None → net.new ≡ net.old }
-    ensures listening { (trace : Trace) → N.trace net.old ≡ Some [] → N.trace net.new ≡ Some trace → trace ≢ [] → ListensAt (codes "127.0.0.1") 8080 (N.listening net.new) }
+    // With the words `gen N`: the run of so many generated flows.
+    ensures generates { (count : ℕ) → IsGen (map string_bytes words.now) count → Generates ⟦<Chain as Answerer>⟧.answers ⟦<Chain as Answerer>⟧.fails
+        (λ settings chain. AreRulesOf settings chain.rules × (chain.addons.items ≡ [])) (Rose (S.faults out.old) (S.faults out.new)) count
+        (outside N.trace N.listening F.contents F.calls F.misses F.faults F.losses S.written T.written net.old files.old out.old notes.old)
+        (outside N.trace N.listening F.contents F.calls F.misses F.faults F.losses S.written T.written net.new files.new out.new notes.new) result }
 
-    // No file is touched.
-    ensures files { IsUntouched F.contents F.calls F.misses F.faults F.losses files.old files.new }
-
-    // The causes of the statuses: in what is outside, and in the trace.
-    ensures causes { HasCause (served_at (map string_bytes words.now)) (Rose (N.faults net.old) (N.faults net.new)) (Rose (S.faults out.old) (S.faults out.new)) result }
-    ensures ends { (trace : Trace) → N.trace net.old ≡ Some [] → N.trace net.new ≡ Some trace → EndsSo result trace }
-
-    // What is printed.
-    ensures prints { (trace : Trace) → N.trace net.old ≡ Some [] → N.trace net.new ≡ Some trace → Prints (Rose (S.faults out.old) (S.faults out.new)) result trace (S.written out.old) (S.written out.new) }
-    ensures prints_usage { served_at (map string_bytes words.now) ≡ None → Writes (line_of result) (S.written out.old) (S.written out.new) ⊎ (Rose (S.faults out.old) (S.faults out.new) × WritesPart (line_of result) (S.written out.old) (S.written out.new)) }
+    // With any other words: the usage is printed, and nothing else is touched.
+    ensures refuses { HasNoForm (map string_bytes words.now) → Stops (net.new ≡ net.old) (Rose (S.faults out.old) (S.faults out.new)) (Rose (T.faults notes.old) (T.faults notes.new)) 1 usage []
+        (files_meaning F.contents F.calls F.misses F.faults F.losses files.old)
+        (outside N.trace N.listening F.contents F.calls F.misses F.faults F.losses S.written T.written net.old files.old out.old notes.old)
+        (outside N.trace N.listening F.contents F.calls F.misses F.faults F.losses S.written T.written net.new files.new out.new notes.new) result }
 {
-    let chain = Chain::new(Rules::none(alloc), addons);
-    let ending = serve_words(alloc, words, chain, net, files, out);
-    end(out, ending).code()
+    if let Some(path) = options_path(words) {
+        return serve_file(alloc, path, net, files, out, notes, addons);
+    }
+    if let Some(count) = flow_count(words) {
+        return generate(alloc, count, net, files, out, &*notes, addons);
+    }
+    drop(addons);
+    stop_with(out, notes, Stop::Usage, USAGE.as_bytes(), b"")
 }
 
-// Serves as the words say.
-fn serve_words<A: Answerer + Drop, N: Net, F: Files, S: Sink>(
+// Reads the options file of this path, and serves as it says.
+fn serve_file<N: Net, F: Files, S: Sink, T: Sink>(
     alloc: Global,
-    words: &[String],
-    answerer: A,
+    path: &str,
     net: &mut N,
     files: &mut F,
     out: &mut S,
-) -> Ending
+    notes: &mut T,
+    addons: Vec<Box<dyn Addon>>,
+) -> u8
     requires idle { N.listening net.old ≡ idle }
-    ensures run { (address : Place) → served_at (map string_bytes words.now) ≡ Some (address.host, address.port) → N.trace net.old ≡ Some [] → Told (IsRun A.answers (fixed_due address) (record { own = A.state answerer; files = files_meaning F.contents F.calls F.misses F.faults F.losses files.old }) 9223372036854775807 result.status) (N.trace net.new) }
-    ensures end { N.trace net.old ≡ Some [] → Told (λ trace. IsEnd 9223372036854775807 result.status trace × IsOwn trace) (N.trace net.new) }
-    ensures untouched { served_at (map string_bytes words.now) ≡ None → (net.new ≡ net.old) × (S.written out.new ≡ S.written out.old) × (result.printing ≡ Printing.Whole) }
-    ensures prints { N.trace net.old ≡ Some [] → result.status ≢ Status.NoMemory → Told (λ told. Has result.printing (listed told) (S.written out.old) (S.written out.new)) (N.trace net.new) }
-    ensures part { N.trace net.old ≡ Some [] → Told (λ told. WritesPart (listed told) (S.written out.old) (S.written out.new)) (N.trace net.new) }
-    ensures failed { result.printing ≡ Printing.Failed → Rose (S.faults out.old) (S.faults out.new) }
-    ensures later { S.faults out.old ≤ S.faults out.new }
-    ensures files { ChangedByAnswers A.answers A.fails F.contents F.calls F.misses F.faults F.losses files.old files.new }
-    ensures listening { (N.trace net.new ≡ N.trace net.old) ⊎ ListensAt (codes "127.0.0.1") 8080 (N.listening net.new) }
-    ensures fault { result.status ≡ Status.NetFault → Rose (N.faults net.old) (N.faults net.new) }
-    ensures usage { result.status ≡ Status.Usage → served_at (map string_bytes words.now) ≡ None }
-    ensures refused { served_at (map string_bytes words.now) ≡ None → (result.status ≡ Status.Usage) ⊎ (result.status ≡ Status.NoMemory) }
-    ensures output { result.status ≢ Status.OutputFailed }
+    ensures { (opened : Opened) × ServesFile ⟦<Chain as Answerer>⟧.answers ⟦<Chain as Answerer>⟧.fails
+        (λ settings chain. AreRulesOf settings chain.rules × (chain.addons ≡ addons)) (net.new ≡ net.old) (Rose (N.faults net.old) (N.faults net.new)) (Rose (S.faults out.old) (S.faults out.new)) (Rose (T.faults notes.old) (T.faults notes.new)) path.now opened
+        (outside N.trace N.listening F.contents F.calls F.misses F.faults F.losses S.written T.written net.old files.old out.old notes.old)
+        (outside N.trace N.listening F.contents F.calls F.misses F.faults F.losses S.written T.written net.new files.new out.new notes.new) result }
 {
-    match read_words(alloc, words) {
-        Ok(Some(address)) => serve(alloc, address, answerer, net, files, out, BUDGET),
-        Ok(None) => {
-            drop(answerer);
-            nothing_served(Status::Usage)
-        }
-        Err(NoMemory) => {
-            drop(answerer);
-            nothing_served(Status::NoMemory)
+    match read_file(alloc, path, files) {
+        Ok(options) => serve_options(alloc, options, net, files, out, notes, addons),
+        Err(error) => {
+            drop(addons);
+            refuse(alloc, path, &error, out, notes)
         }
     }
 }
 
-// Nothing was served, and nothing printed.
-fn nothing_served(status: Status) -> Ending
-    ensures status { result.status ≡ status }
-    ensures printing { result.printing ≡ Printing.Whole }
+// Prints why there are no options.
+fn refuse<S: Sink, T: Sink>(
+    alloc: Global,
+    path: &str,
+    error: &OpenError,
+    out: &mut S,
+    notes: &mut T,
+) -> u8
+    ensures status { (result ≡ error_code error.now) ⊎ (result ≡ 8) }
+    ensures prints { IsTold (Rose (S.faults out.old) (S.faults out.new)) result (error_line path.now error.now) (S.written out.old) (S.written out.new) }
+    ensures notes { IsTold (Rose (T.faults notes.old) (T.faults notes.new)) result (error_note error.now) (T.written notes.old) (T.written notes.new) }
 {
-    Ending {
-        status,
-        printing: Printing::Whole,
+    match error {
+        OpenError::NotRead => match cannot_read(alloc, path) {
+            Ok(line) => stop_with(out, notes, Stop::NotRead, &line, b""),
+            Err(NoMemory) => NO_MEMORY,
+        },
+        OpenError::Refused(error) => refuse_options(alloc, error, out, notes),
+        OpenError::NoMemory => NO_MEMORY,
     }
+}
+
+// Prints why the file is no options file, and shows the rule that is none.
+fn refuse_options<S: Sink, T: Sink>(
+    alloc: Global,
+    error: &OptionsError,
+    out: &mut S,
+    notes: &mut T,
+) -> u8
+    ensures status { (result ≡ 2) ⊎ (result ≡ 8) }
+    ensures prints { IsTold (Rose (S.faults out.old) (S.faults out.new)) result (refusal_line error.now) (S.written out.old) (S.written out.new) }
+    ensures notes { IsTold (Rose (T.faults notes.old) (T.faults notes.new)) result (refusal_note error.now) (T.written notes.old) (T.written notes.new) }
+{
+    let mut line = Vec::new(alloc);
+    if refusal_line(error, &mut line).is_err() {
+        return NO_MEMORY;
+    }
+    let mut note = Vec::new(alloc);
+    if refusal_note(error, &mut note).is_err() {
+        return NO_MEMORY;
+    }
+    stop_with(out, notes, Stop::Refused, &line, &note)
+}
+
+// Serves as the options say.
+fn serve_options<N: Net, F: Files, S: Sink, T: Sink>(
+    alloc: Global,
+    options: Options,
+    net: &mut N,
+    files: &mut F,
+    out: &mut S,
+    notes: &mut T,
+    addons: Vec<Box<dyn Addon>>,
+) -> u8
+    requires idle { N.listening net.old ≡ idle }
+    ensures { (chain : ⟦<Chain as Answerer>⟧.State) × (AreRulesOf (settings options) chain.rules × (chain.addons ≡ addons)) × Serves ⟦<Chain as Answerer>⟧.answers ⟦<Chain as Answerer>⟧.fails
+        (Rose (N.faults net.old) (N.faults net.new)) (Rose (S.faults out.old) (S.faults out.new)) (Rose (T.faults notes.old) (T.faults notes.new)) (settings options) chain (files_meaning F.contents F.calls F.misses F.faults F.losses files.old)
+        (outside N.trace N.listening F.contents F.calls F.misses F.faults F.losses S.written T.written net.old files.old out.old notes.old)
+        (outside N.trace N.listening F.contents F.calls F.misses F.faults F.losses S.written T.written net.new files.new out.new notes.new) result }
+{
+    let Options {
+        anticache,
+        anticomp,
+        block_list,
+        events,
+        listen,
+        map_local,
+        map_remote,
+        mode,
+        modify_body,
+        modify_headers,
+    } = options;
+    let rules = Rules {
+        block: block_list,
+        local: map_local,
+        remote: map_remote,
+        headers: modify_headers,
+        bodies: modify_body,
+        anticache,
+        anticomp,
+        stream: None,
+    };
+    let server = server_of(mode);
+    let chain = Chain::new(rules, addons);
+    let ending = serve(
+        alloc, &listen, server, chain, net, files, out, notes, events,
+    );
+    end(out, ending).code()
+}
+
+// The server that all requests go to.
+fn server_of(mode: Mode) -> Address
+    ensures { mode_view mode ≡ reverse (result.host, result.port) }
+{
+    let Mode::Reverse(server) = mode;
+    server
 }
 
 // Prints the status's line. At the net's end a write that failed makes the status; else a failure changes none.
@@ -141,7 +233,7 @@ fn end<S: Sink>(out: &mut S, ending: Ending) -> Status
             Printing::Failed => Status::OutputFailed,
         },
         Status::OutputFailed | Status::NoMemory => status,
-        Status::Usage | Status::NetFault | Status::BudgetSpent => {
+        Status::NetFault | Status::BudgetSpent => {
             match printing.print(out, status.line().as_bytes()) {
                 Ok(_) => status,
                 Err(NoMemory) => Status::NoMemory,

@@ -1,23 +1,28 @@
 //! A reverse proxy: each connection is a conversation whose requests go to one address.
-ghost use Rattle.std.specs.Prelude.{◌≡◌, ◌≢◌, ◌≤◌, ◌<◌, ◌⊎◌, [], Some, codes};
+ghost use Rattle.std.specs.Prelude.{◌≡◌, ◌≢◌, ◌≤◌, ◌⊎◌, [], Some, Err, IfErr, OnOk, OnErr};
 ghost use Rattle.px_outside.specs.Count.{Rose};
-ghost use Rattle.px_outside.specs.Net.{idle};
-ghost use Rattle.px_outside.specs.Sink.{WritesPart};
+ghost use Rattle.px_outside.specs.Net.{failed, idle};
+ghost use Rattle.px_outside.specs.Sink.{Writes, WritesPart};
 ghost use Rattle.px_http.specs.Fixed.{fixed_due};
-ghost use Rattle.px_core.specs.Answers.{ChangedByAnswers, files_meaning};
+ghost use Rattle.px_core.specs.Answers.{FilesAfter, files_meaning};
+ghost use Rattle.px_app.specs.Lines.{start_text};
 ghost use Rattle.px_app.specs.Listed.{listed};
+ghost use Rattle.px_app.specs.Outside.{IsTold};
 ghost use Rattle.px_app.specs.Printed.{Has};
 ghost use Rattle.px_app.specs.Run.{IsRun, Told, ListensAt};
+ghost use Rattle.px_app.specs.Serves.{where_listening};
+ghost use Rattle.px_app.specs.Statuses.{code_of};
 
-use crate::local::listen;
 use crate::printing::Printing;
 use crate::serving::{Serving, serve_all};
 use crate::status::Status;
+use crate::stop::{start_text, tell};
 use px_core::{Answerer, Gates};
 use px_gate::Gate;
 use px_http::{Fixed, HttpConv};
 use px_message::Address;
 use px_outside::{Files, Net, Sink};
+use px_text::NoMemory;
 use std::alloc::Global;
 
 /// A conversation: flows in sequence, behind a gate that holds what comes while a question is open.
@@ -30,40 +35,65 @@ pub(crate) struct Ending {
     pub(crate) printing: Printing,
 }
 
-/// Listens, and serves each connection with this address as its server and hooks answered so, until the net ends or so many
-/// things were heard.
-pub(crate) fn serve<A: Answerer + Drop, N: Net, F: Files, S: Sink>(
+/// Listens for clients at `proxy`, tells a note of that, and serves each connection with the address `server` as its server and
+/// hooks answered so, until the net ends or so many things were heard.
+pub(crate) fn serve<A: Answerer + Drop, N: Net, F: Files, S: Sink, T: Sink>(
     alloc: Global,
-    address: Address,
+    proxy: &Address,
+    server: Address,
     answerer: A,
     net: &mut N,
     files: &mut F,
     out: &mut S,
+    notes: &mut T,
     budget: u64,
 ) -> Ending
     requires idle { N.listening net.old ≡ idle }
-    requires budget { 0 < budget }
-    ensures run { N.trace net.old ≡ Some [] → Told (IsRun A.answers (fixed_due address) (record { own = A.state answerer; files = files_meaning F.contents F.calls F.misses F.faults F.losses files.old }) budget result.status) (N.trace net.new) }
+    ensures run { N.trace net.old ≡ Some [] → Told (IsRun A.answers A.fails (fixed_due server) (record { own = A.state answerer; files = files_meaning F.contents F.calls F.misses F.faults F.losses files.old }) budget result.status (files_meaning F.contents F.calls F.misses F.faults F.losses files.new)) (N.trace net.new) }
     ensures prints { N.trace net.old ≡ Some [] → result.status ≢ Status.NoMemory → Told (λ told. Has result.printing (listed told) (S.written out.old) (S.written out.new)) (N.trace net.new) }
     ensures part { N.trace net.old ≡ Some [] → Told (λ told. WritesPart (listed told) (S.written out.old) (S.written out.new)) (N.trace net.new) }
     ensures failed { result.printing ≡ Printing.Failed → Rose (S.faults out.old) (S.faults out.new) }
     ensures later { S.faults out.old ≤ S.faults out.new }
-    ensures files { ChangedByAnswers A.answers A.fails F.contents F.calls F.misses F.faults F.losses files.old files.new }
-    ensures listening { (N.trace net.new ≡ N.trace net.old) ⊎ ListensAt (codes "127.0.0.1") 8080 (N.listening net.new) }
+    ensures files { FilesAfter A.answers A.fails (record { own = A.state answerer; files = files_meaning F.contents F.calls F.misses F.faults F.losses files.old }) (files_meaning F.contents F.calls F.misses F.faults F.losses files.new) }
+    ensures listening { (N.trace net.new ≡ N.trace net.old) ⊎ ListensAt (proxy.now.host, proxy.now.port) (N.listening net.new) }
+    ensures notes { IsTold (Rose (T.faults notes.old) (T.faults notes.new)) (code_of result.status) (where_listening (N.listening net.new) (start_text (proxy.now.host, proxy.now.port) (server.host, server.port))) (T.written notes.old) (T.written notes.new) }
     ensures fault { result.status ≡ Status.NetFault → Rose (N.faults net.old) (N.faults net.new) }
-    ensures usage { result.status ≢ Status.Usage }
     ensures output { result.status ≢ Status.OutputFailed }
 {
     let printing = Printing::Whole;
-    if let Err(error) = listen(alloc, net) {
-        drop(address);
+    if let Err(status) = begin(alloc, proxy, &server, net, notes) {
+        drop(server);
         drop(answerer);
-        let status = error.into();
         return Ending { status, printing };
     }
-    let maker = Gates::new(alloc, Fixed::new(alloc, address));
+    let maker = Gates::new(alloc, Fixed::new(alloc, server));
     let mut serving = Serving::<Conv, A, Gates<Fixed>>::new(alloc, answerer, maker);
     let status = serve_all(alloc, &mut serving, net, files, out, budget);
     let printing = serving.printing;
     Ending { status, printing }
+}
+
+// Listens, and tells a note of that. Nothing is heard.
+fn begin<N: Net, T: Sink>(
+    alloc: Global,
+    proxy: &Address,
+    server: &Address,
+    net: &mut N,
+    notes: &mut T,
+) -> Result<(), Status>
+    requires idle { N.listening net.old ≡ idle }
+    ensures trace { N.trace net.new ≡ N.trace net.old }
+    ensures listening { OnOk result (ListensAt (proxy.now.host, proxy.now.port) (N.listening net.new)) }
+    ensures told { OnOk result (Writes (start_text (proxy.now.host, proxy.now.port) (server.now.host, server.now.port)) (T.written notes.old) (T.written notes.new)
+        ⊎ (Rose (T.faults notes.old) (T.faults notes.new) × WritesPart (start_text (proxy.now.host, proxy.now.port) (server.now.host, server.now.port)) (T.written notes.old) (T.written notes.new))) }
+    ensures err { IfErr result (λ status. (status ≡ Status.NetFault) ⊎ (status ≡ Status.NoMemory)) }
+    ensures untold { OnErr result (T.written notes.new ≡ T.written notes.old) }
+    ensures deaf { result ≡ Err Status.NetFault → N.listening net.new ≡ failed }
+    ensures fault { result ≡ Err Status.NetFault → Rose (N.faults net.old) (N.faults net.new) }
+    ensures later { N.faults net.old ≤ N.faults net.new }
+{
+    net.listen(proxy, None)?;
+    let text = start_text(alloc, proxy, server)?;
+    tell(notes, &text)?;
+    Ok(())
 }

@@ -11,8 +11,8 @@ ghost use Rattle.px_event.specs.Trace.{Trace};
 ghost use Rattle.px_event.specs.declared.step.Step.TheVariants.{Heard as WasHeard};
 ghost use Rattle.px_outside.specs.Count.{Rose};
 ghost use Rattle.px_outside.specs.Sink.{WritesPart};
-ghost use Rattle.px_core.specs.Answered.{IsAnswered};
-ghost use Rattle.px_core.specs.Answers.{AnswererState, ChangedByAnswers, FilesMeaning, files_meaning};
+ghost use Rattle.px_core.specs.Answered.{IsAnswered, LeavesFiles};
+ghost use Rattle.px_core.specs.Answers.{AnswererState, ByAnswers, FilesAfter, FilesMeaning, files_meaning, state_of};
 ghost use Rattle.px_core.specs.Due.{Due, IsServed};
 ghost use Rattle.px_core.specs.Router.{RouterStands};
 ghost use Rattle.px_core.specs.Run.{IsDueOf, Tells, TellsOfHeard, done_of};
@@ -77,9 +77,12 @@ impl<C: Owes, A: Answerer, M: Maker<C>> Serving<C, A, M> {
         ensures own { (trace : Trace) → N.trace net.old ≡ Some trace → TellsOfHeard heard trace (N.trace net.new) }
         ensures follows { (due : Due) (first : AnswererState A.State) (trace : Trace) → IsDueOf (M.due self.old.maker) due → RouterStands C.stands C.awaited C.number C.due A.answers A.state due first (files_meaning F.contents F.calls F.misses F.faults F.losses files.old) self.old.router trace →
             N.trace net.old ≡ Some (trace ++ WasHeard moment heard ∷ []) → Tells (IsAnswered A.answers due first) (trace ++ WasHeard moment heard ∷ []) (N.trace net.new) }
+        ensures leaves { (due : Due) (first : AnswererState A.State) (trace : Trace) → IsDueOf (M.due self.old.maker) due → RouterStands C.stands C.awaited C.number C.due A.answers A.state due first (files_meaning F.contents F.calls F.misses F.faults F.losses files.old) self.old.router trace →
+            N.trace net.old ≡ Some (trace ++ WasHeard moment heard ∷ []) → OnErr result (Tells (LeavesFiles A.answers A.fails due first ⊥ (files_meaning F.contents F.calls F.misses F.faults F.losses files.new)) (trace ++ WasHeard moment heard ∷ []) (N.trace net.new)) }
         ensures due { (number : ℕ) (at : PeerAddress) (moves : List Move) → M.due self.new.maker number at moves ≡ M.due self.old.maker number at moves }
         ensures printing { self.new.printing ≡ self.old.printing }
-        ensures files { ChangedByAnswers A.answers A.fails F.contents F.calls F.misses F.faults F.losses files.old files.new }
+        ensures files { FilesAfter A.answers A.fails (state_of A.state F.contents F.calls F.misses F.faults F.losses self.old.router.answerer files.old) (files_meaning F.contents F.calls F.misses F.faults F.losses files.new) }
+        ensures given { OnOk result (ByAnswers A.answers (state_of A.state F.contents F.calls F.misses F.faults F.losses self.old.router.answerer files.old) (state_of A.state F.contents F.calls F.misses F.faults F.losses self.new.router.answerer files.new)) }
         ensures listening { N.listening net.new ≡ N.listening net.old }
         ensures faults { N.faults net.new ≡ N.faults net.old }
     {
@@ -119,6 +122,8 @@ impl<C: Owes, A: Answerer, M: Maker<C>> Serving<C, A, M> {
         ensures own { (trace : Trace) → N.trace net.old ≡ Some trace → TellsOfHeard heard trace (N.trace net.new) }
         ensures follows { (due : Due) (first : AnswererState A.State) (trace : Trace) → IsDueOf (M.due self.old.maker) due → RouterStands C.stands C.awaited C.number C.due A.answers A.state due first (files_meaning F.contents F.calls F.misses F.faults F.losses files.old) self.old.router trace →
             N.trace net.old ≡ Some (trace ++ WasHeard moment heard ∷ []) → Tells (IsAnswered A.answers due first) (trace ++ WasHeard moment heard ∷ []) (N.trace net.new) }
+        ensures leaves { (due : Due) (first : AnswererState A.State) (trace : Trace) → IsDueOf (M.due self.old.maker) due → RouterStands C.stands C.awaited C.number C.due A.answers A.state due first (files_meaning F.contents F.calls F.misses F.faults F.losses files.old) self.old.router trace →
+            N.trace net.old ≡ Some (trace ++ WasHeard moment heard ∷ []) → OnErr result (Tells (LeavesFiles A.answers A.fails due first ⊥ (files_meaning F.contents F.calls F.misses F.faults F.losses files.new)) (trace ++ WasHeard moment heard ∷ []) (N.trace net.new)) }
         ensures due { (number : ℕ) (at : PeerAddress) (moves : List Move) → M.due self.new.maker number at moves ≡ M.due self.old.maker number at moves }
         ensures prints { (start : Option (List ℕ)) (trace : Trace) → N.trace net.old ≡ Some (trace ++ WasHeard moment heard ∷ []) → Has self.old.printing (listed trace) start (S.written out.old) →
             OnOk result (Told (λ told. Has self.new.printing (listed told) start (S.written out.new)) (N.trace net.new)) }
@@ -127,7 +132,8 @@ impl<C: Owes, A: Answerer, M: Maker<C>> Serving<C, A, M> {
         ensures failed { (first : ℕ) → first ≤ S.faults out.old → (self.old.printing ≡ Printing.Failed → Rose first (S.faults out.old)) →
             self.new.printing ≡ Printing.Failed → Rose first (S.faults out.new) }
         ensures later { S.faults out.old ≤ S.faults out.new }
-        ensures files { ChangedByAnswers A.answers A.fails F.contents F.calls F.misses F.faults F.losses files.old files.new }
+        ensures files { FilesAfter A.answers A.fails (state_of A.state F.contents F.calls F.misses F.faults F.losses self.old.router.answerer files.old) (files_meaning F.contents F.calls F.misses F.faults F.losses files.new) }
+        ensures given { OnOk result (ByAnswers A.answers (state_of A.state F.contents F.calls F.misses F.faults F.losses self.old.router.answerer files.old) (state_of A.state F.contents F.calls F.misses F.faults F.losses self.new.router.answerer files.new)) }
         ensures listening { N.listening net.new ≡ N.listening net.old }
         ensures faults { N.faults net.new ≡ N.faults net.old }
     {
@@ -148,7 +154,7 @@ impl<C: Owes, A: Answerer, M: Maker<C>> Serving<C, A, M> {
         ensures ok { (due : Due) (first : AnswererState A.State) (trace : Trace) → IsDueOf (M.due self.old.maker) due → Stands C.stands C.awaited C.number C.due A.answers A.state due first (files_meaning F.contents F.calls F.misses F.faults F.losses files.old) self.old.router trace → N.trace net.old ≡ Some trace →
             OnOk result (ToldNext (Stands C.stands C.awaited C.number C.due A.answers A.state due first (files_meaning F.contents F.calls F.misses F.faults F.losses files.new) self.new.router) trace (N.trace net.new)) }
         ensures err { (due : Due) (first : AnswererState A.State) (trace : Trace) (budget : ℕ) → IsDueOf (M.due self.old.maker) due → Stands C.stands C.awaited C.number C.due A.answers A.state due first (files_meaning F.contents F.calls F.misses F.faults F.losses files.old) self.old.router trace → N.trace net.old ≡ Some trace →
-            heard_count trace < budget → IfErr result (λ status. Told (IsRun A.answers due first budget status) (N.trace net.new)) }
+            heard_count trace < budget → IfErr result (λ status. Told (IsRun A.answers A.fails due first budget status (files_meaning F.contents F.calls F.misses F.faults F.losses files.new)) (N.trace net.new)) }
         ensures sound { OnOk result (IsSound C.stands C.awaited C.number C.due A.answers A.state (M.due self.new.maker) (files_meaning F.contents F.calls F.misses F.faults F.losses files.new) self.new.router) }
         ensures due { (number : ℕ) (at : PeerAddress) (moves : List Move) → M.due self.new.maker number at moves ≡ M.due self.old.maker number at moves }
         ensures prints { (start : Option (List ℕ)) (trace : Trace) → N.trace net.old ≡ Some trace → Has self.old.printing (listed trace) start (S.written out.old) → result ≢ Err Status.NoMemory →
@@ -158,11 +164,11 @@ impl<C: Owes, A: Answerer, M: Maker<C>> Serving<C, A, M> {
         ensures failed { (first : ℕ) → first ≤ S.faults out.old → (self.old.printing ≡ Printing.Failed → Rose first (S.faults out.old)) →
             self.new.printing ≡ Printing.Failed → Rose first (S.faults out.new) }
         ensures later_out { S.faults out.old ≤ S.faults out.new }
-        ensures files { ChangedByAnswers A.answers A.fails F.contents F.calls F.misses F.faults F.losses files.old files.new }
+        ensures files { FilesAfter A.answers A.fails (state_of A.state F.contents F.calls F.misses F.faults F.losses self.old.router.answerer files.old) (files_meaning F.contents F.calls F.misses F.faults F.losses files.new) }
+        ensures given { OnOk result (ByAnswers A.answers (state_of A.state F.contents F.calls F.misses F.faults F.losses self.old.router.answerer files.old) (state_of A.state F.contents F.calls F.misses F.faults F.losses self.new.router.answerer files.new)) }
         ensures listening { N.listening net.new ≡ N.listening net.old }
         ensures later { N.faults net.old ≤ N.faults net.new }
         ensures fault { result ≡ Err Status.NetFault → Rose (N.faults net.old) (N.faults net.new) }
-        ensures usage { result ≢ Err Status.Usage }
         ensures output { result ≢ Err Status.OutputFailed }
     {
         let (moment, heard) = net.next()?;
@@ -196,7 +202,7 @@ pub(crate) fn serve_all<C: Owes, A: Answerer, M: Maker<C>, N: Net, F: Files, S: 
 ) -> Status
     requires sound { IsSound C.stands C.awaited C.number C.due A.answers A.state (M.due serving.old.maker) (files_meaning F.contents F.calls F.misses F.faults F.losses files.old) serving.old.router }
     ensures run { (due : Due) (first : AnswererState A.State) → IsDueOf (M.due serving.old.maker) due → RouterStands C.stands C.awaited C.number C.due A.answers A.state due first (files_meaning F.contents F.calls F.misses F.faults F.losses files.old) serving.old.router [] → N.trace net.old ≡ Some [] →
-        Told (IsRun A.answers due first budget result) (N.trace net.new) }
+        Told (IsRun A.answers A.fails due first budget result (files_meaning F.contents F.calls F.misses F.faults F.losses files.new)) (N.trace net.new) }
     ensures prints { (start : Option (List ℕ)) → N.trace net.old ≡ Some [] → Has serving.old.printing [] start (S.written out.old) → result ≢ Status.NoMemory →
         Told (λ told. Has serving.new.printing (listed told) start (S.written out.new)) (N.trace net.new) }
     ensures part { (start : Option (List ℕ)) → N.trace net.old ≡ Some [] → Has serving.old.printing [] start (S.written out.old) →
@@ -204,10 +210,9 @@ pub(crate) fn serve_all<C: Owes, A: Answerer, M: Maker<C>, N: Net, F: Files, S: 
     ensures failed { (first : ℕ) → first ≤ S.faults out.old → (serving.old.printing ≡ Printing.Failed → Rose first (S.faults out.old)) →
         serving.new.printing ≡ Printing.Failed → Rose first (S.faults out.new) }
     ensures later { S.faults out.old ≤ S.faults out.new }
-    ensures files { ChangedByAnswers A.answers A.fails F.contents F.calls F.misses F.faults F.losses files.old files.new }
+    ensures files { FilesAfter A.answers A.fails (state_of A.state F.contents F.calls F.misses F.faults F.losses serving.old.router.answerer files.old) (files_meaning F.contents F.calls F.misses F.faults F.losses files.new) }
     ensures listening { N.listening net.new ≡ N.listening net.old }
     ensures fault { result ≡ Status.NetFault → Rose (N.faults net.old) (N.faults net.new) }
-    ensures usage { result ≢ Status.Usage }
     ensures output { result ≢ Status.OutputFailed }
 {
     'turns: for turn in 0..budget {

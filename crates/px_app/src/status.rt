@@ -1,16 +1,14 @@
-//! How a run ends.
+//! How a run that serves ends.
 ghost use Rattle.std.specs.Prelude.{◌≡◌};
 
 use px_outside::NetError;
 use px_text::NoMemory;
 
-/// How a run ends: the program's exit status, and the line that is printed for it.
+/// How a run that serves ends: the program's exit status, and the line that is printed for it.
 #[derive(Clone, Copy, Debug, PartialEq, Eq)]
 pub enum Status {
     /// The net gave its end.
     Ended,
-    /// The words have no form.
-    Usage,
     /// The net failed as a whole.
     NetFault,
     /// So many things were heard as may be, and the last was not the end.
@@ -31,7 +29,6 @@ impl Status {
     {
         match self {
             Status::Ended => 0,
-            Status::Usage => 1,
             Status::NetFault => 5,
             Status::BudgetSpent => 6,
             Status::OutputFailed => 7,
@@ -45,7 +42,6 @@ impl Status {
         ensures line { result.now ≡ line_of (code_of self) }
     {
         match self {
-            Status::Usage => "usage: mitm serve HOST PORT\n",
             Status::NetFault => "network fault\n",
             Status::BudgetSpent => "event budget spent\n",
             Status::Ended | Status::OutputFailed | Status::NoMemory => "",

@@ -8,7 +8,12 @@ use Rattle.px_event.specs.declared.heard.Heard.{Heard}
 use Rattle.px_event.specs.declared.heard.Heard.TheVariants as heard
 use Rattle.px_event.specs.declared.step.Step.{Step}
 use Rattle.px_event.specs.declared.step.Step.TheVariants as steps
+use Rattle.px_core.specs.Answers.{Answering, Failing, FilesMeaning}
+use Rattle.px_options.specs.Options.{Settings}
+use Rattle.px_app.specs.Opened.{Opened, nothing_read, absent, not_read, unjudged, refused, says}
+use Rattle.px_app.specs.Outside.{Outside}
 use Rattle.px_app.specs.Promises.{HasCause}
+use Rattle.px_app.specs.Serves.{RunsOn, Serves, ServesFile}
 use Rattle.px_app.specs.Statuses.{is_end, ends_by, ends_from, ends_heard}
 use Rattle.px_message.specs.declared.address.Address.{Address}
 use Rattle.px_wire.specs.declared.call.WireCall.TheVariants as calls
@@ -37,15 +42,40 @@ fault_of old own_old new own told failed rose = (rose, by (wire_rose old new own
     by (inr own_rose) = inr (not_both old new own_rose.0, own_rose.1, failed own_rose.1)
 
 -- a cause of the network's fault that follows from the one that is known
-pub causes_by : (form : Option (List ℕ × ℕ)) (net cause sink : Type 0) (status : ℕ) → HasCause form net sink status → (net → cause) → HasCause form cause sink status
-causes_by form net cause sink status h by = record {
-  usage = h.usage;
-  refused = h.refused;
+pub causes_by : (net cause sink : Type 0) (status : ℕ) → HasCause net sink status → (net → cause) → HasCause cause sink status
+causes_by net cause sink status h by = record {
   fault = λ is. by (h.fault is);
   lost = h.lost;
   statuses = h.statuses;
-  complete = λ words still printed. h.complete words (λ failed. still (by failed)) printed;
+  complete = λ still printed. h.complete (λ failed. still (by failed)) printed;
 }
+
+module _ {S : Type 0} (answers : Answering S) (fails : Failing S) (IsChain : Settings → S → Type 0) (same net cause out notes : Type 0) (by : net → cause) where
+  serves_by : (settings : Settings) (chain : S) (read : FilesMeaning) (before after : Outside) (status : ℕ) →
+      Serves answers fails net out notes settings chain read before after status → Serves answers fails cause out notes settings chain read before after status
+  serves_by settings chain read before after status h = record {
+    promises = h.promises;
+    files = h.files;
+    listening = h.listening;
+    causes = causes_by net cause out status h.causes by;
+    ends = h.ends;
+    prints = h.prints;
+    notes = h.notes;
+  }
+
+  runs_by : (path : List ℕ) (opened : Opened) (read : FilesMeaning) (before after : Outside) (status : ℕ) →
+      RunsOn answers fails IsChain same net out notes path opened read before after status → RunsOn answers fails IsChain same cause out notes path opened read before after status
+  runs_by path nothing_read read before after status h = h
+  runs_by path absent read before after status h = h
+  runs_by path not_read read before after status h = h
+  runs_by path (unjudged bytes) read before after status h = h
+  runs_by path (refused bytes why) read before after status h = h
+  runs_by path (says bytes settings) read before after status h = (h.0, (h.1.0, h.1.1, serves_by settings h.1.0 read before after status h.1.2))
+
+  -- the same of a run
+  pub file_by : (path : List ℕ) (opened : Opened) (before after : Outside) (status : ℕ) →
+      ServesFile answers fails IsChain same net out notes path opened before after status → ServesFile answers fails IsChain same cause out notes path opened before after status
+  file_by path opened before after status h = record { read = h.read; reads = h.reads; runs = runs_by path opened h.read before after status h.runs }
 
 -- ---- the end
 

@@ -1,6 +1,18 @@
 -- What lines keep after a run says which calls were made of their wire, and that their steps are those of the run.
-use Rattle.std.proofs.Common.{◌≡◌, Bool, true, false, subst, Option, Some}
+use Rattle.std.proofs.Common.{◌≡◌, ◌⊎◌, inl, inr, ◌∙◌, sym, arith, ℕ, List, [], Bool, true, false, subst, Option, Some}
 use Rattle.px_event.specs.Trace.{Trace}
+use Rattle.px_core.specs.Answers.{Answering, Failing}
+use Rattle.px_http.specs.Fixed.{fixed_due}
+use Rattle.px_http.specs.Silent.{fixed_silent}
+use Rattle.px_options.specs.Options.{Settings}
+use Rattle.px_app.specs.Opened.{Opened, nothing_read, absent, not_read, unjudged, refused, says}
+use Rattle.px_app.specs.Outside.{Outside}
+use Rattle.px_app.specs.Serves.{ServesFile}
+use Rattle.px_app.specs.Statuses.{ends_heard}
+use Rattle.px_app.proofs.HttpServers.{fixed_counts}
+use Rattle.px_app.proofs.ServerLemmas.{always_counts}
+use Rattle.px_proxy.specs.TakenDue.{IsTakenBy}
+use Rattle.px_proxy.proofs.TakenDueLemmas.{ConnectsNone, always_taken}
 use Rattle.px_wire.specs.declared.table.Table.{Table}
 use Rattle.px_wire.specs.Calls.{Calls, Agrees, steps_of}
 use Rattle.px_wire.specs.Lines.{Keeps}
@@ -12,3 +24,35 @@ kept_obeys true table told keeps list is = let P : Option Calls → Type 0 = Kee
 
 pub agreed_steps : (steps : Option Trace) (told : Option Calls) → Agrees steps told → (list : Calls) → told ≡ Some list → steps ≡ Some (steps_of list)
 agreed_steps steps told agree list is = let P : Option Calls → Type 0 = Agrees steps in subst P is agree
+
+-- a run that stopped did not end so
+stopped : (code status : ℕ) → (status ≡ code) ⊎ (status ≡ 8) → (status ≡ 0) ⊎ (status ≡ 7) → (code ≡ 0 → ⊥) → (code ≡ 7 → ⊥) → ⊥
+stopped code status (inl is) (inl zero) not_zero not_seven = not_zero (sym is ∙ zero)
+stopped code status (inl is) (inr seven) not_zero not_seven = not_seven (sym is ∙ seven)
+stopped code status (inr is) (inl zero) not_zero not_seven = omega arith
+stopped code status (inr is) (inr seven) not_zero not_seven = omega arith
+
+module _ {S : Type 0} (answers : Answering S) (fails : Failing S) where
+  -- what the wire took is what is due by the options
+  pub taken_by : ConnectsNone answers → (IsChain : Settings → S → Type 0) (same net out notes : Type 0) (path : List ℕ) (opened : Opened) (before after : Outside) (status : ℕ) {told : Option Calls} →
+      ((list : Calls) → told ≡ Some list → after.trace ≡ Some (steps_of list)) → ((list : Calls) → told ≡ Some list → Obeys list) →
+      ServesFile answers fails IsChain same net out notes path opened before after status → IsTakenBy opened before.trace told
+  taken_by none IsChain same net out notes path nothing_read before after status steps obeys h = tt
+  taken_by none IsChain same net out notes path absent before after status steps obeys h = tt
+  taken_by none IsChain same net out notes path not_read before after status steps obeys h = tt
+  taken_by none IsChain same net out notes path (unjudged bytes) before after status steps obeys h = tt
+  taken_by none IsChain same net out notes path (refused bytes why) before after status steps obeys h = tt
+  taken_by none IsChain same net out notes path (says bytes settings) before after status steps obeys h = λ address list wants fresh told.
+      let served = (h.runs.1.2.promises address (steps_of list) wants fresh (steps list told)).served in
+      always_taken answers none (fixed_due address) (fixed_silent address) list (obeys list told)
+      (always_counts (fixed_due address) (fixed_counts address) (steps_of list) served.within) served.met served.within
+
+  -- the statuses of an end come only where the end was heard
+  pub ends_by_end : (IsChain : Settings → S → Type 0) (same net out notes : Type 0) (path : List ℕ) (opened : Opened) (before after : Outside) (status : ℕ) →
+      ServesFile answers fails IsChain same net out notes path opened before after status → (trace : Trace) → before.trace ≡ Some [] → after.trace ≡ Some trace → (status ≡ 0) ⊎ (status ≡ 7) → ends_heard trace ≡ true
+  ends_by_end IsChain same net out notes path nothing_read before after status h trace fresh tells either = absurd (stopped 8 status h.runs.is either (λ e. omega arith) (λ e. omega arith))
+  ends_by_end IsChain same net out notes path absent before after status h trace fresh tells either = absurd (stopped 3 status h.runs.is either (λ e. omega arith) (λ e. omega arith))
+  ends_by_end IsChain same net out notes path not_read before after status h trace fresh tells either = absurd (stopped 3 status h.runs.is either (λ e. omega arith) (λ e. omega arith))
+  ends_by_end IsChain same net out notes path (unjudged bytes) before after status h trace fresh tells either = absurd (stopped 8 status h.runs.is either (λ e. omega arith) (λ e. omega arith))
+  ends_by_end IsChain same net out notes path (refused bytes why) before after status h trace fresh tells either = absurd (stopped 2 status h.runs.1.is either (λ e. omega arith) (λ e. omega arith))
+  ends_by_end IsChain same net out notes path (says bytes settings) before after status h trace fresh tells either = (h.runs.1.2.ends trace fresh tells).ended either

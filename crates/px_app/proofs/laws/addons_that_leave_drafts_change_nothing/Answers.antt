@@ -5,7 +5,7 @@ use Rattle.px_core.proofs.KindLemmas.{kept}
 use Rattle.px_app.proofs.laws.addons_that_leave_drafts_change_nothing.Goals as goal
 
 pub returns : goal.returns
-returns g c = λ address files status trace so promised.
+returns g c = λ address files last status trace so promised.
     (kept _ (fixed_due address) _ goes_on_unchanged (record {
       stays = λ hook flow old old_files new new_files given quiet by. stays_quiet _ _ _ hook flow old.rules old.addons.items old_files new.rules new.addons.items new_files given quiet by;
       gives_so = λ hook flow old old_files new new_files given quiet by. answers_unchanged _ _ _ hook flow old.rules old.addons.items old_files new.rules new.addons.items new_files given quiet by;

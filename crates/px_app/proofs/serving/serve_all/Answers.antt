@@ -1,33 +1,36 @@
 use Rattle.std.proofs.Common.{◌≡◌, ◌<◌, ◌∙◌, ℕ, [], refl, sym, subst, arith}
 use Rattle.px_core.specs.Answers.{by_none}
-use Rattle.px_core.proofs.AnswerLemmas.{by_both}
+use Rattle.px_core.proofs.AnswerLemmas.{after_both, after_given, by_both}
 use Rattle.px_app.proofs.StepLemmas.{first_turn, next_turn, tells_spent}
 use Rattle.px_app.proofs.serving.serve_all.Goals as goal
 
 pub turns-init : goal.turns-init
 turns-init g c = record {
   turn = λ due first owes stands told.
-      first_turn g.C.Conversation.stands g.C.Conversation.awaited g.C.Conversation.number g.C.Owes.due g.met.C.Owes.gave g.C.Owes.grows g.A.Answerer.answers due
+      first_turn g.C.Conversation.stands g.C.Conversation.awaited g.C.Conversation.number g.C.Owes.due g.met.C.Owes.gave g.C.Owes.grows g.A.Answerer.answers g.A.Answerer.fails due
       c.args.serving.now.router _ stands told;
   sound = c.requires.sound;
   due = λ n p m. refl;
   prints = λ start told has. record { trace = []; tells = told; holds = has };
   failed = λ first low was now. was now;
   later_out = omega arith;
-  files = by_none _;
+  given = by_none _;
   listening = refl;
   later = omega arith;
 }
 
 pub returns-in-Err-clause-files : goal.returns-in-Err-clause-files
-returns-in-Err-clause-files g c = by_both g.A.Answerer.answers g.A.Answerer.fails _ _ _ c.turns.invariant.files c.in-Err.ensures.files
+returns-in-Err-clause-files g c = after_both _ _ _ c.turns.invariant.given c.in-Err.ensures.files
+
+pub returns-clause-files : goal.returns-clause-files
+returns-clause-files g c = after_given _ _ c.turns.invariant.given
 
 pub turns-preserved : goal.turns-preserved
 turns-preserved g c =
     let before = c.turns.invariant in
     record {
       turn = λ due first owes stands told.
-          next_turn g.C.Conversation.stands g.C.Conversation.awaited g.C.Conversation.number g.C.Owes.due g.met.C.Owes.gave g.C.Owes.grows g.A.Answerer.answers due
+          next_turn g.C.Conversation.stands g.C.Conversation.awaited g.C.Conversation.number g.C.Owes.due g.met.C.Owes.gave g.C.Owes.grows g.A.Answerer.answers g.A.Answerer.fails due
           c.turns.serving.router c.hear.new.self.router c.turns.turn _ _ (before.turn due first owes stands told)
           (λ trace here is. c.in_default.ensures.ok due first trace (λ n p m. before.due n p m ∙ owes n p m) here is);
       sound = c.in_default.ensures.sound;
@@ -39,7 +42,7 @@ turns-preserved g c =
           let later = before.later_out in
           c.in_default.ensures.failed first (omega (arith, low, later)) (before.failed first low was) now;
       later_out = omega (arith, c.in_default.ensures.later_out, before.later_out);
-      files = by_both g.A.Answerer.answers g.A.Answerer.fails _ _ _ before.files c.in_default.ensures.files;
+      given = by_both _ _ _ before.given c.in_default.ensures.given;
       listening = c.in_default.ensures.listening ∙ before.listening;
       later = omega (arith, c.in_default.ensures.later, before.later);
     }
@@ -47,7 +50,7 @@ turns-preserved g c =
 pub returns-clause-run : goal.returns-clause-run
 returns-clause-run g c = λ due first owes stands told.
     let same : c.turns.turn ≡ c.args.budget = omega arith in
-    tells_spent g.C.Conversation.stands g.C.Conversation.awaited g.C.Conversation.number g.C.Owes.due g.met.C.Owes.gave g.C.Owes.grows g.A.Answerer.answers due
+    tells_spent g.C.Conversation.stands g.C.Conversation.awaited g.C.Conversation.number g.C.Owes.due g.met.C.Owes.gave g.C.Owes.grows g.A.Answerer.answers g.A.Answerer.fails due
     c.turns.serving.router c.args.budget c.turns.turn _ (c.turns.invariant.turn due first owes stands told) same
 
 pub returns-in-Err-clause-run : goal.returns-in-Err-clause-run

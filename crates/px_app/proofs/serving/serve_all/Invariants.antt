@@ -2,7 +2,7 @@ use Rattle.std.proofs.Common.{◌≡◌, ◌≤◌, ℕ, List, [], Option, Some}
 use Rattle.px_message.specs.declared.address.Address.{Address}
 use Rattle.px_event.specs.Layer.{Move}
 use Rattle.px_outside.specs.Count.{Rose}
-use Rattle.px_core.specs.Answers.{AnswererState, ChangedByAnswers, files_meaning}
+use Rattle.px_core.specs.Answers.{AnswererState, ByAnswers, files_meaning, state_of}
 use Rattle.px_core.specs.Due.{Due}
 use Rattle.px_core.specs.Router.{RouterStands}
 use Rattle.px_core.specs.Run.{IsDueOf}
@@ -25,7 +25,7 @@ invariant-turns g l = record {
   failed : (first : ℕ) → first ≤ g.S.Sink.faults l.fn.out → (l.fn.serving.printing ≡ Failed → Rose first (g.S.Sink.faults l.fn.out)) →
       l.serving.printing ≡ Failed → Rose first (g.S.Sink.faults l.out);
   later_out : g.S.Sink.faults l.fn.out ≤ g.S.Sink.faults l.out;
-  files : ChangedByAnswers g.A.Answerer.answers g.A.Answerer.fails g.F.Files.contents g.F.Files.calls g.F.Files.misses g.F.Files.faults g.F.Files.losses l.fn.files l.files;
+  given : ByAnswers g.A.Answerer.answers (state_of g.A.Answerer.state g.F.Files.contents g.F.Files.calls g.F.Files.misses g.F.Files.faults g.F.Files.losses l.fn.serving.router.answerer l.fn.files) (state_of g.A.Answerer.state g.F.Files.contents g.F.Files.calls g.F.Files.misses g.F.Files.faults g.F.Files.losses l.serving.router.answerer l.files);
   listening : g.N.Net.listening l.net ≡ g.N.Net.listening l.fn.net;
   later : g.N.Net.faults l.fn.net ≤ g.N.Net.faults l.net;
 }

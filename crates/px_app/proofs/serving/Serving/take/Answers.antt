@@ -3,7 +3,7 @@ use Rattle.std.specs.List.{flat_map}
 use Rattle.px_message.specs.declared.flow.Flow.{Flow}
 use Rattle.px_event.specs.declared.step.Step.TheVariants as steps
 use Rattle.px_core.specs.Run.{done_of, Tells}
-use Rattle.px_app.proofs.StepLemmas.{tells_served}
+use Rattle.px_app.proofs.StepLemmas.{tells_leaves, tells_served}
 use Rattle.px_core.proofs.RunLemmas.{on_err}
 use Rattle.px_app.specs.Listed.{listed}
 use Rattle.px_app.specs.Printed.{Has}
@@ -42,3 +42,8 @@ pub returns-in_err-self-clause-err : goal.returns-in_err-self-clause-err
 returns-in_err-self-clause-err g c = λ due first trace owes stands told.
     on_err c.from_residual-in_err-self.result
     (tells_served g.C.Conversation.stands g.C.Conversation.awaited g.C.Conversation.number g.C.Owes.due g.A.Answerer.answers due _ _ _ (c.in_ok-flows.ensures.ok due first trace owes stands told))
+
+pub returns-in_err-self-clause-leaves : goal.returns-in_err-self-clause-leaves
+returns-in_err-self-clause-leaves g c = λ due first trace owes stands told.
+    on_err c.from_residual-in_err-self.result
+    (tells_leaves g.C.Conversation.stands g.C.Conversation.awaited g.C.Conversation.number g.C.Owes.due g.A.Answerer.answers g.A.Answerer.fails due _ _ _ (c.in_ok-flows.ensures.ok due first trace owes stands told))

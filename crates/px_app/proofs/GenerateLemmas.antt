@@ -1,0 +1,83 @@
+-- Runs of generated flows.
+use Rattle.std.proofs.Common.{◌≡◌, ◌≢◌, ◌⊎◌, inl, inr, ℕ, [], Option, Some, None, refl, sym, ap, subst, arith}
+use Rattle.std.proofs.lemmas.List.{append-nil}
+use Rattle.px_event.specs.Trace.{Trace}
+use Rattle.px_core.specs.Answers.{Answering, Failing}
+use Rattle.px_gen.specs.Heard.{Hears}
+use Rattle.px_gen.specs.Noted.{HasGrownByFront, noted, with_steps}
+use Rattle.px_options.specs.Options.{Settings}
+use Rattle.px_app.specs.Generates.{Generates, generator_settings}
+use Rattle.px_app.specs.Outside.{Outside}
+use Rattle.px_app.proofs.ToldLemmas.{none_part}
+
+with_none : (trace : Option Trace) → trace ≡ with_steps trace []
+with_none None = refl
+with_none (Some trace) = ap Some (sym (append-nil trace))
+
+-- nothing was told
+none_told : (trace : Option Trace) → HasGrownByFront (noted []) trace trace
+none_told trace = ([], ([], refl), with_none trace)
+
+-- nothing was heard
+none_heard : (count : ℕ) → Hears count []
+none_heard count = (0, (_, refl))
+
+not_seven : (status : ℕ) → status ≡ 8 → status ≡ 7 → ⊥
+not_seven status is seven = omega arith
+
+not_printed : (status : ℕ) → status ≡ 8 → (failed : Type 0) (P : Type 0) → (status ≡ 0) ⊎ ((status ≢ 8) × ¬ failed) → P
+not_printed status is failed P (inl zero) = absurd (omega arith)
+not_printed status is failed P (inr (other, quiet)) = absurd (other is)
+
+module _ {S : Type 0} {answers : Answering S} {fails : Failing S} {IsChain : Settings → S → Type 0} {out : Type 0} where
+  -- memory ran out before anything was told
+  pub nothing_told : (count : ℕ) (before after : Outside) → after.trace ≡ before.trace → after.listening ≡ before.listening → after.written ≡ before.written → after.noted ≡ before.noted →
+      after.files ≡ before.files → Generates answers fails IsChain out count before after 8
+  nothing_told count before after trace listening written notes files = record {
+    run = [];
+    hears = none_heard count;
+    ends = λ other. absurd (other refl);
+    by_chain = λ some. absurd (some refl);
+    told = λ other. absurd (other refl);
+    told_part = let P : Option Trace → Type 0 = λ t. HasGrownByFront (noted []) before.trace t in subst P (sym trace) (none_told before.trace);
+    listening = listening;
+    begun = none_part _ before.written after.written written;
+    prints = λ well. not_printed 8 refl out _ well;
+    notes = notes;
+    files = files;
+    statuses = inr (inr refl);
+    lost = λ seven. absurd (not_seven 8 refl seven);
+    complete = λ quiet. inr refl;
+  }
+
+  -- the number is the one in the words
+  pub generates_at : {count other : ℕ} {before after : Outside} {status : ℕ} → count ≡ other → Generates answers fails IsChain out count before after status → Generates answers fails IsChain out other before after status
+  generates_at {before = before} {after = after} {status = status} same h = subst (λ n. Generates answers fails IsChain out n before after status) same h
+
+-- all was printed, but for a sink that failed and want of memory
+pub complete_by : (failed : Type 0) (status : ℕ) → (status ≡ 0) ⊎ ((status ≡ 7) ⊎ (status ≡ 8)) → (status ≡ 7 → failed) → ¬ failed → (status ≡ 0) ⊎ (status ≡ 8)
+complete_by failed status (inl zero) lost quiet = inl zero
+complete_by failed status (inr (inl seven)) lost quiet = absurd (quiet (lost seven))
+complete_by failed status (inr (inr eight)) lost quiet = inr eight
+
+-- a run by one chain is one by a chain that is so
+pub generates_by : {S : Type 0} {answers : Answering S} {fails : Failing S} {IsChain : Settings → S → Type 0} {out : Type 0} {count : ℕ} {before after : Outside} {status : ℕ} (chain : S) →
+    IsChain generator_settings chain → Generates answers fails (λ settings other. other ≡ chain) out count before after status → Generates answers fails IsChain out count before after status
+generates_by {S} {answers} {fails} {IsChain} {out} {count} {before} {after} {status} chain so h = record {
+  run = h.run;
+  hears = h.hears;
+  ends = h.ends;
+  by_chain = λ some.
+      let by = h.by_chain some in
+      (by.0, subst (λ (s : S). IsChain generator_settings s) (sym by.1) so, by.2);
+  told = h.told;
+  told_part = h.told_part;
+  listening = h.listening;
+  begun = h.begun;
+  prints = h.prints;
+  notes = h.notes;
+  files = h.files;
+  statuses = h.statuses;
+  lost = h.lost;
+  complete = h.complete;
+}

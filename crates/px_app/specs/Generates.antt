@@ -1,0 +1,55 @@
+-- What a run promises with the words `gen N`.
+use Rattle.std.specs.Prelude.{◌≡◌, ◌≢◌, ◌⊎◌, ℕ, true, [], Some}
+use Rattle.px_event.specs.Trace.{Trace}
+use Rattle.px_outside.specs.Sink.{Writes, WritesPart}
+use Rattle.px_core.specs.Answers.{Answering, Failing}
+use Rattle.px_gen.specs.Counts.{counts_in, counts_text}
+use Rattle.px_gen.specs.Heard.{Hears}
+use Rattle.px_gen.specs.Noted.{HasGrownByFront, noted, with_steps}
+use Rattle.px_gen.specs.Rules.{generator_bodies, generator_headers}
+use Rattle.px_gen.specs.Peer.{server as generator_server}
+use Rattle.px_options.specs.Lines as lines
+use Rattle.px_options.specs.Mode.{reverse}
+use Rattle.px_options.specs.Options.{Settings}
+use Rattle.px_app.specs.Outside.{Outside}
+use Rattle.px_app.specs.Promises.{Promises}
+use Rattle.px_app.specs.Statuses.{ends_heard}
+
+-- the options of a generated run: its header rule and its body rule, and else the defaults
+abbrev pub generator_settings : Settings
+generator_settings = record {
+  anticache = lines.anticache.default;
+  anticomp = lines.anticomp.default;
+  block_list = lines.block_list.default;
+  events = lines.events.default;
+  listen = lines.listen.default;
+  map_local = lines.map_local.default;
+  map_remote = lines.map_remote.default;
+  mode = Some (reverse (generator_server.host, generator_server.port));
+  modify_body = generator_bodies;
+  modify_headers = generator_headers;
+}
+
+-- A run of so many generated flows, over a network in memory. Another network was told what was asked, answered and finished in it,
+-- and its counts were printed.
+pub record Generates {S : Type 0} (answers : Answering S) (fails : Failing S) (IsChain : Settings → S → Type 0) (out_failed : Type 0) (count : ℕ) (before after : Outside) (status : ℕ) : Type 0 where
+  -- the run, in which what was heard begins the script; it was heard to its end, but for want of memory
+  pub run : Trace
+  pub hears : Hears count run
+  pub ends : status ≢ 8 → ends_heard run ≡ true
+  -- where it began, every peer got what was due to it
+  pub by_chain : run ≢ [] → (chain : S) × IsChain generator_settings chain × Promises answers fails generator_server (record { own = chain; files = before.files }) after.files status run
+  -- what was told, and nothing else is asked of that network
+  pub told : status ≢ 8 → after.trace ≡ with_steps before.trace (noted run)
+  pub told_part : HasGrownByFront (noted run) before.trace after.trace
+  pub listening : after.listening ≡ before.listening
+  -- what is printed
+  pub begun : WritesPart (counts_text (counts_in run)) before.written after.written
+  pub prints : (status ≡ 0) ⊎ ((status ≢ 8) × ¬ out_failed) → Writes (counts_text (counts_in run)) before.written after.written
+  pub notes : after.noted ≡ before.noted
+  -- no file is touched
+  pub files : after.files ≡ before.files
+  -- the causes of the status
+  pub statuses : (status ≡ 0) ⊎ ((status ≡ 7) ⊎ (status ≡ 8))
+  pub lost : status ≡ 7 → out_failed
+  pub complete : ¬ out_failed → (status ≡ 0) ⊎ (status ≡ 8)

@@ -1,0 +1,76 @@
+-- What came of the options file of a run.
+use Rattle.std.specs.Prelude.{◌≡◌, ◌⊎◌, ℕ, List, [], ◌∷◌, None}
+use Rattle.px_outside.specs.declared.files.FileCall.{FileCall}
+use Rattle.px_outside.specs.declared.files.FileCall.TheVariants.{Read, Missed, ReadFailed}
+use Rattle.px_addons.specs.declared.rules.Rules.{Rules}
+use Rattle.px_map.specs.Reads.{Made, Seen}
+use Rattle.px_map.specs.View.{block_views, local_views, remote_views}
+use Rattle.px_rule.specs.View.{body_views, header_views}
+use Rattle.px_options.specs.Options.{IsRefused, Settings}
+use Rattle.px_options.specs.declared.error.OptionsError.{OptionsError}
+use Rattle.px_options.specs.Shown.{refusal_line, refusal_note}
+use Rattle.px_app.specs.Lines.{cannot_read}
+use Rattle.px_app.specs.declared.opening.OpenError.{OpenError}
+use Rattle.px_app.specs.declared.opening.OpenError.TheVariants as errors
+
+pub data Opened : Type 0 where
+  -- memory ran out before it was read
+  nothing_read : Opened
+  -- nothing stands under its path
+  absent : Opened
+  -- it was not read
+  not_read : Opened
+  -- these bytes were read, and memory ran out before they were judged
+  unjudged : (bytes : List ℕ) → Opened
+  -- these bytes were read, which are no options, for this cause
+  refused : (bytes : List ℕ) (why : OptionsError) → Opened
+  -- these bytes were read, which are these options
+  says : (bytes : List ℕ) (settings : Settings) → Opened
+
+-- the reads that were made, of the file of this path
+abbrev pub reads_of : List ℕ → Opened → List FileCall
+reads_of path nothing_read = []
+reads_of path absent = Missed path ∷ []
+reads_of path not_read = ReadFailed path ∷ []
+reads_of path (unjudged bytes) = Read path bytes ∷ []
+reads_of path (refused bytes why) = Read path bytes ∷ []
+reads_of path (says bytes settings) = Read path bytes ∷ []
+
+-- the rules of a chain are those of the options
+pub record AreRulesOf (settings : Settings) (rules : Rules) : Type 0 where
+  pub block : block_views rules.block ≡ settings.block_list
+  pub local : local_views rules.local ≡ settings.map_local
+  pub remote : remote_views rules.remote ≡ settings.map_remote
+  pub headers : header_views rules.headers ≡ settings.modify_headers
+  pub bodies : body_views rules.bodies ≡ settings.modify_body
+  pub anticache : rules.anticache ≡ settings.anticache
+  pub anticomp : rules.anticomp ≡ settings.anticomp
+  pub stream : rules.stream ≡ None
+
+-- why bytes are no options: they are refused so, or memory ran out
+abbrev pub IsNoOptions : List ℕ → OpenError → Type 0
+IsNoOptions bytes errors.NotRead = ⊥
+IsNoOptions bytes (errors.Refused why) = IsRefused bytes why
+IsNoOptions bytes errors.NoMemory = Unit {0}
+
+-- why there are no options in the file of this path, by what was read of it
+abbrev pub IsNotOpened : List ℕ → OpenError → Seen → Seen → Type 0
+IsNotOpened path errors.NotRead before after = Made (Missed path ∷ []) before after ⊎ Made (ReadFailed path ∷ []) before after
+IsNotOpened path (errors.Refused why) before after = (bytes : List ℕ) × Made (Read path bytes ∷ []) before after × IsRefused bytes why
+IsNotOpened path errors.NoMemory before after = Made [] before after ⊎ ((bytes : List ℕ) × Made (Read path bytes ∷ []) before after)
+
+-- the status, the line and the note where there are no options
+abbrev pub error_code : OpenError → ℕ
+error_code errors.NotRead = 3
+error_code (errors.Refused why) = 2
+error_code errors.NoMemory = 8
+
+abbrev pub error_line : List ℕ → OpenError → List ℕ
+error_line path errors.NotRead = cannot_read path
+error_line path (errors.Refused why) = refusal_line why
+error_line path errors.NoMemory = []
+
+abbrev pub error_note : OpenError → List ℕ
+error_note errors.NotRead = []
+error_note (errors.Refused why) = refusal_note why
+error_note errors.NoMemory = []

@@ -1,0 +1,64 @@
+-- What a run promises with the words `serve OPTIONS`, by what came of the options file.
+use Rattle.std.specs.Prelude.{◌≡◌, ◌≢◌, ◌⊎◌, ℕ, List, [], Some, Ok}
+use Rattle.px_event.specs.Trace.{Trace}
+use Rattle.px_message.specs.declared.address.Address.{Address}
+use Rattle.px_outside.specs.Net.{Listening, idle, failed, at}
+use Rattle.px_core.specs.Answers.{Answering, Failing, FilesMeaning, FilesAfter}
+use Rattle.px_map.specs.Reads.{Made}
+use Rattle.px_options.specs.Mode.{reverse}
+use Rattle.px_options.specs.Options.{IsRefused, Says, Settings}
+use Rattle.px_options.specs.Shown.{refusal_line, refusal_note}
+use Rattle.px_addons.specs.Mapped.{seen_of}
+use Rattle.px_app.specs.Lines.{cannot_read, start_note}
+use Rattle.px_app.specs.Opened.{Opened, nothing_read, absent, not_read, unjudged, refused, says, reads_of}
+use Rattle.px_app.specs.Outside.{Outside, IsTold}
+use Rattle.px_app.specs.Promises.{EndsSo, HasCause, Prints, Promises}
+use Rattle.px_app.specs.Run.{ListensAt}
+
+-- the text, where the network listens
+abbrev pub where_listening : Listening → List ℕ → List ℕ
+where_listening idle text = []
+where_listening failed text = []
+where_listening (at proxy control) text = text
+
+-- A run that stopped before it asked anything of the network: with this status, or for want of memory. It printed this line and told
+-- this note, and the files are these.
+pub record Stops (net_is_same out_failed notes_failed : Type 0) (code : ℕ) (line note : List ℕ) (files : FilesMeaning) (before after : Outside) (status : ℕ) : Type 0 where
+  pub is : (status ≡ code) ⊎ (status ≡ 8)
+  pub net : net_is_same
+  pub kept : after.files ≡ files
+  pub prints : IsTold out_failed status line before.written after.written
+  pub notes : IsTold notes_failed status note before.noted after.noted
+
+-- A run that served as these options say, whose hooks this chain answered, and that began with these files.
+pub record Serves {S : Type 0} (answers : Answering S) (fails : Failing S) (net_failed out_failed notes_failed : Type 0) (settings : Settings) (chain : S) (read : FilesMeaning) (before after : Outside) (status : ℕ) : Type 0 where
+  -- every peer gets what is due to it, and each hook is answered once, at once, by the chain alone
+  pub promises : (address : Address) (trace : Trace) → settings.mode ≡ Some (reverse (address.host, address.port)) → before.trace ≡ Some [] → after.trace ≡ Some trace →
+      Promises answers fails address (record { own = chain; files = read }) after.files status trace
+  -- no file is read but by the chain's answers, one behind the other, and none is changed but as they say
+  pub files : FilesAfter answers fails (record { own = chain; files = read }) after.files
+  -- it listens before anything is heard
+  pub listening : (trace : Trace) → before.trace ≡ Some [] → after.trace ≡ Some trace → trace ≢ [] → ListensAt settings.listen after.listening
+  -- the causes of the status: in what is outside, and in the trace
+  pub causes : HasCause net_failed out_failed status
+  pub ends : (trace : Trace) → before.trace ≡ Some [] → after.trace ≡ Some trace → EndsSo settings.events status trace
+  -- what is printed, and the note of where it listens
+  pub prints : (trace : Trace) → before.trace ≡ Some [] → after.trace ≡ Some trace → Prints out_failed status trace before.written after.written
+  pub notes : IsTold notes_failed status (where_listening after.listening (start_note settings.listen settings.mode)) before.noted after.noted
+
+module _ {S : Type 0} (answers : Answering S) (fails : Failing S) (IsChain : Settings → S → Type 0) (net_is_same net_failed out_failed notes_failed : Type 0) where
+  -- the run by what came of the options file of this path, with the files as its read left them
+  abbrev pub RunsOn : List ℕ → Opened → FilesMeaning → Outside → Outside → ℕ → Type 0
+  RunsOn path nothing_read read before after status = Stops net_is_same out_failed notes_failed 8 [] [] read before after status
+  RunsOn path absent read before after status = Stops net_is_same out_failed notes_failed 3 (cannot_read path) [] read before after status
+  RunsOn path not_read read before after status = Stops net_is_same out_failed notes_failed 3 (cannot_read path) [] read before after status
+  RunsOn path (unjudged bytes) read before after status = Stops net_is_same out_failed notes_failed 8 [] [] read before after status
+  RunsOn path (refused bytes why) read before after status = IsRefused bytes why × Stops net_is_same out_failed notes_failed 2 (refusal_line why) (refusal_note why) read before after status
+  RunsOn path (says bytes settings) read before after status =
+      Says bytes (Ok settings) × ((chain : S) × IsChain settings chain × Serves answers fails net_failed out_failed notes_failed settings chain read before after status)
+
+  -- The file of this path is read first, once, and this came of it.
+  pub record ServesFile (path : List ℕ) (opened : Opened) (before after : Outside) (status : ℕ) : Type 0 where
+    pub read : FilesMeaning
+    pub reads : Made (reads_of path opened) (seen_of before.files) (seen_of read)
+    pub runs : RunsOn path opened read before after status

@@ -1,0 +1,144 @@
+//! A run that stops before it serves: its line is printed and its note told, and the network is asked nothing.
+ghost use Rattle.std.specs.Prelude.{◌≡◌, ◌≤◌, ◌⊎◌, ◌++◌, IfOk, OnOk, OnErr};
+ghost use Rattle.px_message.specs.Url.{port_suffix};
+ghost use Rattle.px_outside.specs.Count.{Rose};
+ghost use Rattle.px_outside.specs.Sink.{Writes, WritesPart};
+ghost use Rattle.px_app.specs.Lines.{cannot_read, proxy_text, server_text, start_text};
+ghost use Rattle.px_app.specs.Outside.{IsTold};
+ghost use Rattle.px_app.specs.Statuses.{stop_code};
+
+use px_message::Address;
+use px_outside::{Sink, SinkError};
+use px_text::{NoMemory, push_decimal};
+use std::alloc::Global;
+
+// The status for want of memory.
+pub(crate) const NO_MEMORY: u8 = 8;
+
+/// Why a run does not serve.
+#[derive(Clone, Copy, Debug, PartialEq, Eq)]
+pub enum Stop {
+    /// The words have no form.
+    Usage,
+    /// The options file is none.
+    Refused,
+    /// The options file was not read.
+    NotRead,
+}
+
+impl Stop {
+    /// The exit status.
+    pub fn code(self) -> u8
+        ensures code { result ≡ stop_code self }
+    {
+        match self {
+            Stop::Usage => 1,
+            Stop::Refused => 2,
+            Stop::NotRead => 3,
+        }
+    }
+}
+
+/// Prints the line and tells the note. A sink that fails changes no status. Answers the exit status, which is 8 where memory ran out.
+pub(crate) fn stop_with<S: Sink, T: Sink>(
+    out: &mut S,
+    notes: &mut T,
+    why: Stop,
+    line: &[u8],
+    note: &[u8],
+) -> u8
+    ensures status { (result ≡ stop_code why) ⊎ (result ≡ 8) }
+    ensures prints { IsTold (Rose (S.faults out.old) (S.faults out.new)) result line.now (S.written out.old) (S.written out.new) }
+    ensures notes { IsTold (Rose (T.faults notes.old) (T.faults notes.new)) result note.now (T.written notes.old) (T.written notes.new) }
+{
+    match tell_both(out, notes, line, note) {
+        Ok(()) => why.code(),
+        Err(NoMemory) => NO_MEMORY,
+    }
+}
+
+// Writes the line, and then the note.
+fn tell_both<S: Sink, T: Sink>(
+    out: &mut S,
+    notes: &mut T,
+    line: &[u8],
+    note: &[u8],
+) -> Result<(), NoMemory>
+    ensures prints { OnOk result (Writes line.now (S.written out.old) (S.written out.new) ⊎ (Rose (S.faults out.old) (S.faults out.new) × WritesPart line.now (S.written out.old) (S.written out.new))) }
+    ensures notes { OnOk result (Writes note.now (T.written notes.old) (T.written notes.new) ⊎ (Rose (T.faults notes.old) (T.faults notes.new) × WritesPart note.now (T.written notes.old) (T.written notes.new))) }
+    ensures prints_part { OnErr result (WritesPart line.now (S.written out.old) (S.written out.new)) }
+    ensures notes_none { OnErr result (T.written notes.new ≡ T.written notes.old) }
+{
+    tell(out, line)?;
+    tell(notes, note)
+}
+
+/// Writes the text. That the sink fails is told by its count alone. After `NoMemory` nothing of it is written.
+pub(crate) fn tell<S: Sink>(sink: &mut S, text: &[u8]) -> Result<(), NoMemory>
+    ensures told { OnOk result (Writes text.now (S.written sink.old) (S.written sink.new) ⊎ (Rose (S.faults sink.old) (S.faults sink.new) × WritesPart text.now (S.written sink.old) (S.written sink.new))) }
+    ensures err { OnErr result (S.written sink.new ≡ S.written sink.old) }
+    ensures later { S.faults sink.old ≤ S.faults sink.new }
+{
+    match sink.write(text) {
+        Ok(()) | Err(SinkError::Failed) => Ok(()),
+        Err(SinkError::NoMemory) => Err(NoMemory),
+    }
+}
+
+/// The line of a file that was not read.
+#[tactic(auto, unfolding(crate::specs::Lines::cannot_read))]
+pub(crate) fn cannot_read(alloc: Global, path: &str) -> Result<Vec<u8>, NoMemory>
+    ensures { IfOk result (λ line. line.items ≡ cannot_read path.now) }
+{
+    let mut line = Vec::from_slice(alloc, b"cannot read ")?;
+    line.extend_from_slice(path.as_bytes())?;
+    line.push(b'\n')?;
+    Ok(line)
+}
+
+/// The note at a run's start: where clients connect, and to which server their requests go.
+pub(crate) fn start_text(
+    alloc: Global,
+    proxy: &Address,
+    server: &Address,
+) -> Result<Vec<u8>, NoMemory>
+    ensures { IfOk result (λ text. text.items ≡ start_text (proxy.now.host, proxy.now.port) (server.now.host, server.now.port)) }
+{
+    let mut text = Vec::new(alloc);
+    push_proxy(proxy.host.bytes(), u64::from(proxy.port), &mut text)?;
+    push_server(server.host.bytes(), server.port, &mut text)?;
+    Ok(text)
+}
+
+#[tactic(auto, unfolding(crate::specs::Lines::proxy_text))]
+fn push_proxy(host: &[u8], port: u64, text: &mut Vec<u8>) -> Result<(), NoMemory>
+    ensures { OnOk result (text.new.items ≡ text.old.items ++ proxy_text host.now port) }
+{
+    text.extend_from_slice(b"listening at ")?;
+    text.extend_from_slice(host)?;
+    text.push(b':')?;
+    push_decimal(text, port)?;
+    Ok(())
+}
+
+#[tactic(auto, unfolding(crate::specs::Lines::server_text))]
+fn push_server(host: &[u8], port: u16, text: &mut Vec<u8>) -> Result<(), NoMemory>
+    ensures { OnOk result (text.new.items ≡ text.old.items ++ server_text host.now port) }
+{
+    text.extend_from_slice(b", for http://")?;
+    text.extend_from_slice(host)?;
+    push_port(port, text)?;
+    text.push(b'\n')?;
+    Ok(())
+}
+
+// A colon and the port, unless it is the scheme's own.
+fn push_port(port: u16, text: &mut Vec<u8>) -> Result<(), NoMemory>
+    ensures { OnOk result (text.new.items ≡ text.old.items ++ port_suffix port) }
+{
+    if port == 80 {
+        return Ok(());
+    }
+    text.push(b':')?;
+    push_decimal(text, u64::from(port))
+}
