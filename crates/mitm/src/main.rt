@@ -1,15 +1,18 @@
 //! `mitm`: a debugging proxy for plain HTTP/1.1.
 //!
-//! The words of the command line go to `px_proxy::run`, with the sockets, the files and the standard output of the system, and
-//! the status that it answers is the program's. Where the system refuses to tell the readiness of sockets, it prints the
-//! line of a network fault and ends with 5; where memory runs out before the run, it ends with 8.
+//! The words of the command line go to `px_proxy::run`, with the sockets, the files, the standard output and, for notes, the
+//! standard error of the system, and the status that it answers is the program's. Where it ends since it can't listen, standard
+//! error is told why. Where the system refuses to tell the readiness of sockets, it prints the line of a network fault and ends
+//! with 5; where memory runs out before the run, it ends with 8.
 #![tactic(auto)]
 
+mod cause;
 mod real_files;
 mod std_sink;
 #[cfg(test)]
 mod tests;
 
+use crate::cause::tell_cause;
 use crate::real_files::RealFiles;
 use crate::std_sink::StdSink;
 use px_addons::{Addon, FlowCounter};
@@ -21,7 +24,7 @@ use std::io::ErrorKind;
 use std::process::ExitCode;
 use std::{env, io};
 
-// The status where there are no sockets, and its line.
+// The status where the network fails, and its line where there are no sockets.
 const NET_FAULT: u8 = 5;
 
 const NET_FAULT_LINE: &str = "network fault\n";
@@ -31,6 +34,7 @@ const NO_MEMORY: u8 = 8;
 
 fn main(rt: HostRuntime) -> ExitCode {
     let mut out = StdSink::new(rt);
+    let mut notes = StdSink::new(rt.stderr());
     let Ok(words) = words(rt) else {
         return ExitCode::from(NO_MEMORY);
     };
@@ -53,7 +57,19 @@ fn main(rt: HostRuntime) -> ExitCode {
     if addons.push(counter).is_err() {
         return ExitCode::from(NO_MEMORY);
     }
-    ExitCode::from(run(rt.alloc(), &words, &mut net, &mut files, &mut out, addons))
+    let status = run(
+        rt.alloc(),
+        &words,
+        &mut net,
+        &mut files,
+        &mut out,
+        &mut notes,
+        addons,
+    );
+    if status == NET_FAULT {
+        tell_cause(rt.alloc(), net.wire(), &mut notes);
+    }
+    ExitCode::from(status)
 }
 
 // The words behind the program's name. Where one is no text there are none, which has no form.

@@ -1,19 +1,20 @@
-//! Standard output as a sink.
+//! Standard output and standard error as sinks.
 ghost use Rattle.std.specs.Prelude.{None};
 
 use px_outside::{Sink, SinkError};
 
-/// Writes to standard output. It tells nothing of what was written.
+/// Writes to a stream of the system: standard output for a runtime, standard error for its `stderr()`. It tells nothing of what
+/// was written.
 #[derive(Drop)]
 pub struct StdSink<R: Print + Drop> {
-    rt: R,
+    stream: R,
     faults: u64,
 }
 
 impl<R: Print + Drop> StdSink<R> {
-    /// A sink over this runtime's standard output.
-    pub fn new(rt: R) -> StdSink<R> {
-        StdSink { rt, faults: 0 }
+    /// A sink over this stream.
+    pub fn new(stream: R) -> StdSink<R> {
+        StdSink { stream, faults: 0 }
     }
 }
 
@@ -26,7 +27,7 @@ impl<R: Print + Drop> Sink for StdSink<R> {
         if bytes.is_empty() {
             return Ok(());
         }
-        match self.rt.write_all(bytes) {
+        match self.stream.write_all(bytes) {
             Ok(()) => Ok(()),
             Err(_) => {
                 self.faults = self.faults.saturating_add(1);

@@ -4,19 +4,17 @@ mod memory;
 ghost use Rattle.std.specs.Prelude.{◌≡◌, ◌+◌, None, IfOk, if◌then◌else◌, option_map, unwrap_or};
 ghost use Rattle.px_outside.specs.Net.{idle};
 
-use crate::real_files::RealFiles;
 use crate::std_sink::StdSink;
 use px_app::run;
 use px_event::{Heard, Said, Step};
 use px_message::{Address, Host};
 use px_mio::MioWire;
-use px_outside::{Net, NetError};
+use px_outside::{MemFiles, Net, NetError, VecSink};
 use px_text::NoMemory;
 use px_wire::{Lines, Wire};
 use std::alloc::Global;
 use std::io::{ErrorKind, Read, Write};
 use std::net::{Ipv4Addr, Net as HostNet, OpenListener, SocketAddr, TcpListener, TcpStream};
-use std::rt::Files as HostFiles;
 use std::sync::Wait;
 use std::test::Fail;
 use std::time::{Clock, Duration};
@@ -103,31 +101,40 @@ fn three<R: HostNet + Wait + Clock + Alloc<A = Global> + Drop>(
     })
 }
 
-// The words for a server at this port.
-fn words(alloc: Global, port: u16) -> Result<Vec<String>, Fail> {
+// The words, which name an options file.
+fn words(alloc: Global) -> Result<Vec<String>, NoMemory> {
     let mut words = Vec::new(alloc);
-    words.push(format!(in alloc; "serve")?)?;
-    words.push(format!(in alloc; "127.0.0.1")?)?;
-    words.push(format!(in alloc; "{port}")?)?;
+    for word in ["serve", "options"] {
+        words.push(String::from_str(alloc, word)?)?;
+    }
     Ok(words)
 }
 
-// Runs over this network, and gives the status.
-fn status_of<N: Net, R: HostFiles + Print + AllocGlobal + Alloc<A = Global> + Copy + Drop>(
+// Files with an options file of this text.
+fn files_of(alloc: Global, options: String) -> Result<MemFiles, NoMemory> {
+    let mut files = Vec::new(alloc);
+    files.push((String::from_str(alloc, "options")?, options.into_bytes()))?;
+    Ok(MemFiles::new(alloc, files, Vec::new(alloc)))
+}
+
+// Runs over this network and these files, and gives the status.
+fn status_of<N: Net, R: Print + Alloc<A = Global> + Copy + Drop>(
     rt: R,
     net: &mut N,
     words: &[String],
+    files: &mut MemFiles,
 ) -> u8
     requires idle { N.listening net.old ≡ idle }
 {
-    let mut files = RealFiles::new(rt);
     let mut out = StdSink::new(rt);
+    let mut notes = VecSink::new(rt.alloc(), Vec::new(rt.alloc()));
     run(
         rt.alloc(),
         words,
         net,
-        &mut files,
+        files,
         &mut out,
+        &mut notes,
         Vec::new(rt.alloc()),
     )
 }
@@ -166,8 +173,10 @@ fn a_client_reads_that_its_server_is_dead(rt: HostRuntime) -> Result<(), Fail> {
     let (free, closed) = two_ports(&rt)?;
     let client = thread::spawn(&rt, move || ask(&rt, free))?;
     let mut net = three(rt, free)?;
-    let words = words(rt.alloc(), closed)?;
-    assert_eq!(rt; status_of(rt, &mut net, &words), 0);
+    let words = words(rt.alloc())?;
+    let options = format!(in rt.alloc(); "mode = 'reverse:http://127.0.0.1:{closed}'\n")?;
+    let mut files = files_of(rt.alloc(), options)?;
+    assert_eq!(rt; status_of(rt, &mut net, &words, &mut files), 0);
     let answer = client.join(&rt)?;
     assert_eq!(rt; answer.as_slice(), ANSWER);
     Ok(())

@@ -6,10 +6,11 @@
 //! network over it is that over the wire in memory.
 //!
 //! A socket that fails ends its slot and nothing else: it is `Broken`, or its dial failed. The wire as a whole fails where
-//! the system's readiness, its clock or its listening does.
+//! the system's readiness, its clock or its listening does; why it can't listen is told to people (`MioWire::why`).
 #![tactic(auto)]
 
 mod connection;
+mod listen_fault;
 mod listening;
 mod name;
 mod news;
@@ -19,4 +20,5 @@ mod sockets;
 mod tests;
 mod wire;
 
+pub use listen_fault::ListenFault;
 pub use wire::MioWire;

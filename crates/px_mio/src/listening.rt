@@ -1,18 +1,35 @@
-//! Where a wire listens, and how often it failed.
-ghost use Rattle.std.specs.Prelude.{◌≡◌, ◌≤◌};
+//! Where a wire listens or was refused to, and how often it failed.
+ghost use Rattle.std.specs.Prelude.{◌≡◌, ◌≤◌, IfOk, Some};
 ghost use Rattle.px_outside.specs.Count.{Rose};
 
+use crate::ListenFault;
 use px_message::Address;
+use px_text::NoMemory;
 
-/// Whether it was asked to listen, and where it does.
+/// Whether it was asked to listen, and where it does. Where it failed: what was refused, or none where memory ran out.
 #[derive(Debug, Drop)]
 pub(crate) enum Listening {
     Idle,
-    Failed,
+    Failed(Option<Refused>),
     At {
         proxy: Address,
         control: Option<Address>,
     },
+}
+
+/// An address at which it can't listen, and why.
+#[derive(Debug, Drop)]
+pub(crate) struct Refused {
+    pub(crate) address: Address,
+    pub(crate) why: ListenFault,
+}
+
+/// That it can't listen at this address.
+pub(crate) fn refusal_at(address: &Address, why: ListenFault) -> Result<Option<Refused>, NoMemory>
+    ensures refused { IfOk result (λ found. found ≡ Some (record { address = address.now; why = why })) }
+{
+    let address = address.try_clone()?;
+    Ok(Some(Refused { address, why }))
 }
 
 /// A count further by one, which stands still at its type's end.

@@ -1,8 +1,10 @@
 //! The sockets of a wire, and what the system tells of them.
-ghost use Rattle.std.specs.Prelude.{◌≡◌, length};
+ghost use Rattle.std.specs.Prelude.{◌≡◌, ◌⊎◌, IfOk, IfSome, Some, length, option_copied};
 ghost use Rattle.px_wire.specs.Calls.{GotWithin, PutWithin};
 
+use crate::ListenFault;
 use crate::connection::{Connection, Drained, drain};
+use crate::listening::{Refused, refusal_at};
 use crate::name::{look_up, peer_address};
 use crate::news::{CONTROL, News, PROXY, Way, door_of, may_read, may_write, slot_of};
 use crate::socket::{Attempt, Attempted, Socket, connect, look_at, register};
@@ -74,34 +76,52 @@ impl<R: Net + Clock + Alloc<A = Global> + Drop> Sockets<R> {
         })
     }
 
-    /// Opens the doors; whether that can be had.
+    /// Opens the doors. Where one can't be had: at which address, and why.
     pub(crate) fn listen(
         &mut self,
         proxy: &Address,
         control: Option<&Address>,
-    ) -> Result<bool, NoMemory> {
-        self.proxy = self.bind(proxy, PROXY)?;
-        if self.proxy.is_none() {
-            return Ok(false);
+    ) -> Result<Option<Refused>, NoMemory>
+        ensures asked { IfOk result (λ found. IfSome found (λ r. (r.address ≡ proxy.now) ⊎ (Some r.address ≡ option_copied control.entry))) }
+    {
+        match self.bind(proxy, PROXY)? {
+            Ok(listener) => self.proxy = Some(listener),
+            Err(why) => return refusal_at(proxy, why),
         }
         let Some(control) = control else {
-            return Ok(true);
+            return Ok(None);
         };
-        self.control = self.bind(control, CONTROL)?;
-        Ok(self.control.is_some())
-    }
-
-    // A listener at the first of the address's addresses where that can be had.
-    fn bind(&self, address: &Address, token: Token) -> Result<Option<TcpListener>, NoMemory> {
-        let mut addresses = look_up(&self.rt, self.alloc, address)?;
-        while let Some(address) = addresses.pop_front() {
-            if let Ok(mut listener) = TcpListener::bind(&self.rt, address) {
-                let registry = self.poll.registry();
-                let registered = registry.register(&mut listener, token, Interest::READABLE);
-                return Ok(registered.ok().map(|()| listener));
-            }
+        match self.bind(control, CONTROL)? {
+            Ok(listener) => self.control = Some(listener),
+            Err(why) => return refusal_at(control, why),
         }
         Ok(None)
+    }
+
+    // A listener at the first of the address's addresses where that can be had. Else why it can't at the last of them.
+    fn bind(
+        &self,
+        address: &Address,
+        token: Token,
+    ) -> Result<Result<TcpListener, ListenFault>, NoMemory> {
+        let mut addresses = look_up(&self.rt, self.alloc, address)?;
+        let mut why = ListenFault::NoSuchName;
+        while let Some(address) = addresses.pop_front() {
+            match TcpListener::bind(&self.rt, address) {
+                Ok(listener) => return Ok(self.watch(listener, token)),
+                Err(error) => why = ListenFault::of_kind(error.kind()),
+            }
+        }
+        Ok(Err(why))
+    }
+
+    // The listener, once the system tells its readiness.
+    fn watch(&self, mut listener: TcpListener, token: Token) -> Result<TcpListener, ListenFault> {
+        let registry = self.poll.registry();
+        match registry.register(&mut listener, token, Interest::READABLE) {
+            Ok(()) => Ok(listener),
+            Err(_) => Err(ListenFault::Other),
+        }
     }
 
     /// Waits until some socket can go on, and tells it with its moment.

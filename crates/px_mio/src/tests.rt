@@ -1,9 +1,10 @@
 //! A wire of real sockets against sockets of std, on loopback.
 mod lines;
 
-use crate::MioWire;
+use crate::{ListenFault, MioWire};
 use px_event::{Said, Side, Step};
 use px_message::{Address, Host};
+use px_outside::NetError;
 use px_text::NoMemory;
 use px_wire::{Got, Put, Ready, Wire};
 use std::alloc::Global;
@@ -191,5 +192,17 @@ fn tells_how_a_dial_ended(rt: HostRuntime) -> Result<(), Fail> {
     let closed = free_port(&rt)?;
     let slot = dial(&mut wire, rt.alloc(), closed)?;
     assert_eq!(rt; dial_end(&mut wire, slot), Some(false));
+    Ok(())
+}
+
+#[test]
+fn tells_why_it_cannot_listen(rt: HostRuntime) -> Result<(), Fail> {
+    let listener = TcpListener::bind(&rt, local(0))?;
+    let taken = address(rt.alloc(), listener.local_addr()?.port())?;
+    let mut wire = MioWire::new(rt)?;
+    assert!(rt; wire.why().is_none());
+    assert!(rt; wire.listen(&taken, None) == Err(NetError::Fault));
+    assert!(rt; wire.why() == Some(ListenFault::InUse));
+    assert!(rt; wire.refused_at() == Some(&taken));
     Ok(())
 }

@@ -1,8 +1,10 @@
 //! The wire of real sockets.
-ghost use Rattle.std.specs.Prelude.{◌≡◌, IfOk};
-ghost use Rattle.px_outside.specs.Net.{idle};
-ghost use Rattle.px_mio.specs.Listening.{listening_of};
+ghost use Rattle.std.specs.Prelude.{◌≡◌, ◌≤◌, ◌⊎◌, Some, None, Err, IfOk, IfSome, IsSome, OnOk, OnErr, option_copied, option_map};
+ghost use Rattle.px_outside.specs.Count.{Rose};
+ghost use Rattle.px_outside.specs.Net.{idle, failed, at};
+ghost use Rattle.px_mio.specs.Listening.{listening_of, refused_of};
 
+use crate::ListenFault;
 use crate::listening::{Listening, one_more};
 use crate::sockets::Sockets;
 use px_event::Step;
@@ -38,6 +40,27 @@ impl<R: Net + Wait + Clock + Alloc<A = Global> + Drop> MioWire<R> {
             breaks: 0,
         })
     }
+
+    /// Why it can't listen, for people: some exactly after `listen` answered `Fault`.
+    pub fn why(&self) -> Option<ListenFault>
+        ensures why { result ≡ option_map (λ r. r.why) (refused_of self.now.listening) }
+        ensures failed { IsSome result → listening_of self.now.listening ≡ failed }
+    {
+        match &self.listening {
+            Listening::Failed(Some(refused)) => Some(refused.why),
+            Listening::Failed(None) | Listening::Idle | Listening::At { .. } => None,
+        }
+    }
+
+    /// The address at which it can't listen: some where `why` is.
+    pub fn refused_at(&self) -> Option<&Address>
+        ensures address { option_copied result ≡ option_map (λ r. r.address) (refused_of self.now.listening) }
+    {
+        match &self.listening {
+            Listening::Failed(Some(refused)) => Some(&refused.address),
+            Listening::Failed(None) | Listening::Idle | Listening::At { .. } => None,
+        }
+    }
 }
 
 impl<R: Net + Wait + Clock + Alloc<A = Global> + Drop> Wire for MioWire<R> {
@@ -60,11 +83,24 @@ impl<R: Net + Wait + Clock + Alloc<A = Global> + Drop> Wire for MioWire<R> {
 
     ghost breaks = { λ w. w.breaks };
 
-    fn listen(&mut self, proxy: &Address, control: Option<&Address>) -> Result<(), NetError> {
-        self.listening = Listening::Failed;
-        let opened = self.sockets.listen(proxy, control)?;
-        if !opened {
+    fn listen(&mut self, proxy: &Address, control: Option<&Address>) -> Result<(), NetError>
+        requires first { listening_of self.old.listening ≡ idle }
+        ensures ok { OnOk result (listening_of self.new.listening ≡ at proxy.now (option_copied control.entry)) }
+        ensures err { OnErr result (listening_of self.new.listening ≡ failed) }
+        ensures faults { self.old.faults ≤ self.new.faults }
+        ensures fault { result ≡ Err NetError.Fault → Rose self.old.faults self.new.faults }
+        ensures blocks { self.old.blocks ≤ self.new.blocks }
+        ensures breaks { self.old.breaks ≤ self.new.breaks }
+
+        // Why it failed is told after a fault alone, with the address, which is one of those that it was asked for.
+        ensures why { result ≡ Err NetError.Fault → IsSome (refused_of self.new.listening) }
+        ensures only_why { IsSome (refused_of self.new.listening) → result ≡ Err NetError.Fault }
+        ensures asked { IfSome (refused_of self.new.listening) (λ r. (r.address ≡ proxy.now) ⊎ (Some r.address ≡ option_copied control.entry)) }
+    {
+        self.listening = Listening::Failed(None);
+        if let Some(refused) = self.sockets.listen(proxy, control)? {
             self.faults = one_more(self.faults);
+            self.listening = Listening::Failed(Some(refused));
             return Err(NetError::Fault);
         }
         let proxy = proxy.try_clone()?;

@@ -1,7 +1,8 @@
 //! A run over the wire in memory, whose socket takes an answer in parts.
+use super::{files_of, words};
 use px_event::Door;
 use px_message::{Address, Host};
-use px_outside::{MemFiles, VecSink};
+use px_outside::VecSink;
 use px_proxy::run;
 use px_wire::{Lines, MemWire, Ready};
 use std::alloc::Global;
@@ -33,13 +34,8 @@ fn script(alloc: Global) -> Result<Vec<(u64, Ready)>, Fail> {
     Ok(script)
 }
 
-fn words(alloc: Global) -> Result<Vec<String>, Fail> {
-    let mut words = Vec::new(alloc);
-    for word in ["serve", "h", "80"] {
-        words.push(String::from_str(alloc, word)?)?;
-    }
-    Ok(words)
-}
+// What is noted of where it listens.
+const LISTENING: &[u8] = b"listening at 127.0.0.1:8080, for http://h\n";
 
 #[test]
 fn a_socket_takes_an_answer_in_parts(rt: HostRuntime) -> Result<(), Fail> {
@@ -49,12 +45,22 @@ fn a_socket_takes_an_answer_in_parts(rt: HostRuntime) -> Result<(), Fail> {
     let takes = [7, 0].to_vec(alloc)?;
     let wire = MemWire::new(alloc, script(alloc)?, takes, gives);
     let mut lines = Lines::new(alloc, wire);
-    let mut files = MemFiles::new(alloc, Vec::new(alloc), Vec::new(alloc));
+    let options = String::from_str(alloc, "mode = 'reverse:http://h'\n")?;
+    let mut files = files_of(alloc, options)?;
     let mut out = VecSink::new(alloc, Vec::new(alloc));
+    let mut notes = VecSink::new(alloc, Vec::new(alloc));
     let words = words(alloc)?;
-    let addons = Vec::new(alloc);
-    let status = run(alloc, &words, &mut lines, &mut files, &mut out, addons);
+    let status = run(
+        alloc,
+        &words,
+        &mut lines,
+        &mut files,
+        &mut out,
+        &mut notes,
+        Vec::new(alloc),
+    );
     assert!(rt; status == 5);
+    assert!(rt; notes.written() == LISTENING);
     assert!(rt; lines.wire().taken(5)?.as_slice() == ANSWER);
     Ok(())
 }
