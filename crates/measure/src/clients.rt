@@ -147,21 +147,37 @@ impl Sink for Counter {
     }
 }
 
-/// Serves so many clients, one behind the other, and gives how many bytes of lines were printed.
-pub fn serve_clients(alloc: Global, count: u32) -> Result<u64, NoMemory> {
+fn words(alloc: Global) -> Result<Vec<String>, NoMemory> {
     let mut words = Vec::new(alloc);
-    for word in ["serve", "h", "80"] {
+    for word in ["serve", "o"] {
         words.push(String::from_str(alloc, word)?)?;
     }
+    Ok(words)
+}
+
+// An options file by whose path the words go.
+fn options_file(alloc: Global) -> Result<MemFiles, NoMemory> {
+    let path = String::from_str(alloc, "o")?;
+    let text = Vec::from_slice(alloc, b"mode = \"reverse:http://h\"\n")?;
+    let mut files = Vec::new(alloc);
+    files.push((path, text))?;
+    Ok(MemFiles::new(alloc, files, Vec::new(alloc)))
+}
+
+/// Serves so many clients, one behind the other, and gives how many bytes of lines were printed.
+pub fn serve_clients(alloc: Global, count: u32) -> Result<u64, NoMemory> {
+    let words = words(alloc)?;
+    let mut files = options_file(alloc)?;
     let mut net = Clients::new(alloc, count);
-    let mut files = MemFiles::new(alloc, Vec::new(alloc), Vec::new(alloc));
     let mut out = Counter { bytes: 0 };
+    let mut notes = Counter { bytes: 0 };
     match run(
         alloc,
         &words,
         &mut net,
         &mut files,
         &mut out,
+        &mut notes,
         Vec::new(alloc),
     ) {
         0 => Ok(out.bytes),

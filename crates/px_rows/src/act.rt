@@ -106,8 +106,21 @@ fn accepted(alloc: Global, conv: u32, door: Door) -> Result<Act, RowError> {
     }))
 }
 
-const SAID: [&str; 10] = [
-    "C> ", "close ", "dial S", "ask ", "done ", "prints ", "status ", "steps ", "going", "over",
+const SAID: [&str; 14] = [
+    "C> ",
+    "close ",
+    "dial S",
+    "ask ",
+    "done ",
+    "prints ",
+    "notes ",
+    "reads ",
+    "misses ",
+    "cannot read ",
+    "status ",
+    "steps ",
+    "going",
+    "over",
 ];
 
 // Whether something is said by the line.

@@ -4,14 +4,15 @@
 //! played, and `show_said` shows what was said in the same notation. Sends to one side that follow each other are shown as
 //! one, since nothing is promised of their cut.
 //!
-//! This crate serves the program `rows` alone: what it does is tested by its rows, and not proved, beyond that it is safe
-//! and ends.
+//! This crate serves those who play rows alone (`px_plays` and the program `rows`): what it does is tested by their rows, and
+//! not proved, beyond that it is safe and ends.
 #![tactic(auto)]
 
 mod act;
 mod cuts;
 mod error;
 mod escapes;
+mod reports;
 mod sheet;
 mod show;
 mod text;
@@ -20,6 +21,7 @@ pub use act::{Act, piece, read_act};
 pub use cuts::{Cut, Cuts, add_cuts, cut_piece, plain_cuts};
 pub use error::{RowError, Trouble};
 pub use escapes::{unescape, write_escaped};
+pub use reports::report;
 pub use sheet::{Line, Row, read_sheet};
 pub use show::{Peer, end_line, show_address, show_close, show_dial, show_said, show_send};
 pub use text::read_u32;

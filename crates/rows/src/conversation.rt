@@ -6,12 +6,13 @@ ghost use Rattle.px_gate.specs.Gate.{GateStands};
 ghost use Rattle.px_http.specs.Stands.{HttpStands, awaits};
 
 use crate::diagram::{Diagram, Heed};
-use crate::replies::{Turn, host_of, is_wait, reply_at, reply_of};
+use crate::replies::{Turn, is_wait, reply_at, reply_of};
 use crate::told::{Told, show};
 use px_event::{Ask, Command, Event, Heard, Hook, Reply, Side};
 use px_gate::{Gate, GateError};
 use px_http::HttpConv;
-use px_message::{Address, Fault, Flow};
+use px_message::{Fault, Flow};
+use px_plays::address_at;
 use px_rows::{Act, Cut, RowError, Trouble, cut_piece};
 use px_stream::{Outcome, Place};
 use px_text::Bytes;
@@ -44,7 +45,7 @@ pub(crate) fn play_conversation(
         Err(error) => return Err(error.in_line(number)),
     };
     play_lines(alloc, &mut player, diagram.script.as_slice(), cut)?;
-    match end_of(player, diagram.outcome) {
+    match end_of(player, diagram.asked.outcome) {
         Ok(came) => Ok(came),
         Err(error) => Err(error.in_line(number)),
     }
@@ -103,17 +104,6 @@ fn new_conversation(alloc: Global, first_flow: u32, next_server: u32) -> Result<
         inside: None,
     };
     Ok(HttpConv::new(alloc, 3, Some(client), place, first_flow, next_server))
-}
-
-/// The address of a host and a port, which is not 0.
-pub(crate) fn address_at(alloc: Global, host: &str, port: u16) -> Result<Address, RowError> {
-    if port == 0 {
-        return Err(RowError::Bad);
-    }
-    Ok(Address {
-        host: host_of(alloc, host)?,
-        port,
-    })
 }
 
 // The n-th thing is heard at moment 10 n.

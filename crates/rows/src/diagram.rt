@@ -1,5 +1,5 @@
 //! The lines of a diagram: what a row begins with, what is heard, and what is wanted.
-use px_event::{Heard, Side};
+use crate::outside::{Outside, new_outside, read_outside};
 use px_rows::{Act, Row, RowError, Trouble, read_act, read_u32};
 use std::alloc::Global;
 
@@ -34,11 +34,17 @@ pub(crate) struct Diagram {
     pub(crate) first_flow: u32,
     pub(crate) next_server: u32,
     pub(crate) in_full: bool,
-    pub(crate) words: Vec<String>,
-    pub(crate) net_fails: Vec<u64>,
-    pub(crate) sink_fails: Vec<u64>,
-    /// Whether the outcome is wanted, and the count of the steps.
+    pub(crate) outside: Outside,
+    pub(crate) asked: Asked,
+}
+
+/// What is shown where a row wants it: the outcome of a conversation; of a run the notes, the calls of its files, and the
+/// count of the steps.
+#[derive(Clone, Copy, Debug)]
+pub(crate) struct Asked {
     pub(crate) outcome: bool,
+    pub(crate) notes: bool,
+    pub(crate) calls: bool,
     pub(crate) steps: bool,
 }
 
@@ -58,7 +64,7 @@ pub(crate) fn read_diagram(alloc: Global, row: &Row) -> Result<Diagram, Trouble>
 }
 
 fn new_diagram(alloc: Global) -> Result<Diagram, RowError> {
-    let words = split_words(alloc, "serve h 80")?;
+    let outside = new_outside(alloc)?;
     Ok(Diagram {
         script: Vec::new(alloc),
         pieces: Vec::new(alloc),
@@ -69,22 +75,14 @@ fn new_diagram(alloc: Global) -> Result<Diagram, RowError> {
         first_flow: 0,
         next_server: 0,
         in_full: false,
-        words,
-        net_fails: Vec::new(alloc),
-        sink_fails: Vec::new(alloc),
-        outcome: false,
-        steps: false,
+        outside,
+        asked: Asked {
+            outcome: false,
+            notes: false,
+            calls: false,
+            steps: false,
+        },
     })
-}
-
-fn split_words(alloc: Global, text: &str) -> Result<Vec<String>, RowError> {
-    let mut words = Vec::new(alloc);
-    for word in text.split(' ') {
-        if !word.is_empty() {
-            words.push(String::from_str(alloc, word)?)?;
-        }
-    }
-    Ok(words)
 }
 
 fn read_line(
@@ -106,28 +104,8 @@ fn read_line(
         diagram.in_full = true;
         return Ok(());
     }
-    read_of_run(alloc, diagram, number, text)
-}
-
-fn read_of_run(
-    alloc: Global,
-    diagram: &mut Diagram,
-    number: usize,
-    text: &str,
-) -> Result<(), RowError> {
-    if text == "words" {
-        diagram.words = Vec::new(alloc);
+    if read_outside(alloc, &mut diagram.outside, text)? {
         return Ok(());
-    }
-    if let Some(words) = text.strip_prefix("words ") {
-        diagram.words = split_words(alloc, words)?;
-        return Ok(());
-    }
-    if let Some(calls) = text.strip_prefix("net fails at ") {
-        return read_calls(calls, &mut diagram.net_fails);
-    }
-    if let Some(calls) = text.strip_prefix("sink fails at ") {
-        return read_calls(calls, &mut diagram.sink_fails);
     }
     add_act(alloc, diagram, number, text)
 }
@@ -170,13 +148,6 @@ fn read_numbers(diagram: &mut Diagram, text: &str) -> Result<(), RowError> {
     Ok(())
 }
 
-fn read_calls(text: &str, calls: &mut Vec<u64>) -> Result<(), RowError> {
-    for number in text.split(", ") {
-        calls.push(u64::from(read_u32(number)?))?;
-    }
-    Ok(())
-}
-
 // A line of what is heard or said. Both are wanted.
 fn add_act(
     alloc: Global,
@@ -189,7 +160,7 @@ fn add_act(
     diagram.wanted.push('\n')?;
     if is_said(&act) {
         drop(act);
-        note_end(diagram, text);
+        note_asked(&mut diagram.asked, text);
         return Ok(());
     }
     let piece = piece_of(alloc, &act)?;
@@ -204,13 +175,29 @@ fn is_said(act: &Act) -> bool {
     }
 }
 
-fn note_end(diagram: &mut Diagram, text: &str) {
+// Notes what the line wants shown.
+fn note_asked(asked: &mut Asked, text: &str) {
     if text == "going" || text == "over" {
-        diagram.outcome = true;
+        asked.outcome = true;
+    }
+    if text.starts_with("notes ") {
+        asked.notes = true;
+    }
+    if is_call(text) {
+        asked.calls = true;
     }
     if text.starts_with("steps ") {
-        diagram.steps = true;
+        asked.steps = true;
     }
+}
+
+fn is_call(text: &str) -> bool {
+    for front in &["reads ", "misses ", "cannot read "] {
+        if text.starts_with(*front) {
+            return true;
+        }
+    }
+    false
 }
 
 fn piece_of(alloc: Global, act: &Act) -> Result<Option<Vec<u8>>, RowError> {

@@ -7,19 +7,11 @@
 
 mod conversation;
 mod diagram;
-mod filters;
-mod flow_files;
-mod flows;
-mod heads;
-mod lengths;
-mod messages;
+mod outside;
 mod play;
 mod replies;
 mod run;
 mod told;
-mod trees;
-mod values;
-mod written;
 
 use play::play_row;
 use px_rows::{Row, Trouble, read_sheet};

@@ -1,8 +1,9 @@
 //! Whole runs of the program: its words, what it hears and says, what it prints, and its status.
 use crate::diagram::{Diagram, Heed};
+use crate::outside::Outside;
 use px_app::run;
 use px_event::{Heard, Side, Step};
-use px_outside::{MemFiles, ScriptNet, VecSink};
+use px_outside::{FileCall, MemFiles, ScriptNet, VecSink};
 use px_rows::{Act, Cut, Peer, RowError, cut_piece, end_line, piece, show_said, write_escaped};
 use std::alloc::Global;
 
@@ -13,28 +14,88 @@ struct Script {
     begins: Vec<Option<usize>>,
 }
 
+/// What came of a run.
+#[derive(Clone, Copy)]
+struct Came<'a> {
+    trace: &'a [Step],
+    printed: &'a [u8],
+    notes: &'a [u8],
+    calls: &'a [FileCall],
+    status: u8,
+}
+
 /// What comes of the diagram.
 pub(crate) fn play_run(alloc: Global, diagram: &Diagram, cut: Cut) -> Result<String, RowError> {
-    let script = make_script(alloc, diagram.script.as_slice(), cut)?;
-    let net_fails = copy_calls(alloc, &diagram.net_fails)?;
-    let sink_fails = copy_calls(alloc, &diagram.sink_fails)?;
-    let mut net = ScriptNet::new(alloc, script.heard, net_fails);
-    let mut files = MemFiles::new(alloc, Vec::new(alloc), Vec::new(alloc));
+    let Script { heard, begins } = make_script(alloc, diagram.script.as_slice(), cut)?;
+    let outside = &diagram.outside;
+    let net_fails = copy_calls(alloc, &outside.net_fails)?;
+    let sink_fails = copy_calls(alloc, &outside.sink_fails)?;
+    let note_fails = copy_calls(alloc, &outside.note_fails)?;
+    let mut files = make_files(alloc, outside)?;
+    let mut net = ScriptNet::new(alloc, heard, net_fails);
     let mut out = VecSink::new(alloc, sink_fails);
+    let mut notes = VecSink::new(alloc, note_fails);
     let status = run(
         alloc,
-        &diagram.words,
+        &outside.words,
         &mut net,
         &mut files,
         &mut out,
+        &mut notes,
         Vec::new(alloc),
     );
+    let came = Came {
+        trace: net.trace(),
+        printed: out.written(),
+        notes: notes.written(),
+        calls: files.calls(),
+        status,
+    };
+    show_run(alloc, diagram, begins.as_slice(), &came)
+}
+
+// The options file, unless it is absent, and the others.
+fn make_files(alloc: Global, outside: &Outside) -> Result<MemFiles, RowError> {
+    let fails = copy_calls(alloc, &outside.file_fails)?;
+    let mut files = Vec::new(alloc);
+    if !outside.is_absent {
+        push_file(alloc, &mut files, "o", outside.options.as_slice())?;
+    }
+    for (path, bytes) in &outside.files {
+        push_file(alloc, &mut files, path.as_str(), bytes.as_slice())?;
+    }
+    Ok(MemFiles::new(alloc, files, fails))
+}
+
+fn push_file(
+    alloc: Global,
+    files: &mut Vec<(String, Vec<u8>)>,
+    path: &str,
+    bytes: &[u8],
+) -> Result<(), RowError> {
+    let path = String::from_str(alloc, path)?;
+    files.push((path, Vec::from_slice(alloc, bytes)?))?;
+    Ok(())
+}
+
+fn show_run(
+    alloc: Global,
+    diagram: &Diagram,
+    begins: &[Option<usize>],
+    run: &Came<'_>,
+) -> Result<String, RowError> {
     let mut came = String::new(alloc);
-    let lines = diagram.script.as_slice();
-    show_trace(&mut came, lines, script.begins.as_slice(), net.trace())?;
-    show_end(&mut came, out.written(), status)?;
-    if diagram.steps {
-        show_steps(&mut came, net.trace())?;
+    show_trace(&mut came, diagram.script.as_slice(), begins, run.trace)?;
+    show_lines(&mut came, "prints ", run.printed)?;
+    if diagram.asked.notes {
+        show_notes(&mut came, run.notes)?;
+    }
+    if diagram.asked.calls {
+        show_calls(&mut came, run.calls)?;
+    }
+    show_status(&mut came, run.status)?;
+    if diagram.asked.steps {
+        show_steps(&mut came, run.trace)?;
     }
     Ok(came)
 }
@@ -149,15 +210,51 @@ fn line_of<'a>(lines: &'a [Heed], begins: &[Option<usize>], heard: usize) -> Opt
     Some(line.text.as_str())
 }
 
-// The lines that were printed, and the status.
-fn show_end(out: &mut String, printed: &[u8], status: u8) -> Result<(), RowError> {
-    for line in printed.split(|byte| *byte == b'\n') {
+// Each line of the text that is not empty, behind this front.
+fn show_lines(out: &mut String, front: &str, text: &[u8]) -> Result<(), RowError> {
+    for line in text.split(|byte| *byte == b'\n') {
         if !line.is_empty() {
-            out.push_str("prints ")?;
-            write_escaped(out, line)?;
-            out.push('\n')?;
+            show_bytes(out, front, line)?;
         }
     }
+    Ok(())
+}
+
+fn show_bytes(out: &mut String, front: &str, bytes: &[u8]) -> Result<(), RowError> {
+    out.push_str(front)?;
+    write_escaped(out, bytes)?;
+    out.push('\n')?;
+    Ok(())
+}
+
+fn show_notes(out: &mut String, notes: &[u8]) -> Result<(), RowError> {
+    if notes.is_empty() {
+        return push_line(out, "notes nothing");
+    }
+    show_lines(out, "notes ", notes)
+}
+
+fn show_calls(out: &mut String, calls: &[FileCall]) -> Result<(), RowError> {
+    if calls.is_empty() {
+        return push_line(out, "reads nothing");
+    }
+    for call in calls {
+        show_call(out, call)?;
+    }
+    Ok(())
+}
+
+fn show_call(out: &mut String, call: &FileCall) -> Result<(), RowError> {
+    match call {
+        FileCall::Read { path, .. } => show_bytes(out, "reads ", path.as_slice()),
+        FileCall::Missed { path } => show_bytes(out, "misses ", path.as_slice()),
+        FileCall::ReadFailed { path } => show_bytes(out, "cannot read ", path.as_slice()),
+        FileCall::Appended { path, .. } => show_bytes(out, "appends to ", path.as_slice()),
+        FileCall::AppendFailed { path } => show_bytes(out, "cannot append to ", path.as_slice()),
+    }
+}
+
+fn show_status(out: &mut String, status: u8) -> Result<(), RowError> {
     write!(out, "status {status}\n")?;
     Ok(())
 }

@@ -1,7 +1,7 @@
-//! Messages written out, and what they are made of.
-use crate::lengths::split_at_stroke;
-use crate::replies::{host_of, name_of, path_of, status_of, value_of};
-use px_message::{Body, Fault, Fields, Name, Request, Response, Status, Value, Version};
+//! Messages written out.
+use crate::fields::{new_request, new_response, raw_value, read_fields, split_at_stroke};
+use crate::parts::status_of;
+use px_message::{Body, Fault, Version};
 use px_rows::{RowError, write_escaped};
 use px_write::{
     Form, error_text, short_response, write_chunk_end, write_chunk_start, write_interim,
@@ -9,101 +9,9 @@ use px_write::{
 };
 use std::alloc::Global;
 
-/// The fields that stand one a line, as `A: 1`.
-pub(crate) fn read_fields(alloc: Global, text: &[u8]) -> Result<Fields, RowError> {
-    let mut fields = Fields::new(alloc);
-    for line in text.split(|byte| *byte == b'\n') {
-        if !line.is_empty() {
-            add_line(alloc, &mut fields, line)?;
-        }
-    }
-    Ok(fields)
-}
-
-// A field behind whose colon one blank may stand.
-fn add_line(alloc: Global, fields: &mut Fields, line: &[u8]) -> Result<(), RowError> {
-    let mut halves = line.splitn(2, |byte| *byte == b':');
-    let (Some(name), Some(value)) = (halves.next(), halves.next()) else {
-        return Err(RowError::Bad);
-    };
-    let value = match value {
-        [b' ', value @ ..] => value,
-        value => value,
-    };
-    let name = raw_name(alloc, name)?;
-    fields.add(name, raw_value(alloc, value)?)?;
-    Ok(())
-}
-
-fn raw_name(alloc: Global, bytes: &[u8]) -> Result<Name, RowError> {
-    match Name::try_new(Vec::from_slice(alloc, bytes)?) {
-        Ok(name) => Ok(name),
-        Err(_) => Err(RowError::Bad),
-    }
-}
-
-fn raw_value(alloc: Global, bytes: &[u8]) -> Result<Value, RowError> {
-    match Value::try_new(Vec::from_slice(alloc, bytes)?) {
-        Ok(value) => Ok(value),
-        Err(_) => Err(RowError::Bad),
-    }
-}
-
-/// Shows fields in the same form.
-pub(crate) fn show_fields(out: &mut String, fields: &Fields) -> Result<(), RowError> {
-    for i in 0..fields.len() {
-        if i > 0 {
-            out.push_str("\\n")?;
-        }
-        let (name, value) = fields.pair(i);
-        write_escaped(out, name.bytes())?;
-        out.push_str(": ")?;
-        write_escaped(out, value.bytes())?;
-    }
-    Ok(())
-}
-
-/// `POST http://h:81/a?b` without fields.
-pub(crate) fn new_request(alloc: Global) -> Result<Request, RowError> {
-    let method = name_of(alloc, "POST")?;
-    if method.bytes() == b"CONNECT".as_slice() {
-        return Err(RowError::Bad);
-    }
-    let host = host_of(alloc, "h")?;
-    let path = path_of(alloc, "/a?b")?;
-    Ok(Request {
-        method,
-        host,
-        port: 81,
-        path,
-        version: Version::Http11,
-        fields: Fields::new(alloc),
-        body: Body::empty(),
-        trailers: Fields::new(alloc),
-        streamed: false,
-    })
-}
-
-/// A response of this code without reason and fields.
-pub(crate) fn new_response(alloc: Global, code: u16) -> Result<Response, RowError> {
-    let Some(status) = Status::try_new(code) else {
-        return Err(RowError::Bad);
-    };
-    let reason = value_of(alloc, "")?;
-    Ok(Response {
-        version: Version::Http11,
-        status,
-        reason,
-        fields: Fields::new(alloc),
-        body: Body::empty(),
-        trailers: Fields::new(alloc),
-        streamed: false,
-    })
-}
-
 /// What is written of a `request` or a `response`, of an `interim` or a `short` response, in answer to a fault, or of a
 /// streamed body.
-pub(crate) fn written_answer(alloc: Global, of: &str, bytes: &[u8]) -> Result<String, RowError> {
+pub(crate) fn answer(alloc: Global, of: &str, bytes: &[u8]) -> Result<String, RowError> {
     let mut text = Vec::new(alloc);
     match of {
         "request" => write_of_request(alloc, bytes, Form::Origin, &mut text)?,

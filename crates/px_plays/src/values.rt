@@ -1,58 +1,64 @@
 //! Targets, hosts, names, statuses, fields and URLs.
-use crate::written::{new_request, read_fields, show_fields};
+use crate::fields::{new_request, read_fields, show_fields};
+use crate::parts::{name_of, utf8_of, value_of};
 use px_message::{Address, Host, Name, Path, Status, Target, Value, read_target};
 use px_rows::{RowError, show_address, write_escaped};
 use std::alloc::Global;
 
-/// What these bytes are, in a row of this kind.
-pub(crate) fn value_answer(alloc: Global, kind: &str, bytes: &[u8]) -> Result<String, RowError> {
-    match kind {
-        "hosts" => yes_or_no(alloc, Host::try_new(alloc, copy(alloc, bytes)?).is_ok()),
-        "names" => yes_or_no(alloc, Name::try_new(copy(alloc, bytes)?).is_ok()),
-        "values" => yes_or_no(alloc, Value::try_new(copy(alloc, bytes)?).is_ok()),
-        "paths" => yes_or_no(alloc, Path::try_new(copy(alloc, bytes)?).is_ok()),
-        "statuses" => is_status(alloc, bytes),
+/// What these bytes are, in a row of the kind that begins with this word.
+pub(crate) fn answer(
+    alloc: Global,
+    word: &str,
+    more: &str,
+    bytes: &[u8],
+) -> Result<String, RowError> {
+    match word {
+        "targets" => target_answer(alloc, more, bytes),
+        "fields" => fields_answer(alloc, more, bytes),
+        "elements" => has_element(alloc, more, bytes),
         "URLs" => url_answer(alloc, bytes),
-        _ => other_answer(alloc, kind, bytes),
+        _ => yes_or_no(alloc, is_one(alloc, word, bytes)?),
     }
-}
-
-fn copy(alloc: Global, bytes: &[u8]) -> Result<Vec<u8>, RowError> {
-    Ok(Vec::from_slice(alloc, bytes)?)
 }
 
 fn yes_or_no(alloc: Global, yes: bool) -> Result<String, RowError> {
     Ok(String::from_str(alloc, if yes { "yes" } else { "no" })?)
 }
 
-fn is_status(alloc: Global, bytes: &[u8]) -> Result<String, RowError> {
-    let Ok(text) = str::from_utf8(bytes) else {
-        return Err(RowError::Bad);
-    };
-    match text.parse::<u16>() {
-        Ok(code) => yes_or_no(alloc, Status::try_new(code).is_some()),
+// Whether the bytes are a host, a name or what else the word says.
+fn is_one(alloc: Global, word: &str, bytes: &[u8]) -> Result<bool, RowError> {
+    if word == "statuses" {
+        return is_status(bytes);
+    }
+    let bytes = Vec::from_slice(alloc, bytes)?;
+    match word {
+        "hosts" => Ok(Host::try_new(alloc, bytes).is_ok()),
+        "names" => Ok(Name::try_new(bytes).is_ok()),
+        "values" => Ok(Value::try_new(bytes).is_ok()),
+        "paths" => Ok(Path::try_new(bytes).is_ok()),
+        _ => Err(RowError::Bad),
+    }
+}
+
+fn is_status(bytes: &[u8]) -> Result<bool, RowError> {
+    match utf8_of(bytes)?.parse::<u16>() {
+        Ok(code) => Ok(Status::try_new(code).is_some()),
         Err(_) => Err(RowError::Bad),
     }
 }
 
-fn other_answer(alloc: Global, kind: &str, bytes: &[u8]) -> Result<String, RowError> {
-    if let Some(method) = kind.strip_prefix("targets of ") {
-        return target_answer(alloc, method, bytes);
-    }
-    if let Some(change) = kind.strip_prefix("fields ") {
-        return fields_answer(alloc, change, bytes);
-    }
-    match kind.strip_prefix("elements ") {
-        Some(element) => {
-            let fields = read_fields(alloc, bytes)?;
-            let element = if element == "empty" { "" } else { element };
-            yes_or_no(alloc, fields.has_element(b"Connection", element.as_bytes()))
-        }
-        None => Err(RowError::Bad),
-    }
+// Whether the fields `Connection` have the element.
+fn has_element(alloc: Global, element: &str, bytes: &[u8]) -> Result<String, RowError> {
+    let fields = read_fields(alloc, bytes)?;
+    let element = if element == "empty" { "" } else { element };
+    yes_or_no(alloc, fields.has_element(b"Connection", element.as_bytes()))
 }
 
-fn target_answer(alloc: Global, method: &str, bytes: &[u8]) -> Result<String, RowError> {
+// Of rows `targets of GET`.
+fn target_answer(alloc: Global, of: &str, bytes: &[u8]) -> Result<String, RowError> {
+    let Some(method) = of.strip_prefix("of ") else {
+        return Err(RowError::Bad);
+    };
     let mut out = String::new(alloc);
     match read_target(alloc, method.as_bytes(), bytes) {
         Ok(target) => show_target(&mut out, &target)?,
@@ -89,8 +95,8 @@ fn show_absolute(out: &mut String, address: &Address, path: &Path) -> Result<(),
 // The fields, changed at the field `A` with the value `2`.
 fn fields_answer(alloc: Global, change: &str, bytes: &[u8]) -> Result<String, RowError> {
     let mut fields = read_fields(alloc, bytes)?;
-    let name = crate::replies::name_of(alloc, "A")?;
-    let value = crate::replies::value_of(alloc, "2")?;
+    let name = name_of(alloc, "A")?;
+    let value = value_of(alloc, "2")?;
     match change {
         "with A: 2 added" => fields.add(name, value)?,
         "with A set to 2" => fields.set(name, value)?,

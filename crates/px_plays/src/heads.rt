@@ -4,7 +4,7 @@ use px_rows::{Cut, RowError, cut_piece, write_escaped};
 use std::alloc::Global;
 
 /// The heads that are taken of these bytes by the words `request`, `response` and `trailers`, and what is left.
-pub(crate) fn take_heads(
+pub(crate) fn answer(
     alloc: Global,
     takes: &str,
     bytes: &[u8],

@@ -1,7 +1,7 @@
 //! Flows that a row is about.
-use crate::conversation::address_at;
-use crate::replies::{change_request, change_response, status_of};
-use crate::written::new_request;
+use crate::changes::{change_request, change_response};
+use crate::fields::new_request;
+use crate::parts::{address_at, status_of};
 use px_message::{Address, Flow, FlowError, FlowId, Replayed, Request, Shared, Times, WsMessage};
 use px_rows::{RowError, unescape};
 use px_text::Bytes;
@@ -11,10 +11,20 @@ use std::alloc::Global;
 /// The flow of `GET http://h/`, changed by each of these parts, which have strokes between them; `-` changes nothing.
 pub(crate) fn flow_of(alloc: Global, text: &str) -> Result<Flow, RowError> {
     let mut flow = plain_flow(alloc)?;
-    for part in text.split(" | ") {
-        change_flow(alloc, &mut flow, part)?;
+    match change_parts(alloc, &mut flow, text) {
+        Ok(()) => Ok(flow),
+        Err(error) => {
+            drop(flow);
+            Err(error)
+        }
     }
-    Ok(flow)
+}
+
+fn change_parts(alloc: Global, flow: &mut Flow, text: &str) -> Result<(), RowError> {
+    for part in text.split(" | ") {
+        change_flow(alloc, flow, part)?;
+    }
+    Ok(())
 }
 
 fn plain_request(alloc: Global) -> Result<Request, RowError> {

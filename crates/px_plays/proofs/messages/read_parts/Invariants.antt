@@ -1,5 +1,5 @@
 use Rattle.std.proofs.Common.{◌≡◌}
-use Rattle.rows.proofs.messages.read_parts.Given as goal
+use Rattle.px_plays.proofs.messages.read_parts.Given as goal
 
 abbrev pub invariant-loop : goal.invariant-loop
 invariant-loop l = l.reader.closed ≡ l.fn.reader.closed

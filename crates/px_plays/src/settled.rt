@@ -1,54 +1,13 @@
-//! Lengths of bodies, and messages whose framing is made true to their bodies.
-use crate::written::{new_request, new_response, read_fields, show_fields};
-use px_message::{
-    Body, Fault, Fields, Length, length_of_request, length_of_response, settle_request,
-    settle_response, settle_streamed,
-};
+//! Messages whose framing is made true to their bodies.
+use crate::fields::{new_request, new_response, read_fields, show_fields, split_at_stroke};
+use crate::lengths::code_of;
+use px_message::{Body, Fields, settle_request, settle_response, settle_streamed};
 use px_rows::{RowError, write_escaped};
 use std::alloc::Global;
 
-/// The length of a body by these fields: of a `request`, or of a response of this code, with ` to HEAD` of one to HEAD.
-pub(crate) fn length_answer(alloc: Global, of: &str, bytes: &[u8]) -> Result<String, RowError> {
-    let fields = read_fields(alloc, bytes)?;
-    let mut out = String::new(alloc);
-    if of == "request" {
-        show_length(&mut out, length_of_request(&fields))?;
-        return Ok(out);
-    }
-    let (code, to_head) = code_of(of)?;
-    show_length(&mut out, length_of_response(code, to_head, &fields))?;
-    Ok(out)
-}
-
-// A code, and whether the response is to HEAD.
-fn code_of(of: &str) -> Result<(u16, bool), RowError> {
-    let (code, to_head) = match of.strip_suffix(" to HEAD") {
-        Some(code) => (code, true),
-        None => (of, false),
-    };
-    let Some(code) = code.strip_prefix("response ") else {
-        return Err(RowError::Bad);
-    };
-    match code.parse::<u16>() {
-        Ok(code) => Ok((code, to_head)),
-        Err(_) => Err(RowError::Bad),
-    }
-}
-
-fn show_length(out: &mut String, length: Result<Length, Fault>) -> Result<(), RowError> {
-    match length {
-        Ok(Length::None) => out.push_str("none")?,
-        Ok(Length::Bytes(count)) => write!(out, "{count}")?,
-        Ok(Length::Chunked) => out.push_str("chunked")?,
-        Ok(Length::ToClose) => out.push_str("to the close")?,
-        Err(fault) => write!(out, "{fault:?}")?,
-    }
-    Ok(())
-}
-
 /// A message with these fields, this body and the trailer `T: 1`, settled. Between strokes stand its fields, its body, and
 /// its trailers, if any.
-pub(crate) fn settle_answer(alloc: Global, of: &str, bytes: &[u8]) -> Result<String, RowError> {
+pub(crate) fn answer(alloc: Global, of: &str, bytes: &[u8]) -> Result<String, RowError> {
     let (before, content) = split_at_stroke(bytes);
     if of == "streamed" {
         return settle_passing(alloc, before, content);
@@ -57,15 +16,6 @@ pub(crate) fn settle_answer(alloc: Global, of: &str, bytes: &[u8]) -> Result<Str
         return settle_of_request(alloc, before, content);
     }
     settle_of_response(alloc, of, before, content)
-}
-
-/// What stands in front of the stroke, and behind it.
-pub(crate) fn split_at_stroke(bytes: &[u8]) -> (&[u8], &[u8]) {
-    let mut halves = bytes.splitn(2, |byte| *byte == b'|');
-    match (halves.next(), halves.next()) {
-        (Some(before), Some(behind)) => (before, behind),
-        _ => (bytes, b""),
-    }
 }
 
 fn settle_of_request(alloc: Global, before: &[u8], content: &[u8]) -> Result<String, RowError> {

@@ -6,17 +6,33 @@ use std::alloc::Global;
 
 /// The tree that the text begins with and what stands behind it, or its refusal; and that the tree has the text that was
 /// read.
-pub(crate) fn tree_answer(alloc: Global, bytes: &[u8]) -> Result<String, RowError> {
-    let mut out = String::new(alloc);
+pub(crate) fn answer(alloc: Global, bytes: &[u8]) -> Result<String, RowError> {
     match read(alloc, &Bytes::copied(alloc, bytes)?) {
-        Ok((tree, used)) => show_read(alloc, &mut out, &tree, bytes, used)?,
-        Err(TnetError::NoMemory) => return Err(RowError::NoMemory),
-        Err(error) => write!(out, "{error:?}")?,
+        Ok((tree, used)) => show_read(alloc, tree, bytes, used),
+        Err(error) => show_refusal(alloc, error),
+    }
+}
+
+fn show_refusal(alloc: Global, error: TnetError) -> Result<String, RowError> {
+    let mut out = String::new(alloc);
+    match error {
+        TnetError::NoMemory => return Err(RowError::NoMemory),
+        error => write!(out, "{error:?}")?,
     }
     Ok(out)
 }
 
-fn show_read(
+fn show_read(alloc: Global, tree: Tnet, bytes: &[u8], used: usize) -> Result<String, RowError> {
+    let mut out = String::new(alloc);
+    let shown = show_front(alloc, &mut out, &tree, bytes, used);
+    drop(tree);
+    match shown {
+        Ok(()) => Ok(out),
+        Err(error) => Err(error),
+    }
+}
+
+fn show_front(
     alloc: Global,
     out: &mut String,
     tree: &Tnet,

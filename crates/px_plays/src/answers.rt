@@ -1,0 +1,66 @@
+//! What comes of a row's input, by the first word of its kind.
+use crate::{
+    chunks, filters, flow_files, heads, lengths, messages, rules, settled, trees, values, written,
+};
+use px_rows::{Cut, RowError};
+use std::alloc::Global;
+
+/// What comes of these bytes in a row of this kind.
+pub(crate) fn answer(
+    alloc: Global,
+    kind: &str,
+    bytes: &[u8],
+    cut: Cut,
+) -> Result<String, RowError> {
+    let (word, more) = word_of(kind);
+    match (word, more) {
+        ("chunks", "") => chunks::answer(alloc, bytes, cut),
+        ("heads", _) => heads::answer(alloc, more, bytes, cut),
+        ("messages", _) => messages::answer(alloc, more, bytes, cut),
+        _ => answer_whole(alloc, word, more, bytes),
+    }
+}
+
+/// Whether the bytes of rows of this kind come in pieces.
+pub(crate) fn is_cut(kind: &str) -> bool {
+    match word_of(kind) {
+        ("chunks" | "heads" | "messages", _) => true,
+        _ => false,
+    }
+}
+
+// The first word of a kind, and the rest.
+fn word_of(kind: &str) -> (&str, &str) {
+    match kind.split_once(' ') {
+        Some(halves) => halves,
+        None => (kind, ""),
+    }
+}
+
+// Of bytes that do not come in pieces.
+fn answer_whole(alloc: Global, word: &str, more: &str, bytes: &[u8]) -> Result<String, RowError> {
+    match word {
+        "filters" => filters::answer(alloc, more, bytes),
+        "flow" => flow_files::answer(alloc, more, bytes),
+        "lengths" => lengths::answer(alloc, more, bytes),
+        "settled" => settled::answer(alloc, more, bytes),
+        "shown" => filters::shown_answer(alloc, more, bytes),
+        "trees" => trees::answer(alloc, bytes),
+        "written" => written::answer(alloc, more, bytes),
+        _ => answer_of_rules(alloc, word, more, bytes),
+    }
+}
+
+fn answer_of_rules(
+    alloc: Global,
+    word: &str,
+    more: &str,
+    bytes: &[u8],
+) -> Result<String, RowError> {
+    match word {
+        "parts" => rules::parts_answer(alloc, more, bytes),
+        "requests" => rules::request_answer(alloc, more, bytes),
+        "rules" => rules::answer(alloc, more, bytes),
+        _ => values::answer(alloc, word, more, bytes),
+    }
+}
