@@ -1,158 +1,26 @@
-"""End to end: one `mitm` before an origin, and clients; a line per case. Words name the cases to run; none: all.
+"""End to end: `mitm` before an origin, and clients; a line per case. Words name the cases to run; none: all.
 
-After each case the next GET is served, and the program has printed the lines that the case gives, and that GET's, and no
-more. The program is crates/mitm/out/mitm, or MITM where that is set."""
-import fcntl
+The cases of this file share one run of the program. After each of them the next GET is served, and the program has printed the lines
+that the case gives, and that GET's, and no more. Those of the other files have a run and an options file of their own."""
 import os
-import re
-import shutil
 import signal
 import socket
 import struct
 import subprocess
 import sys
-import tempfile
 import threading
 import time
 
-PROXY = ("127.0.0.1", 8080)
-ORIGIN = 9000
+from example_cases import examples
+from option_cases import OPTION_CASES
+from page_cases import PAGE_CASES
+from tools import (
+    ORIGIN, PROXY, TOP, Mitm, Origin, Tally, curl, get, line, raise_loopback, read_all, read_answers, same, talk, url, wait_for,
+)
+
 BIG = 10 * 1024 * 1024
 SOME = 600_000
 MOST_SECONDS = 900
-HERE = os.path.dirname(os.path.abspath(__file__))
-MITM = os.environ.get("MITM", os.path.join(HERE, "..", "crates", "mitm", "out", "mitm"))
-
-
-def raise_loopback():
-    """Has this network namespace's loopback carry packets, where that is ours to do."""
-    with socket.socket(socket.AF_INET, socket.SOCK_DGRAM) as any_socket:
-        try:
-            ask = fcntl.ioctl(any_socket, 0x8913, struct.pack("16sh14x", b"lo", 0))
-            flags = struct.unpack("16sh14x", ask)[1]
-            fcntl.ioctl(any_socket, 0x8914, struct.pack("16sh14x", b"lo", flags | 1))
-        except OSError:
-            pass
-
-
-def listens(port):
-    """Whether a socket listens at this port of 127.0.0.1, by the system's list."""
-    wanted = "0100007F:%04X" % port
-    with open("/proc/net/tcp") as table:
-        rows = [line.split() for line in table]
-    return any(row[1] == wanted and row[3] == "0A" for row in rows)
-
-
-def wait_for(test, what, seconds=10):
-    end = time.time() + seconds
-    while not test():
-        if time.time() > end:
-            raise AssertionError(f"waited in vain for {what}")
-        time.sleep(0.02)
-
-
-class Started:
-    """A process that was started here, and is ended by its pid."""
-
-    process = None
-
-    def stop(self):
-        if self.process is not None:
-            self.process.kill()
-            self.process.wait()
-
-
-class Origin(Started):
-    def start(self):
-        self.process = subprocess.Popen([sys.executable, os.path.join(HERE, "origin.py"), str(ORIGIN)])
-        wait_for(lambda: listens(ORIGIN), "the origin")
-
-
-class Mitm(Started):
-    def start(self):
-        self.printed = tempfile.TemporaryFile()
-        self.process = subprocess.Popen(
-            [MITM, "serve", "127.0.0.1", str(ORIGIN)], stdin=subprocess.DEVNULL, stdout=self.printed)
-        self.seen = 0
-        wait_for(lambda: listens(PROXY[1]), "mitm")
-
-    def lines(self):
-        self.printed.seek(0)
-        return self.printed.read().decode().splitlines()
-
-    def new_lines(self, count):
-        """The lines that it printed since, so many at least, without the numbers of conversations."""
-        wait_for(lambda: len(self.lines()) >= self.seen + count, f"{count} printed lines")
-        new = self.lines()[self.seen:]
-        self.seen += len(new)
-        return [re.sub(r"^\d+\.", ".", line) for line in new]
-
-    def sockets(self):
-        """How many descriptors it has open."""
-        return len(os.listdir(f"/proc/{self.process.pid}/fd"))
-
-
-def talk(sent, pieces=None):
-    """Sends bytes, whole or in pieces of so many bytes, and gives all that comes until the close."""
-    with socket.create_connection(PROXY, timeout=20) as client:
-        client.setsockopt(socket.IPPROTO_TCP, socket.TCP_NODELAY, 1)
-        if pieces is None:
-            client.sendall(sent)
-        else:
-            for at in range(0, len(sent), pieces):
-                client.sendall(sent[at:at + pieces])
-        return read_all(client)
-
-
-def read_all(client):
-    got = b""
-    while True:
-        piece = client.recv(65536)
-        if not piece:
-            return got
-        got += piece
-
-
-def read_answers(client, count):
-    """So many whole answers with a length, as they come."""
-    stream = client.makefile("rb")
-    answers = []
-    for _ in range(count):
-        head = b""
-        while not head.endswith(b"\r\n\r\n"):
-            line = stream.readline()
-            if not line:
-                raise AssertionError("the answer ended early")
-            head += line
-        length = int(re.search(rb"(?i)content-length: (\d+)", head).group(1))
-        answers.append((head, stream.read(length)))
-    return answers
-
-
-def curl(*words, data=None):
-    done = subprocess.run(["curl", "-sS", "--max-time", "60", *words], input=data, capture_output=True)
-    if done.returncode != 0:
-        raise AssertionError(f"curl ended with {done.returncode}: {done.stderr.decode().strip()}")
-    return done.stdout
-
-
-def get(path, *fields):
-    lines = [f"GET {path} HTTP/1.1", f"Host: 127.0.0.1:{ORIGIN}", *fields, "", ""]
-    return "\r\n".join(lines).encode()
-
-
-def url(path):
-    return f"http://127.0.0.1:8080{path}"
-
-
-def same(got, wanted):
-    if got != wanted:
-        raise AssertionError(f"got {got[:300]!r}, wanted {wanted[:300]!r}")
-
-
-def line(method, path, code, size, error=None, index=0):
-    shown = f".{index} {method} http://127.0.0.1:{ORIGIN}{path} {code} {size}"
-    return shown if error is None else f"{shown} error: {error}"
 
 
 def case_get(origin):
@@ -324,14 +192,16 @@ CASES = [
     case_closes_at_once, case_small_pieces, case_origin_resets, case_client_resets, case_unread_upload,
     case_bytes_behind_the_last_request, case_big_download, case_big_upload, case_many_at_once,
 ]
-BY_CURL = {case_get, case_head, case_post, case_chunked_upload, case_expect, case_until_the_close, case_small_pieces,
-           case_big_download, case_big_upload}
 
 # The cases whose lines come in no order.
 UNORDERED = {case_many_at_once}
 
 
-def try_case(case, mitm, origin):
+def name_of(case):
+    return case.__name__.removeprefix("case_").replace("_", " ")
+
+
+def try_shared(case, mitm, origin):
     """The case, and a GET behind it; what was printed is compared."""
     wanted = case(origin)
     got = talk(get("/next", "Connection: close"))
@@ -342,39 +212,27 @@ def try_case(case, mitm, origin):
     same(printed, wanted + [line("GET", "/next", 200, 6)])
 
 
-def try_cases(mitm, origin):
-    """Prints a line per case, and gives how many passed and how many failed."""
-    has_curl = shutil.which("curl") is not None
-    passed = failed = 0
-    for case in CASES:
-        name = case.__name__.removeprefix("case_").replace("_", " ")
-        if sys.argv[1:] and name.replace(" ", "_") not in sys.argv[1:]:
-            continue
-        if case in BY_CURL and not has_curl:
-            print(f"e2e: {name}: skipped, curl is missing", flush=True)
-            failed += os.environ.get("CI") == "true"
-            continue
-        try:
-            try_case(case, mitm, origin)
-            passed += 1
-            print(f"e2e: {name}: passed", flush=True)
-        except (AssertionError, OSError, subprocess.SubprocessError) as error:
-            failed += 1
-            print(f"e2e: {name}: failed: {error}", flush=True)
-            mitm.stop()
-            mitm.start()
-    return passed, failed
+def try_with_one_run(tally, origin):
+    """The cases that share one run."""
+    mitm = Mitm()
+    try:
+        mitm.start()
+        before = mitm.sockets()
+        for case in CASES:
+            if not tally.try_case(name_of(case), lambda case=case: try_shared(case, mitm, origin)):
+                mitm.stop()
+                mitm.start()
+        tally.try_case("closes all sockets", lambda: let_go(mitm, before))
+    finally:
+        mitm.stop()
 
 
 def let_go(mitm, before):
-    """Whether it closed the sockets of all those clients and servers."""
+    """It closes the sockets of all those clients and servers."""
     try:
         wait_for(lambda: mitm.sockets() <= before, "its sockets to be closed", 20)
-        print("e2e: closes all sockets: passed")
-        return True
     except AssertionError as error:
-        print(f"e2e: closes all sockets: failed: {error}: {mitm.sockets()} are open, {before} were")
-        return False
+        raise AssertionError(f"{error}: {mitm.sockets()} are open, {before} were") from None
 
 
 def unescaped(text):
@@ -392,24 +250,20 @@ def unescaped(text):
 
 
 def flow_files():
-    """Whether flow files go both ways: Python reads what a row proves to be written, and a row reads what Python writes."""
-    top = os.path.join(os.path.dirname(os.path.abspath(__file__)), "..")
-    with open(os.path.join(top, "crates", "rows", "data", "flow_files.rows"), encoding="utf-8") as rows:
+    """Flow files go both ways: Python reads what a row proves to be written, and a row reads what Python writes."""
+    with open(os.path.join(TOP, "crates", "rows", "data", "flow_files.rows"), encoding="utf-8") as rows:
         halves = [row.rstrip("\n").split("=> ", 1) for row in rows if "=> " in row]
-    stored = os.path.join(top, "examples", "written.flows")
+    stored = os.path.join(TOP, "examples", "written.flows")
     with open(stored, "rb") as file:
         told = file.read()
-    by_python = subprocess.run([sys.executable, os.path.join(top, "examples", "write_flows.py")], stdout=subprocess.PIPE, check=True).stdout
-    read = subprocess.run([sys.executable, os.path.join(top, "examples", "read_flows.py"), stored], stdout=subprocess.PIPE, check=True).stdout
-    try:
-        assert any(half[0] == "" and unescaped(half[1]) == told for half in halves), "no row writes examples/written.flows"
-        assert any(unescaped(half[0]).rstrip(b" ") == by_python for half in halves), "no row reads what examples/write_flows.py writes"
-        same(read.decode().splitlines(), ["POST http://h/a?b 200 256 -"])
-        print("e2e: flow files, both ways: passed", flush=True)
-        return True
-    except AssertionError as error:
-        print(f"e2e: flow files, both ways: failed: {error}", flush=True)
-        return False
+    by_python = run_python("write_flows.py")
+    assert any(half[0] == "" and unescaped(half[1]) == told for half in halves), "no row writes examples/written.flows"
+    assert any(unescaped(half[0]).rstrip(b" ") == by_python for half in halves), "no row reads what examples/write_flows.py writes"
+    same(run_python("read_flows.py", stored).decode().splitlines(), ["POST http://h/a?b 200 256 -"])
+
+
+def run_python(name, *words):
+    return subprocess.run([sys.executable, os.path.join(TOP, "examples", name), *words], stdout=subprocess.PIPE, check=True).stdout
 
 
 def main():
@@ -417,21 +271,16 @@ def main():
         signal.signal(number, lambda number, _: sys.exit(f"e2e: ended by signal {number}"))
     signal.alarm(MOST_SECONDS)
     raise_loopback()
-    origin, mitm = Origin(), Mitm()
-    try:
-        origin.start()
-        mitm.start()
-        before = mitm.sockets()
-        passed, failed = try_cases(mitm, origin)
-        closes = let_go(mitm, before)
-        passed, failed = passed + closes, failed + (not closes)
-        both_ways = flow_files()
-        passed, failed = passed + both_ways, failed + (not both_ways)
-    finally:
-        mitm.stop()
-        origin.stop()
-    print(f"e2e: {passed} passed, {failed} failed")
-    sys.exit(failed != 0)
+    tally = Tally(sys.argv[1:])
+    with Origin() as origin:
+        try_with_one_run(tally, origin)
+        for case in OPTION_CASES + PAGE_CASES:
+            tally.try_case(name_of(case), case)
+    for name, case in examples():
+        tally.try_case(name, case)
+    tally.try_case("flow files, both ways", flow_files)
+    print(f"e2e: {tally.passed} passed, {tally.failed} failed")
+    sys.exit(tally.failed != 0)
 
 
 if __name__ == "__main__":

@@ -7,10 +7,8 @@ import sys
 import tempfile
 import time
 
-from cases import listens, raise_loopback, wait_for
+from tools import Mitm, listens, raise_loopback, wait_for
 
-HERE = os.path.dirname(os.path.abspath(__file__))
-MITM = os.path.join(HERE, "..", "crates", "mitm", "out", "mitm")
 SECONDS = 5
 BIG = 10 * 1024 * 1024
 TICK = os.sysconf("SC_CLK_TCK")
@@ -91,12 +89,9 @@ def main():
             started.append(start_nginx(home, "origin", ORIGIN, 9000))
             started.append(start_nginx(home, "proxy", PROXY, 8081))
             nginx = worker_of(started[1])
-            with open(os.path.join(home, "printed"), "wb") as printed:
-                mitm = subprocess.Popen([MITM, "serve", "127.0.0.1", "9000"], stdin=subprocess.DEVNULL, stdout=printed)
-            started.append(mitm)
-            wait_for(lambda: listens(8080), "mitm")
-            measure("mitm", mitm.pid, 8080)
-            measure("nginx", nginx, 8081)
+            with Mitm() as mitm:
+                measure("mitm", mitm.process.pid, 8080)
+                measure("nginx", nginx, 8081)
         finally:
             for process in reversed(started):
                 process.send_signal(signal.SIGTERM)

@@ -5,6 +5,17 @@ import threading
 
 BIG = 10 * 1024 * 1024
 SOME = 600_000
+PAGE = b"""<!DOCTYPE html>
+<html><head><title>a page</title><link rel="stylesheet" href="/page.css"></head><body>
+<p id="text">the old word</p><img id="dot" src="/dot.png" alt=""><p id="rule"></p><p id="width"></p>
+<script>
+addEventListener("load", () => {
+  document.getElementById("rule").textContent = document.styleSheets[0].cssRules[0].cssText;
+  document.getElementById("width").textContent = document.getElementById("dot").naturalWidth;
+});
+</script></body></html>
+"""
+SHEET = b"p { color: rgb(1, 2, 3); }\n"
 
 
 def read_line(stream):
@@ -15,13 +26,15 @@ def read_line(stream):
 
 
 def read_head(stream):
-    """The request line's words and the fields, names in lower case."""
-    method, target, _ = read_line(stream).split(b" ")
+    """The request line's words, the fields with names in lower case, and all lines of the head."""
+    lines = [read_line(stream)]
+    method, target, _ = lines[0].split(b" ")
     fields = {}
     while True:
         line = read_line(stream)
         if not line:
-            return method.decode(), target.decode(), fields
+            return method.decode(), target.decode(), fields, b"\n".join(lines + [b""])
+        lines.append(line)
         name, value = line.split(b":", 1)
         fields[name.strip().lower().decode()] = value.strip().decode()
 
@@ -52,24 +65,30 @@ def serve(connection):
     """Answers requests until the client closes, or the path has the origin close."""
     stream = connection.makefile("rb")
     while True:
-        method, target, fields = read_head(stream)
+        method, target, fields, head = read_head(stream)
         if target == "/unread":
             connection.sendall(answer("413 Content Too Large", b"too large", "Connection: close"))
             return
         if fields.get("expect", "").lower() == "100-continue":
             connection.sendall(b"HTTP/1.1 100 Continue\r\n\r\n")
         body = read_body(stream, fields)
-        if not reply(connection, method, target, body):
+        if not reply(connection, method, target, head, body):
             return
 
 
-def reply(connection, method, target, body):
+def reply(connection, method, target, head, body):
     """Answers one request, and tells whether the connection stays."""
     path = target.split("?")[0]
     if method == "HEAD":
         connection.sendall(b"HTTP/1.1 200 OK\r\nContent-Length: 5\r\n\r\n")
     elif path == "/echo":
         connection.sendall(answer("200 OK", body, "Content-Type: application/octet-stream"))
+    elif path == "/head":
+        connection.sendall(answer("200 OK", head, "Content-Type: text/plain", "X-Server: the origin"))
+    elif path == "/page":
+        connection.sendall(answer("200 OK", PAGE, "Content-Type: text/html"))
+    elif path == "/page.css":
+        connection.sendall(answer("200 OK", SHEET, "Content-Type: text/css"))
     elif path == "/some":
         connection.sendall(answer("200 OK", bytes(SOME)))
     elif path == "/big":
