@@ -29,6 +29,15 @@ def case_header_rules():
     assert "x-debug: 1" in got[1] and "x-debug: 0" not in got[1], got[1]
 
 
+def case_header_rules_by_the_requests_body():
+    """At a response's head the body of its request is there, and its own is not."""
+    with Mitm('modify_headers = ["/~b token/X-Found/1", "/~bs token/X-Never/1"]\n'):
+        got = curl("-D", "-", "--data-binary", "a token", url("/echo")).decode()
+        assert "X-Found: 1\r\n" in got and "X-Never" not in got, got
+        got = curl("-D", "-", "--data-binary", "nothing", url("/echo")).decode()
+        assert "X-Found" not in got, got
+
+
 def case_body_rules():
     rules = r"modify_body = ['/hello/hi', '|~q|b(\d+)|<$1>', '/~u nowhere/hi/never']" + "\n"
     with Mitm(rules) as mitm:
@@ -74,6 +83,21 @@ def case_local_files():
         same(curl(url("/s/sub/")), b"<p>")
         same(curl(url("/elsewhere")), b"/elsewhere\n")
         same(mitm.new_lines(3)[0], line("GET", "/s/x.css?v=1", 200, 4))
+
+
+def case_rules_change_what_rules_answer():
+    rules = 'map_local = ["|/s/|files/"]\nmodify_body = ["/old/new"]\nmodify_headers = ["/~s/X-Through/mitm"]\n'
+    with Mitm(rules + 'block_list = ["/~u secret/404"]\n', files={"files/x.txt": b"my old file"}):
+        got = curl("-D", "-", url("/s/x.txt")).decode()
+        assert "X-Through: mitm\r\n" in got and got.endswith("\r\n\r\nmy new file"), got
+        assert "X-Through: mitm\r\n" in curl("-D", "-", url("/secret")).decode()
+
+
+def case_local_files_come_before_another_server():
+    rules = f"map_remote = ['|//127.0.0.1:{ORIGIN}/other|//127.0.0.1:{OTHER}']\nmap_local = ['|:{OTHER}/|files/', '|/other/x|files/y']\n"
+    with Origin(OTHER), Mitm(rules, files={"files/a": b"never", "files/y": b"a file"}):
+        same(curl(url("/other/x")), b"a file")
+        same(curl(url("/other/a")), b"/a\n")
 
 
 def case_local_file_absent():
@@ -203,9 +227,10 @@ def case_port_that_is_not_permitted():
 
 
 OPTION_CASES = [
-    case_notes_where_it_listens, case_listens_where_the_options_say, case_header_rules, case_body_rules, case_map_remote,
-    case_map_remote_elsewhere_than_http, case_blocked, case_blocked_by_a_close, case_local_files, case_local_file_absent,
-    case_local_file_that_is_a_directory, case_local_file_that_may_not_be_read, case_anticache_and_anticomp, case_events_spent,
+    case_notes_where_it_listens, case_listens_where_the_options_say, case_header_rules,
+    case_header_rules_by_the_requests_body, case_body_rules, case_map_remote, case_map_remote_elsewhere_than_http, case_blocked,
+    case_blocked_by_a_close, case_local_files, case_rules_change_what_rules_answer, case_local_files_come_before_another_server,
+    case_local_file_absent, case_local_file_that_is_a_directory, case_local_file_that_may_not_be_read, case_anticache_and_anticomp, case_events_spent,
     case_usage, case_no_options_file, case_options_that_are_no_toml, case_options_without_a_good_mode,
     case_unknown_and_wrong_options, case_bad_rule, case_generated_flows, case_port_in_use, case_addresses_that_cannot_be_had,
     case_port_that_is_not_permitted,
