@@ -1,13 +1,15 @@
 -- Answers one behind the other, and what becomes of files.
-use Rattle.std.proofs.Common.{◌≡◌, refl, sym, ◌∙◌, subst}
+use Rattle.std.proofs.Common.{◌≡◌, List, refl, ap, sym, ◌∙◌, subst}
 use Rattle.px_message.specs.declared.flow.Flow.{Flow}
 use Rattle.px_event.specs.declared.ask.Hook.{Hook}
 use Rattle.px_event.specs.Trace.{Trace}
 use Rattle.px_core.specs.declared.answerer.Answer.{Answer}
-use Rattle.px_core.specs.Answered.{Answers, LeavesFiles, Pending, at_first, at_hook, at_other, at_reply}
+use Rattle.px_core.specs.Answered.{Answers, LeavesFiles, Pending, at_change, at_first, at_hook, at_other, at_reply}
 use Rattle.px_core.specs.Answers.{Answering, AnswererState, ByAnswers, Failing, FilesAfter, FilesMeaning, after_answers, after_failure, by_answer, by_none}
+use Rattle.px_core.specs.Course.{AllAre, Change, Course, KeepsOwn, MovesFiles, change}
 use Rattle.px_core.specs.Due.{Due}
 use Rattle.px_core.specs.Kind.{KeepsFiles}
+use Rattle.px_core.proofs.CourseLemmas.{begins_so, last_is, made_are}
 
 module _ {S : Type 0} {answers : Answering S} where
   -- one behind the other
@@ -58,13 +60,28 @@ module _ {S : Type 0} (answers : Answering S) (fails : Failing S) (is : S → Ty
   kept_by_answers first last so (by_answer start old new hook flow given more answered) =
       kept_one first old last hook flow given answered (kept_by_answers first old so more)
 
-  -- so they do over a trace
-  pub kept_over : (due : Due) (first : AnswererState S) → is first.own → (trace : Trace) (last : AnswererState S) (pending : Pending) → Answers answers due first trace last pending → KeptBy first last
-  kept_over due first so trace last pending at_first = kept_none first so
-  kept_over due first so whole last pending (at_hook trace next old new was conv hook flow given earlier before split free about answered) =
-      kept_one first old last hook flow given answered (kept_over due first so trace old was before)
-  kept_over due first so whole last pending (at_reply trace next now was conv ask reply before split is_given) = kept_over due first so trace last was before
-  kept_over due first so whole last pending (at_other trace next now was step before split quiet) = kept_over due first so trace last pending before
+  -- so they do over a trace, where each other change does so too
+  pub kept_over : (due : Due) (course : Course S) → is course.first.own → AllAre (KeepsOwn is) course.changes → AllAre (MovesFiles goes) course.changes →
+      (trace : Trace) (last : AnswererState S) (pending : Pending) → Answers answers due course trace last pending → KeptBy course.first last
+  kept_over due course so own moved trace last pending (at_first c none) = kept_none last so
+  kept_over due course so own moved whole last pending (at_hook c trace next old new was conv hook flow given earlier before split free about answered) =
+      kept_one course.first old last hook flow given answered (kept_over due course so own moved trace old was before)
+  kept_over due course so own moved whole last pending (at_reply c trace next now was conv ask reply before split is_given) =
+      kept_over due course so own moved trace last was before
+  kept_over due course so own moved whole last pending (at_other c trace next now was step before split quiet) =
+      kept_over due course so own moved trace last pending before
+  kept_over due course so own moved whole last pending (at_change made next trace old new was before split) =
+      let one : Change S = change whole old last in
+      let P : AnswererState S → Type 0 = λ state. is state.own in
+      let Q : List (Change S) → Type 0 = AllAre (KeepsOwn is) in
+      let R : List (Change S) → Type 0 = AllAre (MovesFiles goes) in
+      let M : AnswererState S → Type 0 = λ first. KeptBy first last in
+      let same = ap (λ c. c.first) split in
+      let all = ap (λ c. c.changes) split in
+      let owns = last_is (KeepsOwn is) made.changes one (subst Q all own) in
+      let moves = last_is (MovesFiles goes) made.changes one (subst R all moved) in
+      let k = kept_over due made (subst P same so) owns.0 moves.0 whole old pending before in
+      subst M (sym same) (record { so = owns.1 k.so; goes_so = keeps.on made.first.files old.files last.files k.goes_so moves.1 })
 
   -- and where the last of them ran out of memory too
   pub kept_after : (first : AnswererState S) (files : FilesMeaning) → is first.own → FilesAfter answers fails first files → goes first.files files
@@ -74,11 +91,13 @@ module _ {S : Type 0} (answers : Answering S) (fails : Failing S) (is : S → Ty
       let k = kept_by_answers first last so by in
       keeps.on first.files last.files files k.goes_so (keeps.failed_so hook flow last.own last.files files k.so failed)
 
-  pub kept_leaving : (due : Due) (first : AnswererState S) (Whole : Type 0) (files : FilesMeaning) (trace : Trace) → is first.own →
-      LeavesFiles answers fails due first Whole files trace → goes first.files files
-  kept_leaving due first Whole files trace so l =
-      let k = kept_over due first so l.front l.last l.pending l.answered in
-      keeps.on first.files l.last.files files k.goes_so (kept_after l.last files k.so l.after)
+  pub kept_leaving : (due : Due) (course : Course S) (Whole : Type 0) (files : FilesMeaning) (trace : Trace) → is course.first.own →
+      AllAre (KeepsOwn is) course.changes → AllAre (MovesFiles goes) course.changes → LeavesFiles answers fails due course Whole files trace → goes course.first.files files
+  kept_leaving due course Whole files trace so own moved l =
+      let P : AnswererState S → Type 0 = λ first. goes first.files files in
+      let k = kept_over due l.made (begins_so is course l.made l.front_of so) (made_are (KeepsOwn is) course l.made l.front_of own)
+      (made_are (MovesFiles goes) course l.made l.front_of moved) l.front l.last l.pending l.answered in
+      subst P l.front_of.same (keeps.on l.made.first.files l.last.files files k.goes_so (kept_after l.last files k.so l.after))
 
 -- where no answer and no failure changes files, they are as they were
 pub unchanged : {S : Type 0} (answers : Answering S) (fails : Failing S) →

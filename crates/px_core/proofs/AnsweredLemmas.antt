@@ -16,8 +16,9 @@ use Rattle.px_core.specs.declared.answerer.Answer.{Answer}
 use Rattle.px_core.specs.declared.answerer.Answer.TheVariants as answer
 use Rattle.px_core.specs.declared.answerer.Draft.{Draft}
 use Rattle.px_core.specs.declared.held.Question.{Question}
-use Rattle.px_core.specs.Answered.{GivenTo, Pending, nothing_pending, with_pending, IsNoAnswer, Answers, at_first, at_hook, at_reply, at_other, IsAnswered}
+use Rattle.px_core.specs.Answered.{GivenTo, Pending, with_pending, IsNoAnswer, Answers, at_first, at_hook, at_reply, at_other, at_change, IsAnswered}
 use Rattle.px_core.specs.Answers.{Answering, AnswererState}
+use Rattle.px_core.specs.Course.{Change, Course, IsFrontOf, change}
 use Rattle.px_core.specs.Calls.{calls}
 use Rattle.px_core.specs.Conversation.{AllNamed}
 use Rattle.px_core.specs.Due.{Due, due_by, due_in}
@@ -81,84 +82,112 @@ about_on : (due : Due) (conv : ℕ) (trace : Trace) (command : Command) (questio
 about_on due conv trace command None it = tt
 about_on due conv trace command (Some question) (earlier, last) = (earlier, told_due due conv trace command ∙ last)
 
-module _ {S : Type 0} (answers : Answering S) (due : Due) (first : AnswererState S) where
-  -- steps that ask nothing and answer nothing
-  over_quiet : (trace more : Trace) (now : AnswererState S) (pending : Pending) → Answers answers due first trace now pending → NoneAnswers more →
-      Answers answers due first (trace ++ more) now pending
-  over_quiet trace [] now pending before none = let P : Trace → Type 0 = λ t. Answers answers due first t now pending in subst P (sym (append-nil trace)) before
-  over_quiet trace (step ∷ more) now pending before (here, none) =
-      let P : Trace → Type 0 = λ t. Answers answers due first t now pending in
-      subst P (append_assoc trace (step ∷ []) more)
-      (over_quiet (trace ++ step ∷ []) more now pending (at_other trace (trace ++ step ∷ []) now pending step before refl here) none)
+-- a course is a front of itself
+pub whole_front : {S : Type 0} (course : Course S) → IsFrontOf course course
+whole_front course = record { same = refl; later = []; split = sym (append-nil course.changes) }
+
+-- and so is what it was before its last changes
+pub front_on : {S : Type 0} (course between front : Course S) → IsFrontOf course between → IsFrontOf between front → IsFrontOf course front
+front_on course between front a b = record {
+  same = b.same ∙ a.same;
+  later = b.later ++ a.later;
+  split = a.split ∙ (ap (λ l. l ++ a.later) b.split ∙ append_assoc front.changes b.later a.later);
+}
+
+module _ {S : Type 0} (answers : Answering S) (due : Due) where
+  answered_whole : (course : Course S) (trace : Trace) (now : AnswererState S) (pending : Pending) → Answers answers due course trace now pending → IsAnswered answers due course trace
+  answered_whole course trace now pending a = record { made = course; front_of = whole_front course; last = now; pending = pending; answered = a }
 
   -- one step less
-  less : (front rest whole trace : Trace) (step : Step) → IsAnswered answers due first whole → whole ≡ trace ++ step ∷ [] → whole ≡ front ++ rest →
-      ((most : Trace) → trace ≡ front ++ most → IsAnswered answers due first front) → IsAnswered answers due first front
-  less front rest whole trace step all is split before = by (front_of_more trace step front rest (sym is ∙ split))
+  less : (course : Course S) (front rest whole trace : Trace) (step : Step) → IsAnswered answers due course whole → whole ≡ trace ++ step ∷ [] → whole ≡ front ++ rest →
+      ((most : Trace) → trace ≡ front ++ most → IsAnswered answers due course front) → IsAnswered answers due course front
+  less course front rest whole trace step all is split before = by (front_of_more trace step front rest (sym is ∙ split))
     where
-      by : IsFrontOfMore trace step front rest → IsAnswered answers due first front
-      by (inl h) = let P : Trace → Type 0 = IsAnswered answers due first in subst P (is ∙ sym h.0) all
+      by : IsFrontOfMore trace step front rest → IsAnswered answers due course front
+      by (inl h) = let P : Trace → Type 0 = IsAnswered answers due course in subst P (is ∙ sym h.0) all
       by (inr h) = before h.0 h.1
 
-  -- a front of a trace that is answered is answered
-  pub front_answered : (front rest whole : Trace) (now : AnswererState S) (pending : Pending) → whole ≡ front ++ rest → Answers answers due first whole now pending →
-      IsAnswered answers due first front
-  front_answered front rest whole now pending split at_first =
-      let P : Trace → Type 0 = IsAnswered answers due first in
-      subst P (sym (nothing_before front rest split)) (record { last = first; pending = nothing_pending; answered = at_first })
-  front_answered front rest whole now pending split (at_hook trace next old new was conv hook flow given earlier before is free last so) =
-      less front rest whole trace (steps.Asked conv (asks.Hook flow.id.index hook))
-      (record { last = now; pending = pending; answered = at_hook trace whole old now was conv hook flow given earlier before is free last so }) is split
-      (λ most e. front_answered front most trace old was e before)
-  front_answered front rest whole now pending split (at_reply trace next state was conv ask reply before is given) =
-      less front rest whole trace (steps.Answered conv ask reply)
-      (record { last = now; pending = pending; answered = at_reply trace whole now was conv ask reply before is given }) is split
-      (λ most e. front_answered front most trace now was e before)
-  front_answered front rest whole now pending split (at_other trace next state was step before is quiet) =
-      less front rest whole trace step
-      (record { last = now; pending = pending; answered = at_other trace whole now pending step before is quiet }) is split
-      (λ most e. front_answered front most trace now pending e before)
+  -- one change less
+  later_course : (course made : Course S) (front : Trace) → IsFrontOf course made → IsAnswered answers due made front → IsAnswered answers due course front
+  later_course course made front first a =
+      record { made = a.made; front_of = front_on course made a.made first a.front_of; last = a.last; pending = a.pending; answered = a.answered }
+
+  -- a front of a trace that is answered is answered, by the changes that were made there
+  pub front_answered : (course : Course S) (front rest whole : Trace) (now : AnswererState S) (pending : Pending) → whole ≡ front ++ rest → Answers answers due course whole now pending →
+      IsAnswered answers due course front
+  front_answered course front rest whole now pending split (at_first c none) =
+      let P : Trace → Type 0 = IsAnswered answers due course in
+      subst P (sym (nothing_before front rest split)) (answered_whole course [] now pending (at_first course none))
+  front_answered course front rest whole now pending split (at_hook c trace next old new was conv hook flow given earlier before is free last so) =
+      less course front rest whole trace (steps.Asked conv (asks.Hook flow.id.index hook))
+      (answered_whole course whole now pending (at_hook course trace whole old now was conv hook flow given earlier before is free last so)) is split
+      (λ most e. front_answered course front most trace old was e before)
+  front_answered course front rest whole now pending split (at_reply c trace next state was conv ask reply before is given) =
+      less course front rest whole trace (steps.Answered conv ask reply)
+      (answered_whole course whole now pending (at_reply course trace whole now was conv ask reply before is given)) is split
+      (λ most e. front_answered course front most trace now was e before)
+  front_answered course front rest whole now pending split (at_other c trace next state was step before is quiet) =
+      less course front rest whole trace step
+      (answered_whole course whole now pending (at_other course trace whole now pending step before is quiet)) is split
+      (λ most e. front_answered course front most trace now pending e before)
+  front_answered course front rest whole now pending split (at_change made next trace old new was before is) =
+      let one : Change S = change whole old now in
+      let first : IsFrontOf course made = record { same = sym (ap (λ c. c.first) is); later = one ∷ []; split = ap (λ c. c.changes) is } in
+      later_course course made front first (front_answered made front rest whole old pending split before)
+
+  pub answered_front : (course : Course S) (front rest whole : Trace) → whole ≡ front ++ rest → IsAnswered answers due course whole → IsAnswered answers due course front
+  answered_front course front rest whole split a = later_course course a.made front a.front_of (front_answered a.made front rest whole a.last a.pending split a.answered)
+
+module _ {S : Type 0} (answers : Answering S) (due : Due) (course : Course S) where
+  -- steps that ask nothing and answer nothing
+  over_quiet : (trace more : Trace) (now : AnswererState S) (pending : Pending) → Answers answers due course trace now pending → NoneAnswers more →
+      Answers answers due course (trace ++ more) now pending
+  over_quiet trace [] now pending before none = let P : Trace → Type 0 = λ t. Answers answers due course t now pending in subst P (sym (append-nil trace)) before
+  over_quiet trace (step ∷ more) now pending before (here, none) =
+      let P : Trace → Type 0 = λ t. Answers answers due course t now pending in
+      subst P (append_assoc trace (step ∷ []) more)
+      (over_quiet (trace ++ step ∷ []) more now pending (at_other course trace (trace ++ step ∷ []) now pending step before refl here) none)
 
   module _ (pending : Pending) (conv : ℕ) where
     -- a step that asks nothing and answers nothing
-    pub follows_step : (draft : Option Draft) (now : AnswererState S) (trace : Trace) (step : Step) → Follows answers due first pending conv draft now trace → IsNoAnswer step →
-        Follows answers due first pending conv draft now (trace ++ step ∷ [])
+    pub follows_step : (draft : Option Draft) (now : AnswererState S) (trace : Trace) (step : Step) → Follows answers due course pending conv draft now trace → IsNoAnswer step →
+        Follows answers due course pending conv draft now (trace ++ step ∷ [])
     follows_step draft now trace step f quiet = record {
       pending = f.pending;
-      answered = at_other trace (trace ++ step ∷ []) now f.pending step f.answered refl quiet;
+      answered = at_other course trace (trace ++ step ∷ []) now f.pending step f.answered refl quiet;
       here = f.here ∙ ap (λ h. waiting h draft) (sym (hook_step conv trace step quiet));
       others = f.others;
     }
 
     -- the commands of a call are told
     pub follows_told : (draft : Option Draft) (now : AnswererState S) (given : List Command) (question : Option Question) (trace : Trace) (last : Option Ask) → AllNamed conv given →
-        AsksInTurn (open_hook conv trace) given last → question ≡ asked_from None given → IsAbout due conv trace question → Follows answers due first pending conv draft now trace →
-        FollowsTo answers due first pending conv draft now (trace ++ map (step_of conv) given) question
+        AsksInTurn (open_hook conv trace) given last → question ≡ asked_from None given → IsAbout due conv trace question → Follows answers due course pending conv draft now trace →
+        FollowsTo answers due course pending conv draft now (trace ++ map (step_of conv) given) question
     follows_told draft now [] question trace last named turn is it f =
-        let P : Option Question → Type 0 = FollowsTo answers due first pending conv draft now (trace ++ []) in
-        let Q : Trace → Type 0 = Follows answers due first pending conv draft now in
+        let P : Option Question → Type 0 = FollowsTo answers due course pending conv draft now (trace ++ []) in
+        let Q : Trace → Type 0 = Follows answers due course pending conv draft now in
         subst P (sym is) (subst Q (sym (append-nil trace)) f)
     follows_told draft now (commands.Send side text ∷ given) question trace last named turn is it f =
         let command = commands.Send side text in
-        let P : Trace → Type 0 = λ t. FollowsTo answers due first pending conv draft now t question in
+        let P : Trace → Type 0 = λ t. FollowsTo answers due course pending conv draft now t question in
         subst P (append_assoc trace (step_of conv command ∷ []) (map (step_of conv) given))
         (follows_told draft now given question (trace ++ step_of conv command ∷ []) last named.1 (turn_on conv trace command given last turn) is (about_on due conv trace command question it)
         (follows_step draft now trace (step_of conv command) f tt))
     follows_told draft now (commands.Close side ∷ given) question trace last named turn is it f =
         let command = commands.Close side in
-        let P : Trace → Type 0 = λ t. FollowsTo answers due first pending conv draft now t question in
+        let P : Trace → Type 0 = λ t. FollowsTo answers due course pending conv draft now t question in
         subst P (append_assoc trace (step_of conv command ∷ []) (map (step_of conv) given))
         (follows_told draft now given question (trace ++ step_of conv command ∷ []) last named.1 (turn_on conv trace command given last turn) is (about_on due conv trace command question it)
         (follows_step draft now trace (step_of conv command) f tt))
     follows_told draft now (commands.Dial server address inside ∷ given) question trace last named turn is it f =
         let command = commands.Dial server address inside in
-        let P : Trace → Type 0 = λ t. FollowsTo answers due first pending conv draft now t question in
+        let P : Trace → Type 0 = λ t. FollowsTo answers due course pending conv draft now t question in
         subst P (append_assoc trace (step_of conv command ∷ []) (map (step_of conv) given))
         (follows_told draft now given question (trace ++ step_of conv command ∷ []) last named.1 (turn_on conv trace command given last turn) is (about_on due conv trace command question it)
         (follows_step draft now trace (step_of conv command) f tt))
     follows_told draft now (commands.Done flow ∷ given) question trace last named turn is it f =
         let command = commands.Done flow in
-        let P : Trace → Type 0 = λ t. FollowsTo answers due first pending conv draft now t question in
+        let P : Trace → Type 0 = λ t. FollowsTo answers due course pending conv draft now t question in
         subst P (append_assoc trace (step_of conv command ∷ []) (map (step_of conv) given))
         (follows_told draft now given question (trace ++ step_of conv command ∷ []) last named.1 (turn_on conv trace command given last turn) is (about_on due conv trace command question it)
         (follows_step draft now trace (step_of conv command) f tt))
@@ -168,10 +197,10 @@ module _ {S : Type 0} (answers : Answering S) (due : Due) (first : AnswererState
         let q : Question = record { ask = ask; hook = hook; flow = flow } in
         let r = quiet_behind conv ask (Some q) given last turn in
         let same : question ≡ Some q = is ∙ r.asked in
-        let P : Option Question → Type 0 = FollowsTo answers due first pending conv draft now (trace ++ steps.Asked conv ask ∷ map (step_of conv) given) in
+        let P : Option Question → Type 0 = FollowsTo answers due course pending conv draft now (trace ++ steps.Asked conv ask ∷ map (step_of conv) given) in
         let Q : Option Question → Type 0 = IsAbout due conv trace in
         let here : IsAbout due conv trace (Some q) = subst Q same it in
-        let to : IsToAsk answers due first pending conv draft now (trace ++ steps.Asked conv ask ∷ map (step_of conv) given) q = record {
+        let to : IsToAsk answers due course pending conv draft now (trace ++ steps.Asked conv ask ∷ map (step_of conv) given) q = record {
           front = trace;
           behind = map (step_of conv) given;
           is = sym (append_assoc trace (steps.Asked conv ask ∷ []) (map (step_of conv) given));
@@ -185,28 +214,28 @@ module _ {S : Type 0} (answers : Answering S) (due : Due) (first : AnswererState
 
     -- the answerer is asked, and gives this
     asked_on : (was : Option Draft) (old new : AnswererState S) (trace : Trace) (question : Question) (given : Answer) → question.ask ≡ asks.Hook question.flow.id.index question.hook →
-        answers question.hook question.flow old.own old.files new.own new.files given → (t : IsToAsk answers due first pending conv was old trace question) →
-        Answers answers due first trace new (with_pending conv (Some (record { ask = question.ask; answer = given })) t.follows.pending)
+        answers question.hook question.flow old.own old.files new.own new.files given → (t : IsToAsk answers due course pending conv was old trace question) →
+        Answers answers due course trace new (with_pending conv (Some (record { ask = question.ask; answer = given })) t.follows.pending)
     asked_on was old new trace question given named so t =
         let ask : Ask = asks.Hook question.flow.id.index question.hook in
         let front = t.front in
         let over = with_pending conv (Some (record { ask = question.ask; answer = given })) t.follows.pending in
-        let P : Ask → Type 0 = λ a. Answers answers due first (front ++ steps.Asked conv a ∷ []) new (with_pending conv (Some (record { ask = a; answer = given })) t.follows.pending) in
-        let Q : Trace → Type 0 = λ l. Answers answers due first l new over in
+        let P : Ask → Type 0 = λ a. Answers answers due course (front ++ steps.Asked conv a ∷ []) new (with_pending conv (Some (record { ask = a; answer = given })) t.follows.pending) in
+        let Q : Trace → Type 0 = λ l. Answers answers due course l new over in
         subst Q (sym t.is) (over_quiet (front ++ steps.Asked conv question.ask ∷ []) t.behind new over
-        (subst P (sym named) (at_hook front (front ++ steps.Asked conv ask ∷ []) old new t.follows.pending conv question.hook question.flow given t.earlier t.follows.answered refl
+        (subst P (sym named) (at_hook course front (front ++ steps.Asked conv ask ∷ []) old new t.follows.pending conv question.hook question.flow given t.earlier t.follows.answered refl
         (t.follows.here ∙ ap (λ h. waiting h was) t.free) (t.last ∙ ap (λ a. t.earlier ++ about a question.flow ∷ []) named) so))
         t.quiet)
 
-    open_now : (was : Option Draft) (old : AnswererState S) (trace : Trace) (question : Question) → IsToAsk answers due first pending conv was old trace question →
+    open_now : (was : Option Draft) (old : AnswererState S) (trace : Trace) (question : Question) → IsToAsk answers due course pending conv was old trace question →
         open_hook conv trace ≡ Some question.ask
     open_now was old trace question t =
         ap (open_hook conv) t.is ∙ (hook_quiet conv (t.front ++ steps.Asked conv question.ask ∷ []) t.behind t.quiet ∙ hook_asked conv t.front question.ask)
 
     -- a draft, with which the hook waits
     pub follows_wait : (was : Option Draft) (draft : Draft) (old new : AnswererState S) (trace : Trace) (question : Question) → question.ask ≡ asks.Hook question.flow.id.index question.hook →
-        answers question.hook question.flow old.own old.files new.own new.files (answer.Wait draft) → IsToAsk answers due first pending conv was old trace question →
-        Follows answers due first pending conv (Some draft) new trace
+        answers question.hook question.flow old.own old.files new.own new.files (answer.Wait draft) → IsToAsk answers due course pending conv was old trace question →
+        Follows answers due course pending conv (Some draft) new trace
     follows_wait was draft old new trace question named so t =
         let given : Option GivenTo = Some (record { ask = question.ask; answer = answer.Wait draft }) in
         record {
@@ -218,14 +247,14 @@ module _ {S : Type 0} (answers : Answering S) (due : Due) (first : AnswererState
 
     -- a reply, which is that hook's answer
     pub follows_reply : (was : Option Draft) (reply : Reply) (old new : AnswererState S) (trace : Trace) (question : Question) → question.ask ≡ asks.Hook question.flow.id.index question.hook →
-        answers question.hook question.flow old.own old.files new.own new.files (answer.Reply reply) → IsToAsk answers due first pending conv was old trace question →
-        Follows answers due first pending conv was new (trace ++ steps.Answered conv question.ask reply ∷ [])
+        answers question.hook question.flow old.own old.files new.own new.files (answer.Reply reply) → IsToAsk answers due course pending conv was old trace question →
+        Follows answers due course pending conv was new (trace ++ steps.Answered conv question.ask reply ∷ [])
     follows_reply was reply old new trace question named so t =
         let given : Option GivenTo = Some (record { ask = question.ask; answer = answer.Reply reply }) in
         let over = with_pending conv given t.follows.pending in
         record {
           pending = with_pending conv None over;
-          answered = at_reply trace (trace ++ steps.Answered conv question.ask reply ∷ []) new over conv question.ask reply
+          answered = at_reply course trace (trace ++ steps.Answered conv question.ask reply ∷ []) new over conv question.ask reply
               (asked_on was old new trace question (answer.Reply reply) named so t) refl (pending_here conv given t.follows.pending);
           here = pending_here conv None over ∙ ap (λ h. waiting h was) (sym (hook_answered conv trace question.ask reply));
           others = λ other apart.

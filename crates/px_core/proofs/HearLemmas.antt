@@ -183,9 +183,9 @@ module _ {C : Type 0} (standing : Standing C) (awaited : C → Option Ask) (numb
       more = works.more;
       grown = works.grown;
       own = works.own;
-      takes = λ due first pending peer trace next w drafted on served follows.
-          let P : Option Draft → Type 0 = λ d. Follows answers due first pending conv d old next in
-          let to = works.works due first pending next (taken_within due conv peer moment move dial sides before between trace next given w on named gives same) on.now served
+      takes = λ due course pending peer trace next w drafted on served follows.
+          let P : Option Draft → Type 0 = λ d. Follows answers due course pending conv d old next in
+          let to = works.works due course pending next (taken_within due conv peer moment move dial sides before between trace next given w on named gives same) on.now served
           (drafted_taken gave due conv peer moment move dial sides before between trace next given w on gives kept drafted) (subst P (sym kept) follows) in
           (to.within, to.served, to.drafted, to.follows);
       settled = works.next;
@@ -211,11 +211,11 @@ module _ {C : Type 0} (standing : Standing C) (awaited : C → Option Ask) (numb
       more = [];
       grown = sym (append-nil out);
       own = tt;
-      hears = λ due first pending trace heard is w drafted served follows.
+      hears = λ due course pending trace heard is w drafted served follows.
           let on : calls conv (trace ++ steps.Heard moment heard ∷ []) ≡ record (calls conv trace) { moment = moment } =
           calls_heard conv trace moment heard what is ∙ ap (λ (c : Calls). record c { moment = moment }) (nothing (calls conv trace) w.peer w.begun w.sides w.dial) in
           let P : List Move → Type 0 = λ l. standing w.made held.conversation l (w.earlier ++ []) in
-          let Q : Trace → Type 0 = λ t. Within standing awaited number made_due due conv held t [] × IsServed answers due t × IsDrafted awaited answers due conv held t × Follows answers due first pending conv held.draft state t in
+          let Q : Trace → Type 0 = λ t. Within standing awaited number made_due due conv held t [] × IsServed answers due t × IsDrafted awaited answers due conv held t × Follows answers due course pending conv held.draft state t in
           let there : Trace = trace ++ steps.Heard moment heard ∷ [] in
           subst Q (sym (append-nil (trace ++ steps.Heard moment heard ∷ []))) (
             record {
@@ -248,10 +248,10 @@ module _ {C : Type 0} (standing : Standing C) (awaited : C → Option Ask) (numb
       more = t.more;
       grown = t.grown;
       own = t.own;
-      hears = λ due first pending trace heard is w drafted served follows.
+      hears = λ due course pending trace heard is w drafted served follows.
           let on = calls_heard conv trace moment heard what is in
           let facts = one (calls conv trace) w.peer w.begun w.sides w.dial in
-          t.takes due first pending w.peer trace (trace ++ steps.Heard moment heard ∷ []) (record { made = w.made; earlier = w.earlier; stands = w.stands; owes = w.owes; tells = w.tells; hook = w.turn; there = λ _ _. w.begun }) drafted (record {
+          t.takes due course pending w.peer trace (trace ++ steps.Heard moment heard ∷ []) (record { made = w.made; earlier = w.earlier; stands = w.stands; owes = w.owes; tells = w.tells; hook = w.turn; there = λ _ _. w.begun }) drafted (record {
             moves = ap (λ (c : Calls). c.moves) on ∙ facts.0;
             begun = ap (λ (c : Calls). c.peer) on ∙ facts.1;
             dials = ap (λ (c : Calls). c.dial) on ∙ facts.2;

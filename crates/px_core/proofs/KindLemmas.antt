@@ -13,10 +13,12 @@ use Rattle.px_event.specs.View.{Atom, about, flows}
 use Rattle.px_event.proofs.TraceLemmas.{always_empty, always_more}
 use Rattle.px_core.specs.declared.answerer.Answer.{Answer}
 use Rattle.px_core.specs.declared.answerer.Answer.TheVariants as answer
-use Rattle.px_core.specs.Answered.{GivenTo, Pending, with_pending, IsNoAnswer, Answers, at_first, at_hook, at_reply, at_other}
+use Rattle.px_core.specs.Answered.{GivenTo, Pending, with_pending, IsNoAnswer, Answers, at_first, at_hook, at_reply, at_other, at_change}
 use Rattle.px_core.specs.Answers.{Answering, AnswererState}
+use Rattle.px_core.specs.Course.{AllAre, Change, Course, IsFrontOf, KeepsOwn, change}
 use Rattle.px_core.specs.Due.{Due, due_in}
 use Rattle.px_core.specs.Kind.{KeepsKind, LeavesAlone, AllLeaveAlone, IsOfKind, EndsOfKind}
+use Rattle.px_core.proofs.CourseLemmas.{begins_so, last_is, made_are}
 use Rattle.px_core.proofs.AnsweredLemmas.{pending_here, pending_other}
 use Rattle.px_core.proofs.ServedLemmas.{last_step}
 
@@ -140,21 +142,33 @@ module _ {S : Type 0} (answers : Answering S) (due : Due) (is : S → Type 0) (g
         of_kind = always_so gives due trace next (steps.Answered conv ask reply) split (k.given conv _ is_given) k.of_kind;
       }
 
-  module _ (first : AnswererState S) (begins : is first.own) where
-    pub kept : (trace : Trace) (now : AnswererState S) (pending : Pending) → Answers answers due first trace now pending → Kept trace now pending
-    kept trace now pending at_first = record {
-      so = begins;
-      given = λ conv g e. absurd (none_given g e);
-      of_kind = always_empty (EndsOfKind gives due) (λ front conv ask reply e. absurd (no_end front (steps.Answered conv ask reply) e));
-    }
-    kept whole now pending (at_hook trace next old new was conv hook flow given earlier before split free last so) =
-        hook_kept trace whole old now was conv hook flow given earlier split last so (kept trace old was before)
-    kept whole now pending (at_reply trace next state was conv ask reply before split is_given) =
-        reply_kept trace whole now was conv ask reply split is_given (kept trace now was before)
-    kept whole now pending (at_other trace next state was step before split quiet) =
-        let k = kept trace now pending before in
-        record {
-          so = k.so;
-          given = λ conv g e. kind_grown gives due trace whole step conv g.ask g.answer split (quiet_alone conv step quiet) (k.given conv g e);
-          of_kind = always_so gives due trace whole step split (quiet_so gives due trace step quiet) k.of_kind;
-        }
+  pub kept : (course : Course S) → is course.first.own → AllAre (KeepsOwn is) course.changes → (trace : Trace) (now : AnswererState S) (pending : Pending) →
+      Answers answers due course trace now pending → Kept trace now pending
+  kept course begins stay trace now pending (at_first c none) = record {
+    so = begins;
+    given = λ conv g e. absurd (none_given g e);
+    of_kind = always_empty (EndsOfKind gives due) (λ front conv ask reply e. absurd (no_end front (steps.Answered conv ask reply) e));
+  }
+  kept course begins stay whole now pending (at_hook c trace next old new was conv hook flow given earlier before split free last so) =
+      hook_kept trace whole old now was conv hook flow given earlier split last so (kept course begins stay trace old was before)
+  kept course begins stay whole now pending (at_reply c trace next state was conv ask reply before split is_given) =
+      reply_kept trace whole now was conv ask reply split is_given (kept course begins stay trace now was before)
+  kept course begins stay whole now pending (at_other c trace next state was step before split quiet) =
+      let k = kept course begins stay trace now pending before in
+      record {
+        so = k.so;
+        given = λ conv g e. kind_grown gives due trace whole step conv g.ask g.answer split (quiet_alone conv step quiet) (k.given conv g e);
+        of_kind = always_so gives due trace whole step split (quiet_so gives due trace step quiet) k.of_kind;
+      }
+  kept course begins stay whole now pending (at_change made next trace old new was before split) =
+      let P : AnswererState S → Type 0 = λ state. is state.own in
+      let Q : List (Change S) → Type 0 = AllAre (KeepsOwn is) in
+      let all = last_is (KeepsOwn is) made.changes (change whole old now) (subst Q (ap (λ c. c.changes) split) stay) in
+      let k = kept made (subst P (ap (λ c. c.first) split) begins) all.0 whole old pending before in
+      record { so = all.1 k.so; given = k.given; of_kind = k.of_kind }
+
+  -- with the first changes of a course
+  pub kept_in : (course made : Course S) → IsFrontOf course made → is course.first.own → AllAre (KeepsOwn is) course.changes → (trace : Trace) (now : AnswererState S) (pending : Pending) →
+      Answers answers due made trace now pending → Kept trace now pending
+  kept_in course made front begins stay trace now pending a =
+      kept made (begins_so is course made front begins) (made_are (KeepsOwn is) course made front stay) trace now pending a

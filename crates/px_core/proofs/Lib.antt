@@ -1,6 +1,7 @@
 pub mod AddonLemmas
 pub mod AnswerLemmas
 pub mod AnsweredLemmas
+pub mod CourseLemmas
 pub mod AskLemmas
 pub mod CallLemmas
 pub mod HearLemmas

@@ -31,6 +31,7 @@ use Rattle.px_core.specs.declared.table.Place.TheVariants as place
 use Rattle.px_core.specs.declared.table.Table.{Table}
 use Rattle.px_core.specs.Answered.{nothing_pending, at_first, at_other}
 use Rattle.px_core.specs.Answers.{Answering, AnswererState}
+use Rattle.px_core.specs.Course.{Course, begins_at}
 use Rattle.px_core.specs.Calls.{Calls, calls, calls_of, takes, moved, addressed, is_connected, is_dialling, dial_ends}
 use Rattle.px_core.specs.Due.{Due, due_at, due_by, due_in, IsWithinDue, IsAllTold, EndsMet, Waits, OpenOnesWait, IsServed}
 use Rattle.px_core.specs.Held.{AllOf, dial_of, waiting, Follows, Hears, Takes}
@@ -205,7 +206,7 @@ module _ {C : Type 0} (standing : Standing C) (awaited : C → Option Ask) (numb
 
   -- a table in which nothing was admitted
   pub new_stands : {S : Type 0} (answers : Answering S) (due : Due) (first : AnswererState S) (table : Table C) → ((conv : ℕ) → place_of table conv ≡ None) →
-      TableStands standing awaited number made_due answers due first first table []
+      TableStands standing awaited number made_due answers due (begins_at first) first table []
   new_stands answers due first table empty = record {
     at = λ conv.
         let P : Found (Held C) → Type 0 = StandsIn standing awaited number made_due answers due conv [] in
@@ -219,7 +220,7 @@ module _ {C : Type 0} (standing : Standing C) (awaited : C → Option Ask) (numb
       waits = before_empty (OpenOnesWait answers due);
     };
     pending = nothing_pending;
-    answered = at_first;
+    answered = at_first (begins_at first) refl;
     drafts = λ conv. refl;
   }
     where
@@ -239,7 +240,7 @@ module _ {C : Type 0} (standing : Standing C) (awaited : C → Option Ask) (numb
     told_in due conv trace (live held) w view told =
         sym (due_is answers due standing awaited number made_due gave conv held trace [] w.within view ∙ (append-nil (seen_of view w.within.earlier) ∙ w.within.tells view told))
 
-    pub all_told : (due : Due) {first now : AnswererState S} (table : Table C) (trace : Trace) → TableStands standing awaited number made_due answers due first now table trace → IsAllTold due trace
+    pub all_told : (due : Due) {course : Course S} {now : AnswererState S} (table : Table C) (trace : Trace) → TableStands standing awaited number made_due answers due course now table trace → IsAllTold due trace
     all_told due table trace stands conv view told = told_in due conv trace (found table conv) (stands.at conv) view told
 
     -- a hook that is open waits
@@ -255,7 +256,7 @@ module _ {C : Type 0} (standing : Standing C) (awaited : C → Option Ask) (numb
         let kept = w.drafted named.0 named.1 (hook_is (awaited held.conversation) ask waits ∙ ap Some named.2) in
         subst P (sym named.2) (kept.draft, kept.waits)
 
-    pub open_ones_wait : (due : Due) {first now : AnswererState S} (table : Table C) (trace : Trace) → TableStands standing awaited number made_due answers due first now table trace → OpenOnesWait answers due trace
+    pub open_ones_wait : (due : Due) {course : Course S} {now : AnswererState S} (table : Table C) (trace : Trace) → TableStands standing awaited number made_due answers due course now table trace → OpenOnesWait answers due trace
     open_ones_wait due table trace stands conv ask is = waits_in due conv trace (found table conv) (stands.at conv) ask is
 
     -- what is due to one that is live by one call more
@@ -296,7 +297,7 @@ module _ {C : Type 0} (standing : Standing C) (awaited : C → Option Ask) (numb
     next_within due conv trace next (live held) w grown view told sees = live_next due conv trace next held w grown view told sees
 
     -- what was heard takes nothing back
-    pub heard_served : (due : Due) {first now : AnswererState S} (table : Table C) (trace : Trace) (moment : ℕ) (heard : Heard) → TableStands standing awaited number made_due answers due first now table trace →
+    pub heard_served : (due : Due) {course : Course S} {now : AnswererState S} (table : Table C) (trace : Trace) (moment : ℕ) (heard : Heard) → TableStands standing awaited number made_due answers due course now table trace →
         IsServed answers due (trace ++ steps.Heard moment heard ∷ [])
     heard_served due table trace moment heard stands = record {
       within = always_more (IsWithinDue due) trace (steps.Heard moment heard) stands.served.within
@@ -309,13 +310,13 @@ module _ {C : Type 0} (standing : Standing C) (awaited : C → Option Ask) (numb
     }
 
     -- the others stay, and this one stands
-    next_stands : (due : Due) {first old new : AnswererState S} (conv moment : ℕ) (what : News) (before after : Table C) (draft : Option Draft) (trace more : Trace) (heard : Heard) → addressed heard ≡ Some (conv, what) →
-        AllOf conv more → ((other : ℕ) → conv ≢ other → found after other ≡ found before other) → (stands : TableStands standing awaited number made_due answers due first old before trace) →
+    next_stands : (due : Due) {course : Course S} {old new : AnswererState S} (conv moment : ℕ) (what : News) (before after : Table C) (draft : Option Draft) (trace more : Trace) (heard : Heard) → addressed heard ≡ Some (conv, what) →
+        AllOf conv more → ((other : ℕ) → conv ≢ other → found after other ≡ found before other) → (stands : TableStands standing awaited number made_due answers due course old before trace) →
         StandsIn standing awaited number made_due answers due conv ((trace ++ steps.Heard moment heard ∷ []) ++ more) (found after conv) →
         IsServed answers due ((trace ++ steps.Heard moment heard ∷ []) ++ more) →
-        (f : Follows answers due first stands.pending conv draft new ((trace ++ steps.Heard moment heard ∷ []) ++ more)) →
+        (f : Follows answers due course stands.pending conv draft new ((trace ++ steps.Heard moment heard ∷ []) ++ more)) →
         waiting (open_hook conv ((trace ++ steps.Heard moment heard ∷ []) ++ more)) draft ≡ waiting (open_hook conv ((trace ++ steps.Heard moment heard ∷ []) ++ more)) (draft_of (found after conv)) →
-        TableStands standing awaited number made_due answers due first new after ((trace ++ steps.Heard moment heard ∷ []) ++ more)
+        TableStands standing awaited number made_due answers due course new after ((trace ++ steps.Heard moment heard ∷ []) ++ more)
     next_stands due conv moment what before after draft trace more heard is own others stands here served f kept = record {
       at = λ other. by other (eqb_tells conv other);
       served = served;
@@ -346,11 +347,11 @@ module _ {C : Type 0} (standing : Standing C) (awaited : C → Option Ask) (numb
             ∙ ap (λ x. waiting (open_hook other ((trace ++ steps.Heard moment heard ∷ []) ++ more)) (draft_of x)) (sym (others other apart.1))))
 
     -- what is heard follows where the table stands
-    heard_follows : (due : Due) {first now : AnswererState S} (conv moment : ℕ) (table : Table C) (draft : Option Draft) (trace : Trace) (heard : Heard) →
-        (stands : TableStands standing awaited number made_due answers due first now table trace) → draft_of (found table conv) ≡ draft →
-        Follows answers due first stands.pending conv draft now (trace ++ steps.Heard moment heard ∷ [])
-    heard_follows due {first} {now} conv moment table draft trace heard stands same =
-        follows_step answers due first stands.pending conv draft now trace (steps.Heard moment heard)
+    heard_follows : (due : Due) {course : Course S} {now : AnswererState S} (conv moment : ℕ) (table : Table C) (draft : Option Draft) (trace : Trace) (heard : Heard) →
+        (stands : TableStands standing awaited number made_due answers due course now table trace) → draft_of (found table conv) ≡ draft →
+        Follows answers due course stands.pending conv draft now (trace ++ steps.Heard moment heard ∷ [])
+    heard_follows due {course} {now} conv moment table draft trace heard stands same =
+        follows_step answers due course stands.pending conv draft now trace (steps.Heard moment heard)
         (record { pending = stands.pending; answered = stands.answered; here = stands.drafts conv ∙ ap (waiting (open_hook conv trace)) same; others = λ other apart. refl }) tt
 
     module _ (ended : C → Bool) (ends : (made state : C) (moves : List Move) (given : List Command) → standing made state moves given → ended state ≡ true →
@@ -399,9 +400,9 @@ module _ {C : Type 0} (standing : Standing C) (awaited : C → Option Ask) (numb
         grown = hears.grown;
         own = hears.own;
         others = others;
-        stands = λ due first trace heard is stands.
+        stands = λ due course trace heard is stands.
             let w = live_in due conv held trace (found before conv) was (stands.at conv) in
-            let next = hears.hears due first stands.pending trace heard is w.within w.drafted (heard_served due before trace moment heard stands)
+            let next = hears.hears due course stands.pending trace heard is w.within w.drafted (heard_served due before trace moment heard stands)
             (heard_follows due conv moment before held.draft trace heard stands (ap draft_of was)) in
             let there_now : IsLive standing awaited number made_due answers due conv new_held ((trace ++ steps.Heard moment heard ∷ []) ++ hears.more) =
             record { within = next.0; settled = hears.settled; drafted = next.2 } in
@@ -419,7 +420,7 @@ module _ {C : Type 0} (standing : Standing C) (awaited : C → Option Ask) (numb
         grown = t.grown;
         own = t.own;
         others = others;
-        stands = λ due first trace heard peer is owes stands.
+        stands = λ due course trace heard peer is owes stands.
             let P : Found (Held C) → Type 0 = StandsIn standing awaited number made_due answers due conv trace in
             let w : IsUnknown conv trace = subst P was (stands.at conv) in
             let on = calls_heard conv trace moment heard (news.Begun peer) is in
@@ -427,8 +428,8 @@ module _ {C : Type 0} (standing : Standing C) (awaited : C → Option Ask) (numb
             let Q : C → Type 0 = λ s. standing conversation s (calls_of conv trace) [] in
             let R : List Move → Type 0 = λ l. standing conversation conversation l [] in
             let none : awaited held.conversation ≡ None = ap awaited same ∙ free in
-            let T : Option Draft → Type 0 = λ d. Follows answers due first stands.pending conv d old (trace ++ steps.Heard moment heard ∷ []) in
-            let next = t.takes due first stands.pending peer trace (trace ++ steps.Heard moment heard ∷ [])
+            let T : Option Draft → Type 0 = λ d. Follows answers due course stands.pending conv d old (trace ++ steps.Heard moment heard ∷ []) in
+            let next = t.takes due course stands.pending peer trace (trace ++ steps.Heard moment heard ∷ [])
             (record {
               made = conversation;
               earlier = [];
@@ -467,10 +468,10 @@ module _ {C : Type 0} (standing : Standing C) (awaited : C → Option Ask) (numb
       grown = sym (append-nil out);
       own = tt;
       others = λ other apart. refl;
-      stands = λ due first trace heard is stands.
+      stands = λ due course trace heard is stands.
           let P : Trace → Type 0 = λ t. StandsIn standing awaited number made_due answers due conv t (found table conv) in
           let Q : Trace → Type 0 = IsServed answers due in
-          let R : Trace → Type 0 = Follows answers due first stands.pending conv (draft_of (found table conv)) state in
+          let R : Trace → Type 0 = Follows answers due course stands.pending conv (draft_of (found table conv)) state in
           let same = sym (append-nil (trace ++ steps.Heard moment heard ∷ [])) in
           next_stands due conv moment what table table (draft_of (found table conv)) trace [] heard is tt (λ other apart. refl) stands
           (subst P same (here due trace heard is (stands.at conv))) (subst Q same (heard_served due table trace moment heard stands))
@@ -508,13 +509,13 @@ module _ {C : Type 0} (standing : Standing C) (awaited : C → Option Ask) (numb
       own = λ conv what some. tt;
       none = λ _. (refl, refl);
       others = λ conv other what some apart. refl;
-      stands = λ due first trace stands.
-          let P : Trace → Type 0 = TableStands standing awaited number made_due answers due first state table in
+      stands = λ due course trace stands.
+          let P : Trace → Type 0 = TableStands standing awaited number made_due answers due course state table in
           subst P (sym (append-nil (trace ++ steps.Heard moment heard ∷ []))) (record {
             at = λ conv. stands_same answers due conv trace (trace ++ steps.Heard moment heard ∷ []) (none_same conv moment trace heard is) (found table conv) (stands.at conv);
             served = heard_served due table trace moment heard stands;
             pending = stands.pending;
-            answered = at_other trace (trace ++ steps.Heard moment heard ∷ []) state stands.pending (steps.Heard moment heard) stands.answered refl tt;
+            answered = at_other course trace (trace ++ steps.Heard moment heard ∷ []) state stands.pending (steps.Heard moment heard) stands.answered refl tt;
             drafts = λ conv. stands.drafts conv ∙ ap (λ h. waiting h (draft_of (found table conv))) (sym (hook_heard conv trace moment heard));
           });
     }
@@ -530,7 +531,7 @@ module _ {C : Type 0} (standing : Standing C) (awaited : C → Option Ask) (numb
       own = λ other what' some. let P : ℕ → Type 0 = λ k. AllOf k hands.more in subst P (same_pair (conv, what) (other, what') (sym is ∙ some)) hands.own;
       none = λ no. absurd (let wrong : Some (conv, what) ≡ None = sym is ∙ no in cc);
       others = λ first other what' some apart. hands.others other (λ same. apart (sym (same_pair (conv, what) (first, what') (sym is ∙ some)) ∙ same));
-      stands = λ due first trace stands. hands.stands due first trace heard is stands;
+      stands = λ due course trace stands. hands.stands due course trace heard is stands;
     }
 
     pub routes_out : (moment : ℕ) (heard : Heard) (before after : Table C) {old new : AnswererState S} (empty given out new_out : List Step) → empty ≡ [] → new_out ≡ out ++ given →
@@ -555,7 +556,7 @@ module _ {C : Type 0} (standing : Standing C) (awaited : C → Option Ask) (numb
     }
 
     -- no two numbers share a key
-    pub apart_keys : (due : Due) {first now : AnswererState S} (table : Table C) (trace : Trace) (conv other key : ℕ) (held : Held C) → TableStands standing awaited number made_due answers due first now table trace →
+    pub apart_keys : (due : Due) {course : Course S} {now : AnswererState S} (table : Table C) (trace : Trace) (conv other key : ℕ) (held : Held C) → TableStands standing awaited number made_due answers due course now table trace →
         slab.get table.live key ≡ Some held → number held.conversation ≡ conv → conv ≢ other → place_of table other ≡ Some (place.Live key) → ⊥
     apart_keys due table trace conv other key held stands is named apart at =
         let there : found table other ≡ live held = ap (found_by table.live) at ∙ ap found_at is in
@@ -563,7 +564,7 @@ module _ {C : Type 0} (standing : Standing C) (awaited : C → Option Ask) (numb
         let w : IsLive standing awaited number made_due answers due other held trace = subst P there (stands.at other) in
         apart (sym named ∙ w.within.named)
 
-    pub no_vacant_key : (due : Due) {first now : AnswererState S} (table : Table C) (trace : Trace) (other key : ℕ) → TableStands standing awaited number made_due answers due first now table trace →
+    pub no_vacant_key : (due : Due) {course : Course S} {now : AnswererState S} (table : Table C) (trace : Trace) (other key : ℕ) → TableStands standing awaited number made_due answers due course now table trace →
         slab.get table.live key ≡ None → place_of table other ≡ Some (place.Live key) → ⊥
     no_vacant_key due table trace other key stands is at =
         let there : found table other ≡ lost = ap (found_by table.live) at ∙ ap found_at is in
@@ -578,7 +579,7 @@ module _ {C : Type 0} (standing : Standing C) (awaited : C → Option Ask) (numb
         let Q : List ℕ → Type 0 = λ l. Takes standing awaited number made_due answers conv moment (Took moment events.Begun) (dial_of (awaited held.conversation)) l held new_held old new out new_out in
         subst P (ap (λ s. dial_of (awaited s)) same ∙ ap dial_of free) (subst Q sides t)
 
-    pub at_key : (due : Due) {first now : AnswererState S} (table : Table C) (trace : Trace) (conv key : ℕ) → TableStands standing awaited number made_due answers due first now table trace →
+    pub at_key : (due : Due) {course : Course S} {now : AnswererState S} (table : Table C) (trace : Trace) (conv key : ℕ) → TableStands standing awaited number made_due answers due course now table trace →
         place_of table conv ≡ Some (place.Live key) → IsAtKey standing awaited number made_due conv key table
     at_key due table trace conv key stands at = by (slab.get table.live key) refl
       where
@@ -599,7 +600,7 @@ module _ {C : Type 0} (standing : Standing C) (awaited : C → Option Ask) (numb
     module _ (ended : C → Bool) (ends : (made state : C) (moves : List Move) (given : List Command) → standing made state moves given → ended state ≡ true →
         (more : List Move) (view : View) → seen_of view (made_due made (moves ++ more)) ≡ seen_of view (made_due made moves))
         (rests : (made state : C) (moves : List Move) (given : List Command) → standing made state moves given → ended state ≡ true → awaited state ≡ None) where
-      named_at : (due : Due) {first now : AnswererState S} (table : Table C) (trace : Trace) (conv key : ℕ) (held : Held C) → TableStands standing awaited number made_due answers due first now table trace →
+      named_at : (due : Due) {course : Course S} {now : AnswererState S} (table : Table C) (trace : Trace) (conv key : ℕ) (held : Held C) → TableStands standing awaited number made_due answers due course now table trace →
           place_of table conv ≡ Some (place.Live key) → slab.get table.live key ≡ Some held → number held.conversation ≡ conv
       named_at due table trace conv key held stands at is =
           let P : Found (Held C) → Type 0 = StandsIn standing awaited number made_due answers due conv trace in
@@ -610,7 +611,7 @@ module _ {C : Type 0} (standing : Standing C) (awaited : C → Option Ask) (numb
           IsTabled standing awaited number made_due answers before → place_of before conv ≡ Some (place.Live key) →
           HearsAt standing awaited number made_due answers ended conv moment what key before after old new over_now out new_out →
           Hands standing awaited number made_due answers conv moment what before after old new out new_out
-      hands_live conv moment key what before after over_now out new_out (due, first, now, trace, stands) at h =
+      hands_live conv moment key what before after over_now out new_out (due, course, now, trace, stands) at h =
           hands_of ended ends rests conv moment what before after h.held h.new_held out new_out (ap (found_by before.live) at ∙ ap found_at h.was) h.hears
           (inl (ap (found_by after.live) (ap (λ m. tree.get nat_cmp m conv) h.places ∙ at) ∙ ap found_at h.live_now.changed))
           (λ other apart. same_found before.live after.live (place_of before other) (place_of after other) key (ap (λ m. tree.get nat_cmp m other) h.places) h.live_now.others
@@ -621,7 +622,7 @@ module _ {C : Type 0} (standing : Standing C) (awaited : C → Option Ask) (numb
           HearsAt standing awaited number made_due answers ended conv moment what key before between old new over_now out new_out → over_now ≡ true →
           slab.Updates between.live after.live key None → tree.Updates nat_cmp between.places after.places conv (Some place.Ended) →
           Hands standing awaited number made_due answers conv moment what before after old new out new_out
-      hands_ended conv moment key what before between after over_now out new_out (due, first, now, trace, stands) at h is_over_now removed noted =
+      hands_ended conv moment key what before between after over_now out new_out (due, course, now, trace, stands) at h is_over_now removed noted =
           hands_of ended ends rests conv moment what before after h.held h.new_held out new_out (ap (found_by before.live) at ∙ ap found_at h.was) h.hears
           (inr (ap (found_by after.live) noted.1, sym h.ends ∙ is_over_now))
           (λ other apart. same_found before.live after.live (place_of before other) (place_of after other) key
@@ -635,7 +636,7 @@ module _ {C : Type 0} (standing : Standing C) (awaited : C → Option Ask) (numb
           Takes standing awaited number made_due answers conv moment (Took moment events.Begun) (dial_of (awaited held.conversation)) held.connected.items held new_held old new out new_out →
           slab.Updates before.live after.live key (Some new_held) → slab.get before.live key ≡ None → tree.Updates nat_cmp before.places after.places conv (Some (place.Live key)) →
           Admits standing awaited number made_due answers conv moment conversation before after old new out new_out
-      admits_added conv moment key conversation before after held new_held out new_out (due, first, now, trace, stands) unknown_here same sides no_draft free fresh t added vacant noted =
+      admits_added conv moment key conversation before after held new_held out new_out (due, course, now, trace, stands) unknown_here same sides no_draft free fresh t added vacant noted =
           admits_of ended ends rests conv moment conversation before after held new_held out new_out (ap (found_by before.live) (unplaced (place_of before conv) unknown_here)) same no_draft free fresh
           (first_takes conv moment conversation held new_held out new_out same sides free t)
           (inl (ap (found_by after.live) noted.1 ∙ ap found_at added.changed))

@@ -23,11 +23,12 @@ use Rattle.px_core.specs.declared.table.Table.{Table}
 use Rattle.px_core.specs.Answered.{IsAnswered, LeavesFiles, at_other}
 use Rattle.px_core.specs.Answers.{Answering, AnswererState, Failing, FilesAfter, FilesMeaning}
 use Rattle.px_core.specs.Calls.{number_end, addressed}
+use Rattle.px_core.specs.Course.{Course}
 use Rattle.px_core.specs.Due.{Due, IsServed}
 use Rattle.px_core.specs.Held.{IsOf, AllOf}
 use Rattle.px_core.specs.declared.router.Router.{Router}
 use Rattle.px_core.specs.Router.{found, TableStands, Admits, Routes}
-use Rattle.px_core.proofs.AnsweredLemmas.{front_answered}
+use Rattle.px_core.proofs.AnsweredLemmas.{answered_front, whole_front}
 use Rattle.px_core.specs.Run.{begun_by, done_of, Tells, IsTellable, AllTellable, ToldPart, IsOfHeard, TellsOfHeard, KeepsOthers}
 
 -- steps of a conversation are said or noted
@@ -55,13 +56,13 @@ served_front answers due trace rest served = record {
 module _ {C : Type 0} (standing : Standing C) (awaited : C → Option Ask) (number : C → ℕ) (made_due : C → List Move → List Command) {S : Type 0} (answers : Answering S) where
   pub admitted : (conv moment : ℕ) (conversation : C) (before after : Table C) {old new : AnswererState S} (empty given : List Step) → empty ≡ [] →
       Admits standing awaited number made_due answers conv moment conversation before after old new empty given →
-      (due : Due) (first : AnswererState S) (trace : Trace) (what : Heard) (peer : Address) → addressed what ≡ Some (conv, news.Begun peer) → ((moves : List Move) → made_due conversation moves ≡ due conv peer moves) →
-      TableStands standing awaited number made_due answers due first old before trace →
-      TableStands standing awaited number made_due answers due first new after ((trace ++ steps.Heard moment what ∷ []) ++ given)
-  admitted conv moment conversation before after {old} {new} empty given none a due first trace what peer is owes stands =
+      (due : Due) (course : Course S) (trace : Trace) (what : Heard) (peer : Address) → addressed what ≡ Some (conv, news.Begun peer) → ((moves : List Move) → made_due conversation moves ≡ due conv peer moves) →
+      TableStands standing awaited number made_due answers due course old before trace →
+      TableStands standing awaited number made_due answers due course new after ((trace ++ steps.Heard moment what ∷ []) ++ given)
+  admitted conv moment conversation before after {old} {new} empty given none a due course trace what peer is owes stands =
       let same : a.more ≡ given = sym (a.grown ∙ ap (λ l. l ++ a.more) none) in
-      let P : Trace → Type 0 = λ l. TableStands standing awaited number made_due answers due first new after ((trace ++ steps.Heard moment what ∷ []) ++ l) in
-      subst P same (a.stands due first trace what peer is owes stands)
+      let P : Trace → Type 0 = λ l. TableStands standing awaited number made_due answers due course new after ((trace ++ steps.Heard moment what ∷ []) ++ l) in
+      subst P same (a.stands due course trace what peer is owes stands)
 
   pub admitted_own : (conv moment : ℕ) (conversation : C) (before after : Table C) {old new : AnswererState S} (empty given : List Step) → empty ≡ [] →
       Admits standing awaited number made_due answers conv moment conversation before after old new empty given → AllOf conv given
@@ -70,11 +71,11 @@ module _ {C : Type 0} (standing : Standing C) (awaited : C → Option Ask) (numb
 
   pub routed : (moment : ℕ) (what : Heard) (before after : Table C) {old new : AnswererState S} (empty given : List Step) → empty ≡ [] →
       Routes standing awaited number made_due answers moment what before after old new empty given →
-      (due : Due) (first : AnswererState S) (trace : Trace) → TableStands standing awaited number made_due answers due first old before trace →
-      TableStands standing awaited number made_due answers due first new after ((trace ++ steps.Heard moment what ∷ []) ++ given)
-  routed moment what before after {old} {new} empty given none r due first trace stands =
-      let P : Trace → Type 0 = λ l. TableStands standing awaited number made_due answers due first new after ((trace ++ steps.Heard moment what ∷ []) ++ l) in
-      subst P (sym (r.grown ∙ ap (λ l. l ++ r.more) none)) (r.stands due first trace stands)
+      (due : Due) (course : Course S) (trace : Trace) → TableStands standing awaited number made_due answers due course old before trace →
+      TableStands standing awaited number made_due answers due course new after ((trace ++ steps.Heard moment what ∷ []) ++ given)
+  routed moment what before after {old} {new} empty given none r due course trace stands =
+      let P : Trace → Type 0 = λ l. TableStands standing awaited number made_due answers due course new after ((trace ++ steps.Heard moment what ∷ []) ++ l) in
+      subst P (sym (r.grown ∙ ap (λ l. l ++ r.more) none)) (r.stands due course trace stands)
 
   pub routed_tellable : (moment : ℕ) (what : Heard) (before after : Table C) {old new : AnswererState S} (empty given : List Step) → empty ≡ [] →
       Routes standing awaited number made_due answers moment what before after old new empty given → AllTellable given
@@ -148,26 +149,32 @@ served_none answers due trace now served is =
     record { more = []; is = is ∙ ap Some (sym (append-nil trace)); holds = subst P (sym (append-nil trace)) served }
 
 -- so the answerer came over what was told
-pub answered_part : {S : Type 0} (answers : Answering S) (due : Due) (first : AnswererState S) (trace list : Trace) (now : Option Trace) (before after : List Flow) →
-    IsAnswered answers due first (trace ++ list) → ToldPart list trace now before after → Tells (IsAnswered answers due first) trace now
-answered_part answers due first trace list now before after all t = record {
+pub answered_part : {S : Type 0} (answers : Answering S) (due : Due) (course : Course S) (trace list : Trace) (now : Option Trace) (before after : List Flow) →
+    IsAnswered answers due course (trace ++ list) → ToldPart list trace now before after → Tells (IsAnswered answers due course) trace now
+answered_part answers due course trace list now before after all t = record {
   more = t.given;
   is = t.is;
   holds =
-      front_answered answers due first (trace ++ t.given) t.front.0 (trace ++ list) all.last all.pending
-      (ap (λ l. trace ++ l) t.front.1 ∙ sym (append_assoc trace t.given t.front.0)) all.answered;
+      answered_front answers due course (trace ++ t.given) t.front.0 (trace ++ list)
+      (ap (λ l. trace ++ l) t.front.1 ∙ sym (append_assoc trace t.given t.front.0)) all;
 }
 
 -- and over what was heard where no step was told
-pub answered_none : {S : Type 0} (answers : Answering S) (due : Due) (first : AnswererState S) (trace : Trace) (moment : ℕ) (what : Heard) (now : Option Trace) →
-    IsAnswered answers due first trace → now ≡ Some (trace ++ steps.Heard moment what ∷ []) → Tells (IsAnswered answers due first) (trace ++ steps.Heard moment what ∷ []) now
-answered_none answers due first trace moment what now a is =
+pub answered_none : {S : Type 0} (answers : Answering S) (due : Due) (course : Course S) (trace : Trace) (moment : ℕ) (what : Heard) (now : Option Trace) →
+    IsAnswered answers due course trace → now ≡ Some (trace ++ steps.Heard moment what ∷ []) → Tells (IsAnswered answers due course) (trace ++ steps.Heard moment what ∷ []) now
+answered_none answers due course trace moment what now a is =
     let there = trace ++ steps.Heard moment what ∷ [] in
-    let P : Trace → Type 0 = IsAnswered answers due first in
+    let P : Trace → Type 0 = IsAnswered answers due course in
     record {
       more = [];
       is = is ∙ ap Some (sym (append-nil there));
-      holds = subst P (sym (append-nil there)) (record { last = a.last; pending = a.pending; answered = at_other trace there a.last a.pending (steps.Heard moment what) a.answered refl tt });
+      holds = subst P (sym (append-nil there)) (record {
+        made = a.made;
+        front_of = a.front_of;
+        last = a.last;
+        pending = a.pending;
+        answered = at_other a.made trace there a.last a.pending (steps.Heard moment what) a.answered refl tt;
+      });
     }
 
 pub done_next : (front : List Step) (x : Step) → flat_map done_of (front ++ x ∷ []) ≡ flat_map done_of front ++ done_of x
@@ -305,26 +312,28 @@ tells_by (Err e) what trace list now before after of all part = record { more = 
 
 -- a router that stands for what is told came there by its answers
 pub tells_answered : {C : Type 0} (standing : Standing C) (awaited : C → Option Ask) (number : C → ℕ) (made_due : C → List Move → List Command) {S : Type 0} (answers : Answering S)
-    (due : Due) {first now : AnswererState S} (table : Table C) (trace : Trace) (told : Option Trace) → Tells (TableStands standing awaited number made_due answers due first now table) trace told →
-    Tells (IsAnswered answers due first) trace told
-tells_answered standing awaited number made_due answers due {first} {now} table trace told t = record {
+    (due : Due) {course : Course S} {now : AnswererState S} (table : Table C) (trace : Trace) (told : Option Trace) → Tells (TableStands standing awaited number made_due answers due course now table) trace told →
+    Tells (IsAnswered answers due course) trace told
+tells_answered standing awaited number made_due answers due {course} {now} table trace told t = record {
   more = t.more;
   is = t.is;
-  holds = record { last = now; pending = t.holds.pending; answered = t.holds.answered };
+  holds = record { made = course; front_of = whole_front course; last = now; pending = t.holds.pending; answered = t.holds.answered };
 }
 
 -- Behind the trace before what was heard the answerer was asked what it was asked, whatever of that was told.
 pub leaves_told : {C : Type 0} (standing : Standing C) (awaited : C → Option Ask) (number : C → ℕ) (made_due : C → List Move → List Command) {S : Type 0} (answers : Answering S)
-    (fails : Failing S) (due : Due) (first now : AnswererState S) (files : FilesMeaning) (table : Table C) (trace : Trace) (moment : ℕ) (what : Heard) (told : Option Trace) →
-    TableStands standing awaited number made_due answers due first now table trace → FilesAfter answers fails now files →
-    TellsOfHeard what (trace ++ steps.Heard moment what ∷ []) told → Tells (LeavesFiles answers fails due first ⊥ files) (trace ++ steps.Heard moment what ∷ []) told
-leaves_told standing awaited number made_due answers fails due first now files table trace moment what told stands after t = record {
+    (fails : Failing S) (due : Due) (course : Course S) (now : AnswererState S) (files : FilesMeaning) (table : Table C) (trace : Trace) (moment : ℕ) (what : Heard) (told : Option Trace) →
+    TableStands standing awaited number made_due answers due course now table trace → FilesAfter answers fails now files →
+    TellsOfHeard what (trace ++ steps.Heard moment what ∷ []) told → Tells (LeavesFiles answers fails due course ⊥ files) (trace ++ steps.Heard moment what ∷ []) told
+leaves_told standing awaited number made_due answers fails due course now files table trace moment what told stands after t = record {
   more = t.more;
   is = t.is;
   holds = record {
     front = trace;
     rest = steps.Heard moment what ∷ t.more;
     split = append_assoc trace (steps.Heard moment what ∷ []) t.more;
+    made = course;
+    front_of = whole_front course;
     last = now;
     pending = stands.pending;
     answered = stands.answered;

@@ -101,7 +101,7 @@ module _ {C : Type 0} (standing : Standing C) (awaited : C → Option Ask) (numb
         more = map (step_of conv) given;
         grown = grown;
         own = all_own conv given named;
-        works = λ due first pending trace w now served kept follows.
+        works = λ due course pending trace w now served kept follows.
             let told = told_all answers due standing awaited number made_due gave conv moment held given trace w now served named in
             record {
               within = told.within;
@@ -109,7 +109,7 @@ module _ {C : Type 0} (standing : Standing C) (awaited : C → Option Ask) (numb
               served = told.served;
               last = about_last due conv held trace (trace ++ map (step_of conv) given) given (awaited held.conversation) question w (same_due due conv given trace) next.1;
               drafted = drafted_of due conv held trace (trace ++ map (step_of conv) given) given question named asked ready (ap (seen_of flows) (same_due due conv given trace)) kept;
-              follows = follows_told answers due first pending conv held.draft state given question trace (hook_of (awaited held.conversation)) named w.turn asked
+              follows = follows_told answers due course pending conv held.draft state given question trace (hook_of (awaited held.conversation)) named w.turn asked
                   (about_last due conv held trace trace given (awaited held.conversation) question w refl next.1) follows;
             };
         next = next.0;
@@ -128,10 +128,10 @@ module _ {C : Type 0} (standing : Standing C) (awaited : C → Option Ask) (numb
     more = [];
     grown = grown ∙ sym (append-nil out);
     own = tt;
-    works = λ due first pending trace at.
-        let P : Trace → Type 0 = WorkedTo standing awaited number made_due answers due first pending conv moment after new None in
+    works = λ due course pending trace at.
+        let P : Trace → Type 0 = WorkedTo standing awaited number made_due answers due course pending conv moment after new None in
         let gives_so : Answer → Type 0 = λ a. answers question.hook question.flow old.own old.files new.own new.files a in
-        let T : Option Draft → Type 0 = λ d. Follows answers due first pending conv d new trace in
+        let T : Option Draft → Type 0 = λ d. Follows answers due course pending conv d new trace in
         let w = at.within in
         let Q : C → Type 0 = λ s. standing w.made s (calls_of conv trace) (w.earlier ++ []) in
         subst P (sym (append-nil trace)) (record {
@@ -171,7 +171,7 @@ module _ {C : Type 0} (standing : Standing C) (awaited : C → Option Ask) (numb
                   answers_so = subst gives_so is met;
                 });
               };
-          follows = subst T (sym kept) (follows_wait answers due first pending conv before.draft draft old new trace question next_before.1 (subst gives_so is met) at.follows);
+          follows = subst T (sym kept) (follows_wait answers due course pending conv before.draft draft old new trace question next_before.1 (subst gives_so is met) at.follows);
         });
     next = settled;
   }
@@ -233,11 +233,11 @@ module _ {C : Type 0} (standing : Standing C) (awaited : C → Option Ask) (numb
         more = answered ∷ map (step_of conv) r.given;
         grown = r.grown ∙ append_assoc out (answered ∷ []) (map (step_of conv) r.given);
         own = (refl, all_own conv r.given r.named);
-        works = λ due first pending trace at.
+        works = λ due course pending trace at.
             let w = answered_within due conv moment ask reply before after trace r.given at.within at.now named_after
             (no_dial_of (awaited before.conversation) ask question.flow.id.index question.hook next_before.0 next_before.1) r.named r.goes r.asks_one r.same_sides in
             let gives_so : Answer → Type 0 = λ a. answers question.hook question.flow old.own old.files new.own new.files a in
-            let T : Option Draft → Type 0 = λ d. Follows answers due first pending conv d new (trace ++ answered ∷ []) in
+            let T : Option Draft → Type 0 = λ d. Follows answers due course pending conv d new (trace ++ answered ∷ []) in
             let here : IsMet answers due trace conv ask reply = record {
               hook = question.hook;
               flow = question.flow;
@@ -256,7 +256,7 @@ module _ {C : Type 0} (standing : Standing C) (awaited : C → Option Ask) (numb
             (within_due answers due standing awaited number made_due gave conv after (trace ++ answered ∷ []) r.given w) (ends_met answers due conv trace ask reply here)
             (at.within.turn ∙ (ap hook_of (next_before.0 ∙ ap Some next_before.1) ∙ ap Some (sym next_before.1))) in
             let told = told_all answers due standing awaited number made_due gave conv moment after r.given (trace ++ answered ∷ []) w now served r.named in
-            let P : Trace → Type 0 = WorkedTo standing awaited number made_due answers due first pending conv moment after new open_now in
+            let P : Trace → Type 0 = WorkedTo standing awaited number made_due answers due course pending conv moment after new open_now in
             subst P (append_assoc trace (answered ∷ []) (map (step_of conv) r.given)) (record {
               within = told.within;
               now = told.now;
@@ -264,9 +264,9 @@ module _ {C : Type 0} (standing : Standing C) (awaited : C → Option Ask) (numb
               last = about_last due conv after (trace ++ answered ∷ []) ((trace ++ answered ∷ []) ++ map (step_of conv) r.given) r.given (awaited after.conversation) open_now w
                   (same_due due conv r.given (trace ++ answered ∷ [])) next.1;
               drafted = drafted_replied due conv after ((trace ++ answered ∷ []) ++ map (step_of conv) r.given) r.given open_now r.named r.asked r.asks_one;
-              follows = follows_told answers due first pending conv after.draft new r.given open_now (trace ++ answered ∷ []) (hook_of (awaited after.conversation)) r.named w.turn r.asked
+              follows = follows_told answers due course pending conv after.draft new r.given open_now (trace ++ answered ∷ []) (hook_of (awaited after.conversation)) r.named w.turn r.asked
                   (about_last due conv after (trace ++ answered ∷ []) (trace ++ answered ∷ []) r.given (awaited after.conversation) open_now w refl next.1)
-                  (subst T (sym r.same_draft) (follows_reply answers due first pending conv before.draft reply old new trace question next_before.1 (subst gives_so is met) at.follows));
+                  (subst T (sym r.same_draft) (follows_reply answers due course pending conv before.draft reply old new trace question next_before.1 (subst gives_so is met) at.follows));
             });
         next = next.0;
       }

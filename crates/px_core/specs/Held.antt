@@ -22,6 +22,7 @@ use Rattle.px_core.specs.declared.held.Held.{Held}
 use Rattle.px_core.specs.declared.held.Question.{Question}
 use Rattle.px_core.specs.Answered.{GivenTo, Pending, IsNoAnswer, Answers}
 use Rattle.px_core.specs.Answers.{Answering, AnswererState}
+use Rattle.px_core.specs.Course.{Course}
 use Rattle.px_core.specs.declared.news.News.{News}
 use Rattle.px_core.specs.declared.news.News.TheVariants as news
 use Rattle.px_core.specs.Calls.{calls, calls_of, addressed}
@@ -135,30 +136,30 @@ NoneAnswers (step ∷ rest) = IsNoAnswer step × NoneAnswers rest
 
 -- The answerer came so far over a trace in which this conversation is worked off. Of a hook that is open in it, this draft is
 -- pending, and in the others what was pending before.
-pub record Follows {S : Type 0} (answers : Answering S) (due : Due) (first : AnswererState S) (before : Pending) (conv : ℕ) (draft : Option Draft) (now : AnswererState S)
+pub record Follows {S : Type 0} (answers : Answering S) (due : Due) (course : Course S) (before : Pending) (conv : ℕ) (draft : Option Draft) (now : AnswererState S)
     (trace : Trace) : Type 0 where
   pub pending : Pending
-  pub answered : Answers answers due first trace now pending
+  pub answered : Answers answers due course trace now pending
   pub here : pending conv ≡ waiting (open_hook conv trace) draft
   pub others : (other : ℕ) → conv ≢ other → pending other ≡ before other
 
 -- The answerer is still to be asked this question: it came so far directly before its hook was asked, about whose flow it was, and
 -- behind that no hook was asked or answered.
-pub record IsToAsk {S : Type 0} (answers : Answering S) (due : Due) (first : AnswererState S) (before : Pending) (conv : ℕ) (draft : Option Draft) (now : AnswererState S)
+pub record IsToAsk {S : Type 0} (answers : Answering S) (due : Due) (course : Course S) (before : Pending) (conv : ℕ) (draft : Option Draft) (now : AnswererState S)
     (trace : Trace) (question : Question) : Type 0 where
   pub front : Trace
   pub behind : List Step
   pub is : trace ≡ (front ++ steps.Asked conv question.ask ∷ []) ++ behind
   pub quiet : NoneAnswers behind
-  pub follows : Follows answers due first before conv draft now front
+  pub follows : Follows answers due course before conv draft now front
   pub free : open_hook conv front ≡ None
   pub earlier : List Atom
   pub last : due_in due flows conv front ≡ earlier ++ about question.ask question.flow ∷ []
 
 -- it came so far, or where a question is open is still to be asked it
-abbrev pub FollowsTo : {S : Type 0} → Answering S → Due → AnswererState S → Pending → ℕ → Option Draft → AnswererState S → Trace → Option Question → Type 0
-FollowsTo answers due first before conv draft now trace None = Follows answers due first before conv draft now trace
-FollowsTo answers due first before conv draft now trace (Some question) = IsToAsk answers due first before conv draft now trace question
+abbrev pub FollowsTo : {S : Type 0} → Answering S → Due → Course S → Pending → ℕ → Option Draft → AnswererState S → Trace → Option Question → Type 0
+FollowsTo answers due course before conv draft now trace None = Follows answers due course before conv draft now trace
+FollowsTo answers due course before conv draft now trace (Some question) = IsToAsk answers due course before conv draft now trace question
 
 -- how often the loop that answers can still turn
 abbrev pub turns_left : ℕ → Option Question → ℕ
@@ -230,21 +231,21 @@ module _ {C : Type 0} (standing : Standing C) (awaited : C → Option Ask) (numb
   module _ {S : Type 0} (answers : Answering S) where
     -- Where a conversation is worked off to, with this question open, and the answerer with it. Each record below takes the answerer
     -- from what it is before to what it is after, whatever it was at first and whatever is pending in the other conversations.
-    pub record WorkedTo (due : Due) (first : AnswererState S) (pending : Pending) (conv moment : ℕ) (held : Held C) (state : AnswererState S) (question : Option Question) (trace : Trace) : Type 0 where
+    pub record WorkedTo (due : Due) (course : Course S) (pending : Pending) (conv moment : ℕ) (held : Held C) (state : AnswererState S) (question : Option Question) (trace : Trace) : Type 0 where
       pub within : Within due conv held trace []
       pub now : (calls conv trace).moment ≡ moment
       pub served : IsServed answers due trace
       pub last : IsAbout due conv trace question
       pub drafted : IsDraftedBut awaited answers due conv held trace question
-      pub follows : FollowsTo answers due first pending conv held.draft state trace question
+      pub follows : FollowsTo answers due course pending conv held.draft state trace question
 
     -- Answering its open hook, or letting it wait, does so too.
     pub record Asks (conv moment : ℕ) (question : Question) (before after : Held C) (old new : AnswererState S) (open_now : Option Question) (out new_out : List Step) : Type 0 where
       pub more : List Step
       pub grown : new_out ≡ out ++ more
       pub own : AllOf conv more
-      pub works : (due : Due) (first : AnswererState S) (pending : Pending) (trace : Trace) → WorkedTo due first pending conv moment before old (Some question) trace →
-          WorkedTo due first pending conv moment after new open_now (trace ++ more)
+      pub works : (due : Due) (course : Course S) (pending : Pending) (trace : Trace) → WorkedTo due course pending conv moment before old (Some question) trace →
+          WorkedTo due course pending conv moment after new open_now (trace ++ more)
       pub next : IsNext awaited after open_now
 
     -- Working off a conversation that has these commands still to be told adds steps of its own; wherever it stood in a
@@ -253,9 +254,9 @@ module _ {C : Type 0} (standing : Standing C) (awaited : C → Option Ask) (numb
       pub more : List Step
       pub grown : new_out ≡ out ++ more
       pub own : AllOf conv more
-      pub works : (due : Due) (first : AnswererState S) (pending : Pending) (trace : Trace) → Within due conv before trace rest → (calls conv trace).moment ≡ moment → IsServed answers due trace →
-          IsDraftedBehind awaited answers due conv before trace rest → Follows answers due first pending conv before.draft old trace →
-          WorkedTo due first pending conv moment after new question (trace ++ more)
+      pub works : (due : Due) (course : Course S) (pending : Pending) (trace : Trace) → Within due conv before trace rest → (calls conv trace).moment ≡ moment → IsServed answers due trace →
+          IsDraftedBehind awaited answers due conv before trace rest → Follows answers due course pending conv before.draft old trace →
+          WorkedTo due course pending conv moment after new question (trace ++ more)
       pub next : IsNext awaited after question
 
     -- A call that was taken and worked off adds steps of the conversation's; wherever it stood in a trace that goes on by
@@ -264,11 +265,11 @@ module _ {C : Type 0} (standing : Standing C) (awaited : C → Option Ask) (numb
       pub more : List Step
       pub grown : new_out ≡ out ++ more
       pub own : AllOf conv more
-      pub takes : (due : Due) (first : AnswererState S) (pending : Pending) (peer : Address) (trace next : Trace) → Stood due conv peer before.conversation trace →
+      pub takes : (due : Due) (course : Course S) (pending : Pending) (peer : Address) (trace next : Trace) → Stood due conv peer before.conversation trace →
           IsDrafted awaited answers due conv before trace → IsOneOn conv peer moment move dial sides trace next → IsServed answers due next →
-          Follows answers due first pending conv before.draft old next →
+          Follows answers due course pending conv before.draft old next →
           Within due conv after (next ++ more) [] × IsServed answers due (next ++ more) × IsDrafted awaited answers due conv after (next ++ more)
-          × Follows answers due first pending conv after.draft new (next ++ more)
+          × Follows answers due course pending conv after.draft new (next ++ more)
       pub settled : IsSettled awaited after
 
     -- News that a conversation took add steps of its own; wherever it stood in a trace, it stands in that trace with what
@@ -277,11 +278,11 @@ module _ {C : Type 0} (standing : Standing C) (awaited : C → Option Ask) (numb
       pub more : List Step
       pub grown : new_out ≡ out ++ more
       pub own : AllOf conv more
-      pub hears : (due : Due) (first : AnswererState S) (pending : Pending) (trace : Trace) (heard : Heard) → addressed heard ≡ Some (conv, what) →
+      pub hears : (due : Due) (course : Course S) (pending : Pending) (trace : Trace) (heard : Heard) → addressed heard ≡ Some (conv, what) →
           Within due conv before trace [] → IsDrafted awaited answers due conv before trace → IsServed answers due (trace ++ steps.Heard moment heard ∷ []) →
-          Follows answers due first pending conv before.draft old (trace ++ steps.Heard moment heard ∷ []) →
+          Follows answers due course pending conv before.draft old (trace ++ steps.Heard moment heard ∷ []) →
           Within due conv after ((trace ++ steps.Heard moment heard ∷ []) ++ more) []
           × IsServed answers due ((trace ++ steps.Heard moment heard ∷ []) ++ more)
           × IsDrafted awaited answers due conv after ((trace ++ steps.Heard moment heard ∷ []) ++ more)
-          × Follows answers due first pending conv after.draft new ((trace ++ steps.Heard moment heard ∷ []) ++ more)
+          × Follows answers due course pending conv after.draft new ((trace ++ steps.Heard moment heard ∷ []) ++ more)
       pub settled : IsSettled awaited after

@@ -1,6 +1,7 @@
 pub mod Addons
 pub mod Answered
 pub mod Answers
+pub mod Course
 pub mod Calls
 pub mod Conversation
 pub mod Due

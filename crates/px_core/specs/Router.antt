@@ -22,6 +22,7 @@ use Rattle.px_core.specs.declared.router.Router.{Router}
 use Rattle.px_core.specs.declared.table.Table.{Table}
 use Rattle.px_core.specs.Answered.{Pending, Answers}
 use Rattle.px_core.specs.Answers.{Answering, AnswererState, FilesMeaning}
+use Rattle.px_core.specs.Course.{Course}
 use Rattle.px_core.specs.Calls.{calls, calls_of, addressed}
 use Rattle.px_core.specs.Due.{Due, due_in, IsServed}
 use Rattle.px_core.specs.Held.{AllOf, IsSettled, IsDrafted, waiting, Within, Hears}
@@ -110,20 +111,20 @@ module _ {C : Type 0} (standing : Standing C) (awaited : C → Option Ask) (numb
 
     -- At a step's end: under each number the table has what the trace says, and the trace is served. The answerer came over the trace
     -- from what it was at first to what it is now, and of each hook that is open the draft that the table keeps is pending.
-    pub record TableStands (due : Due) (first now : AnswererState S) (table : Table C) (trace : Trace) : Type 0 where
+    pub record TableStands (due : Due) (course : Course S) (now : AnswererState S) (table : Table C) (trace : Trace) : Type 0 where
       pub at : (conv : ℕ) → StandsIn due conv trace (found table conv)
       pub served : IsServed answers due trace
       pub pending : Pending
-      pub answered : Answers answers due first trace now pending
+      pub answered : Answers answers due course trace now pending
       pub drafts : (conv : ℕ) → pending conv ≡ waiting (open_hook conv trace) (draft_of (found table conv))
 
     -- it stands for something
     abbrev pub IsTabled : Table C → Type 0
-    IsTabled table = (due : Due) × (first : AnswererState S) × (now : AnswererState S) × (trace : Trace) × TableStands due first now table trace
+    IsTabled table = (due : Due) × (course : Course S) × (now : AnswererState S) × (trace : Trace) × TableStands due course now table trace
 
     -- so has a router, by the state of its own answerer and what files mean
-    abbrev pub RouterStands : {A : Type 0} → (A → S) → Due → AnswererState S → FilesMeaning → Router C A → Trace → Type 0
-    RouterStands state due first files router trace = TableStands due first (record { own = state router.answerer; files = files }) router.table trace
+    abbrev pub RouterStands : {A : Type 0} → (A → S) → Due → Course S → FilesMeaning → Router C A → Trace → Type 0
+    RouterStands state due course files router trace = TableStands due course (record { own = state router.answerer; files = files }) router.table trace
 
     -- it stands for something, unless memory ran out
     abbrev pub IsRouted : {A : Type 0} → Router C A → Type 0
@@ -146,8 +147,8 @@ module _ {C : Type 0} (standing : Standing C) (awaited : C → Option Ask) (numb
       pub grown : new_out ≡ out ++ more
       pub own : AllOf conv more
       pub others : (other : ℕ) → conv ≢ other → found after other ≡ found before other
-      pub stands : (due : Due) (first : AnswererState S) (trace : Trace) (heard : Heard) → addressed heard ≡ Some (conv, what) → TableStands due first old before trace →
-          TableStands due first new after ((trace ++ steps.Heard moment heard ∷ []) ++ more)
+      pub stands : (due : Due) (course : Course S) (trace : Trace) (heard : Heard) → addressed heard ≡ Some (conv, what) → TableStands due course old before trace →
+          TableStands due course new after ((trace ++ steps.Heard moment heard ∷ []) ++ more)
 
     -- So are those of a conversation that was admitted, where what is due of it is what is due under its number where its client
     -- is.
@@ -156,9 +157,9 @@ module _ {C : Type 0} (standing : Standing C) (awaited : C → Option Ask) (numb
       pub grown : new_out ≡ out ++ more
       pub own : AllOf conv more
       pub others : (other : ℕ) → conv ≢ other → found after other ≡ found before other
-      pub stands : (due : Due) (first : AnswererState S) (trace : Trace) (heard : Heard) (peer : Address) → addressed heard ≡ Some (conv, news.Begun peer) →
-          ((moves : List Move) → made_due conversation moves ≡ due conv peer moves) → TableStands due first old before trace →
-          TableStands due first new after ((trace ++ steps.Heard moment heard ∷ []) ++ more)
+      pub stands : (due : Due) (course : Course S) (trace : Trace) (heard : Heard) (peer : Address) → addressed heard ≡ Some (conv, news.Begun peer) →
+          ((moves : List Move) → made_due conversation moves ≡ due conv peer moves) → TableStands due course old before trace →
+          TableStands due course new after ((trace ++ steps.Heard moment heard ∷ []) ++ more)
 
     -- Something heard that a router took: it adds steps of that conversation alone, and changes nothing of another; whatever
     -- trace it stood for, it stands for that trace with what was heard and these steps more.
@@ -168,7 +169,7 @@ module _ {C : Type 0} (standing : Standing C) (awaited : C → Option Ask) (numb
       pub own : (conv : ℕ) (what : News) → addressed heard ≡ Some (conv, what) → AllOf conv more
       pub none : addressed heard ≡ None → (more ≡ []) × (after ≡ before)
       pub others : (conv other : ℕ) (what : News) → addressed heard ≡ Some (conv, what) → conv ≢ other → found after other ≡ found before other
-      pub stands : (due : Due) (first : AnswererState S) (trace : Trace) → TableStands due first old before trace → TableStands due first new after ((trace ++ steps.Heard moment heard ∷ []) ++ more)
+      pub stands : (due : Due) (course : Course S) (trace : Trace) → TableStands due course old before trace → TableStands due course new after ((trace ++ steps.Heard moment heard ∷ []) ++ more)
 
 -- Nothing is heard by which a conversation begins, but one that was admitted.
 abbrev pub BeginsNone : {C A : Type 0} → Router C A → Heard → Type 0

@@ -7,7 +7,7 @@ ghost use Rattle.px_event.specs.declared.event.Event.{Event as TakenEvent};
 ghost use Rattle.px_event.specs.declared.reply.Reply.{Reply as GivenReply};
 ghost use Rattle.px_event.specs.declared.command.Command.{Command as GivenCommand};
 ghost use Rattle.px_core.specs.Answered.{IsAnswered};
-ghost use Rattle.px_core.specs.Answers.{AnswererState};
+ghost use Rattle.px_core.specs.Course.{AllAre, Course, KeepsOwn};
 ghost use Rattle.px_core.specs.Kind.{EndsOfKind};
 ghost use Rattle.px_core.specs.Due.{Due, IsWithinDue};
 ghost use Rattle.px_core.specs.Ordered.{LeavesFlows, AsksBeforeEnds, IsInOrder};
@@ -39,9 +39,10 @@ pub fn an_end_lasts<C: Owes>()
 {}
 
 /// Answers are of their kind. Where from each of the answerer's own states that is so each answer leads to one that is so and is of
-/// a kind, and the first state is so, then in each trace over which the answerer came each reply is of that kind for the flow with
-/// which its hook was asked, as it was due there; and the state that it came to is so.
+/// a kind, and the first state is so, and each other change of its course leads from such states to such ones, then in each trace over
+/// which the answerer came each reply is of that kind for the flow with which its hook was asked, as it was due there; and the state that
+/// it came to is so.
 pub fn answers_are_of_their_kind<K: Kind>()
-    ensures replies { (due : Due) (first : AnswererState K.State) → K.is_so first.own → (trace : Trace) → IsAnswered K.answers due first trace → Always (EndsOfKind K.gives due) trace }
-    ensures states { (due : Due) (first : AnswererState K.State) → K.is_so first.own → (trace : Trace) → (came : IsAnswered K.answers due first trace) → K.is_so came.last.own }
+    ensures replies { (due : Due) (course : Course K.State) → K.is_so course.first.own → AllAre (KeepsOwn K.is_so) course.changes → (trace : Trace) → IsAnswered K.answers due course trace → Always (EndsOfKind K.gives due) trace }
+    ensures states { (due : Due) (course : Course K.State) → K.is_so course.first.own → AllAre (KeepsOwn K.is_so) course.changes → (trace : Trace) → (came : IsAnswered K.answers due course trace) → K.is_so came.last.own }
 {}

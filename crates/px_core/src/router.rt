@@ -14,6 +14,7 @@ ghost use Rattle.px_event.specs.declared.event.Event.TheVariants.{Begun as HasBe
 ghost use Rattle.px_core.specs.Answers.{ByAnswers, FilesAfter, FilesMeaning, files_meaning, state_of};
 ghost use Rattle.px_core.specs.Due.{Due};
 ghost use Rattle.px_core.specs.Held.{IsHeardNews, IsSettled};
+ghost use Rattle.px_core.specs.Course.{begins_at};
 ghost use Rattle.px_core.specs.Router.{found, HoldsNoEnded, is_known, kept_in, place_of, IsTabled, RouterStands, IsRouted, IsAtKey, HearsAt, Hands, Admits, Routes, BeginsNone};
 ghost use Rattle.px_core.specs.declared.table.Place.TheVariants.{Live as IsLiveUnder};
 
@@ -38,7 +39,7 @@ pub struct Router<C, A> {
 impl<C: Owes, A: Answerer> Router<C, A> {
     /// No conversation was admitted. It stands for the empty trace, with any files, and the answerer is what it was at first.
     pub fn new(alloc: Global, answerer: A) -> Router<C, A>
-        ensures stands { (due : Due) (files : FilesMeaning) → RouterStands C.stands C.awaited C.number C.due A.answers A.state due (record { own = A.state answerer; files = files }) files result [] }
+        ensures stands { (due : Due) (files : FilesMeaning) → RouterStands C.stands C.awaited C.number C.due A.answers A.state due (begins_at (record { own = A.state answerer; files = files })) files result [] }
         ensures sound { IsRouted C.stands C.awaited C.number C.due A.answers result }
         ensures goes_on { HoldsNoEnded C.ended result.table }
     {

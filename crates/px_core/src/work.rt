@@ -11,7 +11,8 @@ ghost use Rattle.px_event.specs.Trace.{Trace};
 ghost use Rattle.px_event.specs.declared.step.Step.TheVariants.{Heard as WasHeard};
 ghost use Rattle.px_outside.specs.Net.{IsNote};
 ghost use Rattle.px_core.specs.Answered.{IsAnswered, LeavesFiles};
-ghost use Rattle.px_core.specs.Answers.{AnswererState, ByAnswers, FilesAfter, files_meaning, state_of};
+ghost use Rattle.px_core.specs.Answers.{ByAnswers, FilesAfter, files_meaning, state_of};
+ghost use Rattle.px_core.specs.Course.{Course};
 ghost use Rattle.px_core.specs.Due.{Due, IsServed};
 ghost use Rattle.px_core.specs.Router.{HoldsNoEnded, RouterStands, IsRouted, BeginsNone, is_known, found};
 ghost use Rattle.px_core.specs.Calls.{addressed};
@@ -46,11 +47,11 @@ pub fn work_off<C: Owes, A: Answerer, M: Maker<C>, F: Files, N: Net, T: Taker>(
     heard: Heard,
 ) -> Result<(), NoMemory>
     requires sound { IsRouted C.stands C.awaited C.number C.due A.answers router.old }
-    ensures ok { (due : Due) (first : AnswererState A.State) (trace : Trace) → IsDueOf (M.due maker.old) due → RouterStands C.stands C.awaited C.number C.due A.answers A.state due first (files_meaning F.contents F.calls F.misses F.faults F.losses files.old) router.old trace →
+    ensures ok { (due : Due) (course : Course A.State) (trace : Trace) → IsDueOf (M.due maker.old) due → RouterStands C.stands C.awaited C.number C.due A.answers A.state due course (files_meaning F.contents F.calls F.misses F.faults F.losses files.old) router.old trace →
         N.trace net.old ≡ Some (trace ++ WasHeard moment heard ∷ []) →
-        OnOk result (Tells (RouterStands C.stands C.awaited C.number C.due A.answers A.state due first (files_meaning F.contents F.calls F.misses F.faults F.losses files.new) router.new) (trace ++ WasHeard moment heard ∷ []) (N.trace net.new)) }
-    ensures stands { (due : Due) (first : AnswererState A.State) (trace : Trace) → IsDueOf (M.due maker.old) due → RouterStands C.stands C.awaited C.number C.due A.answers A.state due first (files_meaning F.contents F.calls F.misses F.faults F.losses files.old) router.old trace →
-        OnOk result ((more : Trace) × RouterStands C.stands C.awaited C.number C.due A.answers A.state due first (files_meaning F.contents F.calls F.misses F.faults F.losses files.new) router.new ((trace ++ WasHeard moment heard ∷ []) ++ more)) }
+        OnOk result (Tells (RouterStands C.stands C.awaited C.number C.due A.answers A.state due course (files_meaning F.contents F.calls F.misses F.faults F.losses files.new) router.new) (trace ++ WasHeard moment heard ∷ []) (N.trace net.new)) }
+    ensures stands { (due : Due) (course : Course A.State) (trace : Trace) → IsDueOf (M.due maker.old) due → RouterStands C.stands C.awaited C.number C.due A.answers A.state due course (files_meaning F.contents F.calls F.misses F.faults F.losses files.old) router.old trace →
+        OnOk result ((more : Trace) × RouterStands C.stands C.awaited C.number C.due A.answers A.state due course (files_meaning F.contents F.calls F.misses F.faults F.losses files.new) router.new ((trace ++ WasHeard moment heard ∷ []) ++ more)) }
     ensures taken { (trace : Trace) → N.trace net.old ≡ Some (trace ++ WasHeard moment heard ∷ []) → T.taken taker.old ≡ flat_map done_of trace →
         OnOk result (Tells (λ told. T.taken taker.new ≡ flat_map done_of told) (trace ++ WasHeard moment heard ∷ []) (N.trace net.new)) }
     ensures due { (number : ℕ) (at : PeerAddress) (moves : List Move) → M.due maker.new number at moves ≡ M.due maker.old number at moves }
@@ -58,20 +59,20 @@ pub fn work_off<C: Owes, A: Answerer, M: Maker<C>, F: Files, N: Net, T: Taker>(
     ensures faults { N.faults net.new ≡ N.faults net.old }
     ensures own { (trace : Trace) → N.trace net.old ≡ Some trace → TellsOfHeard heard trace (N.trace net.new) }
     ensures others { OnOk result (KeepsOthers heard router.old router.new) }
-    ensures err { (due : Due) (first : AnswererState A.State) (trace : Trace) → IsDueOf (M.due maker.old) due → RouterStands C.stands C.awaited C.number C.due A.answers A.state due first (files_meaning F.contents F.calls F.misses F.faults F.losses files.old) router.old trace →
+    ensures err { (due : Due) (course : Course A.State) (trace : Trace) → IsDueOf (M.due maker.old) due → RouterStands C.stands C.awaited C.number C.due A.answers A.state due course (files_meaning F.contents F.calls F.misses F.faults F.losses files.old) router.old trace →
         N.trace net.old ≡ Some (trace ++ WasHeard moment heard ∷ []) →
         OnErr result (Tells (IsServed A.answers due) (trace ++ WasHeard moment heard ∷ []) (N.trace net.new)) }
     ensures taken_part { (trace : Trace) → N.trace net.old ≡ Some (trace ++ WasHeard moment heard ∷ []) → T.taken taker.old ≡ flat_map done_of trace →
         OnErr result (Tells (λ told. IsPrefixOf (T.taken taker.new) (flat_map done_of told)) (trace ++ WasHeard moment heard ∷ []) (N.trace net.new)) }
-    ensures follows { (due : Due) (first : AnswererState A.State) (trace : Trace) → IsDueOf (M.due maker.old) due → RouterStands C.stands C.awaited C.number C.due A.answers A.state due first (files_meaning F.contents F.calls F.misses F.faults F.losses files.old) router.old trace →
-        N.trace net.old ≡ Some (trace ++ WasHeard moment heard ∷ []) → Tells (IsAnswered A.answers due first) (trace ++ WasHeard moment heard ∷ []) (N.trace net.new) }
+    ensures follows { (due : Due) (course : Course A.State) (trace : Trace) → IsDueOf (M.due maker.old) due → RouterStands C.stands C.awaited C.number C.due A.answers A.state due course (files_meaning F.contents F.calls F.misses F.faults F.losses files.old) router.old trace →
+        N.trace net.old ≡ Some (trace ++ WasHeard moment heard ∷ []) → Tells (IsAnswered A.answers due course) (trace ++ WasHeard moment heard ∷ []) (N.trace net.new) }
     ensures spent { OnErr result (router.new.spent ≡ true) }
     ensures again { router.old.spent ≡ true → IsErr result × (N.trace net.new ≡ N.trace net.old) × (T.taken taker.new ≡ T.taken taker.old) }
     ensures files { FilesAfter A.answers A.fails (state_of A.state F.contents F.calls F.misses F.faults F.losses router.old.answerer files.old) (files_meaning F.contents F.calls F.misses F.faults F.losses files.new) }
     ensures given { OnOk result (ByAnswers A.answers (state_of A.state F.contents F.calls F.misses F.faults F.losses router.old.answerer files.old) (state_of A.state F.contents F.calls F.misses F.faults F.losses router.new.answerer files.new)) }
-    ensures leaves { (due : Due) (first : AnswererState A.State) (trace : Trace) → IsDueOf (M.due maker.old) due → RouterStands C.stands C.awaited C.number C.due A.answers A.state due first (files_meaning F.contents F.calls F.misses F.faults F.losses files.old) router.old trace →
+    ensures leaves { (due : Due) (course : Course A.State) (trace : Trace) → IsDueOf (M.due maker.old) due → RouterStands C.stands C.awaited C.number C.due A.answers A.state due course (files_meaning F.contents F.calls F.misses F.faults F.losses files.old) router.old trace →
         N.trace net.old ≡ Some (trace ++ WasHeard moment heard ∷ []) →
-        OnErr result (Tells (LeavesFiles A.answers A.fails due first ⊥ (files_meaning F.contents F.calls F.misses F.faults F.losses files.new)) (trace ++ WasHeard moment heard ∷ []) (N.trace net.new)) }
+        OnErr result (Tells (LeavesFiles A.answers A.fails due course ⊥ (files_meaning F.contents F.calls F.misses F.faults F.losses files.new)) (trace ++ WasHeard moment heard ∷ []) (N.trace net.new)) }
     ensures goes_on { HoldsNoEnded C.ended router.old.table → OnOk result (HoldsNoEnded C.ended router.new.table) }
 {
     match follow(alloc, router, maker, files, net, taker, moment, heard) {
@@ -95,11 +96,11 @@ fn follow<C: Owes, A: Answerer, M: Maker<C>, F: Files, N: Net, T: Taker>(
     heard: Heard,
 ) -> Result<(), NoMemory>
     requires sound { IsRouted C.stands C.awaited C.number C.due A.answers router.old }
-    ensures ok { (due : Due) (first : AnswererState A.State) (trace : Trace) → IsDueOf (M.due maker.old) due → RouterStands C.stands C.awaited C.number C.due A.answers A.state due first (files_meaning F.contents F.calls F.misses F.faults F.losses files.old) router.old trace →
+    ensures ok { (due : Due) (course : Course A.State) (trace : Trace) → IsDueOf (M.due maker.old) due → RouterStands C.stands C.awaited C.number C.due A.answers A.state due course (files_meaning F.contents F.calls F.misses F.faults F.losses files.old) router.old trace →
         N.trace net.old ≡ Some (trace ++ WasHeard moment heard ∷ []) →
-        OnOk result (Tells (RouterStands C.stands C.awaited C.number C.due A.answers A.state due first (files_meaning F.contents F.calls F.misses F.faults F.losses files.new) router.new) (trace ++ WasHeard moment heard ∷ []) (N.trace net.new)) }
-    ensures stands { (due : Due) (first : AnswererState A.State) (trace : Trace) → IsDueOf (M.due maker.old) due → RouterStands C.stands C.awaited C.number C.due A.answers A.state due first (files_meaning F.contents F.calls F.misses F.faults F.losses files.old) router.old trace →
-        OnOk result ((more : Trace) × RouterStands C.stands C.awaited C.number C.due A.answers A.state due first (files_meaning F.contents F.calls F.misses F.faults F.losses files.new) router.new ((trace ++ WasHeard moment heard ∷ []) ++ more)) }
+        OnOk result (Tells (RouterStands C.stands C.awaited C.number C.due A.answers A.state due course (files_meaning F.contents F.calls F.misses F.faults F.losses files.new) router.new) (trace ++ WasHeard moment heard ∷ []) (N.trace net.new)) }
+    ensures stands { (due : Due) (course : Course A.State) (trace : Trace) → IsDueOf (M.due maker.old) due → RouterStands C.stands C.awaited C.number C.due A.answers A.state due course (files_meaning F.contents F.calls F.misses F.faults F.losses files.old) router.old trace →
+        OnOk result ((more : Trace) × RouterStands C.stands C.awaited C.number C.due A.answers A.state due course (files_meaning F.contents F.calls F.misses F.faults F.losses files.new) router.new ((trace ++ WasHeard moment heard ∷ []) ++ more)) }
     ensures taken { (trace : Trace) → N.trace net.old ≡ Some (trace ++ WasHeard moment heard ∷ []) → T.taken taker.old ≡ flat_map done_of trace →
         OnOk result (Tells (λ told. T.taken taker.new ≡ flat_map done_of told) (trace ++ WasHeard moment heard ∷ []) (N.trace net.new)) }
     ensures due { (number : ℕ) (at : PeerAddress) (moves : List Move) → M.due maker.new number at moves ≡ M.due maker.old number at moves }
@@ -107,12 +108,12 @@ fn follow<C: Owes, A: Answerer, M: Maker<C>, F: Files, N: Net, T: Taker>(
     ensures faults { N.faults net.new ≡ N.faults net.old }
     ensures own { (trace : Trace) → N.trace net.old ≡ Some trace → TellsOfHeard heard trace (N.trace net.new) }
     ensures others { OnOk result (KeepsOthers heard router.old router.new) }
-    ensures err { (due : Due) (first : AnswererState A.State) (trace : Trace) → IsDueOf (M.due maker.old) due → RouterStands C.stands C.awaited C.number C.due A.answers A.state due first (files_meaning F.contents F.calls F.misses F.faults F.losses files.old) router.old trace →
+    ensures err { (due : Due) (course : Course A.State) (trace : Trace) → IsDueOf (M.due maker.old) due → RouterStands C.stands C.awaited C.number C.due A.answers A.state due course (files_meaning F.contents F.calls F.misses F.faults F.losses files.old) router.old trace →
         N.trace net.old ≡ Some (trace ++ WasHeard moment heard ∷ []) →
         OnErr result (Tells (IsServed A.answers due) (trace ++ WasHeard moment heard ∷ []) (N.trace net.new)) }
-    ensures follows { (due : Due) (first : AnswererState A.State) (trace : Trace) → IsDueOf (M.due maker.old) due → RouterStands C.stands C.awaited C.number C.due A.answers A.state due first (files_meaning F.contents F.calls F.misses F.faults F.losses files.old) router.old trace →
+    ensures follows { (due : Due) (course : Course A.State) (trace : Trace) → IsDueOf (M.due maker.old) due → RouterStands C.stands C.awaited C.number C.due A.answers A.state due course (files_meaning F.contents F.calls F.misses F.faults F.losses files.old) router.old trace →
         N.trace net.old ≡ Some (trace ++ WasHeard moment heard ∷ []) →
-        OnErr result (Tells (IsAnswered A.answers due first) (trace ++ WasHeard moment heard ∷ []) (N.trace net.new)) }
+        OnErr result (Tells (IsAnswered A.answers due course) (trace ++ WasHeard moment heard ∷ []) (N.trace net.new)) }
     ensures taken_part { (trace : Trace) → N.trace net.old ≡ Some (trace ++ WasHeard moment heard ∷ []) → T.taken taker.old ≡ flat_map done_of trace →
         OnErr result (Tells (λ told. IsPrefixOf (T.taken taker.new) (flat_map done_of told)) (trace ++ WasHeard moment heard ∷ []) (N.trace net.new)) }
     ensures again { router.old.spent ≡ true → IsErr result × (N.trace net.new ≡ N.trace net.old) × (T.taken taker.new ≡ T.taken taker.old) }
@@ -134,8 +135,8 @@ fn route<C: Owes, A: Answerer, M: Maker<C>, F: Files>(
     heard: Heard,
 ) -> Result<Vec<Step>, NoMemory>
     requires sound { IsRouted C.stands C.awaited C.number C.due A.answers router.old }
-    ensures stands { IfOk result (λ steps. (due : Due) (first : AnswererState A.State) (trace : Trace) → IsDueOf (M.due maker.old) due → RouterStands C.stands C.awaited C.number C.due A.answers A.state due first (files_meaning F.contents F.calls F.misses F.faults F.losses files.old) router.old trace →
-        RouterStands C.stands C.awaited C.number C.due A.answers A.state due first (files_meaning F.contents F.calls F.misses F.faults F.losses files.new) router.new ((trace ++ WasHeard moment heard ∷ []) ++ steps.items)) }
+    ensures stands { IfOk result (λ steps. (due : Due) (course : Course A.State) (trace : Trace) → IsDueOf (M.due maker.old) due → RouterStands C.stands C.awaited C.number C.due A.answers A.state due course (files_meaning F.contents F.calls F.misses F.faults F.losses files.old) router.old trace →
+        RouterStands C.stands C.awaited C.number C.due A.answers A.state due course (files_meaning F.contents F.calls F.misses F.faults F.losses files.new) router.new ((trace ++ WasHeard moment heard ∷ []) ++ steps.items)) }
     ensures tellable { IfOk result (λ steps. AllTellable steps.items) }
     ensures own { IfOk result (λ steps. IsOfHeard heard steps.items) }
     ensures others { OnOk result (KeepsOthers heard router.old router.new) }
@@ -166,8 +167,8 @@ fn begin<C: Owes, A: Answerer, M: Maker<C>, F: Files>(
     requires sound { IsRouted C.stands C.awaited C.number C.due A.answers router.old }
     requires unknown { is_known router.old conv ≡ false }
     requires begins { (peer : PeerAddress) × (addressed heard.now ≡ Some (conv, HasBegun peer)) }
-    ensures stands { IfOk result (λ steps. (due : Due) (first : AnswererState A.State) (trace : Trace) → IsDueOf (M.due maker.old) due → RouterStands C.stands C.awaited C.number C.due A.answers A.state due first (files_meaning F.contents F.calls F.misses F.faults F.losses files.old) router.old trace →
-        RouterStands C.stands C.awaited C.number C.due A.answers A.state due first (files_meaning F.contents F.calls F.misses F.faults F.losses files.new) router.new ((trace ++ WasHeard moment heard.now ∷ []) ++ steps.items)) }
+    ensures stands { IfOk result (λ steps. (due : Due) (course : Course A.State) (trace : Trace) → IsDueOf (M.due maker.old) due → RouterStands C.stands C.awaited C.number C.due A.answers A.state due course (files_meaning F.contents F.calls F.misses F.faults F.losses files.old) router.old trace →
+        RouterStands C.stands C.awaited C.number C.due A.answers A.state due course (files_meaning F.contents F.calls F.misses F.faults F.losses files.new) router.new ((trace ++ WasHeard moment heard.now ∷ []) ++ steps.items)) }
     ensures own { IfOk result (λ steps. AllOf conv steps.items) }
     ensures others { (other : ℕ) → conv ≢ other → OnOk result (found router.new.table other ≡ found router.old.table other) }
     ensures spent { router.old.spent ≡ true → IsErr result }

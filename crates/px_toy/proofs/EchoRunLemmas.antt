@@ -14,23 +14,25 @@ use Rattle.px_core.specs.declared.answerer.Verdict.{Verdict}
 use Rattle.px_core.specs.declared.router.Router.{Router}
 use Rattle.px_core.specs.Answered.{IsAnswered}
 use Rattle.px_core.specs.Answers.{AnswererState}
+use Rattle.px_core.specs.Course.{Course}
 use Rattle.px_core.specs.Due.{Due, IsServed}
 use Rattle.px_toy.specs.EchoRuns.{echo_due, by_turns, EchoRuns}
 use Rattle.px_core.specs.Router.{TableStands}
 use Rattle.px_core.specs.Run.{IsDueOf, Tells}
+use Rattle.px_core.proofs.AnsweredLemmas.{whole_front}
 
 same_trace : (told trace : Trace) → Some told ≡ Some trace → trace ≡ told
 same_trace told trace is = cc
 
-pub runs_on : {A : Type 0} (due : Due) (first now : AnswererState (List (Option Verdict))) (flow new_flow : Flow) (router : Router (Gate LineEcho) A) (trace told : Trace) → IsDueOf (echo_due flow) due →
+pub runs_on : {A : Type 0} (due : Due) (course : Course (List (Option Verdict))) (now : AnswererState (List (Option Verdict))) (flow new_flow : Flow) (router : Router (Gate LineEcho) A) (trace told : Trace) → IsDueOf (echo_due flow) due →
     ((number : ℕ) (at : Address) (moves : List Move) → echo_due new_flow number at moves ≡ echo_due flow number at moves) →
     Tells (TableStands (GateStands EchoStands awaits) (λ gate. awaits gate.layer) (λ gate. gate.layer.flow.id.conv)
-    (λ made moves. due_by (echo_chain made.layer.flow) (Reading 0) moves) by_turns due first now router.table) trace (Some told) →
-    EchoRuns due first now new_flow router told
-runs_on due first now flow new_flow router trace told makes same tells = record {
+    (λ made moves. due_by (echo_chain made.layer.flow) (Reading 0) moves) by_turns due course now router.table) trace (Some told) →
+    EchoRuns due course now new_flow router told
+runs_on due course now flow new_flow router trace told makes same tells = record {
   makes = λ conv at moves. same conv at moves ∙ makes conv at moves;
   stands = let P : Trace → Type 0 = TableStands (GateStands EchoStands awaits) (λ gate. awaits gate.layer) (λ gate. gate.layer.flow.id.conv)
-      (λ made moves. due_by (echo_chain made.layer.flow) (Reading 0) moves) by_turns due first now router.table in
+      (λ made moves. due_by (echo_chain made.layer.flow) (Reading 0) moves) by_turns due course now router.table in
       subst P (same_trace told _ tells.is) tells.holds;
 }
 
@@ -39,16 +41,17 @@ pub told_so : (P : Trace → Type 0) (trace told : Trace) → Tells P trace (Som
 told_so P trace told tells = subst P (same_trace told _ tells.is) tells.holds
 
 -- what stands for what is told is served
-pub stands_served : {A : Type 0} (due : Due) (first now : AnswererState (List (Option Verdict))) (router : Router (Gate LineEcho) A) (trace told : Trace) →
+pub stands_served : {A : Type 0} (due : Due) (course : Course (List (Option Verdict))) (now : AnswererState (List (Option Verdict))) (router : Router (Gate LineEcho) A) (trace told : Trace) →
     Tells (TableStands (GateStands EchoStands awaits) (λ gate. awaits gate.layer) (λ gate. gate.layer.flow.id.conv)
-    (λ made moves. due_by (echo_chain made.layer.flow) (Reading 0) moves) by_turns due first now router.table) trace (Some told) →
+    (λ made moves. due_by (echo_chain made.layer.flow) (Reading 0) moves) by_turns due course now router.table) trace (Some told) →
     IsServed by_turns due told
-stands_served due first now router trace told tells = let P : Trace → Type 0 = IsServed by_turns due in subst P (same_trace told _ tells.is) tells.holds.served
+stands_served due course now router trace told tells = let P : Trace → Type 0 = IsServed by_turns due in subst P (same_trace told _ tells.is) tells.holds.served
 
--- and its answers follow from what the answerer was at first
-pub runs_answered : {A : Type 0} (due : Due) (first now : AnswererState (List (Option Verdict))) (flow : Flow) (router : Router (Gate LineEcho) A) (trace : Trace) →
-    EchoRuns due first now flow router trace → IsAnswered by_turns due first trace
-runs_answered due first now flow router trace runs = record { last = now; pending = runs.stands.pending; answered = runs.stands.answered }
+-- and its answers follow from its course
+pub runs_answered : {A : Type 0} (due : Due) (course : Course (List (Option Verdict))) (now : AnswererState (List (Option Verdict))) (flow : Flow) (router : Router (Gate LineEcho) A) (trace : Trace) →
+    EchoRuns due course now flow router trace → IsAnswered by_turns due course trace
+runs_answered due course now flow router trace runs =
+    record { made = course; front_of = whole_front course; last = now; pending = runs.stands.pending; answered = runs.stands.answered }
 
 -- what holds after Ok and after an error holds
 pub both_ways : {T E : Type 0} (result : Result T E) (A B P : Type 0) → OnOk result A → OnErr result B → (A → P) → (B → P) → P
@@ -56,13 +59,13 @@ both_ways (Ok value) A B P a b f g = f a
 both_ways (Err error) A B P a b f g = g b
 
 -- a run begins
-pub runs_from : {A : Type 0} (first now : AnswererState (List (Option Verdict))) (flow : Flow) (router : Router (Gate LineEcho) A) (trace : Trace) → trace ≡ [] →
+pub runs_from : {A : Type 0} (course : Course (List (Option Verdict))) (now : AnswererState (List (Option Verdict))) (flow : Flow) (router : Router (Gate LineEcho) A) (trace : Trace) → trace ≡ [] →
     ((due : Due) → TableStands (GateStands EchoStands awaits) (λ gate. awaits gate.layer) (λ gate. gate.layer.flow.id.conv)
-    (λ made moves. due_by (echo_chain made.layer.flow) (Reading 0) moves) by_turns due first now router.table []) →
-    EchoRuns (echo_due flow) first now flow router trace
-runs_from first now flow router trace empty stands = record {
+    (λ made moves. due_by (echo_chain made.layer.flow) (Reading 0) moves) by_turns due course now router.table []) →
+    EchoRuns (echo_due flow) course now flow router trace
+runs_from course now flow router trace empty stands = record {
   makes = λ conv at moves. refl;
   stands = let P : Trace → Type 0 = TableStands (GateStands EchoStands awaits) (λ gate. awaits gate.layer) (λ gate. gate.layer.flow.id.conv)
-      (λ made moves. due_by (echo_chain made.layer.flow) (Reading 0) moves) by_turns (echo_due flow) first now router.table in
+      (λ made moves. due_by (echo_chain made.layer.flow) (Reading 0) moves) by_turns (echo_due flow) course now router.table in
       subst P (sym empty) (stands (echo_due flow));
 }

@@ -1,13 +1,12 @@
 -- For the tests: the server that echoes lines names its own flow alone.
-use Rattle.std.proofs.Common.{◌≡◌, ℕ, Bool, true, false, List, [], ◌∷◌, Option, Some, None, refl, ap, subst}
+use Rattle.std.proofs.Common.{◌≡◌, ℕ, Bool, true, false, List, Option, Some, None, refl, ap}
 use Rattle.px_message.specs.declared.address.Address.{Address}
 use Rattle.px_message.specs.declared.flow.Flow.{Flow}
 use Rattle.px_event.specs.declared.event.Event.{Event}
 use Rattle.px_event.specs.declared.reply.Reply.{Reply}
 use Rattle.px_event.specs.declared.reply.Reply.TheVariants as replies
 use Rattle.px_event.specs.declared.command.Command.{Command}
-use Rattle.px_event.specs.declared.command.Command.TheVariants as commands
-use Rattle.px_event.specs.Chain.{Timed, Look, Asks, found}
+use Rattle.px_event.specs.Chain.{Timed, found}
 use Rattle.px_event.specs.Layer.{Move}
 use Rattle.px_event.specs.Stands.{due_by}
 use Rattle.px_toy.specs.declared.echo.LineEcho.{LineEcho}

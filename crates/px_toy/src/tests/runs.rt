@@ -2,6 +2,7 @@
 ghost use Rattle.std.specs.Prelude.{List, Option, IfOk, OnOk};
 ghost use Rattle.px_core.specs.Answered.{IsAnswered};
 ghost use Rattle.px_core.specs.Answers.{AnswererState, FilesMeaning, files_meaning};
+ghost use Rattle.px_core.specs.Course.{Course, begins_at};
 ghost use Rattle.px_core.specs.declared.answerer.Verdict.{Verdict as TurnVerdict};
 ghost use Rattle.px_core.specs.Due.{Due, IsServed};
 ghost use Rattle.px_toy.specs.EchoRuns.{echo_due, by_turns, EchoRuns};
@@ -133,7 +134,7 @@ struct Run {
 /// A run that is still to hear all.
 fn run_of(alloc: Global, flow: Flow, row: &Row<'_>) -> Result<Run, NoMemory>
     ensures { IfOk result (λ run. (files : FilesMeaning) → (first : AnswererState (List (Option TurnVerdict))) ×
-        EchoRuns (echo_due run.maker.layers.flow) first (record { own = run.router.answerer.turns.items; files = files }) run.maker.layers.flow run.router run.net.trace) }
+        EchoRuns (echo_due run.maker.layers.flow) (begins_at first) (record { own = run.router.answerer.turns.items; files = files }) run.maker.layers.flow run.router run.net.trace) }
 {
     let peer = Address {
         host: flow.request.get().host.clone()?,
@@ -151,10 +152,10 @@ fn run_of(alloc: Global, flow: Flow, row: &Row<'_>) -> Result<Run, NoMemory>
 
 /// Hears one thing more, and works it off. In every exit the trace is served, and its answers follow the list.
 fn hear_one<F: Files>(alloc: Global, run: &mut Run, files: &mut F) -> Result<(), NoMemory>
-    requires sound { (due : Due) × (first : AnswererState (List (Option TurnVerdict))) × EchoRuns due first (record { own = run.old.router.answerer.turns.items; files = files_meaning F.contents F.calls F.misses F.faults F.losses files.old }) run.old.maker.layers.flow run.old.router run.old.net.trace }
-    ensures runs { (due : Due) (first : AnswererState (List (Option TurnVerdict))) → EchoRuns due first (record { own = run.old.router.answerer.turns.items; files = files_meaning F.contents F.calls F.misses F.faults F.losses files.old }) run.old.maker.layers.flow run.old.router run.old.net.trace → OnOk result (EchoRuns due first (record { own = run.new.router.answerer.turns.items; files = files_meaning F.contents F.calls F.misses F.faults F.losses files.new }) run.new.maker.layers.flow run.new.router run.new.net.trace) }
-    ensures served { (due : Due) (first : AnswererState (List (Option TurnVerdict))) → EchoRuns due first (record { own = run.old.router.answerer.turns.items; files = files_meaning F.contents F.calls F.misses F.faults F.losses files.old }) run.old.maker.layers.flow run.old.router run.old.net.trace → IsServed by_turns due run.new.net.trace }
-    ensures follows { (due : Due) (first : AnswererState (List (Option TurnVerdict))) → EchoRuns due first (record { own = run.old.router.answerer.turns.items; files = files_meaning F.contents F.calls F.misses F.faults F.losses files.old }) run.old.maker.layers.flow run.old.router run.old.net.trace → IsAnswered by_turns due first run.new.net.trace }
+    requires sound { (due : Due) × (course : Course (List (Option TurnVerdict))) × EchoRuns due course (record { own = run.old.router.answerer.turns.items; files = files_meaning F.contents F.calls F.misses F.faults F.losses files.old }) run.old.maker.layers.flow run.old.router run.old.net.trace }
+    ensures runs { (due : Due) (course : Course (List (Option TurnVerdict))) → EchoRuns due course (record { own = run.old.router.answerer.turns.items; files = files_meaning F.contents F.calls F.misses F.faults F.losses files.old }) run.old.maker.layers.flow run.old.router run.old.net.trace → OnOk result (EchoRuns due course (record { own = run.new.router.answerer.turns.items; files = files_meaning F.contents F.calls F.misses F.faults F.losses files.new }) run.new.maker.layers.flow run.new.router run.new.net.trace) }
+    ensures served { (due : Due) (course : Course (List (Option TurnVerdict))) → EchoRuns due course (record { own = run.old.router.answerer.turns.items; files = files_meaning F.contents F.calls F.misses F.faults F.losses files.old }) run.old.maker.layers.flow run.old.router run.old.net.trace → IsServed by_turns due run.new.net.trace }
+    ensures follows { (due : Due) (course : Course (List (Option TurnVerdict))) → EchoRuns due course (record { own = run.old.router.answerer.turns.items; files = files_meaning F.contents F.calls F.misses F.faults F.losses files.old }) run.old.maker.layers.flow run.old.router run.old.net.trace → IsAnswered by_turns due course run.new.net.trace }
 {
     let Ok((moment, heard)) = run.net.next() else {
         return Err(NoMemory);
@@ -178,10 +179,10 @@ fn hear_all<F: Files>(
     files: &mut F,
     count: usize,
 ) -> Result<(), NoMemory>
-    requires sound { (due : Due) × (first : AnswererState (List (Option TurnVerdict))) × EchoRuns due first (record { own = run.old.router.answerer.turns.items; files = files_meaning F.contents F.calls F.misses F.faults F.losses files.old }) run.old.maker.layers.flow run.old.router run.old.net.trace }
-    ensures runs { (due : Due) (first : AnswererState (List (Option TurnVerdict))) → EchoRuns due first (record { own = run.old.router.answerer.turns.items; files = files_meaning F.contents F.calls F.misses F.faults F.losses files.old }) run.old.maker.layers.flow run.old.router run.old.net.trace → OnOk result (EchoRuns due first (record { own = run.new.router.answerer.turns.items; files = files_meaning F.contents F.calls F.misses F.faults F.losses files.new }) run.new.maker.layers.flow run.new.router run.new.net.trace) }
-    ensures served { (due : Due) (first : AnswererState (List (Option TurnVerdict))) → EchoRuns due first (record { own = run.old.router.answerer.turns.items; files = files_meaning F.contents F.calls F.misses F.faults F.losses files.old }) run.old.maker.layers.flow run.old.router run.old.net.trace → IsServed by_turns due run.new.net.trace }
-    ensures follows { (due : Due) (first : AnswererState (List (Option TurnVerdict))) → EchoRuns due first (record { own = run.old.router.answerer.turns.items; files = files_meaning F.contents F.calls F.misses F.faults F.losses files.old }) run.old.maker.layers.flow run.old.router run.old.net.trace → IsAnswered by_turns due first run.new.net.trace }
+    requires sound { (due : Due) × (course : Course (List (Option TurnVerdict))) × EchoRuns due course (record { own = run.old.router.answerer.turns.items; files = files_meaning F.contents F.calls F.misses F.faults F.losses files.old }) run.old.maker.layers.flow run.old.router run.old.net.trace }
+    ensures runs { (due : Due) (course : Course (List (Option TurnVerdict))) → EchoRuns due course (record { own = run.old.router.answerer.turns.items; files = files_meaning F.contents F.calls F.misses F.faults F.losses files.old }) run.old.maker.layers.flow run.old.router run.old.net.trace → OnOk result (EchoRuns due course (record { own = run.new.router.answerer.turns.items; files = files_meaning F.contents F.calls F.misses F.faults F.losses files.new }) run.new.maker.layers.flow run.new.router run.new.net.trace) }
+    ensures served { (due : Due) (course : Course (List (Option TurnVerdict))) → EchoRuns due course (record { own = run.old.router.answerer.turns.items; files = files_meaning F.contents F.calls F.misses F.faults F.losses files.old }) run.old.maker.layers.flow run.old.router run.old.net.trace → IsServed by_turns due run.new.net.trace }
+    ensures follows { (due : Due) (course : Course (List (Option TurnVerdict))) → EchoRuns due course (record { own = run.old.router.answerer.turns.items; files = files_meaning F.contents F.calls F.misses F.faults F.losses files.old }) run.old.maker.layers.flow run.old.router run.old.net.trace → IsAnswered by_turns due course run.new.net.trace }
 {
     for _ in 0..count {
         hear_one(alloc, run, files)?;

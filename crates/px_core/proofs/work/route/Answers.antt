@@ -3,15 +3,15 @@ use Rattle.px_core.proofs.RunLemmas.{routed, routed_tellable, all_tellable, rout
 use Rattle.px_core.proofs.work.route.Goals as goal
 
 pub returns-clause-stands : goal.returns-clause-stands
-returns-clause-stands g c = λ due first trace owes stands.
-    routed g.C.Conversation.stands g.C.Conversation.awaited g.C.Conversation.number g.C.Owes.due g.A.Answerer.answers c.args.moment c.args.heard _ _ _ _ c.new-steps.ensures.items c.in_ok-take.ensures.routes due first trace stands
+returns-clause-stands g c = λ due course trace owes stands.
+    routed g.C.Conversation.stands g.C.Conversation.awaited g.C.Conversation.number g.C.Owes.due g.A.Answerer.answers c.args.moment c.args.heard _ _ _ _ c.new-steps.ensures.items c.in_ok-take.ensures.routes due course trace stands
 
 pub returns-clause-tellable : goal.returns-clause-tellable
 returns-clause-tellable g c =
     routed_tellable g.C.Conversation.stands g.C.Conversation.awaited g.C.Conversation.number g.C.Owes.due g.A.Answerer.answers c.args.moment c.args.heard _ _ _ _ c.new-steps.ensures.items c.in_ok-take.ensures.routes
 
 pub returns-in-Some-clause-stands : goal.returns-in-Some-clause-stands
-returns-in-Some-clause-stands g c = IfOk-weaker c.begin.result _ _ (λ made all due first trace owes stands. all due first trace owes stands) c.begin.ensures.stands
+returns-in-Some-clause-stands g c = IfOk-weaker c.begin.result _ _ (λ made all due course trace owes stands. all due course trace owes stands) c.begin.ensures.stands
 
 pub returns-in-Some-clause-tellable : goal.returns-in-Some-clause-tellable
 returns-in-Some-clause-tellable g c = IfOk-weaker c.begin.result _ _ (λ made own. all_tellable c.in-Some.conv made.items own) c.begin.ensures.own

@@ -6,19 +6,19 @@ use Rattle.px_core.proofs.ResultLemmas.{on_ok_map}
 use Rattle.px_toy.proofs.tests.runs.hear_one.Goals as goal
 
 pub returns-clause-runs : goal.returns-clause-runs
-returns-clause-runs g c = λ due first runs.
-    on_ok_map c.work_off.result (runs_on due first _ c.args.run.now.maker.layers.flow c.work_off.new.maker.layers.flow c.work_off.new.router _ c.work_off.new.net.trace runs.makes c.work_off.ensures.due)
-    (c.work_off.ensures.ok due first c.args.run.now.net.trace runs.makes runs.stands c.in-Ok.ensures.heard)
+returns-clause-runs g c = λ due course runs.
+    on_ok_map c.work_off.result (runs_on due course _ c.args.run.now.maker.layers.flow c.work_off.new.maker.layers.flow c.work_off.new.router _ c.work_off.new.net.trace runs.makes c.work_off.ensures.due)
+    (c.work_off.ensures.ok due course c.args.run.now.net.trace runs.makes runs.stands c.in-Ok.ensures.heard)
 
 pub returns-clause-served : goal.returns-clause-served
-returns-clause-served g c = λ due first runs.
+returns-clause-served g c = λ due course runs.
     both_ways c.work_off.result _ _ (IsServed by_turns due c.work_off.new.net.trace)
-    (c.work_off.ensures.ok due first c.args.run.now.net.trace runs.makes runs.stands c.in-Ok.ensures.heard)
-    (c.work_off.ensures.err due first c.args.run.now.net.trace runs.makes runs.stands c.in-Ok.ensures.heard)
-    (λ tells. stands_served due first _ c.work_off.new.router _ c.work_off.new.net.trace tells)
+    (c.work_off.ensures.ok due course c.args.run.now.net.trace runs.makes runs.stands c.in-Ok.ensures.heard)
+    (c.work_off.ensures.err due course c.args.run.now.net.trace runs.makes runs.stands c.in-Ok.ensures.heard)
+    (λ tells. stands_served due course _ c.work_off.new.router _ c.work_off.new.net.trace tells)
     (λ tells. told_so (IsServed by_turns due) _ c.work_off.new.net.trace tells)
 
 pub returns-clause-follows : goal.returns-clause-follows
-returns-clause-follows g c = λ due first runs.
-    told_so (IsAnswered by_turns due first) _ c.work_off.new.net.trace
-    (c.work_off.ensures.follows due first c.args.run.now.net.trace runs.makes runs.stands c.in-Ok.ensures.heard)
+returns-clause-follows g c = λ due course runs.
+    told_so (IsAnswered by_turns due course) _ c.work_off.new.net.trace
+    (c.work_off.ensures.follows due course c.args.run.now.net.trace runs.makes runs.stands c.in-Ok.ensures.heard)
