@@ -1,5 +1,5 @@
 //! Files of flows: entries one behind the other.
-ghost use Rattle.std.specs.Prelude.{◌≡◌, ◌≤◌, ◌-◌, length, drop, None, Some, Ok, Err, IfOk, IfErr, IfSome, OnOk, OnErr};
+ghost use Rattle.std.specs.Prelude.{◌≡◌, ◌≢◌, ◌≤◌, ◌-◌, length, drop, [], None, Some, Ok, Err, IfOk, IfErr, IfSome, OnOk, OnErr};
 ghost use Rattle.px_tnet.specs.Items.{IsItem, most_deep};
 ghost use Rattle.px_tnet.specs.View.{view};
 ghost use Rattle.px_flowfile.specs.Reader.{BeginsWith, ComesNext, IsNoEntry};
@@ -34,13 +34,14 @@ impl FlowReader {
         }
     }
 
-    /// The next entry, or nothing exactly at the end of the file. A place that has no entry is a fault, with the number of bytes in front
-    /// of it; it is answered again for ever, want of memory too.
+    /// The next entry, or nothing exactly at the end of the file, where no fault comes. A place that has no entry is a fault, with the
+    /// number of bytes in front of it; it is answered again for ever, want of memory too.
     pub fn next(&mut self) -> Result<Option<Entry>, ReadFault>
         ensures again { IfSome self.old.fault (λ fault. (result ≡ Err fault) × (self.new ≡ self.old)) }
         ensures ok { self.old.fault ≡ None → IfOk result (λ r. ComesNext self.old.rest (Ok r) self.new.rest) }
         ensures err { self.old.fault ≡ None → IfErr result (λ f. IsNoEntry self.old.rest f.cause
             × (f.offset ≡ self.old.len - length self.old.rest)) }
+        ensures some { self.old.fault ≡ None → OnErr result (self.old.rest ≢ []) }
         ensures told { IfErr result (λ f. self.new.fault ≡ Some f) }
         ensures going { OnOk result (self.new.fault ≡ None) }
         ensures len { self.new.len ≡ self.old.len }
@@ -65,6 +66,7 @@ impl FlowReader {
 // Takes the next entry off the text.
 fn next_entry(alloc: Global, rest: &mut Bytes) -> Result<Option<Entry>, ReadCause>
     ensures next { ComesNext rest.old result rest.new }
+    ensures some { OnErr result (rest.old ≢ []) }
     ensures less { length rest.new ≤ length rest.old }
 {
     if rest.is_empty() {
