@@ -5,6 +5,7 @@ use Rattle.std.specs.List.{AllByRecursion}
 use Rattle.std.specs.List.Sorted.{IsStrictlySortedBy}
 use Rattle.std.specs.Map.{keys_of}
 use Rattle.std.specs.String.{string_cmp}
+use Rattle.px_filter.specs.Expression.{Expression}
 use Rattle.px_map.specs.Block.{BlockRule}
 use Rattle.px_rule.specs.Rule.{Rule}
 use Rattle.toml.specs.Data.{Data, Members, member, get_member}
@@ -40,6 +41,8 @@ settings_from s table = record {
   mode = value_or lines.mode s.mode (get_member (name_of key.Mode) table);
   modify_body = value_or lines.modify_body s.modify_body (get_member (name_of key.ModifyBody) table);
   modify_headers = value_or lines.modify_headers s.modify_headers (get_member (name_of key.ModifyHeaders) table);
+  save_stream_file = value_or lines.save_stream_file s.save_stream_file (get_member (name_of key.SaveStreamFile) table);
+  save_stream_filter = value_or lines.save_stream_filter s.save_stream_filter (get_member (name_of key.SaveStreamFilter) table);
 }
 
 -- what is gathered from these members is what they say
@@ -119,6 +122,20 @@ modify_headers_more d ms s (Ok a) is none ih =
     ih (record s { modify_headers = a })
     ∙ ap (λ v. told (first_refusal ms) (record (settings_from s ms) { modify_headers = v })) (line_more lines.modify_headers a s.modify_headers (get_member (name_of key.ModifyHeaders) ms) d none is)
 
+save_stream_file_more : (d : Data) (ms : Members) (s : Settings) (r : Result (Option (List ℕ)) OptionsError) → r ≡ lines.save_stream_file.reads d → get_member (name_of key.SaveStreamFile) ms ≡ None → IsGathered ms
+    → and_then (gathered ms) (put_by (λ a. record s { save_stream_file = a }) r) ≡ told (or_others (why r) (first_refusal ms)) (settings_from s (member (name_of key.SaveStreamFile) d ms))
+save_stream_file_more d ms s (Err e) is none ih = refl
+save_stream_file_more d ms s (Ok a) is none ih =
+    ih (record s { save_stream_file = a })
+    ∙ ap (λ v. told (first_refusal ms) (record (settings_from s ms) { save_stream_file = v })) (line_more lines.save_stream_file a s.save_stream_file (get_member (name_of key.SaveStreamFile) ms) d none is)
+
+save_stream_filter_more : (d : Data) (ms : Members) (s : Settings) (r : Result (Option Expression) OptionsError) → r ≡ lines.save_stream_filter.reads d → get_member (name_of key.SaveStreamFilter) ms ≡ None → IsGathered ms
+    → and_then (gathered ms) (put_by (λ a. record s { save_stream_filter = a }) r) ≡ told (or_others (why r) (first_refusal ms)) (settings_from s (member (name_of key.SaveStreamFilter) d ms))
+save_stream_filter_more d ms s (Err e) is none ih = refl
+save_stream_filter_more d ms s (Ok a) is none ih =
+    ih (record s { save_stream_filter = a })
+    ∙ ap (λ v. told (first_refusal ms) (record (settings_from s ms) { save_stream_filter = v })) (line_more lines.save_stream_filter a s.save_stream_filter (get_member (name_of key.SaveStreamFilter) ms) d none is)
+
 or_named : (b : Bool) (k found : Key) (name : List ℕ) (others : Option Key) → (b ≡ true → name ≡ name_of k) → (if b then Some k else others) ≡ Some found
     → (others ≡ Some found → name ≡ name_of found) → name ≡ name_of found
 or_named true k found name others same e next = let is : k ≡ found = cc in same refl ∙ ap name_of is
@@ -140,7 +157,9 @@ named name found is =
     or_named (bytes_eq name (name_of key.Mode)) key.Mode found name _ (λ same. (bytes_eq-Decides _ _).0 same) e (λ e.
     or_named (bytes_eq name (name_of key.ModifyBody)) key.ModifyBody found name _ (λ same. (bytes_eq-Decides _ _).0 same) e (λ e.
     or_named (bytes_eq name (name_of key.ModifyHeaders)) key.ModifyHeaders found name _ (λ same. (bytes_eq-Decides _ _).0 same) e (λ e.
-    absurd (nothing found e)))))))))))
+    or_named (bytes_eq name (name_of key.SaveStreamFile)) key.SaveStreamFile found name _ (λ same. (bytes_eq-Decides _ _).0 same) e (λ e.
+    or_named (bytes_eq name (name_of key.SaveStreamFilter)) key.SaveStreamFilter found name _ (λ same. (bytes_eq-Decides _ _).0 same) e (λ e.
+    absurd (nothing found e)))))))))))))
 
 -- one member more, by its key
 abbrev More : Option Key → Members → Data → Settings → List ℕ → Type 0
@@ -170,6 +189,10 @@ by_key (Some key.ModifyBody) name d ms s is ih =
     subst (More (Some key.ModifyBody) ms d s) (sym (named name key.ModifyBody is)) (λ none. modify_body_more d ms s (lines.modify_body.reads d) refl none ih)
 by_key (Some key.ModifyHeaders) name d ms s is ih =
     subst (More (Some key.ModifyHeaders) ms d s) (sym (named name key.ModifyHeaders is)) (λ none. modify_headers_more d ms s (lines.modify_headers.reads d) refl none ih)
+by_key (Some key.SaveStreamFile) name d ms s is ih =
+    subst (More (Some key.SaveStreamFile) ms d s) (sym (named name key.SaveStreamFile is)) (λ none. save_stream_file_more d ms s (lines.save_stream_file.reads d) refl none ih)
+by_key (Some key.SaveStreamFilter) name d ms s is ih =
+    subst (More (Some key.SaveStreamFilter) ms d s) (sym (named name key.SaveStreamFilter is)) (λ none. save_stream_filter_more d ms s (lines.save_stream_filter.reads d) refl none ih)
 
 -- a key that is below others is none of them
 no_key : (k : String Global) (es : List Entry) → AllByRecursion (λ y. string_cmp k y ≡ Less) (keys_of es) → get_member (string_bytes k) (members_view es) ≡ None

@@ -1,5 +1,8 @@
 -- The laws.
 use Rattle.std.proofs.Common.{◌≡◌, ◌≢◌, ℕ, ◌+◌, Bool, true, false, List, [], ◌∷◌, Option, Some, None, Result, Ok, Err, IfErr, IfSome, IsErr, if◌then◌else◌, is_some, refl, sym, ap, subst, ◌∙◌}
+use Rattle.px_filter.specs.Expression.{Expression}
+use Rattle.px_filter.specs.Parsing.{parse}
+use Rattle.px_filter.specs.declared.filter.FilterError.{FilterError}
 use Rattle.px_map.specs.Block.{block_rule}
 use Rattle.px_rule.specs.Rule.{body_rule, header_rule}
 use Rattle.px_rule.specs.declared.cause.RuleCause.{RuleCause}
@@ -11,6 +14,7 @@ use Rattle.px_options.specs.Lines as lines
 use Rattle.px_options.specs.Mode.{ModeIs, mode_in, mode_of, or_bad_mode}
 use Rattle.px_options.specs.Options.{IsNoTable, Says, Settings, first_refusal, options_by, options_of, or_others, refusal_at, refusal_of, refusal_of_key, settings_of, why}
 use Rattle.px_options.specs.Rules.{rule_and, rules_from, rules_of, texts_of, with_rule}
+use Rattle.px_options.specs.Save.{filter_in, or_bad_filter, path_in, path_of}
 use Rattle.px_options.specs.Values.{address_in, from_one, or_wrong}
 use Rattle.px_options.specs.declared.error.OptionsError.{OptionsError}
 use Rattle.px_options.specs.declared.error.OptionsError.TheVariants as error
@@ -123,6 +127,22 @@ rules_of_table : {R : Type 0} (key : Key) (read : List ℕ → Result R RuleCaus
 rules_of_table key read None = refl
 rules_of_table key read (Some texts) = from_of_table key read 0 texts
 
+path_of_table : (key : Key) (text : List ℕ) → IfErr (path_of key text) OfTable
+path_of_table key [] = refl
+path_of_table key (c ∷ cs) = tt
+
+path_in_of_table : (key : Key) (text : Option (List ℕ)) → IfErr (path_in key text) OfTable
+path_in_of_table key None = refl
+path_in_of_table key (Some text) = path_of_table key text
+
+filter_of_table : (key : Key) (text : List ℕ) (r : Result Expression FilterError) → IfErr (or_bad_filter key text r) OfTable
+filter_of_table key text (Ok expression) = tt
+filter_of_table key text (Err cause) = refl
+
+filter_in_of_table : (key : Key) (text : Option (List ℕ)) → IfErr (filter_in key text) OfTable
+filter_in_of_table key None = refl
+filter_in_of_table key (Some text) = filter_of_table key text (parse text)
+
 why_of_table : {A : Type 0} (r : Result A OptionsError) → IfErr r OfTable → IfSome (why r) OfTable
 why_of_table (Ok a) h = tt
 why_of_table (Err e) h = h
@@ -138,6 +158,8 @@ at_of_table key.MapRemote d = why_of_table (lines.map_remote.reads d) (rules_of_
 at_of_table key.Mode d = why_of_table (lines.mode.reads d) (mode_of_table key.Mode (as_str d))
 at_of_table key.ModifyBody d = why_of_table (lines.modify_body.reads d) (rules_of_table key.ModifyBody body_rule (texts_of (as_array d)))
 at_of_table key.ModifyHeaders d = why_of_table (lines.modify_headers.reads d) (rules_of_table key.ModifyHeaders header_rule (texts_of (as_array d)))
+at_of_table key.SaveStreamFile d = why_of_table (lines.save_stream_file.reads d) (path_in_of_table key.SaveStreamFile (as_str d))
+at_of_table key.SaveStreamFilter d = why_of_table (lines.save_stream_filter.reads d) (filter_in_of_table key.SaveStreamFilter (as_str d))
 
 key_of_table : (k : Option Key) (name : List ℕ) (d : Data) → IfSome (refusal_of_key k name d) OfTable
 key_of_table None name d = refl

@@ -5,13 +5,15 @@ use Rattle.std.proofs.lemmas.List.{append-nil}
 use Rattle.std.proofs.lemmas.Str.{IsUtf8-from_is_utf8, encodes-append, encodes-chars, is_utf8-from_IsUtf8}
 use Rattle.std.specs.Char.{encode_utf8}
 use Rattle.std.specs.Str.{chars, encode_utf8_all, is_utf8}
+use Rattle.px_filter.specs.Parsing.{place_of}
 use Rattle.px_filter.specs.Shown.{shown}
+use Rattle.px_filter.specs.declared.filter.FilterError.{FilterError}
 use Rattle.px_rule.specs.Laws.{joined}
 use Rattle.px_rule.specs.Spec.{parts_of, spec_parts, split_up_to}
 use Rattle.px_rule.specs.declared.cause.RuleCause.{RuleCause}
 use Rattle.px_rule.proofs.LawLemmas.{split_joined}
 use Rattle.px_rule.proofs.SpecLemmas.{some_part}
-use Rattle.px_options.specs.Shown.{behind_parts, refusal_place, rule_note, separator_length}
+use Rattle.px_options.specs.Shown.{behind_parts, filter_note, refusal_place, rule_note, separator_length}
 
 -- one part more
 pub one_part : (separator : ℕ) (parts : List (List ℕ)) (i : ℕ) (part : List ℕ) → slice_get parts i ≡ Some part
@@ -33,6 +35,12 @@ noted text cause utf8 = rw (is_utf8-from_IsUtf8 text utf8) refl
 
 pub unnoted : (text : List ℕ) (cause : RuleCause) → ¬ (IsUtf8 text) → rule_note text cause ≡ []
 unnoted text cause none = rw (not_utf8 text (is_utf8 text) refl none) refl
+
+pub filter_noted : (text : List ℕ) (cause : FilterError) → IsUtf8 text → filter_note text cause ≡ shown text (place_of cause)
+filter_noted text cause utf8 = rw (is_utf8-from_IsUtf8 text utf8) refl
+
+pub filter_unnoted : (text : List ℕ) (cause : FilterError) → ¬ (IsUtf8 text) → filter_note text cause ≡ []
+filter_unnoted text cause none = rw (not_utf8 text (is_utf8 text) refl none) refl
 
 -- the parts, each with the separator in front
 abbrev led : List ℕ → List (List ℕ) → List ℕ

@@ -14,6 +14,8 @@ name_of key.MapRemote = codes "map_remote"
 name_of key.Mode = codes "mode"
 name_of key.ModifyBody = codes "modify_body"
 name_of key.ModifyHeaders = codes "modify_headers"
+name_of key.SaveStreamFile = codes "save_stream_file"
+name_of key.SaveStreamFilter = codes "save_stream_filter"
 
 -- the key, if it has that name, else what others say
 abbrev pub or_key : Key → List ℕ → Option Key → Option Key
@@ -32,4 +34,6 @@ key_of name =
     (or_key key.Mode name
     (or_key key.ModifyBody name
     (or_key key.ModifyHeaders name
-    None)))))))))
+    (or_key key.SaveStreamFile name
+    (or_key key.SaveStreamFilter name
+    None)))))))))))

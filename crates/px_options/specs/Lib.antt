@@ -2,6 +2,7 @@ pub mod Keys
 pub mod Values
 pub mod Mode
 pub mod Rules
+pub mod Save
 pub mod Lines
 pub mod Options
 pub mod View

@@ -1,10 +1,12 @@
 -- The table of the options: a line for each key, with what values it takes and its default.
 use Rattle.std.specs.Prelude.{ℕ, Bool, false, List, [], codes, Option, None, Result}
+use Rattle.px_filter.specs.Expression.{Expression}
 use Rattle.px_map.specs.Block.{BlockRule, block_rule}
 use Rattle.px_rule.specs.Rule.{Rule, body_rule, header_rule}
 use Rattle.toml.specs.Data.{Data}
 use Rattle.px_options.specs.Mode.{ModeIs, mode as mode_text}
 use Rattle.px_options.specs.Rules.{rules}
+use Rattle.px_options.specs.Save.{file_path, flow_filter}
 use Rattle.px_options.specs.Values.{Place, address, count, truth}
 use Rattle.px_options.specs.declared.error.OptionsError.{OptionsError}
 use Rattle.px_options.specs.declared.key.Key.{Key}
@@ -52,3 +54,11 @@ modify_body = line key.ModifyBody (rules body_rule) []
 
 abbrev pub modify_headers : Line (List Rule)
 modify_headers = line key.ModifyHeaders (rules header_rule) []
+
+-- without its key nothing is saved
+abbrev pub save_stream_file : Line (Option (List ℕ))
+save_stream_file = line key.SaveStreamFile file_path None
+
+-- without its key every flow is taken
+abbrev pub save_stream_filter : Line (Option Expression)
+save_stream_filter = line key.SaveStreamFilter flow_filter None

@@ -1,6 +1,7 @@
 -- The options that a table is, or its refusal; and those that bytes are.
 use Rattle.std.specs.Prelude.{◌≡◌, ◌⊎◌, ℕ, Bool, List, Option, Some, None, Result, Ok, Err, is_some, if◌then◌else◌}
 use Rattle.std.specs.Str.{IsUtf8}
+use Rattle.px_filter.specs.Expression.{Expression}
 use Rattle.px_map.specs.Block.{BlockRule}
 use Rattle.px_rule.specs.Rule.{Rule}
 use Rattle.toml.specs.Data.{Data, Members, no_members, member, get_member}
@@ -27,6 +28,8 @@ pub record Settings : Type 0 where
   pub mode : Option ModeIs
   pub modify_body : List Rule
   pub modify_headers : List Rule
+  pub save_stream_file : Option (List ℕ)
+  pub save_stream_filter : Option Expression
 
 -- why a line refuses a value
 abbrev pub why : {A : Type 0} → Result A OptionsError → Option OptionsError
@@ -44,6 +47,8 @@ refusal_at key.MapRemote d = why (lines.map_remote.reads d)
 refusal_at key.Mode d = why (lines.mode.reads d)
 refusal_at key.ModifyBody d = why (lines.modify_body.reads d)
 refusal_at key.ModifyHeaders d = why (lines.modify_headers.reads d)
+refusal_at key.SaveStreamFile d = why (lines.save_stream_file.reads d)
+refusal_at key.SaveStreamFilter d = why (lines.save_stream_filter.reads d)
 
 abbrev pub refusal_of_key : Option Key → List ℕ → Data → Option OptionsError
 refusal_of_key None name d = Some (error.UnknownOption name)
@@ -88,6 +93,8 @@ settings_of table = record {
   mode = option_at lines.mode table;
   modify_body = option_at lines.modify_body table;
   modify_headers = option_at lines.modify_headers table;
+  save_stream_file = option_at lines.save_stream_file table;
+  save_stream_filter = option_at lines.save_stream_filter table;
 }
 
 -- there is a mode

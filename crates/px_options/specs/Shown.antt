@@ -3,6 +3,7 @@ use Rattle.std.specs.Prelude.{ℕ, ◌+◌, ◌-◌, if◌then◌else◌, List, 
 use Rattle.std.specs.Str.{chars, encode_utf8_all, is_utf8}
 use Rattle.px_filter.specs.Parsing.{place_of}
 use Rattle.px_filter.specs.Shown.{shown}
+use Rattle.px_filter.specs.declared.filter.FilterError.{FilterError}
 use Rattle.px_rule.specs.Spec.{spec_parts}
 use Rattle.px_rule.specs.declared.cause.RuleCause.{RuleCause}
 use Rattle.px_rule.specs.declared.cause.RuleCause.TheVariants as causes
@@ -10,13 +11,15 @@ use Rattle.px_rule.specs.declared.spec.SpecError.TheVariants as specs
 use Rattle.px_options.specs.declared.error.OptionsError.{OptionsError}
 use Rattle.px_options.specs.declared.error.OptionsError.TheVariants as error
 
--- the line that names what is refused; want of memory is about nothing that a file has
+-- The line that names what is refused; want of memory is about nothing that a file has. A filter is named as a rule is that stands first
+-- in its list.
 unfoldable pub refusal_line : OptionsError → List ℕ
 refusal_line error.BadToml = codes "bad options: toml\n"
 refusal_line error.BadMode = codes "bad options: mode\n"
 refusal_line (error.UnknownOption name) = codes "bad option " ++ (name ++ 10 ∷ [])
 refusal_line (error.WrongKind name) = codes "bad option " ++ (name ++ 10 ∷ [])
 refusal_line (error.BadRule name index text cause) = codes "bad rule " ++ (name ++ 32 ∷ (decimal index ++ 10 ∷ []))
+refusal_line (error.BadFilter name text cause) = codes "bad rule " ++ (name ++ 32 ∷ (decimal 0 ++ 10 ∷ []))
 refusal_line error.NoMemory = []
 
 -- how many bytes the separator has, the first character of a rule's text
@@ -53,7 +56,12 @@ refusal_place text causes.NoMemory = 0
 abbrev pub rule_note : List ℕ → RuleCause → List ℕ
 rule_note text cause = if is_utf8 text then shown text (refusal_place text cause) else []
 
--- what is shown below the line: of a rule its text with a mark, of all else nothing
+-- the filter's text and a mark under the place of its refusal; of bytes that are no UTF-8 nothing is shown
+abbrev pub filter_note : List ℕ → FilterError → List ℕ
+filter_note text cause = if is_utf8 text then shown text (place_of cause) else []
+
+-- what is shown below the line: of a rule and of a filter its text with a mark, of all else nothing
 unfoldable pub refusal_note : OptionsError → List ℕ
 refusal_note (error.BadRule name index text cause) = rule_note text cause
+refusal_note (error.BadFilter name text cause) = filter_note text cause
 refusal_note other = []

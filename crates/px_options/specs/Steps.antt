@@ -22,6 +22,8 @@ defaults = record {
   mode = lines.mode.default;
   modify_body = lines.modify_body.default;
   modify_headers = lines.modify_headers.default;
+  save_stream_file = lines.save_stream_file.default;
+  save_stream_filter = lines.save_stream_filter.default;
 }
 
 abbrev pub put_by : {A : Type 0} → (A → Settings) → Result A OptionsError → Result Settings OptionsError
@@ -40,6 +42,8 @@ put key.MapRemote d s = put_by (λ a. record s { map_remote = a }) (lines.map_re
 put key.Mode d s = put_by (λ a. record s { mode = a }) (lines.mode.reads d)
 put key.ModifyBody d s = put_by (λ a. record s { modify_body = a }) (lines.modify_body.reads d)
 put key.ModifyHeaders d s = put_by (λ a. record s { modify_headers = a }) (lines.modify_headers.reads d)
+put key.SaveStreamFile d s = put_by (λ a. record s { save_stream_file = a }) (lines.save_stream_file.reads d)
+put key.SaveStreamFilter d s = put_by (λ a. record s { save_stream_filter = a }) (lines.save_stream_filter.reads d)
 
 abbrev pub put_at : Option Key → List ℕ → Data → Settings → Result Settings OptionsError
 put_at None name d s = Err (error.UnknownOption name)

@@ -1,5 +1,6 @@
 -- What the code holds.
-use Rattle.std.specs.Prelude.{Some, option_map}
+use Rattle.std.specs.Prelude.{ℕ, List, Some, option_map, string_bytes}
+use Rattle.px_filter.specs.View.{expression}
 use Rattle.px_message.specs.declared.address.Address.{Address}
 use Rattle.px_http.specs.declared.mode.Mode.{Mode}
 use Rattle.px_http.specs.declared.mode.Mode.TheVariants as modes
@@ -9,6 +10,7 @@ use Rattle.px_options.specs.Mode.{ModeIs, reverse}
 use Rattle.px_options.specs.Options.{Settings}
 use Rattle.px_options.specs.Values.{Place}
 use Rattle.px_options.specs.declared.draft.Draft.{Draft}
+use Rattle.px_options.specs.declared.file_path.FilePath.{FilePath}
 use Rattle.px_options.specs.declared.options.Options.{Options}
 
 abbrev pub place : Address → Place
@@ -16,6 +18,9 @@ place a = (a.host, a.port)
 
 abbrev pub mode_view : Mode → ModeIs
 mode_view (modes.Reverse a) = reverse (place a)
+
+abbrev pub path_view : FilePath → List ℕ
+path_view p = string_bytes p.text
 
 abbrev pub draft_view : Draft → Settings
 draft_view d = record {
@@ -29,6 +34,8 @@ draft_view d = record {
   mode = option_map mode_view d.mode;
   modify_body = body_views d.modify_body;
   modify_headers = header_views d.modify_headers;
+  save_stream_file = option_map path_view d.save_stream_file;
+  save_stream_filter = option_map expression d.save_stream_filter;
 }
 
 abbrev pub settings : Options → Settings
@@ -43,4 +50,6 @@ settings o = record {
   mode = Some (mode_view o.mode);
   modify_body = body_views o.modify_body;
   modify_headers = header_views o.modify_headers;
+  save_stream_file = option_map path_view o.save_stream_file;
+  save_stream_filter = option_map expression o.save_stream_filter;
 }

@@ -6,6 +6,8 @@ ghost use Rattle.px_options.specs.declared.error.OptionsError.TheVariants as err
 
 use crate::OptionsError;
 use crate::address::default_address;
+use crate::file_path::FilePath;
+use px_filter::Filter;
 use px_http::Mode;
 use px_map::{BlockRules, LocalRules, RemoteRules};
 use px_message::Address;
@@ -25,6 +27,8 @@ pub(crate) struct Draft {
     pub mode: Option<Mode>,
     pub modify_body: BodyRules,
     pub modify_headers: HeaderRules,
+    pub save_stream_file: Option<FilePath>,
+    pub save_stream_filter: Option<Filter>,
 }
 
 /// Every option is its default.
@@ -44,5 +48,7 @@ pub(crate) fn new_draft(alloc: Global) -> Result<Draft, OptionsError>
         mode: None,
         modify_body: BodyRules::none(alloc),
         modify_headers: HeaderRules::none(alloc),
+        save_stream_file: None,
+        save_stream_filter: None,
     })
 }

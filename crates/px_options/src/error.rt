@@ -4,6 +4,7 @@ ghost use Rattle.px_options.specs.Keys.{name_of};
 ghost use Rattle.px_options.specs.declared.error.OptionsError.TheVariants as error;
 
 use crate::key::{Key, name_of};
+use px_filter::FilterError;
 use px_rule::RuleCause;
 use px_text::{Bytes, NoMemory};
 use std::alloc::{AllocError, AllocFailed, Global};
@@ -16,7 +17,8 @@ pub enum OptionsError {
     BadToml,
     /// No option has this name.
     UnknownOption(Bytes),
-    /// The option of this name has a value of another kind, a number out of its range, or a text that is no address.
+    /// The option of this name has a value of another kind, a number out of its range, a text that is no address, or an empty text for a
+    /// path.
     WrongKind(Bytes),
     /// The mode is a text that is no mode, or there is none.
     BadMode,
@@ -26,6 +28,12 @@ pub enum OptionsError {
         index: usize,
         text: Bytes,
         cause: RuleCause,
+    },
+    /// The text of the option `name` is no filter: all of the text, and why.
+    BadFilter {
+        name: Bytes,
+        text: Bytes,
+        cause: FilterError,
     },
     /// No memory, or a pattern that takes more than `regex` may build; it says nothing of the bytes.
     NoMemory,

@@ -15,6 +15,8 @@ pub(crate) enum Key {
     Mode,
     ModifyBody,
     ModifyHeaders,
+    SaveStreamFile,
+    SaveStreamFilter,
 }
 
 /// The key's name in a file.
@@ -32,6 +34,8 @@ pub(crate) fn name_of(key: Key) -> &'static [u8]
         Key::Mode => b"mode",
         Key::ModifyBody => b"modify_body",
         Key::ModifyHeaders => b"modify_headers",
+        Key::SaveStreamFile => b"save_stream_file",
+        Key::SaveStreamFilter => b"save_stream_filter",
     }
 }
 
@@ -68,6 +72,12 @@ pub(crate) fn key_of(name: &[u8]) -> Option<Key>
     }
     if name == b"modify_headers".as_slice() {
         return Some(Key::ModifyHeaders);
+    }
+    if name == b"save_stream_file".as_slice() {
+        return Some(Key::SaveStreamFile);
+    }
+    if name == b"save_stream_filter".as_slice() {
+        return Some(Key::SaveStreamFilter);
     }
     None
 }

@@ -6,20 +6,25 @@
 //! `mode` has no default: a table without it that is not refused otherwise is refused for it.
 //!
 //! Which table a text is, is `toml`'s own definition, and so is what a value in it is; two lines of one key are no table. What an
-//! address and a URL are is px_message's (RFC 9112 section 3.2), and which texts are rules is px_rule's and px_map's.
+//! address and a URL are is px_message's (RFC 9112 section 3.2), which texts are rules is px_rule's and px_map's, and which are filters
+//! px_filter's.
 //!
-//! Of a refusal a person is shown a line, and of a rule its text with a mark under the place that is meant (`specs/Shown.antt`).
+//! Of a refusal a person is shown a line, and of a rule or a filter its text with a mark under the place that is meant
+//! (`specs/Shown.antt`).
 #![tactic(auto)]
 
 mod address;
 mod count;
 mod draft;
 mod error;
+mod file_path;
+mod flow_filter;
 mod key;
 mod laws;
 mod lists;
 mod mode;
 mod options;
+mod path;
 mod put;
 mod rules;
 mod shown;
@@ -29,6 +34,7 @@ mod tests;
 mod truth;
 
 pub use error::OptionsError;
+pub use file_path::FilePath;
 pub use laws::{
     a_bad_key_is_refused, a_part_stands_behind_those_in_front, a_table_is_a_table,
     an_empty_table_has_no_mode, an_unknown_key_is_bad, bytes_say_one_thing,

@@ -11,8 +11,10 @@ use crate::address::read_address;
 use crate::count::read_count;
 use crate::draft::Draft;
 use crate::error::unknown_option;
+use crate::flow_filter::read_filter;
 use crate::key::{Key, key_of};
 use crate::mode::read_mode;
+use crate::path::read_path;
 use crate::rules::read_rules;
 use crate::truth::read_truth;
 use std::alloc::Global;
@@ -49,6 +51,8 @@ fn put(alloc: Global, draft: &mut Draft, key: Key, value: &Value) -> Result<(), 
         Key::Mode => put_mode(alloc, draft, value),
         Key::ModifyBody => put_modify_body(alloc, draft, value),
         Key::ModifyHeaders => put_modify_headers(alloc, draft, value),
+        Key::SaveStreamFile => put_save_stream_file(alloc, draft, value),
+        Key::SaveStreamFilter => put_save_stream_filter(alloc, draft, value),
     }
 }
 
@@ -129,5 +133,25 @@ fn put_modify_headers(alloc: Global, draft: &mut Draft, value: &Value) -> Result
     ensures err { IfErr result (λ e. (e ≡ error.NoMemory) ⊎ (put keys.ModifyHeaders (view value.now) (draft_view draft.old) ≡ Err e)) }
 {
     draft.modify_headers = read_rules(alloc, Key::ModifyHeaders, value)?;
+    Ok(())
+}
+
+fn put_save_stream_file(alloc: Global, draft: &mut Draft, value: &Value) -> Result<(), OptionsError>
+    ensures ok { OnOk result (put keys.SaveStreamFile (view value.now) (draft_view draft.old) ≡ Ok (draft_view draft.new)) }
+    ensures err { IfErr result (λ e. (e ≡ error.NoMemory) ⊎ (put keys.SaveStreamFile (view value.now) (draft_view draft.old) ≡ Err e)) }
+{
+    draft.save_stream_file = Some(read_path(alloc, Key::SaveStreamFile, value)?);
+    Ok(())
+}
+
+fn put_save_stream_filter(
+    alloc: Global,
+    draft: &mut Draft,
+    value: &Value,
+) -> Result<(), OptionsError>
+    ensures ok { OnOk result (put keys.SaveStreamFilter (view value.now) (draft_view draft.old) ≡ Ok (draft_view draft.new)) }
+    ensures err { IfErr result (λ e. (e ≡ error.NoMemory) ⊎ (put keys.SaveStreamFilter (view value.now) (draft_view draft.old) ≡ Err e)) }
+{
+    draft.save_stream_filter = Some(read_filter(alloc, Key::SaveStreamFilter, value)?);
     Ok(())
 }

@@ -3,7 +3,7 @@ ghost use Rattle.std.specs.Prelude.{◌≡◌, ◌<◌, ◌≤◌, ◌++◌, ◌
 ghost use Rattle.px_filter.specs.Shown.{shown};
 ghost use Rattle.px_rule.specs.declared.cause.RuleCause.TheVariants as causes;
 ghost use Rattle.px_options.specs.Parts.{capped};
-ghost use Rattle.px_options.specs.Shown.{behind_parts, part_place, refusal_line, refusal_note, refusal_place, rule_note, separator_length};
+ghost use Rattle.px_options.specs.Shown.{behind_parts, filter_note, part_place, refusal_line, refusal_note, refusal_place, rule_note, separator_length};
 
 use crate::OptionsError;
 use px_filter::{FilterError, show_refusal};
@@ -12,8 +12,8 @@ use px_text::{Bytes, NoMemory, push_decimal};
 use std::str;
 
 /// Appends the line that names what is refused: `bad options: toml` for `BadToml`, `bad options: mode` for `BadMode`,
-/// `bad option NAME` for `UnknownOption` and `WrongKind`, and `bad rule NAME INDEX` for `BadRule`, with a line feed behind it. For want
-/// of memory nothing is appended. After `NoMemory` nothing was appended.
+/// `bad option NAME` for `UnknownOption` and `WrongKind`, `bad rule NAME INDEX` for `BadRule`, and `bad rule NAME 0` for `BadFilter`, with
+/// a line feed behind it. For want of memory nothing is appended. After `NoMemory` nothing was appended.
 pub fn refusal_line(error: &OptionsError, out: &mut Vec<u8>) -> Result<(), NoMemory>
     ensures ok { OnOk result (out.new.items ≡ out.old.items ++ refusal_line error.now) }
     ensures err { OnErr result (out.new.items ≡ out.old.items) }
@@ -34,6 +34,7 @@ fn push_line(error: &OptionsError, line: &mut Vec<u8>) -> Result<(), NoMemory>
         OptionsError::UnknownOption(name) => push_option(name, line)?,
         OptionsError::WrongKind(name) => push_option(name, line)?,
         OptionsError::BadRule { name, index, .. } => push_rule(name, *index, line)?,
+        OptionsError::BadFilter { name, .. } => push_rule(name, 0, line)?,
         OptionsError::NoMemory => {}
     }
     Ok(())
@@ -61,7 +62,8 @@ fn push_rule(name: &Bytes, index: usize, line: &mut Vec<u8>) -> Result<(), NoMem
 
 /// Appends what is shown of a `BadRule` below its line: two lines, the rule's text and a `^` under the place that is meant, as
 /// px_filter shows a filter's refusal. The place is that of the part which is refused, in a filter that of the filter's own refusal,
-/// and the text's end where a part is missing. For all else nothing is appended. After `NoMemory` nothing was appended.
+/// and the text's end where a part is missing. Of a `BadFilter` the filter's text and its mark are appended. For all else nothing is
+/// appended. After `NoMemory` nothing was appended.
 #[tactic(auto, unfolding(crate::specs::Shown::refusal_note))]
 pub fn refusal_note(error: &OptionsError, out: &mut Vec<u8>) -> Result<(), NoMemory>
     ensures ok { OnOk result (out.new.items ≡ out.old.items ++ refusal_note error.now) }
@@ -69,6 +71,7 @@ pub fn refusal_note(error: &OptionsError, out: &mut Vec<u8>) -> Result<(), NoMem
 {
     match error {
         OptionsError::BadRule { text, cause, .. } => push_note(text.as_slice(), *cause, out),
+        OptionsError::BadFilter { text, cause, .. } => push_filter(text.as_slice(), cause, out),
         OptionsError::BadToml | OptionsError::BadMode | OptionsError::NoMemory => Ok(()),
         OptionsError::UnknownOption(_) | OptionsError::WrongKind(_) => Ok(()),
     }
@@ -80,6 +83,16 @@ fn push_note(text: &[u8], cause: RuleCause, out: &mut Vec<u8>) -> Result<(), NoM
 {
     match str::from_utf8(text) {
         Ok(text) => push_marked(text, cause, out),
+        Err(_) => Ok(()),
+    }
+}
+
+fn push_filter(text: &[u8], cause: &FilterError, out: &mut Vec<u8>) -> Result<(), NoMemory>
+    ensures ok { OnOk result (out.new.items ≡ out.old.items ++ filter_note text.now cause.now) }
+    ensures err { OnErr result (out.new.items ≡ out.old.items) }
+{
+    match str::from_utf8(text) {
+        Ok(text) => show_refusal(text, cause, out),
         Err(_) => Ok(()),
     }
 }

@@ -76,6 +76,8 @@ fn finish(draft: Draft) -> Result<Options, OptionsError>
         mode,
         modify_body,
         modify_headers,
+        save_stream_file,
+        save_stream_filter,
     } = draft;
     match mode {
         Some(mode) => Ok(Options {
@@ -89,6 +91,8 @@ fn finish(draft: Draft) -> Result<Options, OptionsError>
             mode,
             modify_body,
             modify_headers,
+            save_stream_file,
+            save_stream_filter,
         }),
         None => Err(OptionsError::BadMode),
     }

@@ -20,6 +20,7 @@ fn refusal(e: &OptionsError) -> &'static str {
         OptionsError::WrongKind(_) => "wrong",
         OptionsError::BadMode => "bad mode",
         OptionsError::BadRule { cause, .. } => why(cause),
+        OptionsError::BadFilter { .. } => "bad filter",
         OptionsError::NoMemory => "no memory",
     }
 }
@@ -35,7 +36,7 @@ fn why(cause: &RuleCause) -> &'static str {
 
 #[test]
 fn texts_are_options_or_refused(rt: HostRuntime) {
-    let rows: [(&[u8], &str); 17] = [
+    let rows: [(&[u8], &str); 23] = [
         (b"mode = \"reverse:http://h:81/\"", "options"),
         (b"mode = \"reverse:HTTP://[::1]\"", "options"),
         (b"", "bad mode"),
@@ -53,6 +54,12 @@ fn texts_are_options_or_refused(rt: HostRuntime) {
         (b"modify_body = [\"/(/\"]", "bad pattern"),
         (b"modify_headers = [\"/Server/\", \"\"]", "bad spec"),
         (b"modify_headers = [\"\", 1]", "wrong"),
+        (b"save_stream_file = \"a\"", "bad mode"),
+        (b"save_stream_file = \"\"", "wrong"),
+        (b"save_stream_file = [\"a\"]", "wrong"),
+        (b"save_stream_filter = \"~m GET\"", "bad mode"),
+        (b"save_stream_filter = \"~zz\"", "bad filter"),
+        (b"save_stream_filter = true", "wrong"),
     ];
     for (text, want) in rows {
         assert_eq!(rt; word(rt.alloc(), text), want, "at {text:?}");
@@ -68,8 +75,23 @@ fn defaults_are_taken(rt: HostRuntime) {
     assert_eq!(rt; options.listen.port, 8080);
     assert!(rt; options.listen.host.bytes() == b"127.0.0.1".as_slice());
     assert!(rt; !options.anticache && !options.anticomp);
+    assert!(rt; options.save_stream_file.is_none() && options.save_stream_filter.is_none());
     let Mode::Reverse(address) = &options.mode;
     assert_eq!(rt; address.port, 80);
+}
+
+#[test]
+fn a_file_is_saved_to(rt: HostRuntime) {
+    let text =
+        b"mode = \"reverse:http://h\"\nsave_stream_file = \"a.flows\"\nsave_stream_filter = \"~q\"";
+    let Ok(options) = read_options(rt.alloc(), text) else {
+        panic!(rt; "no options");
+    };
+    let Some(path) = &options.save_stream_file else {
+        panic!(rt; "no path");
+    };
+    assert!(rt; path.as_str() == "a.flows");
+    assert!(rt; options.save_stream_filter.is_some());
 }
 
 // What is shown of the refusal of a text.
@@ -84,7 +106,7 @@ fn shown(alloc: Global, text: &[u8]) -> Result<Vec<u8>, Fail> {
 
 #[test]
 fn refusals_are_shown(rt: HostRuntime) -> Result<(), Fail> {
-    let rows: [(&[u8], &[u8]); 6] = [
+    let rows: [(&[u8], &[u8]); 7] = [
         (b"x = 1", b"bad option x\n"),
         (
             b"modify_body = [\"/(/x\"]",
@@ -105,6 +127,10 @@ fn refusals_are_shown(rt: HostRuntime) -> Result<(), Fail> {
         (
             b"map_remote = [\"/a\"]",
             b"bad rule map_remote 0\n/a\n  ^\n",
+        ),
+        (
+            b"save_stream_filter = \"a ~zz\"",
+            b"bad rule save_stream_filter 0\na ~zz\n  ^\n",
         ),
     ];
     for (text, want) in rows {
