@@ -1,5 +1,5 @@
 -- What no answer of a chain does: it lets no hook wait, and touches no file.
-use Rattle.std.proofs.Common.{◌≡◌, ℕ, List, subst, sym}
+use Rattle.std.proofs.Common.{◌≡◌, ◌≤◌, ℕ, List, arith, refl, subst, sym}
 use Rattle.px_message.specs.declared.flow.Flow.{Flow}
 use Rattle.px_event.specs.declared.ask.Hook.{Hook}
 use Rattle.px_event.specs.declared.reply.Reply.{Reply}
@@ -10,6 +10,8 @@ use Rattle.px_addons.specs.Chain.{ChainAnswers}
 use Rattle.px_addons.specs.Moving.{Moves}
 use Rattle.px_addons.specs.Quiet.{NoRules}
 use Rattle.px_addons.specs.declared.rules.Rules.{Rules}
+use Rattle.px_addons.proofs.RunLemmas.{answers_by, fails_by, keeps_reads}
+use Rattle.px_app.specs.Over.{KeepsLosses}
 
 no_wait : (draft : Draft) (reply : Reply) → answer.Wait draft ≡ answer.Reply reply → ⊥
 no_wait draft reply e = cc
@@ -22,3 +24,16 @@ chain_never_waits title state moves hook flow old_rules old old_files new_rules 
 -- the rules that a chain was made with are its own
 pub still_none : {rules made : Rules} → made ≡ rules → NoRules rules → NoRules made
 still_none {rules} {made} same none = subst (λ (r : Rules). NoRules r) (sym same) none
+
+same_losses : {old new : ℕ} → new ≡ old → old ≤ new
+same_losses same = omega (arith, same)
+
+-- no answer lessens the count of appends that failed
+pub chain_keeps_losses : {B S : Type 0} (title state : B → List ℕ) (moves : B → Moves) (rules_of : S → Rules) (addons_of : S → List B) →
+    KeepsLosses (answers_by title state moves rules_of addons_of) (fails_by title state moves rules_of addons_of)
+chain_keeps_losses title state moves rules_of addons_of = record {
+  given_so = λ hook flow old old_files new new_files given is.
+      same_losses ((keeps_reads title state moves rules_of addons_of (rules_of old)).given_so hook flow old old_files new new_files given refl is).reads.losses;
+  failed_so = λ hook flow old old_files new_files is.
+      same_losses ((keeps_reads title state moves rules_of addons_of (rules_of old)).failed_so hook flow old old_files new_files refl is).reads.losses;
+}

@@ -86,14 +86,16 @@ whole_by Failed text start new not has = absurd (not refl)
 pub not_failed : (printing : Printing) → printing ≡ Whole → printing ≢ Failed
 not_failed printing is failed = let wrong : Whole ≡ Failed = sym is ∙ failed in cc
 
--- all is printed where the run ended well, or no write failed
-pub printed_whole : (shown : Status) (printing : Printing) (lines : List ℕ) (start mid new : Option (List ℕ)) (first old later : ℕ) →
+-- all is printed where the run ended well, or nothing failed
+pub printed_whole : (failed : Type 0) (shown : Status) (printing : Printing) (lines : List ℕ) (start mid new : Option (List ℕ)) (first old later : ℕ) →
     Has printing lines start mid → (Has printing lines start mid → Ends printing (lines ++ line_of (code_of shown)) start new old later shown) →
-    first ≤ old → (printing ≡ Failed → Rose first old) → (shown ≡ Ended) ⊎ (Rose first later → ⊥) → Writes (lines ++ line_of (code_of shown)) start new
-printed_whole shown printing lines start mid new first old later has ends low was (inl is) =
+    first ≤ old → (printing ≡ Failed → failed) → (Rose first later → failed) → (shown ≡ Ended) ⊎ (failed → ⊥) → Writes (lines ++ line_of (code_of shown)) start new
+printed_whole failed shown printing lines start mid new first old later has ends low was rose (inl is) =
     let e = ends has in whole_by e.printing _ start new (not_failed e.printing (e.whole is)) e.has
-printed_whole shown printing lines start mid new first old later has ends low was (inr quiet) =
-    let e = ends has in whole_by e.printing _ start new (λ failed. quiet (e.failed first low was failed)) e.has
+printed_whole failed shown Failed lines start mid new first old later has ends low was rose (inr quiet) = absurd (quiet (was refl))
+printed_whole failed shown Whole lines start mid new first old later has ends low was rose (inr quiet) =
+    let e = ends has in
+    whole_by e.printing _ start new (λ lost. quiet (rose (e.failed first low (λ (wrong : Whole ≡ Failed). absurd (cc)) lost))) e.has
 
 pub writes_none : (start now : Option (List ℕ)) → now ≡ start → Writes [] start now
 writes_none None now same = same

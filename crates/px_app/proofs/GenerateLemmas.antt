@@ -69,7 +69,7 @@ generates_by {S} {answers} {fails} {IsChain} {out} {count} {before} {after} {sta
   ends = h.ends;
   by_chain = λ some.
       let by = h.by_chain some in
-      (by.0, subst (λ (s : S). IsChain generator_settings s) (sym by.1) so, by.2);
+      (by.0, by.1, subst (λ (s : S). IsChain generator_settings s) (sym by.2) so, by.3, by.4);
   told = h.told;
   told_part = h.told_part;
   listening = h.listening;

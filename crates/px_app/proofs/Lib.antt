@@ -4,6 +4,13 @@ pub mod NetLemmas
 pub mod ToldLemmas
 pub mod OpenLemmas
 pub mod PrintLemmas
+pub mod SavedLemmas
+pub mod RestLemmas
+pub mod GoesLemmas
+pub mod LossLemmas
+pub mod SaveLaws
+pub mod TouchedLemmas
+pub mod GrownLemmas
 pub mod ListedLemmas
 pub mod OwnLemmas
 pub mod CountLemmas
@@ -13,6 +20,8 @@ pub mod ChainLemmas
 pub mod StepLemmas
 pub mod CodeLemmas
 pub mod EndLemmas
+pub mod OutputLemmas
 pub mod ServerLemmas
 pub mod HttpServers
 pub mod GenerateLemmas
+pub mod FlowsLemmas

@@ -1,11 +1,7 @@
 -- Texts printed one behind the other.
-use Rattle.std.proofs.Common.{◌≡◌, ℕ, zero, suc, ◌+◌, ◌<◌, arith, length, take, drop, get_or, List, [], ◌∷◌, ◌++◌, Option, Some, None, Result, Ok, Err, IfOk, refl, sym, ap, ◌∙◌, subst, append_assoc}
-use Rattle.std.specs.List.{flat_map}
-use Rattle.std.proofs.lemmas.List.{append-nil, take-append-drop}
-use Rattle.std.proofs.lemmas.Grind.{flat_map-append}
+use Rattle.std.proofs.Common.{◌≡◌, ℕ, List, [], ◌++◌, Option, Some, None, Result, Ok, Err, IfOk, refl, sym, ap, ◌∙◌, subst, append_assoc}
+use Rattle.std.proofs.lemmas.List.{append-nil}
 use Rattle.px_text.specs.Prefix.{AddsPrefixOf}
-use Rattle.px_message.specs.declared.flow.Flow.{Flow}
-use Rattle.px_view.specs.Line.{flow_line}
 use Rattle.px_outside.specs.Sink.{Writes, WritesPart}
 use Rattle.px_app.specs.declared.printing.Printing.{Printing}
 use Rattle.px_app.specs.declared.printing.Printing.TheVariants.{Whole, Failed}
@@ -58,29 +54,3 @@ has_still printing text more start now new none same has =
 pub at_ok : {T E : Type 0} (result : Result T E) (P Q : T → Type 0) → ((t : T) → P t → Q t) → IfOk result P → IfOk result Q
 at_ok (Ok t) P Q f p = f t p
 at_ok (Err e) P Q f p = tt
-
--- a text stops within a longer one
-pub part_stops : (printing : Printing) (before taken rest all : List ℕ) (start now new : Option (List ℕ)) → all ≡ taken ++ rest → new ≡ now → Has printing (before ++ taken) start now →
-    WritesPart (before ++ all) start new
-part_stops printing before taken rest all start now new whole same has =
-    let P : Option (List ℕ) → Type 0 = λ o. WritesPart (before ++ all) start o in
-    let Q : List ℕ → Type 0 = λ l. WritesPart l start now in
-    subst P (sym same) (subst Q (append_assoc before taken rest ∙ ap (λ l. before ++ l) (sym whole)) (part_longer (before ++ taken) rest start now (has_part printing (before ++ taken) start now has)))
-
-flow_next : (list : List Flow) (i : ℕ) (x : Flow) → i < length list → x ≡ get_or list i x → take (suc i) list ≡ take i list ++ x ∷ []
-flow_next [] i x less is = absurd (omega arith)
-flow_next (y ∷ list) zero x less is = ap (λ z. z ∷ []) (sym is)
-flow_next (y ∷ list) (suc i) x less is = ap (λ l. y ∷ l) (flow_next list i x (omega arith) is)
-
--- the lines of one flow more
-pub lines_next : (list : List Flow) (i : ℕ) (x : Flow) → i < length list → x ≡ get_or list i x →
-    flat_map flow_line (take (i + 1) list) ≡ flat_map flow_line (take i list) ++ flow_line x
-lines_next list i x less is =
-    let plus : i + 1 ≡ suc i = omega arith in
-    ap (λ n. flat_map flow_line (take n list)) plus
-    ∙ (ap (flat_map flow_line) (flow_next list i x less is)
-    ∙ (flat_map-append flow_line (take i list) (x ∷ []) ∙ ap (λ l. flat_map flow_line (take i list) ++ l) (append-nil (flow_line x))))
-
--- those so far and the rest
-pub lines_all : (list : List Flow) (i : ℕ) → flat_map flow_line list ≡ flat_map flow_line (take i list) ++ flat_map flow_line (drop i list)
-lines_all list i = ap (flat_map flow_line) (sym (take-append-drop i list)) ∙ flat_map-append flow_line (take i list) (drop i list)

@@ -9,40 +9,50 @@ use Rattle.px_outside.specs.declared.net.NetError.TheVariants as net
 use Rattle.std.proofs.lemmas.List.{append-nil}
 use Rattle.px_core.specs.Answered.{Answers, IsAnswered, LeavesFiles, Pending}
 use Rattle.px_core.specs.Answers.{Answering, AnswererState, Failing, FilesMeaning, after_answers, by_none}
+use Rattle.px_core.specs.Course.{Change, Course}
 use Rattle.px_core.specs.Due.{Due, IsServed, IsAllTold, OpenOnesWait}
+use Rattle.px_core.proofs.AnsweredLemmas.{whole_front}
 use Rattle.px_http.specs.Fixed.{fixed_due}
 use Rattle.px_options.specs.Mode.{ModeIs, reverse}
+use Rattle.px_app.specs.Over.{Reaches, course_from}
 use Rattle.px_app.specs.Own.{IsOwn}
-use Rattle.px_app.specs.Run.{IsRun, Told}
+use Rattle.px_app.specs.Run.{BreaksOff, IsEnd, IsRun, Told}
+use Rattle.px_app.specs.Saved.{Append, SavesTo}
 use Rattle.px_app.specs.Statuses.{status_of, heard_count, ends_heard}
+use Rattle.px_app.specs.declared.printing.Printing.{Printing}
 use Rattle.px_app.specs.declared.status.Status.{Status}
 use Rattle.px_app.specs.declared.status.Status.TheVariants.{Ended, NetFault, BudgetSpent, NoMemory}
+use Rattle.px_app.proofs.RestLemmas.{part_of}
 
 not_both : (b : Bool) → b ≡ true → b ≡ false → ⊥
 not_both true is other = absurd (cc)
 not_both false is other = absurd (cc)
 
 -- the files are what the answerer, which came over the whole trace, left
-pub leaves_all : {S : Type 0} (answers : Answering S) (fails : Failing S) (due : Due) (first now : AnswererState S) (pending : Pending) (files : FilesMeaning) (trace : Trace) →
-    Answers answers due first trace now pending → files ≡ now.files → (W : Type 0) → LeavesFiles answers fails due first W files trace
-leaves_all answers fails due first now pending files trace answered same W = record {
+pub leaves_all : {S : Type 0} (answers : Answering S) (fails : Failing S) (due : Due) (course : Course S) (now : AnswererState S) (pending : Pending) (files : FilesMeaning) (trace : Trace) →
+    Answers answers due course trace now pending → files ≡ now.files → (W : Type 0) → LeavesFiles answers fails due course W files trace
+leaves_all answers fails due course now pending files trace answered same W = record {
   front = trace;
   rest = [];
   split = sym (append-nil trace);
+  made = course;
+  front_of = whole_front course;
   last = now;
   pending = pending;
   answered = answered;
   after = after_answers now (by_none now) same;
-  whole = λ _. (refl, same);
+  whole = λ _. (refl, same, refl);
 }
 
 -- and where that is not said, they are so for whatever is not so
-pub leaves_part : {S : Type 0} (answers : Answering S) (fails : Failing S) (due : Due) (first : AnswererState S) (files : FilesMeaning) (trace : Trace) (W V : Type 0) →
-    LeavesFiles answers fails due first W files trace → (V → W) → LeavesFiles answers fails due first V files trace
-leaves_part answers fails due first files trace W V leaves weaker = record {
+pub leaves_part : {S : Type 0} (answers : Answering S) (fails : Failing S) (due : Due) (course : Course S) (files : FilesMeaning) (trace : Trace) (W V : Type 0) →
+    LeavesFiles answers fails due course W files trace → (V → W) → LeavesFiles answers fails due course V files trace
+leaves_part answers fails due course files trace W V leaves weaker = record {
   front = leaves.front;
   rest = leaves.rest;
   split = leaves.split;
+  made = leaves.made;
+  front_of = leaves.front_of;
   last = leaves.last;
   pending = leaves.pending;
   answered = leaves.answered;
@@ -50,14 +60,16 @@ leaves_part answers fails due first files trace W V leaves weaker = record {
   whole = λ v. leaves.whole (weaker v);
 }
 
-module _ {S : Type 0} (answers : Answering S) (fails : Failing S) (due : Due) (first : AnswererState S) (budget : ℕ) (files : FilesMeaning) (trace : Trace) (served : IsServed answers due trace)
-    (follows : IsAnswered answers due first trace) (own : IsOwn trace) where
+module _ {S : Type 0} (answers : Answering S) (fails : Failing S) (due : Due) (first : AnswererState S) (to : Option SavesTo) (budget : ℕ) (printing : Printing) (files : FilesMeaning)
+    (start now : Option (List ℕ)) (trace : Trace) (own : IsOwn trace) where
   -- want of memory, at any moment
-  pub memory_run : LeavesFiles answers fails due first ⊥ files trace → IsRun answers fails due first budget NoMemory files trace
-  memory_run leaves = record {
-    served = served;
-    follows = follows;
-    leaves = leaves_part answers fails due first files trace ⊥ (NoMemory ≢ NoMemory) leaves (λ other. other refl);
+  pub memory_run : BreaksOff answers fails due first to files start now trace → IsRun answers fails due first to budget NoMemory printing files start now trace
+  memory_run broken = record {
+    changes = broken.changes;
+    made = broken.made;
+    served = broken.served;
+    follows = broken.follows;
+    leaves = leaves_part answers fails due (course_from first broken.changes) files trace ⊥ (NoMemory ≢ NoMemory) broken.leaves (λ other. other refl);
     whole = λ other. absurd (other refl);
     waits = λ other. absurd (other refl);
     own = own;
@@ -68,67 +80,70 @@ module _ {S : Type 0} (answers : Answering S) (fails : Failing S) (due : Due) (f
       goes_on = λ (e : NoMemory ≡ BudgetSpent). absurd (cc);
       spent = λ _ _ _. inr refl;
     };
+    reaches = λ other. absurd (other refl);
+    part = broken.part;
   }
 
-  module _ (leaves : (W : Type 0) → LeavesFiles answers fails due first W files trace) (all : IsAllTold due trace) (waiting : OpenOnesWait answers due trace) where
-    -- the end was heard
-    pub ended_run : ends_heard trace ≡ true → IsRun answers fails due first budget Ended files trace
-    ended_run last = record {
+  module _ (changes : List (Change S)) (made : List Append) (served : IsServed answers due trace) (follows : IsAnswered answers due (course_from first changes) trace)
+      (leaves : (W : Type 0) → LeavesFiles answers fails due (course_from first changes) W files trace) (all : IsAllTold due trace) (waiting : OpenOnesWait answers due trace)
+      (reaches : Reaches to printing changes made trace start now) where
+    -- with this status, which has its cause
+    run_by : (status : Status) → IsEnd budget status trace → IsRun answers fails due first to budget status printing files start now trace
+    run_by status is_end = record {
+      changes = changes;
+      made = made;
       served = served;
       follows = follows;
-      leaves = leaves (Ended ≢ NoMemory);
+      leaves = leaves (status ≢ NoMemory);
       whole = λ _. all;
       waits = λ _. waiting;
       own = own;
-      is_end = record {
-        ended = λ _. last;
-        ends = λ is. inl refl;
-        count = λ (e : Ended ≡ BudgetSpent). absurd (cc);
-        goes_on = λ (e : Ended ≡ BudgetSpent). absurd (cc);
-        spent = λ _ _ other. absurd (not_both (ends_heard trace) last other);
-      };
+      is_end = is_end;
+      reaches = λ _. reaches;
+      part = part_of to printing changes made trace start now reaches;
     }
+
+    -- the end was heard
+    pub ended_run : ends_heard trace ≡ true → IsRun answers fails due first to budget Ended printing files start now trace
+    ended_run last = run_by Ended (record {
+      ended = λ _. last;
+      ends = λ is. inl refl;
+      count = λ (e : Ended ≡ BudgetSpent). absurd (cc);
+      goes_on = λ (e : Ended ≡ BudgetSpent). absurd (cc);
+      spent = λ _ _ other. absurd (not_both (ends_heard trace) last other);
+    })
 
     -- the net failed, where more might be heard
-    pub fault_run : ends_heard trace ≡ false → (0 < budget → heard_count trace < budget) → IsRun answers fails due first budget NetFault files trace
-    fault_run goes_on below = record {
-      served = served;
-      follows = follows;
-      leaves = leaves (NetFault ≢ NoMemory);
-      whole = λ _. all;
-      waits = λ _. waiting;
-      own = own;
-      is_end = record {
-        ended = λ (e : NetFault ≡ Ended). absurd (cc);
-        ends = λ is. absurd (not_both (ends_heard trace) is goes_on);
-        count = λ (e : NetFault ≡ BudgetSpent). absurd (cc);
-        goes_on = λ (e : NetFault ≡ BudgetSpent). absurd (cc);
-        spent = λ some (e : heard_count trace ≡ budget) _. let less : heard_count trace < budget = below some in absurd (omega arith);
-      };
-    }
+    fault_run : ends_heard trace ≡ false → (0 < budget → heard_count trace < budget) → IsRun answers fails due first to budget NetFault printing files start now trace
+    fault_run goes_on below = run_by NetFault (record {
+      ended = λ (e : NetFault ≡ Ended). absurd (cc);
+      ends = λ is. absurd (not_both (ends_heard trace) is goes_on);
+      count = λ (e : NetFault ≡ BudgetSpent). absurd (cc);
+      goes_on = λ (e : NetFault ≡ BudgetSpent). absurd (cc);
+      spent = λ some (e : heard_count trace ≡ budget) _. let less : heard_count trace < budget = below some in absurd (omega arith);
+    })
 
     -- all that may be heard was heard
-    pub spent_run : ends_heard trace ≡ false → heard_count trace ≡ budget → IsRun answers fails due first budget BudgetSpent files trace
-    spent_run goes_on count = record {
-      served = served;
-      follows = follows;
-      leaves = leaves (BudgetSpent ≢ NoMemory);
-      whole = λ _. all;
-      waits = λ _. waiting;
-      own = own;
-      is_end = record {
-        ended = λ (e : BudgetSpent ≡ Ended). absurd (cc);
-        ends = λ is. absurd (not_both (ends_heard trace) is goes_on);
-        count = λ _. count;
-        goes_on = λ _. goes_on;
-        spent = λ _ _ _. inl refl;
-      };
-    }
+    pub spent_run : ends_heard trace ≡ false → heard_count trace ≡ budget → IsRun answers fails due first to budget BudgetSpent printing files start now trace
+    spent_run goes_on count = run_by BudgetSpent (record {
+      ended = λ (e : BudgetSpent ≡ Ended). absurd (cc);
+      ends = λ is. absurd (not_both (ends_heard trace) is goes_on);
+      count = λ _. count;
+      goes_on = λ _. goes_on;
+      spent = λ _ _ _. inl refl;
+    })
 
     -- nothing was heard, for this error
-    pub error_run : (error : NetError) → ends_heard trace ≡ false → (0 < budget → heard_count trace < budget) → IsRun answers fails due first budget (status_of error) files trace
+    pub error_run : (error : NetError) → ends_heard trace ≡ false → (0 < budget → heard_count trace < budget) →
+        IsRun answers fails due first to budget (status_of error) printing files start now trace
     error_run net.Fault goes_on below = fault_run goes_on below
-    error_run net.NoMemory goes_on below = memory_run (leaves ⊥)
+    error_run net.NoMemory goes_on below = run_by NoMemory (record {
+      ended = λ (e : NoMemory ≡ Ended). absurd (cc);
+      ends = λ is. inr refl;
+      count = λ (e : NoMemory ≡ BudgetSpent). absurd (cc);
+      goes_on = λ (e : NoMemory ≡ BudgetSpent). absurd (cc);
+      spent = λ _ _ _. inr refl;
+    })
 
 same_place : (p q : List ℕ × ℕ) → Some (reverse p) ≡ Some (reverse q) → p ≡ q
 same_place p q e = cc
@@ -163,11 +178,14 @@ if_err_by (Ok _) Q P is f = tt
 if_err_by (Err status) Q P is f = f status is
 
 -- the status is that of the end
-pub ended_told : {S : Type 0} {answers : Answering S} {fails : Failing S} {due : Due} {first : AnswererState S} {budget : ℕ} {files : FilesMeaning} {told : Option Trace} {status : Status} →
-    status ≡ Ended → Told (IsRun answers fails due first budget status files) told → Told (IsRun answers fails due first budget Ended files) told
-ended_told {S} {answers} {fails} {due} {first} {budget} {files} {told} is run = subst (λ (s : Status). Told (IsRun answers fails due first budget s files) told) is run
+pub ended_told : {S : Type 0} {answers : Answering S} {fails : Failing S} {due : Due} {first : AnswererState S} {to : Option SavesTo} {budget : ℕ} {printing : Printing} {files : FilesMeaning} {start now : Option (List ℕ)} {told : Option Trace} {status : Status} →
+    status ≡ Ended → Told (IsRun answers fails due first to budget status printing files start now) told → Told (IsRun answers fails due first to budget Ended printing files start now) told
+ended_told {S} {answers} {fails} {due} {first} {to} {budget} {printing} {files} {start} {now} {told} is run =
+    subst (λ (s : Status). Told (IsRun answers fails due first to budget s printing files start now) told) is run
 
 -- so it is at an address that is the same
-pub at_address : {S : Type 0} {answers : Answering S} {fails : Failing S} {first : AnswererState S} {budget : ℕ} {files : FilesMeaning} {told : Option Trace} {status : Status} (server address : Address) →
-    server ≡ address → Told (IsRun answers fails (fixed_due server) first budget status files) told → Told (IsRun answers fails (fixed_due address) first budget status files) told
-at_address {S} {answers} {fails} {first} {budget} {files} {told} {status} server address is run = subst (λ (a : Address). Told (IsRun answers fails (fixed_due a) first budget status files) told) is run
+pub at_address : {S : Type 0} {answers : Answering S} {fails : Failing S} {first : AnswererState S} {to : Option SavesTo} {budget : ℕ} {printing : Printing} {files : FilesMeaning} {start now : Option (List ℕ)}
+    {told : Option Trace} {status : Status} (server address : Address) → server ≡ address → Told (IsRun answers fails (fixed_due server) first to budget status printing files start now) told →
+    Told (IsRun answers fails (fixed_due address) first to budget status printing files start now) told
+at_address {S} {answers} {fails} {first} {to} {budget} {printing} {files} {start} {now} {told} {status} server address is run =
+    subst (λ (a : Address). Told (IsRun answers fails (fixed_due a) first to budget status printing files start now) told) is run

@@ -5,7 +5,7 @@ use Rattle.std.proofs.lemmas.Slice.Eq.{bytes_eq-Decides}
 use Rattle.std.specs.Str.Parse.{digits_value}
 use Rattle.px_gen.specs.Word.{IsCount}
 use Rattle.px_gen.proofs.WordLemmas.{is_the_number}
-use Rattle.px_app.specs.Words.{IsGen, IsServe}
+use Rattle.px_app.specs.Words.{IsFlows, IsGen, IsServe}
 
 -- a list of two is its elements
 pub two_are : {A : Type 0} (xs : List A) (a b : A) → 2 ≤ length xs → length xs < 3 → a ≡ get_or xs 0 a → b ≡ get_or xs 1 b → xs ≡ a ∷ b ∷ []
@@ -14,11 +14,25 @@ two_are (x ∷ []) a b low high ea eb = absurd (omega arith)
 two_are (x ∷ y ∷ []) a b low high ea eb = cc
 two_are (x ∷ y ∷ z ∷ xs) a b low high ea eb = absurd (omega arith)
 
+-- and one of three
+pub three_are : {A : Type 0} (xs : List A) (a b c : A) → 3 ≤ length xs → length xs < 4 → a ≡ get_or xs 0 a → b ≡ get_or xs 1 b → c ≡ get_or xs 2 c → xs ≡ a ∷ b ∷ c ∷ []
+three_are [] a b c low high ea eb ec = absurd (omega arith)
+three_are (x ∷ []) a b c low high ea eb ec = absurd (omega arith)
+three_are (x ∷ y ∷ []) a b c low high ea eb ec = absurd (omega arith)
+three_are (x ∷ y ∷ z ∷ []) a b c low high ea eb ec = cc
+three_are (x ∷ y ∷ z ∷ w ∷ xs) a b c low high ea eb ec = absurd (omega arith)
+
 same_first : (a b x y : List ℕ) → a ∷ b ∷ [] ≡ x ∷ y ∷ [] → a ≡ x
 same_first a b x y e = cc
 
 same_second : (a b x y : List ℕ) → a ∷ b ∷ [] ≡ x ∷ y ∷ [] → b ≡ y
 same_second a b x y e = cc
+
+same_second_of_three : (a b c x y z : List ℕ) → a ∷ b ∷ c ∷ [] ≡ x ∷ y ∷ z ∷ [] → b ≡ y
+same_second_of_three a b c x y z e = cc
+
+same_third : (a b c x y z : List ℕ) → a ∷ b ∷ c ∷ [] ≡ x ∷ y ∷ z ∷ [] → c ≡ z
+same_third a b c x y z e = cc
 
 -- two words
 abbrev pub AreTwo : List (List ℕ) → Type 0
@@ -50,6 +64,12 @@ one_count words count other is too =
     value : List ℕ → ℕ
     value word = digits_value 10 word
 
+-- the path and the text of `flows` are the only ones
+pub one_flows : (words : List (List ℕ)) (path text other more : List ℕ) → IsFlows words path text → IsFlows words other more → (path ≡ other) × (text ≡ more)
+one_flows words path text other more is too =
+    let both : codes "flows" ∷ path ∷ text ∷ [] ≡ codes "flows" ∷ other ∷ more ∷ [] = sym is ∙ too in
+    (same_second_of_three _ path text _ other more both, same_third _ path text _ other more both)
+
 other_words : codes "serve" ≡ codes "gen" → ⊥
 other_words e = cc
 
@@ -74,3 +94,10 @@ pub counted_by : (words : List (List ℕ)) (word : List ℕ) → words ≡ codes
     MatchOption read ((n : ℕ) → ¬ (IsCount word n)) (λ n. IsCount word n) → MatchOption read ((count : ℕ) → ¬ (IsGen words count)) (λ count. IsGen words count)
 counted_by words word are None none = λ count is. none count (let P : List ℕ → Type 0 = λ w. IsCount w count in subst P (same_second _ is.0 _ word (sym is.1 ∙ are)) is.2)
 counted_by words word are (Some count) counts = (word, are, counts)
+
+-- no words are of two forms
+pub not_serve_flows : (words : List (List ℕ)) (path file text : List ℕ) → IsServe words path → IsFlows words file text → ⊥
+not_serve_flows words path file text is too = let same : codes "serve" ∷ path ∷ [] ≡ codes "flows" ∷ file ∷ text ∷ [] = sym is ∙ too in cc
+
+pub not_flows_gen : (words : List (List ℕ)) (path text : List ℕ) (count : ℕ) → IsFlows words path text → IsGen words count → ⊥
+not_flows_gen words path text count is too = let same : codes "flows" ∷ path ∷ text ∷ [] ≡ codes "gen" ∷ too.0 ∷ [] = sym is ∙ too.1 in cc

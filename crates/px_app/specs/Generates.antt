@@ -1,8 +1,9 @@
 -- What a run promises with the words `gen N`.
-use Rattle.std.specs.Prelude.{◌≡◌, ◌≢◌, ◌⊎◌, ℕ, true, [], Some}
+use Rattle.std.specs.Prelude.{◌≡◌, ◌≢◌, ◌⊎◌, ℕ, true, List, [], Some, None}
 use Rattle.px_event.specs.Trace.{Trace}
 use Rattle.px_outside.specs.Sink.{Writes, WritesPart}
 use Rattle.px_core.specs.Answers.{Answering, Failing}
+use Rattle.px_core.specs.Course.{Change}
 use Rattle.px_gen.specs.Counts.{counts_in, counts_text}
 use Rattle.px_gen.specs.Heard.{Hears}
 use Rattle.px_gen.specs.Noted.{HasGrownByFront, noted, with_steps}
@@ -12,8 +13,11 @@ use Rattle.px_options.specs.Lines as lines
 use Rattle.px_options.specs.Mode.{reverse}
 use Rattle.px_options.specs.Options.{Settings}
 use Rattle.px_app.specs.Outside.{Outside}
+use Rattle.px_app.specs.Over.{SavedOver}
 use Rattle.px_app.specs.Promises.{Promises}
+use Rattle.px_app.specs.Saved.{Append}
 use Rattle.px_app.specs.Statuses.{ends_heard}
+use Rattle.px_app.specs.declared.printing.Printing.{Printing}
 
 -- the options of a generated run: its header rule and its body rule, and else the defaults
 abbrev pub generator_settings : Settings
@@ -28,7 +32,13 @@ generator_settings = record {
   mode = Some (reverse (generator_server.host, generator_server.port));
   modify_body = generator_bodies;
   modify_headers = generator_headers;
+  save_stream_file = lines.save_stream_file.default;
+  save_stream_filter = lines.save_stream_filter.default;
 }
+
+-- no change appended anything, so each left all as it was
+abbrev pub SavesNone : {S : Type 0} → List (Change S) → Type 0
+SavesNone changes = (reached : Printing) × (made : List Append) × SavedOver None reached changes made
 
 -- A run of so many generated flows, over a network in memory. Another network was told what was asked, answered and finished in it,
 -- and its counts were printed.
@@ -37,8 +47,9 @@ pub record Generates {S : Type 0} (answers : Answering S) (fails : Failing S) (I
   pub run : Trace
   pub hears : Hears count run
   pub ends : status ≢ 8 → ends_heard run ≡ true
-  -- where it began, every peer got what was due to it
-  pub by_chain : run ≢ [] → (chain : S) × IsChain generator_settings chain × Promises answers fails generator_server (record { own = chain; files = before.files }) after.files status run
+  -- where it began, every peer got what was due to it, and nothing was saved
+  pub by_chain : run ≢ [] → (chain : S) × (changes : List (Change S)) × IsChain generator_settings chain
+      × Promises answers fails generator_server (record { own = chain; files = before.files }) changes after.files status run × SavesNone changes
   -- what was told, and nothing else is asked of that network
   pub told : status ≢ 8 → after.trace ≡ with_steps before.trace (noted run)
   pub told_part : HasGrownByFront (noted run) before.trace after.trace

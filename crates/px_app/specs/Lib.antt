@@ -5,10 +5,16 @@ pub mod Outside
 pub mod Opened
 pub mod Listed
 pub mod Printed
+pub mod Saved
+pub mod Over
+pub mod Touched
+pub mod Grown
 pub mod Own
 pub mod Servers
 pub mod Run
 pub mod Promises
 pub mod Serves
 pub mod Generates
+pub mod Flows
+pub mod FlowTurns
 pub mod Serving

@@ -5,25 +5,32 @@ use Rattle.px_event.specs.Trace.{Trace, BeforeEachHeard}
 use Rattle.px_outside.specs.Sink.{Writes, WritesPart}
 use Rattle.px_core.specs.Answered.{IsAnswered, LeavesFiles}
 use Rattle.px_core.specs.Answers.{Answering, AnswererState, Failing, FilesMeaning}
+use Rattle.px_core.specs.Course.{Change}
 use Rattle.px_core.specs.Due.{IsServed, IsAllTold}
 use Rattle.px_core.specs.Hooks.{IsAllAnswered}
 use Rattle.px_http.specs.Fixed.{fixed_due}
 use Rattle.px_app.specs.Lines.{line_of}
 use Rattle.px_app.specs.Listed.{listed}
+use Rattle.px_app.specs.Over.{Reaches, ReachesPart, course_from}
 use Rattle.px_app.specs.Own.{IsOwn}
+use Rattle.px_app.specs.Saved.{Append, SavesTo}
 use Rattle.px_app.specs.Statuses.{heard_count, ends_heard}
+use Rattle.px_app.specs.declared.printing.Printing.{Printing}
+use Rattle.px_app.specs.declared.printing.Printing.TheVariants.{Whole, Failed}
 
 -- The trace of a run whose requests go to this address, whose answerer answers so, which with the files was this at first, and that
--- ended with this status and with these files.
-pub record Promises {S : Type 0} (answers : Answering S) (fails : Failing S) (address : Address) (first : AnswererState S) (files : FilesMeaning) (status : ℕ) (trace : Trace) : Type 0 where
+-- ended with this status and with these files, where files were changed so beside the answers.
+pub record Promises {S : Type 0} (answers : Answering S) (fails : Failing S) (address : Address) (first : AnswererState S) (changes : List (Change S)) (files : FilesMeaning) (status : ℕ)
+    (trace : Trace) : Type 0 where
   -- At every moment, in each conversation and each view, it has a beginning of what is due, and before each thing heard all of it.
   -- A hook is asked only where none is open in its conversation, and an answer is to the hook that is open.
   pub served : IsServed answers (fixed_due address) trace
   -- From what it was at first the answerer came over the whole trace: it moved at each hook that was asked, once, in the order of the
-  -- trace, and a reply that it gave is that hook's answer.
-  pub follows : IsAnswered answers (fixed_due address) first trace
-  -- and so the files are what its last answer left; but for want of memory, where more may have been answered than the trace has
-  pub leaves : LeavesFiles answers fails (fixed_due address) first (status ≢ 8) files trace
+  -- trace, and at the changes; and a reply that it gave is that hook's answer.
+  pub follows : IsAnswered answers (fixed_due address) (course_from first changes) trace
+  -- and so the files are what its last answer or the last change left; but for want of memory, where more may have been answered than
+  -- the trace has
+  pub leaves : LeavesFiles answers fails (fixed_due address) (course_from first changes) (status ≢ 8) files trace
   -- before each thing heard no hook is open
   pub hooks : BeforeEachHeard IsAllAnswered trace
   -- and at the end all of it is there and no hook is open, but for want of memory
@@ -31,6 +38,20 @@ pub record Promises {S : Type 0} (answers : Answering S) (fails : Failing S) (ad
   pub hooks_whole : status ≢ 8 → IsAllAnswered trace
   -- each step is of the conversation that was heard last
   pub own : IsOwn trace
+
+-- What a run printed and saved over its trace: of each finished flow its line and then its text, where flows are saved, up to a write or
+-- an append that failed; and behind them the status's line. The changes of files are the appends.
+pub record Outputs {S : Type 0} (failed : Type 0) (to : Option SavesTo) (changes : List (Change S)) (status : ℕ) (trace : Trace) (start now : Option (List ℕ)) : Type 0 where
+  pub made : List Append
+  pub part : (printed : Option (List ℕ)) × ReachesPart to changes made trace start printed
+  -- how far it came, and what the sink had then; behind a failure it is not written to
+  pub reached : Printing
+  pub printed : Option (List ℕ)
+  pub reaches : status ≢ 8 → Reaches to reached changes made trace start printed
+  pub silent : status ≢ 8 → reached ≡ Failed → now ≡ printed
+  pub cause : status ≢ 8 → reached ≡ Failed → failed
+  pub ended : status ≡ 0 → reached ≡ Whole
+  pub lost : status ≡ 7 → reached ≡ Failed
 
 -- The status of a run that serves, by whether its network and its sink failed.
 pub record HasCause (net_failed sink_failed : Type 0) (status : ℕ) : Type 0 where

@@ -1,9 +1,11 @@
 -- What a run promises with the words `serve OPTIONS`, by what came of the options file.
-use Rattle.std.specs.Prelude.{◌≡◌, ◌≢◌, ◌⊎◌, ℕ, List, [], Some, Ok}
+use Rattle.std.specs.Prelude.{◌≡◌, ◌≢◌, ◌⊎◌, ℕ, List, [], Option, Some, None, Ok}
 use Rattle.px_event.specs.Trace.{Trace}
 use Rattle.px_message.specs.declared.address.Address.{Address}
 use Rattle.px_outside.specs.Net.{Listening, idle, failed, at}
-use Rattle.px_core.specs.Answers.{Answering, Failing, FilesMeaning, FilesAfter}
+use Rattle.px_core.specs.Answers.{Answering, Failing, FilesMeaning}
+use Rattle.px_core.specs.Course.{Change}
+use Rattle.px_filter.specs.Expression.{Expression}
 use Rattle.px_map.specs.Reads.{Made}
 use Rattle.px_options.specs.Mode.{reverse}
 use Rattle.px_options.specs.Options.{IsRefused, Says, Settings}
@@ -12,14 +14,24 @@ use Rattle.px_addons.specs.Mapped.{seen_of}
 use Rattle.px_app.specs.Lines.{cannot_read, start_note}
 use Rattle.px_app.specs.Opened.{Opened, nothing_read, absent, not_read, unjudged, refused, says, reads_of}
 use Rattle.px_app.specs.Outside.{Outside, IsTold}
-use Rattle.px_app.specs.Promises.{EndsSo, HasCause, Prints, Promises}
+use Rattle.px_app.specs.Over.{LeavesBehind}
+use Rattle.px_app.specs.Promises.{EndsSo, HasCause, Outputs, Prints, Promises}
 use Rattle.px_app.specs.Run.{ListensAt}
+use Rattle.px_app.specs.Saved.{SavesTo}
 
 -- the text, where the network listens
 abbrev pub where_listening : Listening → List ℕ → List ℕ
 where_listening idle text = []
 where_listening failed text = []
 where_listening (at proxy control) text = text
+
+-- where and which flows these options have saved
+abbrev pub saves_at : Option (List ℕ) → Option Expression → Option SavesTo
+saves_at None filter = None
+saves_at (Some path) filter = Some (record { path = path; filter = filter })
+
+abbrev pub saves_of : Settings → Option SavesTo
+saves_of settings = saves_at settings.save_stream_file settings.save_stream_filter
 
 -- A run that stopped before it asked anything of the network: with this status, or for want of memory. It printed this line and told
 -- this note, and the files are these.
@@ -31,22 +43,23 @@ pub record Stops (net_is_same out_failed notes_failed : Type 0) (code : ℕ) (li
   pub notes : IsTold notes_failed status note before.noted after.noted
 
 -- A run that served as these options say, whose hooks this chain answered, and that began with these files.
-pub record Serves {S : Type 0} (answers : Answering S) (fails : Failing S) (net_failed out_failed notes_failed : Type 0) (settings : Settings) (chain : S) (read : FilesMeaning) (before after : Outside) (status : ℕ) : Type 0 where
-  -- every peer gets what is due to it, and each hook is answered once, at once, by the chain alone
+pub record Serves {S : Type 0} (answers : Answering S) (fails : Failing S) (net_failed out_failed save_failed notes_failed : Type 0) (settings : Settings) (chain : S) (read : FilesMeaning) (before after : Outside) (status : ℕ) : Type 0 where
+  -- every peer gets what is due to it, and each hook is answered once, at once, by the chain alone; and what is printed and saved
   pub promises : (address : Address) (trace : Trace) → settings.mode ≡ Some (reverse (address.host, address.port)) → before.trace ≡ Some [] → after.trace ≡ Some trace →
-      Promises answers fails address (record { own = chain; files = read }) after.files status trace
-  -- no file is read but by the chain's answers, one behind the other, and none is changed but as they say
-  pub files : FilesAfter answers fails (record { own = chain; files = read }) after.files
+      (changes : List (Change S)) × Promises answers fails address (record { own = chain; files = read }) changes after.files status trace
+      × Outputs (out_failed ⊎ save_failed) (saves_of settings) changes status trace before.written after.written
+  -- no file is read but by the chain's answers, none is appended to but where flows are saved, and none is changed else
+  pub files : LeavesBehind answers fails (saves_of settings) (record { own = chain; files = read }) after.files
   -- it listens before anything is heard
   pub listening : (trace : Trace) → before.trace ≡ Some [] → after.trace ≡ Some trace → trace ≢ [] → ListensAt settings.listen after.listening
   -- the causes of the status: in what is outside, and in the trace
-  pub causes : HasCause net_failed out_failed status
+  pub causes : HasCause net_failed (out_failed ⊎ save_failed) status
   pub ends : (trace : Trace) → before.trace ≡ Some [] → after.trace ≡ Some trace → EndsSo settings.events status trace
   -- what is printed, and the note of where it listens
-  pub prints : (trace : Trace) → before.trace ≡ Some [] → after.trace ≡ Some trace → Prints out_failed status trace before.written after.written
+  pub prints : (trace : Trace) → before.trace ≡ Some [] → after.trace ≡ Some trace → Prints (out_failed ⊎ save_failed) status trace before.written after.written
   pub notes : IsTold notes_failed status (where_listening after.listening (start_note settings.listen settings.mode)) before.noted after.noted
 
-module _ {S : Type 0} (answers : Answering S) (fails : Failing S) (IsChain : Settings → S → Type 0) (net_is_same net_failed out_failed notes_failed : Type 0) where
+module _ {S : Type 0} (answers : Answering S) (fails : Failing S) (IsChain : Settings → S → Type 0) (net_is_same net_failed out_failed save_failed notes_failed : Type 0) where
   -- the run by what came of the options file of this path, with the files as its read left them
   abbrev pub RunsOn : List ℕ → Opened → FilesMeaning → Outside → Outside → ℕ → Type 0
   RunsOn path nothing_read read before after status = Stops net_is_same out_failed notes_failed 8 [] [] read before after status
@@ -55,7 +68,7 @@ module _ {S : Type 0} (answers : Answering S) (fails : Failing S) (IsChain : Set
   RunsOn path (unjudged bytes) read before after status = Stops net_is_same out_failed notes_failed 8 [] [] read before after status
   RunsOn path (refused bytes why) read before after status = IsRefused bytes why × Stops net_is_same out_failed notes_failed 2 (refusal_line why) (refusal_note why) read before after status
   RunsOn path (says bytes settings) read before after status =
-      Says bytes (Ok settings) × ((chain : S) × IsChain settings chain × Serves answers fails net_failed out_failed notes_failed settings chain read before after status)
+      Says bytes (Ok settings) × ((chain : S) × IsChain settings chain × Serves answers fails net_failed out_failed save_failed notes_failed settings chain read before after status)
 
   -- The file of this path is read first, once, and this came of it.
   pub record ServesFile (path : List ℕ) (opened : Opened) (before after : Outside) (status : ℕ) : Type 0 where

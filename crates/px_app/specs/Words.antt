@@ -6,11 +6,16 @@ use Rattle.px_gen.specs.Word.{IsCount}
 abbrev pub IsServe : List (List ℕ) → List ℕ → Type 0
 IsServe words path = words ≡ codes "serve" ∷ path ∷ []
 
+-- `flows FILE FILTER`: the path of a file of flows, and the text of a filter
+abbrev pub IsFlows : List (List ℕ) → List ℕ → List ℕ → Type 0
+IsFlows words path text = words ≡ codes "flows" ∷ path ∷ text ∷ []
+
 -- `gen N`: how many flows are generated
 abbrev pub IsGen : List (List ℕ) → ℕ → Type 0
 IsGen words count = (word : List ℕ) × (words ≡ codes "gen" ∷ word ∷ []) × IsCount word count
 
--- they are neither
+-- they are none of these
 pub record HasNoForm (words : List (List ℕ)) : Type 0 where
   pub serve : (path : List ℕ) → ¬ (IsServe words path)
+  pub flows : (path text : List ℕ) → ¬ (IsFlows words path text)
   pub gen : (count : ℕ) → ¬ (IsGen words count)

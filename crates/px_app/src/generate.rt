@@ -2,7 +2,7 @@
 //!
 //! What was heard is told by the type of that network, so the run is one over this script, as any run is. What was asked, answered
 //! and finished in it is told to the network that was handed in, and the counts are printed.
-ghost use Rattle.std.specs.Prelude.{◌≡◌, ◌≢◌, ◌≤◌, ◌⊎◌, [], Some, Err, IfOk, OnOk};
+ghost use Rattle.std.specs.Prelude.{◌≡◌, ◌≢◌, ◌≤◌, ◌⊎◌, [], Some, None, Err, IfOk, OnOk};
 ghost use Rattle.px_outside.specs.Count.{Rose};
 ghost use Rattle.px_outside.specs.Sink.{Writes, WritesPart};
 ghost use Rattle.px_core.specs.Answers.{FilesAfter, files_meaning};
@@ -17,6 +17,7 @@ ghost use Rattle.px_app.specs.Opened.{AreRulesOf};
 ghost use Rattle.px_app.specs.Outside.{outside};
 ghost use Rattle.px_app.specs.Run.{IsRun, Told};
 
+use crate::printing::Printing;
 use crate::reverse::Conv;
 use crate::serving::{Serving, serve_all};
 use crate::status::Status;
@@ -95,11 +96,11 @@ fn serve_generated<K: Scripted, F: Files>(
     generated: &mut Generated<K>,
     files: &mut F,
 ) -> Result<(), NoMemory>
-    ensures ok { ⟦<Generated<K> as Net>⟧.trace generated.old ≡ Some [] → OnOk result (Told (IsRun ⟦<Chain as Answerer>⟧.answers ⟦<Chain as Answerer>⟧.fails (fixed_due server) (record { own = chain; files = files_meaning F.contents F.calls F.misses F.faults F.losses files.old }) 18446744073709551615 Status.Ended (files_meaning F.contents F.calls F.misses F.faults F.losses files.new)) (⟦<Generated<K> as Net>⟧.trace generated.new)) }
+    ensures ok { ⟦<Generated<K> as Net>⟧.trace generated.old ≡ Some [] → OnOk result ((printing : Printing) × Told (IsRun ⟦<Chain as Answerer>⟧.answers ⟦<Chain as Answerer>⟧.fails (fixed_due server) (record { own = chain; files = files_meaning F.contents F.calls F.misses F.faults F.losses files.old }) None 18446744073709551615 Status.Ended printing (files_meaning F.contents F.calls F.misses F.faults F.losses files.new) None None) (⟦<Generated<K> as Net>⟧.trace generated.new)) }
     ensures files { FilesAfter ⟦<Chain as Answerer>⟧.answers ⟦<Chain as Answerer>⟧.fails (record { own = chain; files = files_meaning F.contents F.calls F.misses F.faults F.losses files.old }) (files_meaning F.contents F.calls F.misses F.faults F.losses files.new) }
 {
     let maker = Gates::new(alloc, Fixed::new(alloc, server));
-    let mut serving = Serving::<Conv, Chain, Gates<Fixed>>::new(alloc, chain, maker);
+    let mut serving = Serving::<Conv, Chain, Gates<Fixed>>::new(alloc, chain, maker, None);
     match serve_all(
         alloc,
         &mut serving,

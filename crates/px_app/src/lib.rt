@@ -5,12 +5,14 @@
 #![tactic(auto)]
 
 mod finished;
+mod flows;
 mod generate;
 pub mod laws;
 mod opening;
 mod printing;
 mod program;
 mod reverse;
+mod saving;
 mod serving;
 mod status;
 mod stop;

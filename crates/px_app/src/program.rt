@@ -6,56 +6,65 @@
 //! says options, what each peer of each conversation was sent is what is due to it by px_http's `fixed_due`, by where its client is and
 //! the calls that the trace has of the conversation; each hook was answered by the chain of the options' rules and the addons alone;
 //! what is printed is a line of each finished flow of the trace, and the status's line behind them; and each status has its cause in the
-//! trace or in a count of faults (`specs/Serves.antt`). With the words `gen N` it is a run over what px_gen makes of that number
+//! trace or in a count of faults (`specs/Serves.antt`). With the words `flows FILE FILTER` the file is read, and the line of each of its flows on
+//! which the filter holds is printed (`specs/Flows.antt`). With the words `gen N` it is a run over what px_gen makes of that number
 //! (`specs/Generates.antt`). Want of memory alone has no cause; after it each peer has got a prefix of what is due, and a front of the
 //! lines is printed.
-ghost use Rattle.std.specs.Prelude.{◌≡◌, ◌≤◌, ◌⊎◌, ◌++◌, ℕ, List, [], Option, map};
+ghost use Rattle.std.specs.Prelude.{◌≡◌, ◌≤◌, ◌⊎◌, ◌++◌, ℕ, List, [], Option, map, option_map};
 ghost use Rattle.std.specs.String.{string_bytes};
 ghost use Rattle.px_outside.specs.Count.{Rose};
 ghost use Rattle.px_outside.specs.Net.{idle};
 ghost use Rattle.px_core.specs.Answers.{files_meaning};
 ghost use Rattle.px_options.specs.Shown.{refusal_line, refusal_note};
 ghost use Rattle.px_options.specs.Mode.{reverse};
-ghost use Rattle.px_options.specs.View.{mode_view, settings};
+ghost use Rattle.px_filter.specs.View.{expression};
+ghost use Rattle.px_options.specs.View.{mode_view, path_view, settings};
+ghost use Rattle.px_app.specs.Flows.{Fetched, ListsFile};
 ghost use Rattle.px_app.specs.Generates.{Generates};
 ghost use Rattle.px_app.specs.Lines.{line_of, usage};
 ghost use Rattle.px_app.specs.Opened.{Opened, AreRulesOf};
 ghost use Rattle.px_app.specs.Outside.{IsTold, outside};
 ghost use Rattle.px_app.specs.Printed.{Has, Ends, at_end};
 ghost use Rattle.px_app.specs.Opened.{error_code, error_line, error_note};
-ghost use Rattle.px_app.specs.Serves.{Serves, ServesFile, Stops};
+ghost use Rattle.px_app.specs.Saved.{saves_to_of};
+ghost use Rattle.px_app.specs.Serves.{Serves, ServesFile, Stops, saves_at};
 ghost use Rattle.px_app.specs.Statuses.{code_of};
-ghost use Rattle.px_app.specs.Words.{HasNoForm, IsGen, IsServe};
+ghost use Rattle.px_app.specs.Words.{HasNoForm, IsFlows, IsGen, IsServe};
 
+use crate::flows::list_flows;
 use crate::generate::generate;
 use crate::opening::{OpenError, read_file};
 use crate::printing::Printing;
 use crate::reverse::{Ending, serve};
+use crate::saving::Saving;
 use crate::status::Status;
 use crate::stop::{NO_MEMORY, Stop, cannot_read, stop_with};
-use crate::words::{flow_count, options_path};
+use crate::words::{flow_count, flow_words, options_path};
 use px_addons::{Addon, Chain, Rules};
 use px_core::Answerer;
+use px_filter::Filter;
 use px_message::Address;
-use px_options::{Mode, Options, OptionsError, refusal_line, refusal_note};
+use px_options::{FilePath, Mode, Options, OptionsError, refusal_line, refusal_note};
 use px_outside::{Files, Net, Sink};
 use px_text::NoMemory;
 use std::alloc::Global;
 
 // What is printed where the words have no form.
-const USAGE: &str = "usage: mitm serve OPTIONS | gen N\n";
+const USAGE: &str = "usage: mitm serve OPTIONS | flows FILE FILTER | gen N\n";
 
 /// Runs the program with these words, and answers the exit status.
 ///
 /// `serve OPTIONS` reads the options file of that path, listens where it says, tells a note of that, serves each connection with the
-/// server that it names by its rules and these addons, and prints a line of each finished flow. `gen N` runs N generated flows over a
-/// network in memory, tells `net` what was asked, answered and finished, and prints three counts.
+/// server that it names by its rules and these addons, and prints a line of each finished flow. `flows FILE FILTER` reads that file of flows
+/// and prints the line of each on which the filter holds. `gen N` runs N generated flows over a network in memory, tells `net` what was
+/// asked, answered and finished, and prints three counts.
 ///
-/// The status is 0 at the net's end, or where the counts are printed; 1 where the words have no form; 2 where the options file is none; 3
-/// where it was not read; 5 where the net failed; 6 where as many things were heard as the options allow and the last was not the end; 7
-/// where a line was not printed whole and else it were 0; 8 where memory ran out. The lines of 1, 2, 3, 5 and 6 are printed behind those
-/// of the flows; where a rule is refused, a note shows its text with a mark under the place. After a write to `out` that failed nothing
-/// more is printed, and the run goes on to its end; a sink that fails to take a status's line, or a note, changes no status.
+/// The status is 0 at the net's end, or where the flows of a file or the counts are printed; 1 where the words have no form; 2 where the
+/// options file is none, or the filter; 3 where the file was not read; 4 at a place of a file of flows that has none; 5 where the net
+/// failed; 6 where as many things were heard as the options allow and the last was not the end; 7 where a line was not printed whole and
+/// else it were 0, or while the flows of a file were printed; 8 where memory ran out. The lines of 1 to 6 are printed behind those of the
+/// flows; where a rule or a filter is refused, a note shows its text with a mark under the place. After a write to `out` that failed nothing
+/// more is printed, and a run that serves goes on to its end; a sink that fails to take a status's line, or a note, changes no status.
 pub fn run<N: Net, F: Files, S: Sink, T: Sink>(
     alloc: Global,
     words: &[String],
@@ -69,7 +78,12 @@ pub fn run<N: Net, F: Files, S: Sink, T: Sink>(
 
     // With the words `serve OPTIONS`: the file is read, and the run is as what came of that says.
     ensures serves { (path : List ℕ) → IsServe (map string_bytes words.now) path → (opened : Opened) × ServesFile ⟦<Chain as Answerer>⟧.answers ⟦<Chain as Answerer>⟧.fails
-        (λ settings chain. AreRulesOf settings chain.rules × (chain.addons ≡ addons)) (net.new ≡ net.old) (Rose (N.faults net.old) (N.faults net.new)) (Rose (S.faults out.old) (S.faults out.new)) (Rose (T.faults notes.old) (T.faults notes.new)) path opened
+        (λ settings chain. AreRulesOf settings chain.rules × (chain.addons ≡ addons)) (net.new ≡ net.old) (Rose (N.faults net.old) (N.faults net.new)) (Rose (S.faults out.old) (S.faults out.new)) (Rose (F.losses files.old) (F.losses files.new)) (Rose (T.faults notes.old) (T.faults notes.new)) path opened
+        (outside N.trace N.listening F.contents F.calls F.misses F.faults F.losses S.written T.written net.old files.old out.old notes.old)
+        (outside N.trace N.listening F.contents F.calls F.misses F.faults F.losses S.written T.written net.new files.new out.new notes.new) result }
+
+    // With the words `flows FILE FILTER`: the lines of the file's flows.
+    ensures lists { (path text : List ℕ) → IsFlows (map string_bytes words.now) path text → (what : Fetched) × ListsFile (net.new ≡ net.old) (Rose (S.faults out.old) (S.faults out.new)) (Rose (T.faults notes.old) (T.faults notes.new)) path text what
         (outside N.trace N.listening F.contents F.calls F.misses F.faults F.losses S.written T.written net.old files.old out.old notes.old)
         (outside N.trace N.listening F.contents F.calls F.misses F.faults F.losses S.written T.written net.new files.new out.new notes.new) result }
 
@@ -87,6 +101,10 @@ pub fn run<N: Net, F: Files, S: Sink, T: Sink>(
 {
     if let Some(path) = options_path(words) {
         return serve_file(alloc, path, net, files, out, notes, addons);
+    }
+    if let Some(found) = flow_words(words) {
+        drop(addons);
+        return list_flows(alloc, found.0, found.1, &*net, files, out, notes);
     }
     if let Some(count) = flow_count(words) {
         return generate(alloc, count, net, files, out, &*notes, addons);
@@ -107,7 +125,7 @@ fn serve_file<N: Net, F: Files, S: Sink, T: Sink>(
 ) -> u8
     requires idle { N.listening net.old ≡ idle }
     ensures { (opened : Opened) × ServesFile ⟦<Chain as Answerer>⟧.answers ⟦<Chain as Answerer>⟧.fails
-        (λ settings chain. AreRulesOf settings chain.rules × (chain.addons ≡ addons)) (net.new ≡ net.old) (Rose (N.faults net.old) (N.faults net.new)) (Rose (S.faults out.old) (S.faults out.new)) (Rose (T.faults notes.old) (T.faults notes.new)) path.now opened
+        (λ settings chain. AreRulesOf settings chain.rules × (chain.addons ≡ addons)) (net.new ≡ net.old) (Rose (N.faults net.old) (N.faults net.new)) (Rose (S.faults out.old) (S.faults out.new)) (Rose (F.losses files.old) (F.losses files.new)) (Rose (T.faults notes.old) (T.faults notes.new)) path.now opened
         (outside N.trace N.listening F.contents F.calls F.misses F.faults F.losses S.written T.written net.old files.old out.old notes.old)
         (outside N.trace N.listening F.contents F.calls F.misses F.faults F.losses S.written T.written net.new files.new out.new notes.new) result }
 {
@@ -176,7 +194,7 @@ fn serve_options<N: Net, F: Files, S: Sink, T: Sink>(
 ) -> u8
     requires idle { N.listening net.old ≡ idle }
     ensures { (chain : ⟦<Chain as Answerer>⟧.State) × (AreRulesOf (settings options) chain.rules × (chain.addons ≡ addons)) × Serves ⟦<Chain as Answerer>⟧.answers ⟦<Chain as Answerer>⟧.fails
-        (Rose (N.faults net.old) (N.faults net.new)) (Rose (S.faults out.old) (S.faults out.new)) (Rose (T.faults notes.old) (T.faults notes.new)) (settings options) chain (files_meaning F.contents F.calls F.misses F.faults F.losses files.old)
+        (Rose (N.faults net.old) (N.faults net.new)) (Rose (S.faults out.old) (S.faults out.new)) (Rose (F.losses files.old) (F.losses files.new)) (Rose (T.faults notes.old) (T.faults notes.new)) (settings options) chain (files_meaning F.contents F.calls F.misses F.faults F.losses files.old)
         (outside N.trace N.listening F.contents F.calls F.misses F.faults F.losses S.written T.written net.old files.old out.old notes.old)
         (outside N.trace N.listening F.contents F.calls F.misses F.faults F.losses S.written T.written net.new files.new out.new notes.new) result }
 {
@@ -191,6 +209,8 @@ fn serve_options<N: Net, F: Files, S: Sink, T: Sink>(
         mode,
         modify_body,
         modify_headers,
+        save_stream_file,
+        save_stream_filter,
     } = options;
     let rules = Rules {
         block: block_list,
@@ -204,8 +224,9 @@ fn serve_options<N: Net, F: Files, S: Sink, T: Sink>(
     };
     let server = server_of(mode);
     let chain = Chain::new(rules, addons);
+    let saving = saving_of(save_stream_file, save_stream_filter);
     let ending = serve(
-        alloc, &listen, server, chain, net, files, out, notes, events,
+        alloc, &listen, server, chain, saving, net, files, out, notes, events,
     );
     end(out, ending).code()
 }
@@ -218,12 +239,26 @@ fn server_of(mode: Mode) -> Address
     server
 }
 
+// Where finished flows are saved, and which.
+fn saving_of(file: Option<FilePath>, filter: Option<Filter>) -> Option<Saving>
+    ensures { saves_to_of result ≡ saves_at (option_map path_view file) (option_map expression filter) }
+{
+    match file {
+        None => {
+            drop(filter);
+            None
+        }
+        Some(path) => Some(Saving { path, filter }),
+    }
+}
+
 // Prints the status's line. At the net's end a write that failed makes the status; else a failure changes none.
 fn end<S: Sink>(out: &mut S, ending: Ending) -> Status
     ensures status { (result ≡ at_end ending.printing ending.status) ⊎ (result ≡ Status.NoMemory) }
     ensures memory { ending.status ≡ Status.NoMemory → (result ≡ Status.NoMemory) × (S.written out.new ≡ S.written out.old) }
     ensures prints { (start : Option (List ℕ)) (text : List ℕ) → Has ending.printing text start (S.written out.old) →
         Ends ending.printing (text ++ line_of (code_of result)) start (S.written out.new) (S.faults out.old) (S.faults out.new) result }
+    ensures still { ending.printing ≡ Printing.Failed → S.written out.new ≡ S.written out.old }
     ensures later { S.faults out.old ≤ S.faults out.new }
 {
     let Ending { status, printing } = ending;

@@ -4,16 +4,17 @@ ghost use Rattle.px_outside.specs.Count.{Rose};
 ghost use Rattle.px_outside.specs.Net.{failed, idle};
 ghost use Rattle.px_outside.specs.Sink.{Writes, WritesPart};
 ghost use Rattle.px_http.specs.Fixed.{fixed_due};
-ghost use Rattle.px_core.specs.Answers.{FilesAfter, files_meaning};
+ghost use Rattle.px_core.specs.Answers.{files_meaning};
 ghost use Rattle.px_app.specs.Lines.{start_text};
-ghost use Rattle.px_app.specs.Listed.{listed};
 ghost use Rattle.px_app.specs.Outside.{IsTold};
-ghost use Rattle.px_app.specs.Printed.{Has};
+ghost use Rattle.px_app.specs.Over.{KeepsLosses, LeavesBehind};
 ghost use Rattle.px_app.specs.Run.{IsRun, Told, ListensAt};
+ghost use Rattle.px_app.specs.Saved.{saves_to_of};
 ghost use Rattle.px_app.specs.Serves.{where_listening};
 ghost use Rattle.px_app.specs.Statuses.{code_of};
 
 use crate::printing::Printing;
+use crate::saving::Saving;
 use crate::serving::{Serving, serve_all};
 use crate::status::Status;
 use crate::stop::{start_text, tell};
@@ -28,7 +29,7 @@ use std::alloc::Global;
 /// A conversation: flows in sequence, behind a gate that holds what comes while a question is open.
 pub type Conv = Gate<HttpConv>;
 
-/// How serving ended, and how the printing of lines went.
+/// How serving ended, and how printing and saving went.
 #[derive(Clone, Copy, Debug)]
 pub(crate) struct Ending {
     pub(crate) status: Status,
@@ -36,12 +37,14 @@ pub(crate) struct Ending {
 }
 
 /// Listens for clients at `proxy`, tells a note of that, and serves each connection with the address `server` as its server and
-/// hooks answered so, until the net ends or so many things were heard.
+/// hooks answered so, until the net ends or so many things were heard. Of each finished flow its line is printed, and then it is saved
+/// where that is asked for.
 pub(crate) fn serve<A: Answerer + Drop, N: Net, F: Files, S: Sink, T: Sink>(
     alloc: Global,
     proxy: &Address,
     server: Address,
     answerer: A,
+    saving: Option<Saving>,
     net: &mut N,
     files: &mut F,
     out: &mut S,
@@ -49,12 +52,11 @@ pub(crate) fn serve<A: Answerer + Drop, N: Net, F: Files, S: Sink, T: Sink>(
     budget: u64,
 ) -> Ending
     requires idle { N.listening net.old ≡ idle }
-    ensures run { N.trace net.old ≡ Some [] → Told (IsRun A.answers A.fails (fixed_due server) (record { own = A.state answerer; files = files_meaning F.contents F.calls F.misses F.faults F.losses files.old }) budget result.status (files_meaning F.contents F.calls F.misses F.faults F.losses files.new)) (N.trace net.new) }
-    ensures prints { N.trace net.old ≡ Some [] → result.status ≢ Status.NoMemory → Told (λ told. Has result.printing (listed told) (S.written out.old) (S.written out.new)) (N.trace net.new) }
-    ensures part { N.trace net.old ≡ Some [] → Told (λ told. WritesPart (listed told) (S.written out.old) (S.written out.new)) (N.trace net.new) }
-    ensures failed { result.printing ≡ Printing.Failed → Rose (S.faults out.old) (S.faults out.new) }
+    requires losses { KeepsLosses A.answers A.fails }
+    ensures run { N.trace net.old ≡ Some [] → Told (IsRun A.answers A.fails (fixed_due server) (record { own = A.state answerer; files = files_meaning F.contents F.calls F.misses F.faults F.losses files.old }) (saves_to_of saving) budget result.status result.printing (files_meaning F.contents F.calls F.misses F.faults F.losses files.new) (S.written out.old) (S.written out.new)) (N.trace net.new) }
+    ensures failed { result.printing ≡ Printing.Failed → Rose (S.faults out.old) (S.faults out.new) ⊎ Rose (F.losses files.old) (F.losses files.new) }
     ensures later { S.faults out.old ≤ S.faults out.new }
-    ensures files { FilesAfter A.answers A.fails (record { own = A.state answerer; files = files_meaning F.contents F.calls F.misses F.faults F.losses files.old }) (files_meaning F.contents F.calls F.misses F.faults F.losses files.new) }
+    ensures files { LeavesBehind A.answers A.fails (saves_to_of saving) (record { own = A.state answerer; files = files_meaning F.contents F.calls F.misses F.faults F.losses files.old }) (files_meaning F.contents F.calls F.misses F.faults F.losses files.new) }
     ensures listening { (N.trace net.new ≡ N.trace net.old) ⊎ ListensAt (proxy.now.host, proxy.now.port) (N.listening net.new) }
     ensures notes { IsTold (Rose (T.faults notes.old) (T.faults notes.new)) (code_of result.status) (where_listening (N.listening net.new) (start_text (proxy.now.host, proxy.now.port) (server.host, server.port))) (T.written notes.old) (T.written notes.new) }
     ensures fault { result.status ≡ Status.NetFault → Rose (N.faults net.old) (N.faults net.new) }
@@ -64,10 +66,11 @@ pub(crate) fn serve<A: Answerer + Drop, N: Net, F: Files, S: Sink, T: Sink>(
     if let Err(status) = begin(alloc, proxy, &server, net, notes) {
         drop(server);
         drop(answerer);
+        drop(saving);
         return Ending { status, printing };
     }
     let maker = Gates::new(alloc, Fixed::new(alloc, server));
-    let mut serving = Serving::<Conv, A, Gates<Fixed>>::new(alloc, answerer, maker);
+    let mut serving = Serving::<Conv, A, Gates<Fixed>>::new(alloc, answerer, maker, saving);
     let status = serve_all(alloc, &mut serving, net, files, out, budget);
     let printing = serving.printing;
     Ending { status, printing }

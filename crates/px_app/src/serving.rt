@@ -1,29 +1,30 @@
-//! A run of many conversations: each thing heard is worked off, and then the lines of the flows that it finished are printed.
+//! A run of many conversations: each thing heard is worked off, and then the flows that it finished are printed and saved.
 //!
-//! Between two things heard the state is a function of the trace: the router stands for it, and what is printed is the lines
-//! of its finished flows. Each clause holds for every trace that the router stands for, and for whoever makes conversations and
+//! Between two things heard the state is a function of the trace: the router stands for it, and what is printed and saved is what is
+//! due of its finished flows. Each clause holds for every trace that the router stands for, and for whoever makes conversations and
 //! answers hooks.
-ghost use Rattle.std.specs.Prelude.{◌≡◌, ◌≢◌, ◌≤◌, ◌<◌, ◌++◌, ◌∷◌, ℕ, [], Some, Err, List, Option, IfOk, IfErr, OnOk, OnErr};
+ghost use Rattle.std.specs.Prelude.{◌≡◌, ◌≢◌, ◌≤◌, ◌<◌, ◌⊎◌, ◌++◌, ◌∷◌, ℕ, [], Some, Err, List, Option, IfOk, IfErr, OnOk, OnErr};
 ghost use Rattle.std.specs.List.{flat_map};
 ghost use Rattle.px_message.specs.declared.address.Address.{Address as PeerAddress};
 ghost use Rattle.px_event.specs.Layer.{Move};
 ghost use Rattle.px_event.specs.Trace.{Trace};
 ghost use Rattle.px_event.specs.declared.step.Step.TheVariants.{Heard as WasHeard};
 ghost use Rattle.px_outside.specs.Count.{Rose};
-ghost use Rattle.px_outside.specs.Sink.{WritesPart};
 ghost use Rattle.px_core.specs.Answered.{IsAnswered, LeavesFiles};
 ghost use Rattle.px_core.specs.Answers.{AnswererState, ByAnswers, FilesAfter, FilesMeaning, files_meaning, state_of};
+ghost use Rattle.px_core.specs.Course.{Course};
 ghost use Rattle.px_core.specs.Due.{Due, IsServed};
 ghost use Rattle.px_core.specs.Router.{RouterStands};
 ghost use Rattle.px_core.specs.Run.{IsDueOf, Tells, TellsOfHeard, done_of};
-ghost use Rattle.px_app.specs.Listed.{listed};
-ghost use Rattle.px_app.specs.Printed.{Has};
-ghost use Rattle.px_app.specs.Run.{IsRun, Told, ToldNext};
-ghost use Rattle.px_app.specs.Serving.{Stands, IsSound};
+ghost use Rattle.px_app.specs.Over.{Goes, KeepsLosses, LeavesBehind};
+ghost use Rattle.px_app.specs.Run.{BreaksOff, IsRun, Told, ToldNext};
+ghost use Rattle.px_app.specs.Saved.{saves_to_of};
+ghost use Rattle.px_app.specs.Serving.{Rests, Stands, IsSound};
 ghost use Rattle.px_app.specs.Statuses.{is_end, heard_count};
 
 use crate::finished::{Before, Finished};
 use crate::printing::Printing;
+use crate::saving::Saving;
 use crate::status::Status;
 use px_core::{Answerer, Maker, Owes, Router, work_off};
 use px_event::Heard;
@@ -33,24 +34,33 @@ use px_text::NoMemory;
 use std::alloc::Global;
 use std::marker::Brand;
 
-/// The conversations of a run, who makes them, and how the printing of lines went.
+/// The conversations of a run, who makes them, where flows are saved, and how printing and saving went.
 #[derive(Drop)]
 pub(crate) struct Serving<C, A, M> {
     pub(crate) router: Router<C, A>,
     pub(crate) maker: M,
+    pub(crate) saving: Option<Saving>,
     pub(crate) printing: Printing,
 }
 
 impl<C: Owes, A: Answerer, M: Maker<C>> Serving<C, A, M> {
     /// Nothing was heard yet.
-    pub(crate) fn new(alloc: Global, answerer: A, maker: M) -> Serving<C, A, M>
-        ensures stands { (due : Due) (files : FilesMeaning) → RouterStands C.stands C.awaited C.number C.due A.answers A.state due (record { own = A.state answerer; files = files }) files result.router [] }
+    pub(crate) fn new(
+        alloc: Global,
+        answerer: A,
+        maker: M,
+        saving: Option<Saving>,
+    ) -> Serving<C, A, M>
+        ensures rests { (due : Due) (files : FilesMeaning) (start : Option (List ℕ)) → Rests C.stands C.awaited C.number C.due A.answers A.state due (record { own = A.state answerer; files = files }) (saves_to_of result.saving) files result.router result.printing start start [] }
+        ensures answerer { A.state result.router.answerer ≡ A.state answerer }
         ensures maker { result.maker ≡ maker }
+        ensures saving { result.saving ≡ saving }
         ensures printing { result.printing ≡ Printing.Whole }
     {
         Serving {
             router: Router::new(alloc, answerer),
             maker,
+            saving,
             printing: Printing::Whole,
         }
     }
@@ -65,22 +75,23 @@ impl<C: Owes, A: Answerer, M: Maker<C>> Serving<C, A, M> {
         heard: Heard,
     ) -> Result<Vec<Flow>, NoMemory>
         requires sound { IsSound C.stands C.awaited C.number C.due A.answers A.state (M.due self.old.maker) (files_meaning F.contents F.calls F.misses F.faults F.losses files.old) self.old.router }
-        ensures ok { (due : Due) (first : AnswererState A.State) (trace : Trace) → IsDueOf (M.due self.old.maker) due → RouterStands C.stands C.awaited C.number C.due A.answers A.state due first (files_meaning F.contents F.calls F.misses F.faults F.losses files.old) self.old.router trace →
+        ensures ok { (due : Due) (course : Course A.State) (trace : Trace) → IsDueOf (M.due self.old.maker) due → RouterStands C.stands C.awaited C.number C.due A.answers A.state due course (files_meaning F.contents F.calls F.misses F.faults F.losses files.old) self.old.router trace →
             N.trace net.old ≡ Some (trace ++ WasHeard moment heard ∷ []) →
-            OnOk result (Tells (RouterStands C.stands C.awaited C.number C.due A.answers A.state due first (files_meaning F.contents F.calls F.misses F.faults F.losses files.new) self.new.router) (trace ++ WasHeard moment heard ∷ []) (N.trace net.new)) }
-        ensures err { (due : Due) (first : AnswererState A.State) (trace : Trace) → IsDueOf (M.due self.old.maker) due → RouterStands C.stands C.awaited C.number C.due A.answers A.state due first (files_meaning F.contents F.calls F.misses F.faults F.losses files.old) self.old.router trace →
+            OnOk result (Tells (RouterStands C.stands C.awaited C.number C.due A.answers A.state due course (files_meaning F.contents F.calls F.misses F.faults F.losses files.new) self.new.router) (trace ++ WasHeard moment heard ∷ []) (N.trace net.new)) }
+        ensures err { (due : Due) (course : Course A.State) (trace : Trace) → IsDueOf (M.due self.old.maker) due → RouterStands C.stands C.awaited C.number C.due A.answers A.state due course (files_meaning F.contents F.calls F.misses F.faults F.losses files.old) self.old.router trace →
             N.trace net.old ≡ Some (trace ++ WasHeard moment heard ∷ []) →
             OnErr result (Tells (IsServed A.answers due) (trace ++ WasHeard moment heard ∷ []) (N.trace net.new)) }
         ensures sound { OnOk result (IsSound C.stands C.awaited C.number C.due A.answers A.state (M.due self.new.maker) (files_meaning F.contents F.calls F.misses F.faults F.losses files.new) self.new.router) }
         ensures finished { (trace : Trace) → N.trace net.old ≡ Some (trace ++ WasHeard moment heard ∷ []) → K.before ≡ flat_map done_of trace →
             IfOk result (λ flows. Tells (λ told. K.before ++ flows.items ≡ flat_map done_of told) (trace ++ WasHeard moment heard ∷ []) (N.trace net.new)) }
         ensures own { (trace : Trace) → N.trace net.old ≡ Some trace → TellsOfHeard heard trace (N.trace net.new) }
-        ensures follows { (due : Due) (first : AnswererState A.State) (trace : Trace) → IsDueOf (M.due self.old.maker) due → RouterStands C.stands C.awaited C.number C.due A.answers A.state due first (files_meaning F.contents F.calls F.misses F.faults F.losses files.old) self.old.router trace →
-            N.trace net.old ≡ Some (trace ++ WasHeard moment heard ∷ []) → Tells (IsAnswered A.answers due first) (trace ++ WasHeard moment heard ∷ []) (N.trace net.new) }
-        ensures leaves { (due : Due) (first : AnswererState A.State) (trace : Trace) → IsDueOf (M.due self.old.maker) due → RouterStands C.stands C.awaited C.number C.due A.answers A.state due first (files_meaning F.contents F.calls F.misses F.faults F.losses files.old) self.old.router trace →
-            N.trace net.old ≡ Some (trace ++ WasHeard moment heard ∷ []) → OnErr result (Tells (LeavesFiles A.answers A.fails due first ⊥ (files_meaning F.contents F.calls F.misses F.faults F.losses files.new)) (trace ++ WasHeard moment heard ∷ []) (N.trace net.new)) }
+        ensures follows { (due : Due) (course : Course A.State) (trace : Trace) → IsDueOf (M.due self.old.maker) due → RouterStands C.stands C.awaited C.number C.due A.answers A.state due course (files_meaning F.contents F.calls F.misses F.faults F.losses files.old) self.old.router trace →
+            N.trace net.old ≡ Some (trace ++ WasHeard moment heard ∷ []) → Tells (IsAnswered A.answers due course) (trace ++ WasHeard moment heard ∷ []) (N.trace net.new) }
+        ensures leaves { (due : Due) (course : Course A.State) (trace : Trace) → IsDueOf (M.due self.old.maker) due → RouterStands C.stands C.awaited C.number C.due A.answers A.state due course (files_meaning F.contents F.calls F.misses F.faults F.losses files.old) self.old.router trace →
+            N.trace net.old ≡ Some (trace ++ WasHeard moment heard ∷ []) → OnErr result (Tells (LeavesFiles A.answers A.fails due course ⊥ (files_meaning F.contents F.calls F.misses F.faults F.losses files.new)) (trace ++ WasHeard moment heard ∷ []) (N.trace net.new)) }
         ensures due { (number : ℕ) (at : PeerAddress) (moves : List Move) → M.due self.new.maker number at moves ≡ M.due self.old.maker number at moves }
         ensures printing { self.new.printing ≡ self.old.printing }
+        ensures saving { self.new.saving ≡ self.old.saving }
         ensures files { FilesAfter A.answers A.fails (state_of A.state F.contents F.calls F.misses F.faults F.losses self.old.router.answerer files.old) (files_meaning F.contents F.calls F.misses F.faults F.losses files.new) }
         ensures given { OnOk result (ByAnswers A.answers (state_of A.state F.contents F.calls F.misses F.faults F.losses self.old.router.answerer files.old) (state_of A.state F.contents F.calls F.misses F.faults F.losses self.new.router.answerer files.new)) }
         ensures listening { N.listening net.new ≡ N.listening net.old }
@@ -100,8 +111,8 @@ impl<C: Owes, A: Answerer, M: Maker<C>> Serving<C, A, M> {
         Ok(finished.flows)
     }
 
-    /// Works off one thing that the network has just told, and prints a line of each flow that it finished. After `NoMemory`
-    /// the lines of a front are printed.
+    /// Works off one thing that the network has just told, and then prints and saves the flows that it finished. After `NoMemory` so it is
+    /// with a front of them.
     fn take<N: Net, F: Files, S: Sink>(
         &mut self,
         alloc: Global,
@@ -111,38 +122,35 @@ impl<C: Owes, A: Answerer, M: Maker<C>> Serving<C, A, M> {
         moment: u64,
         heard: Heard,
     ) -> Result<(), NoMemory>
+        requires losses { KeepsLosses A.answers A.fails }
         requires sound { IsSound C.stands C.awaited C.number C.due A.answers A.state (M.due self.old.maker) (files_meaning F.contents F.calls F.misses F.faults F.losses files.old) self.old.router }
-        ensures ok { (due : Due) (first : AnswererState A.State) (trace : Trace) → IsDueOf (M.due self.old.maker) due → RouterStands C.stands C.awaited C.number C.due A.answers A.state due first (files_meaning F.contents F.calls F.misses F.faults F.losses files.old) self.old.router trace →
+        ensures ok { (due : Due) (first : AnswererState A.State) (start : Option (List ℕ)) (trace : Trace) → IsDueOf (M.due self.old.maker) due → Rests C.stands C.awaited C.number C.due A.answers A.state due first (saves_to_of self.old.saving) (files_meaning F.contents F.calls F.misses F.faults F.losses files.old) self.old.router self.old.printing start (S.written out.old) trace →
             N.trace net.old ≡ Some (trace ++ WasHeard moment heard ∷ []) →
-            OnOk result (Tells (RouterStands C.stands C.awaited C.number C.due A.answers A.state due first (files_meaning F.contents F.calls F.misses F.faults F.losses files.new) self.new.router) (trace ++ WasHeard moment heard ∷ []) (N.trace net.new)) }
-        ensures err { (due : Due) (first : AnswererState A.State) (trace : Trace) → IsDueOf (M.due self.old.maker) due → RouterStands C.stands C.awaited C.number C.due A.answers A.state due first (files_meaning F.contents F.calls F.misses F.faults F.losses files.old) self.old.router trace →
+            OnOk result (Tells (Rests C.stands C.awaited C.number C.due A.answers A.state due first (saves_to_of self.old.saving) (files_meaning F.contents F.calls F.misses F.faults F.losses files.new) self.new.router self.new.printing start (S.written out.new)) (trace ++ WasHeard moment heard ∷ []) (N.trace net.new)) }
+        ensures err { (due : Due) (first : AnswererState A.State) (start : Option (List ℕ)) (trace : Trace) → IsDueOf (M.due self.old.maker) due → Rests C.stands C.awaited C.number C.due A.answers A.state due first (saves_to_of self.old.saving) (files_meaning F.contents F.calls F.misses F.faults F.losses files.old) self.old.router self.old.printing start (S.written out.old) trace →
             N.trace net.old ≡ Some (trace ++ WasHeard moment heard ∷ []) →
-            OnErr result (Tells (IsServed A.answers due) (trace ++ WasHeard moment heard ∷ []) (N.trace net.new)) }
+            OnErr result (Tells (BreaksOff A.answers A.fails due first (saves_to_of self.old.saving) (files_meaning F.contents F.calls F.misses F.faults F.losses files.new) start (S.written out.new)) (trace ++ WasHeard moment heard ∷ []) (N.trace net.new)) }
         ensures sound { OnOk result (IsSound C.stands C.awaited C.number C.due A.answers A.state (M.due self.new.maker) (files_meaning F.contents F.calls F.misses F.faults F.losses files.new) self.new.router) }
         ensures own { (trace : Trace) → N.trace net.old ≡ Some trace → TellsOfHeard heard trace (N.trace net.new) }
-        ensures follows { (due : Due) (first : AnswererState A.State) (trace : Trace) → IsDueOf (M.due self.old.maker) due → RouterStands C.stands C.awaited C.number C.due A.answers A.state due first (files_meaning F.contents F.calls F.misses F.faults F.losses files.old) self.old.router trace →
-            N.trace net.old ≡ Some (trace ++ WasHeard moment heard ∷ []) → Tells (IsAnswered A.answers due first) (trace ++ WasHeard moment heard ∷ []) (N.trace net.new) }
-        ensures leaves { (due : Due) (first : AnswererState A.State) (trace : Trace) → IsDueOf (M.due self.old.maker) due → RouterStands C.stands C.awaited C.number C.due A.answers A.state due first (files_meaning F.contents F.calls F.misses F.faults F.losses files.old) self.old.router trace →
-            N.trace net.old ≡ Some (trace ++ WasHeard moment heard ∷ []) → OnErr result (Tells (LeavesFiles A.answers A.fails due first ⊥ (files_meaning F.contents F.calls F.misses F.faults F.losses files.new)) (trace ++ WasHeard moment heard ∷ []) (N.trace net.new)) }
         ensures due { (number : ℕ) (at : PeerAddress) (moves : List Move) → M.due self.new.maker number at moves ≡ M.due self.old.maker number at moves }
-        ensures prints { (start : Option (List ℕ)) (trace : Trace) → N.trace net.old ≡ Some (trace ++ WasHeard moment heard ∷ []) → Has self.old.printing (listed trace) start (S.written out.old) →
-            OnOk result (Told (λ told. Has self.new.printing (listed told) start (S.written out.new)) (N.trace net.new)) }
-        ensures part { (start : Option (List ℕ)) (trace : Trace) → N.trace net.old ≡ Some (trace ++ WasHeard moment heard ∷ []) → Has self.old.printing (listed trace) start (S.written out.old) →
-            OnErr result (Told (λ told. WritesPart (listed told) start (S.written out.new)) (N.trace net.new)) }
-        ensures failed { (first : ℕ) → first ≤ S.faults out.old → (self.old.printing ≡ Printing.Failed → Rose first (S.faults out.old)) →
-            self.new.printing ≡ Printing.Failed → Rose first (S.faults out.new) }
-        ensures later { S.faults out.old ≤ S.faults out.new }
-        ensures files { FilesAfter A.answers A.fails (state_of A.state F.contents F.calls F.misses F.faults F.losses self.old.router.answerer files.old) (files_meaning F.contents F.calls F.misses F.faults F.losses files.new) }
-        ensures given { OnOk result (ByAnswers A.answers (state_of A.state F.contents F.calls F.misses F.faults F.losses self.old.router.answerer files.old) (state_of A.state F.contents F.calls F.misses F.faults F.losses self.new.router.answerer files.new)) }
+        ensures saving { self.new.saving ≡ self.old.saving }
+        ensures failed { (first lost : ℕ) → first ≤ S.faults out.old → lost ≤ F.losses files.old → (self.old.printing ≡ Printing.Failed → Rose first (S.faults out.old) ⊎ Rose lost (F.losses files.old)) →
+            self.new.printing ≡ Printing.Failed → Rose first (S.faults out.new) ⊎ Rose lost (F.losses files.new) }
+        ensures later_out { S.faults out.old ≤ S.faults out.new }
+        ensures later_losses { F.losses files.old ≤ F.losses files.new }
+        ensures files { LeavesBehind A.answers A.fails (saves_to_of self.old.saving) (state_of A.state F.contents F.calls F.misses F.faults F.losses self.old.router.answerer files.old) (files_meaning F.contents F.calls F.misses F.faults F.losses files.new) }
+        ensures given { OnOk result (Goes A.answers (saves_to_of self.old.saving) (state_of A.state F.contents F.calls F.misses F.faults F.losses self.old.router.answerer files.old) (state_of A.state F.contents F.calls F.misses F.faults F.losses self.new.router.answerer files.new)) }
         ensures listening { N.listening net.new ≡ N.listening net.old }
         ensures faults { N.faults net.new ≡ N.faults net.old }
     {
         let flows = self.finish::<Brand, N, F>(alloc, net, files, moment, heard)?;
-        self.printing = self.printing.print_flows(alloc, out, &flows)?;
+        self.printing = self
+            .printing
+            .put_flows(alloc, self.saving.as_ref(), files, out, flows)?;
         Ok(())
     }
 
-    /// Hears one thing, works it off, and prints a line of each flow that it finished; or ends the run.
+    /// Hears one thing, works it off, and prints and saves the flows that it finished; or ends the run.
     fn hear<N: Net, F: Files, S: Sink>(
         &mut self,
         alloc: Global,
@@ -150,22 +158,21 @@ impl<C: Owes, A: Answerer, M: Maker<C>> Serving<C, A, M> {
         files: &mut F,
         out: &mut S,
     ) -> Result<(), Status>
+        requires losses { KeepsLosses A.answers A.fails }
         requires sound { IsSound C.stands C.awaited C.number C.due A.answers A.state (M.due self.old.maker) (files_meaning F.contents F.calls F.misses F.faults F.losses files.old) self.old.router }
-        ensures ok { (due : Due) (first : AnswererState A.State) (trace : Trace) → IsDueOf (M.due self.old.maker) due → Stands C.stands C.awaited C.number C.due A.answers A.state due first (files_meaning F.contents F.calls F.misses F.faults F.losses files.old) self.old.router trace → N.trace net.old ≡ Some trace →
-            OnOk result (ToldNext (Stands C.stands C.awaited C.number C.due A.answers A.state due first (files_meaning F.contents F.calls F.misses F.faults F.losses files.new) self.new.router) trace (N.trace net.new)) }
-        ensures err { (due : Due) (first : AnswererState A.State) (trace : Trace) (budget : ℕ) → IsDueOf (M.due self.old.maker) due → Stands C.stands C.awaited C.number C.due A.answers A.state due first (files_meaning F.contents F.calls F.misses F.faults F.losses files.old) self.old.router trace → N.trace net.old ≡ Some trace →
-            heard_count trace < budget → IfErr result (λ status. Told (IsRun A.answers A.fails due first budget status (files_meaning F.contents F.calls F.misses F.faults F.losses files.new)) (N.trace net.new)) }
+        ensures ok { (due : Due) (first : AnswererState A.State) (start : Option (List ℕ)) (trace : Trace) → IsDueOf (M.due self.old.maker) due → Stands C.stands C.awaited C.number C.due A.answers A.state due first (saves_to_of self.old.saving) (files_meaning F.contents F.calls F.misses F.faults F.losses files.old) self.old.router self.old.printing start (S.written out.old) trace → N.trace net.old ≡ Some trace →
+            OnOk result (ToldNext (Stands C.stands C.awaited C.number C.due A.answers A.state due first (saves_to_of self.old.saving) (files_meaning F.contents F.calls F.misses F.faults F.losses files.new) self.new.router self.new.printing start (S.written out.new)) trace (N.trace net.new)) }
+        ensures err { (due : Due) (first : AnswererState A.State) (start : Option (List ℕ)) (trace : Trace) (budget : ℕ) → IsDueOf (M.due self.old.maker) due → Stands C.stands C.awaited C.number C.due A.answers A.state due first (saves_to_of self.old.saving) (files_meaning F.contents F.calls F.misses F.faults F.losses files.old) self.old.router self.old.printing start (S.written out.old) trace → N.trace net.old ≡ Some trace →
+            heard_count trace < budget → IfErr result (λ status. Told (IsRun A.answers A.fails due first (saves_to_of self.old.saving) budget status self.new.printing (files_meaning F.contents F.calls F.misses F.faults F.losses files.new) start (S.written out.new)) (N.trace net.new)) }
         ensures sound { OnOk result (IsSound C.stands C.awaited C.number C.due A.answers A.state (M.due self.new.maker) (files_meaning F.contents F.calls F.misses F.faults F.losses files.new) self.new.router) }
         ensures due { (number : ℕ) (at : PeerAddress) (moves : List Move) → M.due self.new.maker number at moves ≡ M.due self.old.maker number at moves }
-        ensures prints { (start : Option (List ℕ)) (trace : Trace) → N.trace net.old ≡ Some trace → Has self.old.printing (listed trace) start (S.written out.old) → result ≢ Err Status.NoMemory →
-            Told (λ told. Has self.new.printing (listed told) start (S.written out.new)) (N.trace net.new) }
-        ensures part { (start : Option (List ℕ)) (trace : Trace) → N.trace net.old ≡ Some trace → Has self.old.printing (listed trace) start (S.written out.old) →
-            Told (λ told. WritesPart (listed told) start (S.written out.new)) (N.trace net.new) }
-        ensures failed { (first : ℕ) → first ≤ S.faults out.old → (self.old.printing ≡ Printing.Failed → Rose first (S.faults out.old)) →
-            self.new.printing ≡ Printing.Failed → Rose first (S.faults out.new) }
+        ensures saving { self.new.saving ≡ self.old.saving }
+        ensures failed { (first lost : ℕ) → first ≤ S.faults out.old → lost ≤ F.losses files.old → (self.old.printing ≡ Printing.Failed → Rose first (S.faults out.old) ⊎ Rose lost (F.losses files.old)) →
+            self.new.printing ≡ Printing.Failed → Rose first (S.faults out.new) ⊎ Rose lost (F.losses files.new) }
         ensures later_out { S.faults out.old ≤ S.faults out.new }
-        ensures files { FilesAfter A.answers A.fails (state_of A.state F.contents F.calls F.misses F.faults F.losses self.old.router.answerer files.old) (files_meaning F.contents F.calls F.misses F.faults F.losses files.new) }
-        ensures given { OnOk result (ByAnswers A.answers (state_of A.state F.contents F.calls F.misses F.faults F.losses self.old.router.answerer files.old) (state_of A.state F.contents F.calls F.misses F.faults F.losses self.new.router.answerer files.new)) }
+        ensures later_losses { F.losses files.old ≤ F.losses files.new }
+        ensures files { LeavesBehind A.answers A.fails (saves_to_of self.old.saving) (state_of A.state F.contents F.calls F.misses F.faults F.losses self.old.router.answerer files.old) (files_meaning F.contents F.calls F.misses F.faults F.losses files.new) }
+        ensures given { OnOk result (Goes A.answers (saves_to_of self.old.saving) (state_of A.state F.contents F.calls F.misses F.faults F.losses self.old.router.answerer files.old) (state_of A.state F.contents F.calls F.misses F.faults F.losses self.new.router.answerer files.new)) }
         ensures listening { N.listening net.new ≡ N.listening net.old }
         ensures later { N.faults net.old ≤ N.faults net.new }
         ensures fault { result ≡ Err Status.NetFault → Rose (N.faults net.old) (N.faults net.new) }
@@ -200,17 +207,14 @@ pub(crate) fn serve_all<C: Owes, A: Answerer, M: Maker<C>, N: Net, F: Files, S: 
     out: &mut S,
     budget: u64,
 ) -> Status
+    requires losses { KeepsLosses A.answers A.fails }
     requires sound { IsSound C.stands C.awaited C.number C.due A.answers A.state (M.due serving.old.maker) (files_meaning F.contents F.calls F.misses F.faults F.losses files.old) serving.old.router }
-    ensures run { (due : Due) (first : AnswererState A.State) → IsDueOf (M.due serving.old.maker) due → RouterStands C.stands C.awaited C.number C.due A.answers A.state due first (files_meaning F.contents F.calls F.misses F.faults F.losses files.old) serving.old.router [] → N.trace net.old ≡ Some [] →
-        Told (IsRun A.answers A.fails due first budget result (files_meaning F.contents F.calls F.misses F.faults F.losses files.new)) (N.trace net.new) }
-    ensures prints { (start : Option (List ℕ)) → N.trace net.old ≡ Some [] → Has serving.old.printing [] start (S.written out.old) → result ≢ Status.NoMemory →
-        Told (λ told. Has serving.new.printing (listed told) start (S.written out.new)) (N.trace net.new) }
-    ensures part { (start : Option (List ℕ)) → N.trace net.old ≡ Some [] → Has serving.old.printing [] start (S.written out.old) →
-        Told (λ told. WritesPart (listed told) start (S.written out.new)) (N.trace net.new) }
-    ensures failed { (first : ℕ) → first ≤ S.faults out.old → (serving.old.printing ≡ Printing.Failed → Rose first (S.faults out.old)) →
-        serving.new.printing ≡ Printing.Failed → Rose first (S.faults out.new) }
+    ensures run { (due : Due) (first : AnswererState A.State) (start : Option (List ℕ)) → IsDueOf (M.due serving.old.maker) due → Rests C.stands C.awaited C.number C.due A.answers A.state due first (saves_to_of serving.old.saving) (files_meaning F.contents F.calls F.misses F.faults F.losses files.old) serving.old.router serving.old.printing start (S.written out.old) [] → N.trace net.old ≡ Some [] →
+        Told (IsRun A.answers A.fails due first (saves_to_of serving.old.saving) budget result serving.new.printing (files_meaning F.contents F.calls F.misses F.faults F.losses files.new) start (S.written out.new)) (N.trace net.new) }
+    ensures failed { (first lost : ℕ) → first ≤ S.faults out.old → lost ≤ F.losses files.old → (serving.old.printing ≡ Printing.Failed → Rose first (S.faults out.old) ⊎ Rose lost (F.losses files.old)) →
+        serving.new.printing ≡ Printing.Failed → Rose first (S.faults out.new) ⊎ Rose lost (F.losses files.new) }
     ensures later { S.faults out.old ≤ S.faults out.new }
-    ensures files { FilesAfter A.answers A.fails (state_of A.state F.contents F.calls F.misses F.faults F.losses serving.old.router.answerer files.old) (files_meaning F.contents F.calls F.misses F.faults F.losses files.new) }
+    ensures files { LeavesBehind A.answers A.fails (saves_to_of serving.old.saving) (state_of A.state F.contents F.calls F.misses F.faults F.losses serving.old.router.answerer files.old) (files_meaning F.contents F.calls F.misses F.faults F.losses files.new) }
     ensures listening { N.listening net.new ≡ N.listening net.old }
     ensures fault { result ≡ Status.NetFault → Rose (N.faults net.old) (N.faults net.new) }
     ensures output { result ≢ Status.OutputFailed }

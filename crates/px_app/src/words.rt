@@ -1,11 +1,11 @@
 //! The words of the command line.
 //!
-//! `serve OPTIONS` names an options file by its path, and `gen N` a number from 0 to 10,000 in decimal digits, without a sign or a leading
-//! zero. Whatever else stands there has no form, and the program answers with its usage. So a word is either taken whole or refused,
-//! and nothing is guessed.
+//! `serve OPTIONS` names an options file by its path, `flows FILE FILTER` a file of flows by its path and a filter by its text, and `gen N` a
+//! number from 0 to 10,000 in decimal digits, without a sign or a leading zero. Whatever else stands there has no form, and the program
+//! answers with its usage. So a word is either taken whole or refused, and nothing is guessed.
 ghost use Rattle.std.specs.Prelude.{◌≡◌, ℕ, List, MatchOption, map};
 ghost use Rattle.std.specs.String.{string_bytes};
-ghost use Rattle.px_app.specs.Words.{IsGen, IsServe};
+ghost use Rattle.px_app.specs.Words.{IsFlows, IsGen, IsServe};
 
 use px_gen::read_count;
 
@@ -20,6 +20,19 @@ pub(crate) fn options_path(words: &[String]) -> Option<&str>
         return None;
     }
     Some(path.as_str())
+}
+
+/// The path and the filter's text in the words `flows FILE FILTER`. None exactly where the words have no such form.
+pub(crate) fn flow_words(words: &[String]) -> Option<(&str, &str)>
+    ensures { MatchOption result ((path text : List ℕ) → ¬ (IsFlows (map string_bytes words.now) path text)) (λ found. IsFlows (map string_bytes words.now) found.0.now found.1.now) }
+{
+    let [command, path, text] = words else {
+        return None;
+    };
+    if command.as_str() != "flows" {
+        return None;
+    }
+    Some((path.as_str(), text.as_str()))
 }
 
 /// The number in the words `gen N`. None exactly where the words have no such form.

@@ -34,25 +34,25 @@ stopped code status (inr is) (inr seven) not_zero not_seven = omega arith
 
 module _ {S : Type 0} (answers : Answering S) (fails : Failing S) where
   -- what the wire took is what is due by the options
-  pub taken_by : ConnectsNone answers → (IsChain : Settings → S → Type 0) (same net out notes : Type 0) (path : List ℕ) (opened : Opened) (before after : Outside) (status : ℕ) {told : Option Calls} →
+  pub taken_by : ConnectsNone answers → (IsChain : Settings → S → Type 0) (same net out save notes : Type 0) (path : List ℕ) (opened : Opened) (before after : Outside) (status : ℕ) {told : Option Calls} →
       ((list : Calls) → told ≡ Some list → after.trace ≡ Some (steps_of list)) → ((list : Calls) → told ≡ Some list → Obeys list) →
-      ServesFile answers fails IsChain same net out notes path opened before after status → IsTakenBy opened before.trace told
-  taken_by none IsChain same net out notes path nothing_read before after status steps obeys h = tt
-  taken_by none IsChain same net out notes path absent before after status steps obeys h = tt
-  taken_by none IsChain same net out notes path not_read before after status steps obeys h = tt
-  taken_by none IsChain same net out notes path (unjudged bytes) before after status steps obeys h = tt
-  taken_by none IsChain same net out notes path (refused bytes why) before after status steps obeys h = tt
-  taken_by none IsChain same net out notes path (says bytes settings) before after status steps obeys h = λ address list wants fresh told.
-      let served = (h.runs.1.2.promises address (steps_of list) wants fresh (steps list told)).served in
+      ServesFile answers fails IsChain same net out save notes path opened before after status → IsTakenBy opened before.trace told
+  taken_by none IsChain same net out save notes path nothing_read before after status steps obeys h = tt
+  taken_by none IsChain same net out save notes path absent before after status steps obeys h = tt
+  taken_by none IsChain same net out save notes path not_read before after status steps obeys h = tt
+  taken_by none IsChain same net out save notes path (unjudged bytes) before after status steps obeys h = tt
+  taken_by none IsChain same net out save notes path (refused bytes why) before after status steps obeys h = tt
+  taken_by none IsChain same net out save notes path (says bytes settings) before after status steps obeys h = λ address list wants fresh told.
+      let served = (h.runs.1.2.promises address (steps_of list) wants fresh (steps list told)).1.served in
       always_taken answers none (fixed_due address) (fixed_silent address) list (obeys list told)
       (always_counts (fixed_due address) (fixed_counts address) (steps_of list) served.within) served.met served.within
 
   -- the statuses of an end come only where the end was heard
-  pub ends_by_end : (IsChain : Settings → S → Type 0) (same net out notes : Type 0) (path : List ℕ) (opened : Opened) (before after : Outside) (status : ℕ) →
-      ServesFile answers fails IsChain same net out notes path opened before after status → (trace : Trace) → before.trace ≡ Some [] → after.trace ≡ Some trace → (status ≡ 0) ⊎ (status ≡ 7) → ends_heard trace ≡ true
-  ends_by_end IsChain same net out notes path nothing_read before after status h trace fresh tells either = absurd (stopped 8 status h.runs.is either (λ e. omega arith) (λ e. omega arith))
-  ends_by_end IsChain same net out notes path absent before after status h trace fresh tells either = absurd (stopped 3 status h.runs.is either (λ e. omega arith) (λ e. omega arith))
-  ends_by_end IsChain same net out notes path not_read before after status h trace fresh tells either = absurd (stopped 3 status h.runs.is either (λ e. omega arith) (λ e. omega arith))
-  ends_by_end IsChain same net out notes path (unjudged bytes) before after status h trace fresh tells either = absurd (stopped 8 status h.runs.is either (λ e. omega arith) (λ e. omega arith))
-  ends_by_end IsChain same net out notes path (refused bytes why) before after status h trace fresh tells either = absurd (stopped 2 status h.runs.1.is either (λ e. omega arith) (λ e. omega arith))
-  ends_by_end IsChain same net out notes path (says bytes settings) before after status h trace fresh tells either = (h.runs.1.2.ends trace fresh tells).ended either
+  pub ends_by_end : (IsChain : Settings → S → Type 0) (same net out save notes : Type 0) (path : List ℕ) (opened : Opened) (before after : Outside) (status : ℕ) →
+      ServesFile answers fails IsChain same net out save notes path opened before after status → (trace : Trace) → before.trace ≡ Some [] → after.trace ≡ Some trace → (status ≡ 0) ⊎ (status ≡ 7) → ends_heard trace ≡ true
+  ends_by_end IsChain same net out save notes path nothing_read before after status h trace fresh tells either = absurd (stopped 8 status h.runs.is either (λ e. omega arith) (λ e. omega arith))
+  ends_by_end IsChain same net out save notes path absent before after status h trace fresh tells either = absurd (stopped 3 status h.runs.is either (λ e. omega arith) (λ e. omega arith))
+  ends_by_end IsChain same net out save notes path not_read before after status h trace fresh tells either = absurd (stopped 3 status h.runs.is either (λ e. omega arith) (λ e. omega arith))
+  ends_by_end IsChain same net out save notes path (unjudged bytes) before after status h trace fresh tells either = absurd (stopped 8 status h.runs.is either (λ e. omega arith) (λ e. omega arith))
+  ends_by_end IsChain same net out save notes path (refused bytes why) before after status h trace fresh tells either = absurd (stopped 2 status h.runs.1.is either (λ e. omega arith) (λ e. omega arith))
+  ends_by_end IsChain same net out save notes path (says bytes settings) before after status h trace fresh tells either = (h.runs.1.2.ends trace fresh tells).ended either

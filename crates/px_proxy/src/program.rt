@@ -4,12 +4,13 @@ ghost use Rattle.std.specs.String.{string_bytes};
 ghost use Rattle.px_outside.specs.Count.{Rose};
 ghost use Rattle.px_outside.specs.Net.{idle};
 ghost use Rattle.px_core.specs.Answers.{files_meaning};
+ghost use Rattle.px_app.specs.Flows.{Fetched, ListsFile};
 ghost use Rattle.px_app.specs.Generates.{Generates};
 ghost use Rattle.px_app.specs.Lines.{usage};
 ghost use Rattle.px_app.specs.Opened.{AreRulesOf, Opened};
 ghost use Rattle.px_app.specs.Outside.{outside};
 ghost use Rattle.px_app.specs.Serves.{ServesFile, Stops};
-ghost use Rattle.px_app.specs.Words.{HasNoForm, IsGen, IsServe};
+ghost use Rattle.px_app.specs.Words.{HasNoForm, IsFlows, IsGen, IsServe};
 ghost use Rattle.px_wire.specs.Calls.{Calls, steps_of};
 ghost use Rattle.px_wire.specs.Rules.{Obeys};
 ghost use Rattle.px_proxy.specs.Failed.{LinesFailed};
@@ -37,10 +38,15 @@ pub fn run<W: Wire, F: Files, S: Sink, T: Sink>(
     // With the words `serve OPTIONS`: the file is read, and the run is as what came of that says. What the wire took for each side begins
     // what is due to it, after each of its calls.
     ensures serves { (path : List ℕ) → IsServe (map string_bytes words.now) path → (opened : Opened) × ServesFile ⟦<Chain as Answerer>⟧.answers ⟦<Chain as Answerer>⟧.fails
-        (λ settings chain. AreRulesOf settings chain.rules × (chain.addons ≡ addons)) (lines.new ≡ lines.old) (LinesFailed (W.faults lines.old.wire) lines.old.faults (W.faults lines.new.wire) lines.new.faults (W.calls lines.new.wire)) (Rose (S.faults out.old) (S.faults out.new)) (Rose (T.faults notes.old) (T.faults notes.new)) path opened
+        (λ settings chain. AreRulesOf settings chain.rules × (chain.addons ≡ addons)) (lines.new ≡ lines.old) (LinesFailed (W.faults lines.old.wire) lines.old.faults (W.faults lines.new.wire) lines.new.faults (W.calls lines.new.wire)) (Rose (S.faults out.old) (S.faults out.new)) (Rose (F.losses files.old) (F.losses files.new)) (Rose (T.faults notes.old) (T.faults notes.new)) path opened
         (outside W.steps W.listening F.contents F.calls F.misses F.faults F.losses S.written T.written lines.old.wire files.old out.old notes.old)
         (outside W.steps W.listening F.contents F.calls F.misses F.faults F.losses S.written T.written lines.new.wire files.new out.new notes.new) result
         × IsTakenBy opened (W.steps lines.old.wire) (W.calls lines.new.wire) }
+
+    // With the words `flows FILE FILTER`: the lines of the file's flows.
+    ensures lists { (path text : List ℕ) → IsFlows (map string_bytes words.now) path text → (what : Fetched) × ListsFile (lines.new ≡ lines.old) (Rose (S.faults out.old) (S.faults out.new)) (Rose (T.faults notes.old) (T.faults notes.new)) path text what
+        (outside W.steps W.listening F.contents F.calls F.misses F.faults F.losses S.written T.written lines.old.wire files.old out.old notes.old)
+        (outside W.steps W.listening F.contents F.calls F.misses F.faults F.losses S.written T.written lines.new.wire files.new out.new notes.new) result }
 
     // With the words `gen N`: the run of so many generated flows.
     ensures generates { (count : ℕ) → IsGen (map string_bytes words.now) count → Generates ⟦<Chain as Answerer>⟧.answers ⟦<Chain as Answerer>⟧.fails

@@ -25,7 +25,7 @@ pub returns-in-Ok-serve_generated : goal.returns-in-Ok-serve_generated
 returns-in-Ok-serve_generated g c =
     let steps : Trace = c.trace.result.now in
     let begun = c.in-Ok-serve_generated.ensures.ok (ap (λ (s : GeneratedState). Some s.trace) c.new-generated.ensures.new) in
-    let run = told_trace _ _ steps (at_address c.in-Ok.server generator_server c.in-Ok.ensures.server begun) (ap Some (sym c.trace.ensures.trace)) in
+    let run = told_trace _ _ steps (at_address c.in-Ok.server generator_server c.in-Ok.ensures.server begun.1) (ap Some (sym c.trace.ensures.trace)) in
     record {
       run = steps;
       hears =
@@ -34,6 +34,7 @@ returns-in-Ok-serve_generated g c =
       ends = λ other. run.is_end.ended refl;
       by_chain = λ some. (
         c.args.chain,
+        run.changes,
         refl,
         record {
           served = run.served;
@@ -45,6 +46,7 @@ returns-in-Ok-serve_generated g c =
               (λ hook flow old old_files new new_files draft is. chain_never_waits _ _ _ hook flow _ _ old_files _ _ new_files draft is);
           own = run.own;
         },
+        (begun.0, run.made, (run.reaches (λ (e : Ended ≡ NoMemory). absurd (cc))).saved_so),
       );
       told = c.tell_run.ensures.told;
       told_part = c.tell_run.ensures.told_part;

@@ -1,4 +1,4 @@
-use Rattle.std.proofs.Common.{◌≡◌, inl, inr, ℕ, ◌++◌, refl, sym, subst, Some}
+use Rattle.std.proofs.Common.{◌≡◌, ◌⊎◌, inl, inr, ℕ, ◌++◌, refl, sym, subst, Some}
 use Rattle.px_outside.specs.Sink.{Writes, WritesPart}
 use Rattle.px_http.specs.Fixed.{fixed_due}
 use Rattle.px_addons.specs.declared.rules.Rules.{Rules}
@@ -6,17 +6,24 @@ use Rattle.px_options.specs.View.{settings}
 use Rattle.px_outside.specs.Count.{Rose}
 use Rattle.px_options.specs.Mode.{ModeIs}
 use Rattle.px_app.specs.Lines.{line_of, start_note}
-use Rattle.px_app.specs.Serves.{where_listening}
+use Rattle.px_app.specs.Serves.{saves_of, where_listening}
 use Rattle.px_app.specs.Listed.{listed}
 use Rattle.px_app.specs.Opened.{AreRulesOf}
 use Rattle.px_app.specs.Outside.{IsTold}
-use Rattle.px_app.proofs.CodeLemmas.{code_by, five_says, six_says, seven_says, ended_either, ended_gives, spent_gives, memory_gives, other_says, all_codes, complete_by, not_eight, ended_or}
-use Rattle.px_app.proofs.EndLemmas.{rose_later, printed_part, printed_whole}
+use Rattle.px_app.proofs.CodeLemmas.{code_by, zero_says, five_says, six_says, seven_says, ended_either, ended_gives, spent_gives, memory_gives, other_says, all_codes, complete_by, not_eight, ended_or}
+use Rattle.px_app.proofs.EndLemmas.{printed_part, printed_whole}
 use Rattle.px_app.proofs.AtOnceLemmas.{none_waits, none_waits_within}
-use Rattle.px_app.proofs.ChainLemmas.{chain_never_waits}
+use Rattle.px_app.proofs.ChainLemmas.{chain_keeps_losses, chain_never_waits}
+use Rattle.px_app.proofs.OutputLemmas.{first_later, has_of, leaves_at, outputs_at}
 use Rattle.px_app.proofs.RunLemmas.{leaves_part, listens_where_heard, at_address, same_server, told_trace}
 use Rattle.px_app.proofs.ToldLemmas.{told_code}
 use Rattle.px_app.proofs.program.serve_options.Goals as goal
+
+pub serve-ending-requires : goal.serve-ending-requires
+serve-ending-requires g c = record {
+  idle = c.requires.idle;
+  losses = chain_keeps_losses _ _ _ (λ chain. chain.rules) (λ chain. chain.addons.items);
+}
 
 pub returns : goal.returns
 returns g c = (
@@ -38,23 +45,31 @@ returns g c = (
   record {
     promises = λ address trace wants empty tells.
         let is = code_by c.serve-ending.result.printing c.serve-ending.result.status c.end.result c.code.result c.end.ensures.status c.code.ensures.code in
-        let run = told_trace _ _ trace (at_address c.server_of-server.result address (same_server _ c.server_of-server.result address c.server_of-server.ensures wants) (c.serve-ending.ensures.run empty)) tells in
-        record {
-          served = run.served;
-          follows = run.follows;
-          leaves = leaves_part _ _ _ _ _ trace _ _ run.leaves (λ other. other_says c.serve-ending.result.printing c.serve-ending.result.status c.code.result is other);
-          hooks = none_waits_within (fixed_due address) trace run.served (λ hook flow old old_files new new_files draft is. chain_never_waits _ _ _ hook flow _ _ old_files _ _ new_files draft is);
-          whole = λ other. run.whole (other_says c.serve-ending.result.printing c.serve-ending.result.status c.code.result is other);
-          hooks_whole = λ other. none_waits (fixed_due address) trace (run.waits (other_says c.serve-ending.result.printing c.serve-ending.result.status c.code.result is other))
-              (λ hook flow old old_files new new_files draft is. chain_never_waits _ _ _ hook flow _ _ old_files _ _ new_files draft is);
-          own = run.own;
-        };
-    files = c.serve-ending.ensures.files;
+        let run = told_trace _ _ trace (at_address c.server_of-server.result address (same_server _ c.server_of-server.result address c.server_of-server.ensures wants) (c.serve-ending.ensures.run empty)) tells in (
+          run.changes,
+          record {
+            served = run.served;
+            follows = run.follows;
+            leaves = leaves_part _ _ _ _ _ trace _ _ run.leaves (λ other. other_says c.serve-ending.result.printing c.serve-ending.result.status c.code.result is other);
+            hooks = none_waits_within (fixed_due address) trace run.served (λ hook flow old old_files new new_files draft is. chain_never_waits _ _ _ hook flow _ _ old_files _ _ new_files draft is);
+            whole = λ other. run.whole (other_says c.serve-ending.result.printing c.serve-ending.result.status c.code.result is other);
+            hooks_whole = λ other. none_waits (fixed_due address) trace (run.waits (other_says c.serve-ending.result.printing c.serve-ending.result.status c.code.result is other))
+                (λ hook flow old old_files new new_files draft is. chain_never_waits _ _ _ hook flow _ _ old_files _ _ new_files draft is);
+            own = run.own;
+          },
+          outputs_at _ _ (saves_of (settings c.args.options)) _ trace _ _ _ (c.saving_of-saving.ensures) run.made run.part c.serve-ending.result.printing
+              (λ other. run.reaches (other_says c.serve-ending.result.printing c.serve-ending.result.status c.code.result is other))
+              (λ failed. c.end.ensures.still failed)
+              (λ failed. first_later _ _ _ c.end.ensures.later (c.serve-ending.ensures.failed failed))
+              (λ zero. (zero_says c.serve-ending.result.printing c.serve-ending.result.status c.code.result is zero).1)
+              (λ seven. (seven_says c.serve-ending.result.printing c.serve-ending.result.status c.code.result is c.serve-ending.ensures.output seven).1),
+        );
+    files = leaves_at _ _ _ _ (c.saving_of-saving.ensures) c.serve-ending.ensures.files;
     listening = λ trace empty tells heard_some. listens_where_heard _ _ trace _ c.serve-ending.ensures.listening empty tells heard_some;
     causes =
         let is = code_by c.serve-ending.result.printing c.serve-ending.result.status c.end.result c.code.result c.end.ensures.status c.code.ensures.code in
         let fault = λ (five : c.code.result ≡ 5). c.serve-ending.ensures.fault (five_says c.serve-ending.result.printing c.serve-ending.result.status c.code.result is five) in
-        let lost = λ (seven : c.code.result ≡ 7). rose_later _ _ _ c.end.ensures.later (c.serve-ending.ensures.failed
+        let lost = λ (seven : c.code.result ≡ 7). first_later _ _ _ c.end.ensures.later (c.serve-ending.ensures.failed
         (seven_says c.serve-ending.result.printing c.serve-ending.result.status c.code.result is c.serve-ending.ensures.output seven).1) in
         let statuses = all_codes c.serve-ending.result.printing c.serve-ending.result.status c.code.result is in
         record {
@@ -84,23 +99,25 @@ returns g c = (
         let is = code_by c.serve-ending.result.printing c.serve-ending.result.status c.end.result c.code.result c.end.ensures.status c.code.ensures.code in
         let start = g.S.Sink.written c.args.out.now in
         let now = g.S.Sink.written c.end.new.out in
+        let run = told_trace _ _ trace (c.serve-ending.ensures.run empty) tells in
         record {
           begun =
               let P : ℕ → Type 0 = λ n. WritesPart (listed trace ++ line_of n) start now in
               subst P (sym c.code.ensures.code)
               (printed_part c.serve-ending.result.status c.end.result c.serve-ending.result.printing (listed trace) start _ now _ _
-              (λ other. told_trace _ _ trace (c.serve-ending.ensures.prints empty other) tells)
-              (told_trace _ _ trace (c.serve-ending.ensures.part empty) tells)
+              (λ other. has_of (run.reaches other))
+              run.part.part
               (λ memory. (c.end.ensures.memory memory).1)
               (λ has. c.end.ensures.prints start (listed trace) has));
           whole = λ well.
               let P : ℕ → Type 0 = λ n. Writes (listed trace ++ line_of n) start now in
               let other = other_says c.serve-ending.result.printing c.serve-ending.result.status c.code.result is (not_eight c.code.result _ well) in
               subst P (sym c.code.ensures.code)
-              (printed_whole c.end.result c.serve-ending.result.printing (listed trace) start _ now (g.S.Sink.faults c.args.out.now) _ _
-              (told_trace _ _ trace (c.serve-ending.ensures.prints empty other) tells)
+              (printed_whole (Rose (g.S.Sink.faults c.args.out.now) (g.S.Sink.faults c.end.new.out) ⊎ Rose (g.F.Files.losses c.args.files.now) (g.F.Files.losses c.serve-ending.new.files))
+              c.end.result c.serve-ending.result.printing (listed trace) start _ now (g.S.Sink.faults c.args.out.now) _ _
+              (has_of (run.reaches other))
               (λ has. c.end.ensures.prints start (listed trace) has)
-              c.serve-ending.ensures.later c.serve-ending.ensures.failed (ended_or c.end.result c.code.result _ c.code.ensures.code well));
+              c.serve-ending.ensures.later (λ failed. first_later _ _ _ c.end.ensures.later (c.serve-ending.ensures.failed failed)) (λ rose. inl rose) (ended_or c.end.result c.code.result _ c.code.ensures.code well));
         };
     notes =
         let is = code_by c.serve-ending.result.printing c.serve-ending.result.status c.end.result c.code.result c.end.ensures.status c.code.ensures.code in

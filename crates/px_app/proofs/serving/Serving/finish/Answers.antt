@@ -18,5 +18,5 @@ pub work_off-requires : goal.work_off-requires
 work_off-requires g c = let sound = c.requires.sound in record { sound = λ _. (sound.0, sound.1, _, sound.2, sound.4) }
 
 pub returns-in_err-work_off-clause-err : goal.returns-in_err-work_off-clause-err
-returns-in_err-work_off-clause-err g c = λ due first trace owes stands told.
-    on_err c.from_residual.result (c.in_err-work_off.ensures.err due first trace owes stands told)
+returns-in_err-work_off-clause-err g c = λ due course trace owes stands told.
+    on_err c.from_residual.result (c.in_err-work_off.ensures.err due course trace owes stands told)

@@ -1,0 +1,301 @@
+-- The flows of a file, one turn after the other.
+use Rattle.std.proofs.Common.{◌≡◌, ◌≢◌, ◌≤◌, ◌<◌, ◌-◌, ◌⊎◌, inl, inr, ℕ, Bool, true, false, List, [], ◌∷◌, ◌++◌, length, Option, Some, Ok, Err, refl, sym, ap, ◌∙◌, subst, arith, length-append, append-nil}
+use Rattle.std.specs.Prelude.{◌==◌, if◌then◌else◌, filter, decimal}
+use Rattle.std.specs.List.{flat_map}
+use Rattle.std.proofs.lemmas.Grind.{flat_map-append}
+use Rattle.std.proofs.lemmas.List.Elements.{filter-append}
+use Rattle.px_message.specs.declared.flow.Flow.{Flow}
+use Rattle.px_outside.specs.Count.{Rose}
+use Rattle.px_outside.specs.Sink.{Writes, WritesPart}
+use Rattle.px_tnet.specs.Frame.{Framed, colon, framed}
+use Rattle.px_flowfile.specs.Reader.{BeginsWith, ComesNext}
+use Rattle.px_flowfile.specs.declared.entry.Entry.{Entry}
+use Rattle.px_filter.specs.Expression.{Expression}
+use Rattle.px_filter.specs.Holds.{holds}
+use Rattle.px_filter.specs.Parsing.{parse, place_of}
+use Rattle.px_filter.specs.Shown.{shown}
+use Rattle.px_filter.specs.declared.filter.FilterError.{FilterError}
+use Rattle.px_filter.specs.declared.filter.FilterError.TheVariants as errors
+use Rattle.px_outside.specs.declared.files.FileCall.TheVariants.{Read, Missed, ReadFailed}
+use Rattle.px_core.specs.Answers.{FilesMeaning}
+use Rattle.px_map.specs.Reads.{Made}
+use Rattle.px_map.proofs.ReadsLemmas.{made_none}
+use Rattle.px_addons.specs.Mapped.{seen_of}
+use Rattle.px_view.specs.Line.{flow_line}
+use Rattle.px_app.specs.FlowTurns.{PrintsSo, IsFaultTurn, Turns, line_where}
+use Rattle.px_app.specs.Flows.{Fetched, IsBadPlace, HasFlows, at_front, one_more, ListsFile, Shows, lines_of, no_filter, nothing_fetched, file_absent, file_unread, fetched}
+use Rattle.px_app.specs.Lines.{bad_filter, bad_flow_file, cannot_read}
+use Rattle.px_app.specs.Outside.{IsTold, Outside}
+use Rattle.px_app.specs.declared.flows.Turn.{Turn}
+use Rattle.px_app.specs.declared.flows.Turn.TheVariants as turns
+use Rattle.px_app.proofs.EndLemmas.{writes_none}
+use Rattle.px_app.proofs.PrintLemmas.{whole_part, writes_more, writes_part}
+use Rattle.px_app.proofs.ToldLemmas.{told_none, told_nothing}
+
+-- what stands behind a frame is less
+framed_less : (payload : List ℕ) (tag : ℕ) (rest text : List ℕ) → Framed payload tag rest text → length rest < length text
+framed_less payload tag rest text is =
+    let whole = ap length is.1 ∙ length-append (framed payload tag) rest in
+    let digits = length-append (decimal (length payload)) (colon ∷ (payload ++ (tag ∷ []))) in
+    omega arith
+
+-- what stands behind an entry is less than the text
+pub entry_less : (entry : Entry) (text behind : List ℕ) → BeginsWith entry text behind → length behind < length text
+entry_less entry text behind begins = let item = begins.1 in framed_less item.1 _ behind text item.2
+
+-- ---- lines
+
+one_line : (flow : Flow) (b : Bool) → flat_map flow_line (if b then flow ∷ [] else []) ≡ (if b then flow_line flow else [])
+one_line flow true = append-nil (flow_line flow)
+one_line flow false = refl
+
+-- the lines of one flow more
+pub lines_more : (expression : Expression) (flows : List Flow) (flow : Flow) → lines_of expression (flows ++ flow ∷ []) ≡ lines_of expression flows ++ line_where expression flow
+lines_more expression flows flow =
+    let P : Flow → Bool = λ f. holds f expression in
+    ap (flat_map flow_line) (filter-append P flows (flow ∷ []))
+    ∙ (flat_map-append flow_line (filter P flows) (filter P (flow ∷ [])) ∙ ap (λ l. lines_of expression flows ++ l) (one_line flow (holds flow expression)))
+
+-- ---- turns
+
+-- these flows were gone past, and printed by the filter
+pub record Gone (bytes : List ℕ) (expression : Expression) (rest : List ℕ) (start now : Option (List ℕ)) : Type 0 where
+  pub flows : List Flow
+  pub has : HasFlows bytes flows rest
+  pub printed : Writes (lines_of expression flows) start now
+
+pub gone_none : (bytes : List ℕ) (expression : Expression) (rest : List ℕ) (start : Option (List ℕ)) → rest ≡ bytes → Gone bytes expression rest start start
+gone_none bytes expression rest start all = record {
+  flows = [];
+  has = let P : List ℕ → Type 0 = λ r. HasFlows bytes [] r in subst P (sym all) at_front;
+  printed = writes_none start start refl;
+}
+
+has_more : (bytes rest next : List ℕ) (flows : List Flow) (entry : Entry) → HasFlows bytes flows rest → BeginsWith entry rest next → HasFlows bytes (flows ++ entry.flow ∷ []) next
+has_more bytes rest next flows entry has begins = one_more rest next flows (flows ++ entry.flow ∷ []) entry has begins refl
+
+pub gone_on : (failed : Type 0) (bytes : List ℕ) (expression : Expression) (len : ℕ) (rest next : List ℕ) (start now after : Option (List ℕ)) → Gone bytes expression rest start now →
+    Turns failed expression len rest next now after turns.Went → Gone bytes expression next start after
+gone_on failed bytes expression len rest next start now after gone (entry, begins, writes) = record {
+  flows = gone.flows ++ entry.flow ∷ [];
+  has = has_more bytes rest next gone.flows entry gone.has begins;
+  printed =
+      let P : List ℕ → Type 0 = λ l. Writes l start after in
+      subst P (sym (lines_more expression gone.flows entry.flow)) (writes_more (lines_of expression gone.flows) (line_where expression entry.flow) start now after gone.printed writes);
+}
+
+-- what comes next is this entry
+pub comes_so : (rest next : List ℕ) (came : Option Entry) (entry : Entry) → came ≡ Some entry → ComesNext rest (Ok came) next → BeginsWith entry rest next
+comes_so rest next came entry is comes = let P : Option Entry → Type 0 = λ o. ComesNext rest (Ok o) next in subst P is comes
+
+-- what a turn came to, after an entry was read and printed so
+pub turned_by : (failed : Type 0) (expression : Expression) (len : ℕ) (rest next : List ℕ) (before after : Option (List ℕ)) (entry : Entry) (turn : Turn) → BeginsWith entry rest next →
+    PrintsSo failed (line_where expression entry.flow) before after turn → Turns failed expression len rest next before after turn
+turned_by failed expression len rest next before after entry turns.Went begins printed = (entry, begins, printed)
+turned_by failed expression len rest next before after entry turns.NotPrinted begins printed = (entry, begins, printed)
+turned_by failed expression len rest next before after entry turns.NoMemory begins printed = printed
+turned_by failed expression len rest next before after entry turns.AtEnd begins printed = absurd printed
+turned_by failed expression len rest next before after entry (turns.AtBadPlace at) begins printed = absurd printed
+
+-- and where there is none
+pub turned_at : (failed : Type 0) (expression : Expression) (len offset : ℕ) (rest next : List ℕ) (before : Option (List ℕ)) (turn : Turn) → rest ≢ [] → offset ≡ len - length rest → IsFaultTurn rest offset turn →
+    Turns failed expression len rest next before before turn
+turned_at failed expression len offset rest next before turns.Went some same stops = absurd stops
+turned_at failed expression len offset rest next before turns.NotPrinted some same stops = absurd stops
+turned_at failed expression len offset rest next before turns.NoMemory some same stops = refl
+turned_at failed expression len offset rest next before turns.AtEnd some same stops = absurd stops
+turned_at failed expression len offset rest next before (turns.AtBadPlace at) some same stops = (((some, stops.0), stops.1 ∙ same), refl)
+
+-- a turn at a place that has no entry does not go on
+pub never_goes : (rest : List ℕ) (offset : ℕ) (turn : Turn) → IsFaultTurn rest offset turn → turn ≡ turns.Went → ⊥
+never_goes rest offset turns.Went stops is = stops
+never_goes rest offset turns.NotPrinted stops is = stops
+never_goes rest offset turns.NoMemory stops is = cc
+never_goes rest offset turns.AtEnd stops is = stops
+never_goes rest offset (turns.AtBadPlace at) stops is = cc
+
+-- ---- the ends of a run
+
+pub rose_from : (first old new : ℕ) → first ≤ old → Rose old new → Rose first new
+rose_from first old new later rose = omega (arith, later, rose)
+
+told_wider : (P Q : Type 0) (status : ℕ) (text : List ℕ) (start now : Option (List ℕ)) → (P → Q) → IsTold P status text start now → IsTold Q status text start now
+told_wider P Q status text start now wider told = record { begun = told.begun; whole = λ other quiet. told.whole other (λ p. quiet (wider p)) }
+
+pub shows_all : (failed : Type 0) (path bytes : List ℕ) (expression : Expression) (rest : List ℕ) (start now after : Option (List ℕ)) → Gone bytes expression rest start now →
+    rest ≡ [] → after ≡ now → Shows failed path bytes expression start after 0
+shows_all failed path bytes expression rest start now after gone none same = record {
+  flows = gone.flows;
+  behind = rest;
+  has = gone.has;
+  statuses = inl refl;
+  ended = λ _. none;
+  bad = λ (e : 0 ≡ 4). absurd (omega arith);
+  lost = λ (e : 0 ≡ 7). absurd (omega arith);
+  printed = now;
+  begun = whole_part (lines_of expression gone.flows) start now gone.printed;
+  whole = λ _. gone.printed;
+  ends = told_nothing failed 0 now after (writes_none now after same);
+}
+
+pub shows_some : (failed : Type 0) (path bytes : List ℕ) (expression : Expression) (rest : List ℕ) (start now after : Option (List ℕ)) → Gone bytes expression rest start now →
+    after ≡ now → Shows failed path bytes expression start after 8
+shows_some failed path bytes expression rest start now after gone same = record {
+  flows = gone.flows;
+  behind = rest;
+  has = gone.has;
+  statuses = inr (inr (inr refl));
+  ended = λ (e : 8 ≡ 0). absurd (omega arith);
+  bad = λ (e : 8 ≡ 4). absurd (omega arith);
+  lost = λ (e : 8 ≡ 7). absurd (omega arith);
+  printed = now;
+  begun = whole_part (lines_of expression gone.flows) start now gone.printed;
+  whole = λ _. gone.printed;
+  ends = told_none failed [] now after same;
+}
+
+seven_is : {n : ℕ} → n ≡ 7 → (n ≡ 0) ⊎ (n ≡ 4) → ⊥
+seven_is seven (inl e) = omega arith
+seven_is seven (inr e) = omega arith
+
+pub shows_part : (mid failed : Type 0) (path bytes : List ℕ) (expression : Expression) (len : ℕ) (rest next : List ℕ) (start now after : Option (List ℕ)) → Gone bytes expression rest start now →
+    Turns mid expression len rest next now after turns.NotPrinted → (mid → failed) → Shows failed path bytes expression start after 7
+shows_part mid failed path bytes expression len rest next start now after gone (entry, begins, lost) wider = record {
+  flows = gone.flows ++ entry.flow ∷ [];
+  behind = next;
+  has = has_more bytes rest next gone.flows entry gone.has begins;
+  statuses = inr (inr (inl refl));
+  ended = λ (e : 7 ≡ 0). absurd (omega arith);
+  bad = λ (e : 7 ≡ 4). absurd (omega arith);
+  lost = λ _. wider lost.0;
+  printed = after;
+  begun =
+      let P : List ℕ → Type 0 = λ l. WritesPart l start after in
+      subst P (sym (lines_more expression gone.flows entry.flow)) (writes_part (lines_of expression gone.flows) (line_where expression entry.flow) start now after gone.printed lost.1);
+  whole = λ other. absurd (seven_is refl other);
+  ends = told_nothing failed 7 after after (writes_none after after refl);
+}
+
+pub shows_bad : (mid failed : Type 0) (path bytes : List ℕ) (expression : Expression) (rest : List ℕ) (at status : ℕ) (start now after : Option (List ℕ)) → Gone bytes expression rest start now →
+    IsBadPlace rest → at ≡ length bytes - length rest → (status ≡ 4) ⊎ (status ≡ 8) → (mid → failed) →
+    IsTold mid status (if status == 4 then bad_flow_file path at else []) now after → Shows failed path bytes expression start after status
+shows_bad mid failed path bytes expression rest at status start now after gone none same either wider told = record {
+  flows = gone.flows;
+  behind = rest;
+  has = gone.has;
+  statuses = inr (statuses either);
+  ended = λ zero. absurd (not_other either 0 zero (omega arith) (omega arith));
+  bad = λ _. none;
+  lost = λ seven. absurd (not_other either 7 seven (omega arith) (omega arith));
+  printed = now;
+  begun = whole_part (lines_of expression gone.flows) start now gone.printed;
+  whole = λ _. gone.printed;
+  ends =
+      let P : ℕ → Type 0 = λ n. IsTold failed status (if status == 4 then bad_flow_file path n else []) now after in
+      subst P same (told_wider mid failed status _ now after wider told);
+}
+  where
+    statuses : (status ≡ 4) ⊎ (status ≡ 8) → (status ≡ 4) ⊎ ((status ≡ 7) ⊎ (status ≡ 8))
+    statuses (inl four) = inl four
+    statuses (inr eight) = inr (inr eight)
+
+    not_other : (status ≡ 4) ⊎ (status ≡ 8) → (n : ℕ) → status ≡ n → n ≢ 4 → n ≢ 8 → ⊥
+    not_other (inl four) n is no_four no_eight = no_four (sym is ∙ four)
+    not_other (inr eight) n is no_four no_eight = no_eight (sym is ∙ eight)
+
+-- ---- what came of the filter and of the file
+
+module _ (same out notes : Type 0) (path text : List ℕ) (before after : Outside) (status : ℕ) where
+  -- the text is no filter
+  pub not_filtered : (why : FilterError) → parse text ≡ Err why → same → after.files ≡ before.files → (status ≡ 2) ⊎ (status ≡ 8) →
+      IsTold out status (bad_filter (place_of why)) before.written after.written → IsTold notes status (shown text (place_of why)) before.noted after.noted →
+      (what : Fetched) × ListsFile same out notes path text what before after status
+  not_filtered why refuses is_same kept is printed noted = (
+    no_filter why,
+    record {
+      net = is_same;
+      reads = let P : FilesMeaning → Type 0 = λ f. Made [] (seen_of before.files) (seen_of f) in subst P (sym kept) (made_none (seen_of before.files));
+      lists = (refuses, record { is = is; net = is_same; kept = kept; prints = printed; notes = noted });
+      silent = λ bytes expression (e : no_filter why ≡ fetched bytes expression). absurd (cc);
+    },
+  )
+
+  -- memory ran out before the file was read
+  pub not_fetched : same → Made [] (seen_of before.files) (seen_of after.files) → status ≡ 8 → after.written ≡ before.written → after.noted ≡ before.noted →
+      (what : Fetched) × ListsFile same out notes path text what before after status
+  not_fetched is_same made eight quiet silent = (
+    nothing_fetched,
+    record {
+      net = is_same;
+      reads = made;
+      lists = record {
+        is = inl eight;
+        net = is_same;
+        kept = refl;
+        prints = told_nothing out status before.written after.written (writes_none before.written after.written quiet);
+        notes = told_nothing notes status before.noted after.noted (writes_none before.noted after.noted silent);
+      };
+      silent = λ bytes expression (e : nothing_fetched ≡ fetched bytes expression). absurd (cc);
+    },
+  )
+
+  -- there is no filter: the text is none, or memory ran out
+  pub no_filter_made : (why : FilterError) → (why ≡ errors.NoMemory) ⊎ (parse text ≡ Err why) → same → after.files ≡ before.files → (status ≡ 2) ⊎ (status ≡ 8) →
+      (why ≡ errors.NoMemory → (status ≡ 8) × ((after.written ≡ before.written) × (after.noted ≡ before.noted))) →
+      IsTold out status (bad_filter (place_of why)) before.written after.written → IsTold notes status (shown text (place_of why)) before.noted after.noted →
+      (what : Fetched) × ListsFile same out notes path text what before after status
+  no_filter_made why (inr refuses) is_same kept is memory printed noted = not_filtered why refuses is_same kept is printed noted
+  no_filter_made why (inl wants) is_same kept is memory printed noted =
+      let none = memory wants in
+      let P : FilesMeaning → Type 0 = λ f. Made [] (seen_of before.files) (seen_of f) in
+      not_fetched is_same (subst P (sym kept) (made_none (seen_of before.files))) none.0 none.1.0 none.1.1
+
+  -- nothing stands under the path
+  pub none_there : (expression : Expression) → parse text ≡ Ok expression → same → Made (Missed path ∷ []) (seen_of before.files) (seen_of after.files) → (status ≡ 3) ⊎ (status ≡ 8) →
+      IsTold out status (cannot_read path) before.written after.written → IsTold notes status [] before.noted after.noted →
+      (what : Fetched) × ListsFile same out notes path text what before after status
+  none_there expression parses is_same made is printed noted = (
+    file_absent,
+    record {
+      net = is_same;
+      reads = made;
+      lists = ((expression, parses), record { is = is; net = is_same; kept = refl; prints = printed; notes = noted });
+      silent = λ bytes other (e : file_absent ≡ fetched bytes other). absurd (cc);
+    },
+  )
+
+  -- it was not read
+  pub not_there : (expression : Expression) → parse text ≡ Ok expression → same → Made (ReadFailed path ∷ []) (seen_of before.files) (seen_of after.files) → (status ≡ 3) ⊎ (status ≡ 8) →
+      IsTold out status (cannot_read path) before.written after.written → IsTold notes status [] before.noted after.noted →
+      (what : Fetched) × ListsFile same out notes path text what before after status
+  not_there expression parses is_same made is printed noted = (
+    file_unread,
+    record {
+      net = is_same;
+      reads = made;
+      lists = ((expression, parses), record { is = is; net = is_same; kept = refl; prints = printed; notes = noted });
+      silent = λ bytes other (e : file_unread ≡ fetched bytes other). absurd (cc);
+    },
+  )
+
+  -- these bytes were read
+  pub is_there : (bytes : List ℕ) (expression : Expression) → parse text ≡ Ok expression → same → Made (Read path bytes ∷ []) (seen_of before.files) (seen_of after.files) →
+      Shows out path bytes expression before.written after.written status → after.noted ≡ before.noted →
+      (what : Fetched) × ListsFile same out notes path text what before after status
+  is_there bytes expression parses is_same made shows silent = (
+    fetched bytes expression,
+    record {
+      net = is_same;
+      reads = made;
+      lists = (parses, shows);
+      silent = λ other more is. silent;
+    },
+  )
+
+-- the same of equal words
+pub lists_at : {same out notes : Type 0} {before after : Outside} {status : ℕ} (path text other more : List ℕ) → (path ≡ other) × (text ≡ more) → (what : Fetched) × ListsFile same out notes path text what before after status →
+    (what : Fetched) × ListsFile same out notes other more what before after status
+lists_at {same = same} {out = out} {notes = notes} {before = before} {after = after} {status = status} path text other more both lists =
+    let P : List ℕ → Type 0 = λ p. (what : Fetched) × ListsFile same out notes p text what before after status in
+    let Q : List ℕ → Type 0 = λ t. (what : Fetched) × ListsFile same out notes other t what before after status in
+    subst Q both.1 (subst P both.0 lists)

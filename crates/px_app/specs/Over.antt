@@ -1,0 +1,90 @@
+-- What a run appended over its trace, and what became of files.
+--
+-- When all steps that follow from something heard are said, the flows that finished in them are printed and saved, before the next thing is
+-- heard. So each rest of the trace has one change of files, which appends what has become due there.
+use Rattle.std.specs.Prelude.{◌≡◌, ◌≤◌, ℕ, List, [], ◌∷◌, ◌++◌, map, Option}
+use Rattle.std.specs.List.{flat_map}
+use Rattle.px_text.specs.Prefix.{IsPrefixOf}
+use Rattle.px_message.specs.declared.flow.Flow.{Flow}
+use Rattle.px_event.specs.declared.ask.Hook.{Hook}
+use Rattle.px_event.specs.declared.step.Step.TheVariants as steps
+use Rattle.px_event.specs.Trace.{Trace}
+use Rattle.px_outside.specs.Sink.{WritesPart}
+use Rattle.px_core.specs.declared.answerer.Answer.{Answer}
+use Rattle.px_core.specs.Answers.{Answering, AnswererState, Failing, FilesMeaning}
+use Rattle.px_core.specs.Course.{Change, Course}
+use Rattle.px_core.specs.Run.{done_of}
+use Rattle.px_app.specs.Listed.{listed}
+use Rattle.px_app.specs.Saved.{Append, Appending, ArePut, BrokeAppending, Came, SavesTo, put, saved}
+use Rattle.px_app.specs.declared.printing.Printing.{Printing}
+use Rattle.px_app.specs.declared.printing.Printing.TheVariants.{Whole, Failed}
+
+-- where a trace rests: behind the last step of each thing heard; these are its fronts that end so
+abbrev pub rests : Trace → Trace → List Trace
+rests front [] = front ∷ []
+rests front (steps.Heard moment what ∷ rest) = front ∷ rests (front ++ steps.Heard moment what ∷ []) rest
+rests front (step ∷ rest) = rests (front ++ step ∷ []) rest
+
+abbrev pub rests_of : Trace → List Trace
+rests_of [] = []
+rests_of (step ∷ rest) = rests (step ∷ []) rest
+
+-- the course of an answerer that began so, by these changes
+abbrev pub course_from : {S : Type 0} → AnswererState S → List (Change S) → Course S
+course_from first changes = record { first = first; changes = changes }
+
+abbrev pub behind_of : {S : Type 0} → Change S → Trace
+behind_of change = change.behind
+
+-- the flows that a trace finishes
+abbrev pub finished_in : Trace → List Flow
+finished_in trace = flat_map done_of trace
+
+-- The changes of a run that saves, and what they appended in sum: in each of them what is due of the flows that are finished there was
+-- appended, up to a write or an append that failed, or to want of memory; behind that nothing is appended.
+pub data SavedOver {S : Type 0} (to : Option SavesTo) : Printing → List (Change S) → List Append → Type 0 where
+  nothing_yet : SavedOver to Whole [] []
+  all_saved : (changes next : List (Change S)) (one : Change S) (made more all : List Append) → SavedOver to Whole changes made → one.new.own ≡ one.old.own →
+      Appending to one.old.files more one.new.files → all ≡ made ++ more → all ≡ map put (saved to (finished_in one.behind)) → next ≡ changes ++ one ∷ [] →
+      SavedOver to Whole next all
+  is_cut : (changes next : List (Change S)) (one : Change S) (made more all : List Append) → SavedOver to Whole changes made → one.new.own ≡ one.old.own →
+      Appending to one.old.files more one.new.files → all ≡ made ++ more → ArePut (saved to (finished_in one.behind)) all → next ≡ changes ++ one ∷ [] →
+      SavedOver to Failed next all
+  is_broken : (changes next : List (Change S)) (one : Change S) (made more all : List Append) → SavedOver to Whole changes made → one.new.own ≡ one.old.own →
+      BrokeAppending to one.old.files more one.new.files → all ≡ made ++ more → IsPrefixOf all (map put (saved to (finished_in one.behind))) → next ≡ changes ++ one ∷ [] →
+      SavedOver to Failed next all
+  stays_cut : (changes next : List (Change S)) (one : Change S) (made : List Append) → SavedOver to Failed changes made → one.new ≡ one.old → next ≡ changes ++ one ∷ [] →
+      SavedOver to Failed next made
+
+-- How far a run came at a rest of its trace, whose sink began so.
+pub record Reaches {S : Type 0} (to : Option SavesTo) (reached : Printing) (changes : List (Change S)) (made : List Append) (trace : Trace) (start now : Option (List ℕ)) : Type 0 where
+  pub saved_so : SavedOver to reached changes made
+  pub placed : map behind_of changes ≡ rests_of trace
+  pub came : Came reached to (finished_in trace) start now made
+
+-- At any moment: a change stands at each rest of a front, and a beginning of the lines is printed.
+pub record ReachesPart {S : Type 0} (to : Option SavesTo) (changes : List (Change S)) (made : List Append) (trace : Trace) (start now : Option (List ℕ)) : Type 0 where
+  pub reached : Printing
+  pub saved_so : SavedOver to reached changes made
+  pub later : List Trace
+  pub placed : rests_of trace ≡ map behind_of changes ++ later
+  pub part : WritesPart (listed trace) start now
+
+-- Answers and appends in turn, each from the state and the files that the one before left.
+pub data Goes {S : Type 0} (answers : Answering S) (to : Option SavesTo) (first : AnswererState S) : AnswererState S → Type 0 where
+  goes_none : Goes answers to first first
+  goes_answer : (old new : AnswererState S) (hook : Hook) (flow : Flow) (given : Answer) → Goes answers to first old → answers hook flow old.own old.files new.own new.files given →
+      Goes answers to first new
+  goes_append : (old new : AnswererState S) (made : List Append) → Goes answers to first old → new.own ≡ old.own → Appending to old.files made new.files → Goes answers to first new
+
+-- What files mean behind answers and appends: all were made, or the last of them ran out of memory.
+pub data LeavesBehind {S : Type 0} (answers : Answering S) (fails : Failing S) (to : Option SavesTo) (first : AnswererState S) (files : FilesMeaning) : Type 0 where
+  left_whole : (last : AnswererState S) → Goes answers to first last → files ≡ last.files → LeavesBehind answers fails to first files
+  left_by_answer : (last : AnswererState S) (hook : Hook) (flow : Flow) → Goes answers to first last → fails hook flow last.own last.files files → LeavesBehind answers fails to first files
+  left_by_append : (last : AnswererState S) (made : List Append) → Goes answers to first last → BrokeAppending to last.files made files → LeavesBehind answers fails to first files
+
+-- Answers, and those that ran out of memory, never lessen the count of appends that failed.
+pub record KeepsLosses {S : Type 0} (answers : Answering S) (fails : Failing S) : Type 0 where
+  pub given_so : (hook : Hook) (flow : Flow) (old : S) (old_files : FilesMeaning) (new : S) (new_files : FilesMeaning) (given : Answer) →
+      answers hook flow old old_files new new_files given → old_files.losses ≤ new_files.losses
+  pub failed_so : (hook : Hook) (flow : Flow) (old : S) (old_files new_files : FilesMeaning) → fails hook flow old old_files new_files → old_files.losses ≤ new_files.losses
