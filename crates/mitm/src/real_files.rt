@@ -70,7 +70,11 @@ impl<R: HostFiles + AllocGlobal + Drop> Files for RealFiles<R> {
     }
 }
 
-// Opens the file, which is made where it is absent, and writes at its end.
+// Opens the file for appending, which is made where it is absent, and writes the bytes. What follows is relied on, and neither proved nor
+// told: each write goes to the end that the file has then (`O_APPEND`), whoever else writes to it; and `write_all` is one call of the
+// system's `write`, as long as that takes all bytes. For a regular file it takes up to 2,147,479,552 at once, unless the disk or a
+// limit is full, or the program is killed: then it takes a front of them. After such a front `write_all` goes on with the rest, and where
+// that fails, so does the append, with the front in the file. No byte is waited for to reach the disk.
 fn append_to<R: HostFiles>(rt: &R, path: &str, bytes: &[u8]) -> io::Result<()> {
     let mut file = OpenOptions::new().append(true).create(true).open(rt, path)?;
     file.write_all(bytes)

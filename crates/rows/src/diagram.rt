@@ -38,14 +38,15 @@ pub(crate) struct Diagram {
     pub(crate) asked: Asked,
 }
 
-/// What is shown where a row wants it: the outcome of a conversation; of a run the notes, the calls of its files, and the
-/// count of the steps.
+/// What is shown where a row wants it: the outcome of a conversation; of a run the notes, the calls of its files, the
+/// count of the steps, and what the file `s` holds.
 #[derive(Clone, Copy, Debug)]
 pub(crate) struct Asked {
     pub(crate) outcome: bool,
     pub(crate) notes: bool,
     pub(crate) calls: bool,
     pub(crate) steps: bool,
+    pub(crate) held: bool,
 }
 
 /// The row's lines.
@@ -81,6 +82,7 @@ fn new_diagram(alloc: Global) -> Result<Diagram, RowError> {
             notes: false,
             calls: false,
             steps: false,
+            held: false,
         },
     })
 }
@@ -106,6 +108,9 @@ fn read_line(
     }
     if read_outside(alloc, &mut diagram.outside, text)? {
         return Ok(());
+    }
+    if note_saved(&mut diagram.asked, text) {
+        return add_wanted(&mut diagram.wanted, text);
     }
     add_act(alloc, diagram, number, text)
 }
@@ -156,8 +161,7 @@ fn add_act(
     text: &str,
 ) -> Result<(), RowError> {
     let act = read_act(alloc, text)?;
-    diagram.wanted.push_str(text)?;
-    diagram.wanted.push('\n')?;
+    add_wanted(&mut diagram.wanted, text)?;
     if is_said(&act) {
         drop(act);
         note_asked(&mut diagram.asked, text);
@@ -166,6 +170,25 @@ fn add_act(
     let piece = piece_of(alloc, &act)?;
     add_heed(alloc, diagram, number, text, act)?;
     add_piece(diagram, piece)
+}
+
+fn add_wanted(wanted: &mut String, text: &str) -> Result<(), RowError> {
+    wanted.push_str(text)?;
+    wanted.push('\n')?;
+    Ok(())
+}
+
+// Notes what a line of what was saved wants shown, and whether it is one.
+fn note_saved(asked: &mut Asked, text: &str) -> bool {
+    if text.starts_with("s holds ") {
+        asked.held = true;
+        return true;
+    }
+    if text.starts_with("appends to ") || text.starts_with("cannot append to ") {
+        asked.calls = true;
+        return true;
+    }
+    false
 }
 
 fn is_said(act: &Act) -> bool {

@@ -37,10 +37,19 @@ fn split_words(alloc: Global, text: &str) -> Result<Vec<String>, RowError> {
     let mut words = Vec::new(alloc);
     for word in text.split(' ') {
         if !word.is_empty() {
-            words.push(String::from_str(alloc, word)?)?;
+            words.push(read_word(alloc, word)?)?;
         }
     }
     Ok(words)
+}
+
+// A word, in which escapes stand for bytes: so `\x20` stands for a blank.
+fn read_word(alloc: Global, text: &str) -> Result<String, RowError> {
+    let bytes = unescape(alloc, text)?;
+    match str::from_utf8(&bytes) {
+        Ok(word) => Ok(String::from_str(alloc, word)?),
+        Err(_) => Err(RowError::Bad),
+    }
 }
 
 /// Reads the line where it says what a run is handed, and whether it does.

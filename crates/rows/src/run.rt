@@ -3,7 +3,7 @@ use crate::diagram::{Diagram, Heed};
 use crate::outside::Outside;
 use px_app::run;
 use px_event::{Heard, Side, Step};
-use px_outside::{FileCall, MemFiles, ScriptNet, VecSink};
+use px_outside::{FileCall, FileError, Files, MemFiles, ScriptNet, VecSink};
 use px_rows::{Act, Cut, Peer, RowError, cut_piece, end_line, piece, show_said, write_escaped};
 use std::alloc::Global;
 
@@ -51,7 +51,11 @@ pub(crate) fn play_run(alloc: Global, diagram: &Diagram, cut: Cut) -> Result<Str
         calls: files.calls(),
         status,
     };
-    show_run(alloc, diagram, begins.as_slice(), &came)
+    let mut shown = show_run(alloc, diagram, begins.as_slice(), &came)?;
+    if diagram.asked.held {
+        show_held(&mut shown, &mut files)?;
+    }
+    Ok(shown)
 }
 
 // The options file, unless it is absent, and the others.
@@ -249,8 +253,23 @@ fn show_call(out: &mut String, call: &FileCall) -> Result<(), RowError> {
         FileCall::Read { path, .. } => show_bytes(out, "reads ", path.as_slice()),
         FileCall::Missed { path } => show_bytes(out, "misses ", path.as_slice()),
         FileCall::ReadFailed { path } => show_bytes(out, "cannot read ", path.as_slice()),
-        FileCall::Appended { path, .. } => show_bytes(out, "appends to ", path.as_slice()),
+        FileCall::Appended { path, bytes } => show_append(out, path.as_slice(), bytes.as_slice()),
         FileCall::AppendFailed { path } => show_bytes(out, "cannot append to ", path.as_slice()),
+    }
+}
+
+fn show_append(out: &mut String, path: &[u8], bytes: &[u8]) -> Result<(), RowError> {
+    out.push_str("appends to ")?;
+    write_escaped(out, path)?;
+    show_bytes(out, " ", bytes)
+}
+
+// What the file `s` holds at the end, if it is there.
+fn show_held(out: &mut String, files: &mut MemFiles) -> Result<(), RowError> {
+    match files.read("s") {
+        Ok(bytes) => show_bytes(out, "s holds ", &bytes),
+        Err(FileError::NoMemory) => Err(RowError::NoMemory),
+        Err(_) => Ok(()),
     }
 }
 
