@@ -14,6 +14,7 @@ import time
 from example_cases import examples
 from option_cases import OPTION_CASES
 from page_cases import PAGE_CASES
+from saving_cases import SAVING_CASES
 from tools import (
     ORIGIN, PROXY, TOP, Mitm, Origin, Tally, curl, get, line, raise_loopback, read_all, read_answers, same, talk, url, wait_for,
 )
@@ -274,7 +275,7 @@ def main():
     tally = Tally(sys.argv[1:])
     with Origin() as origin:
         try_with_one_run(tally, origin)
-        for case in OPTION_CASES + PAGE_CASES:
+        for case in OPTION_CASES + PAGE_CASES + SAVING_CASES:
             tally.try_case(name_of(case), case)
     for name, case in examples():
         tally.try_case(name, case)

@@ -75,7 +75,9 @@ def try_commands(text, margin):
 
 
 def run_command(command):
-    done = subprocess.run(["bash", "-c", command], cwd=TOP, stdin=subprocess.DEVNULL, capture_output=True, timeout=60)
+    """The lines that a command shows, where `./mitm` is the program under test."""
+    words = re.sub(r"^\./mitm ", lambda _: shlex.quote(MITM) + " ", command)
+    done = subprocess.run(["bash", "-c", words], cwd=TOP, stdin=subprocess.DEVNULL, capture_output=True, timeout=60)
     return [shown.rstrip("\r") for shown in done.stdout.decode().splitlines()]
 
 
@@ -87,14 +89,17 @@ def examples():
     """The cases: a name and what tries it."""
     found = []
     for path in sorted(glob.glob(os.path.join(TOP, "examples", "*.toml"))):
-        found.append((f"example {os.path.basename(path).removesuffix('.toml')}", path, "#     "))
-    found.append(("the README's first use", os.path.join(TOP, "README.md"), "    "))
-    return [(name, lambda path=path, margin=margin: try_file(path, margin)) for name, path, margin in found]
+        found.append((f"example {os.path.basename(path).removesuffix('.toml')}", lambda path=path: try_commands(text_of(path), "#     ")))
+    for name, title in (("the README's first use", "Run it"), ("the README's saved flows", "Save flows")):
+        found.append((name, lambda title=title: try_commands(part_of_readme(title), "    ")))
+    return found
 
 
-def try_file(path, margin):
+def text_of(path):
     with open(path, encoding="utf-8") as file:
-        text = file.read()
-    if margin == "    ":
-        text = re.search(r"(?ms)^## Run it$.*?(?=^## )", text).group(0)
-    try_commands(text, margin)
+        return file.read()
+
+
+def part_of_readme(title):
+    """What the README says under this title."""
+    return re.search(rf"(?ms)^## {title}$.*?(?=^## )", text_of(os.path.join(TOP, "README.md"))).group(0)

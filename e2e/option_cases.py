@@ -166,8 +166,9 @@ def refused(options, status, shown, notes=()):
 
 
 def case_usage():
-    for words in ([], ["serve"], ["serve", "127.0.0.1", "9000"], ["gen", "10001"], ["gen", "007"], ["--help"]):
-        same(run_program(*words)[:2], (1, ["usage: mitm serve OPTIONS | gen N"]))
+    of_flows = ["flows"], ["flows", "file"], ["flows", "file", "~c", "404"]
+    for words in ([], ["serve"], ["serve", "127.0.0.1", "9000"], *of_flows, ["gen", "10001"], ["gen", "007"], ["--help"]):
+        same(run_program(*words)[:2], (1, ["usage: mitm serve OPTIONS | flows FILE FILTER | gen N"]))
 
 
 def case_no_options_file():
@@ -185,7 +186,7 @@ def case_options_without_a_good_mode():
 
 
 def case_unknown_and_wrong_options():
-    refused(MODE + "save_stream_file = 'x'\n", 2, "bad option save_stream_file")
+    refused(MODE + "stream_large_bodies = 'x'\n", 2, "bad option stream_large_bodies")
     refused(MODE + "anticache = 1\n", 2, "bad option anticache")
 
 

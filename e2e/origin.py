@@ -93,6 +93,8 @@ def reply(connection, method, target, head, body):
         connection.sendall(answer("200 OK", bytes(SOME)))
     elif path == "/big":
         connection.sendall(answer("200 OK", bytes(BIG)))
+    elif path == "/absent":
+        connection.sendall(answer("404 Not Found", b"absent\n", "Content-Type: text/plain"))
     elif path == "/chunked":
         connection.sendall(b"HTTP/1.1 200 OK\r\nTransfer-Encoding: chunked\r\nTrailer: X-Sum\r\n\r\n")
         connection.sendall(b"5\r\nhello\r\n6;x=y\r\n world\r\n0\r\nX-Sum: 11\r\n\r\n")

@@ -17,6 +17,7 @@ ORIGIN = 9000
 HERE = os.path.dirname(os.path.abspath(__file__))
 TOP = os.path.dirname(HERE)
 MITM = os.path.abspath(os.environ.get("MITM", os.path.join(TOP, "crates", "mitm", "out", "mitm")))
+sys.path.append(os.path.join(TOP, "examples"))
 MODE = f'mode = "reverse:http://127.0.0.1:{ORIGIN}"\n'
 
 
@@ -79,10 +80,10 @@ class Origin(Started):
 
 
 class Mitm(Started):
-    """`mitm serve FILE`, in a folder of its own in which FILE has these options."""
+    """`mitm serve FILE`, in a folder of its own in which FILE has these options. Words in front of the program's name run it."""
 
-    def __init__(self, options="", port=PROXY[1], files=(), user=None):
-        self.options, self.port, self.files, self.user = MODE + options, port, dict(files), user
+    def __init__(self, options="", port=PROXY[1], files=(), user=None, in_front=()):
+        self.options, self.port, self.files, self.user, self.in_front = MODE + options, port, dict(files), user, in_front
 
     def start(self):
         self.folder = tempfile.TemporaryDirectory()
@@ -93,7 +94,7 @@ class Mitm(Started):
             with open(os.path.join(home, name), "wb") as file:
                 file.write(content)
         self.printed, self.noted = tempfile.TemporaryFile(), tempfile.TemporaryFile()
-        self.process = start_program(["serve", "options"], home, self.user, self.printed, self.noted)
+        self.process = start_program(["serve", "options"], home, self.user, self.printed, self.noted, self.in_front)
         self.seen = 0
         wait_for(lambda: listens(self.port) or self.process.poll() is not None, "mitm")
         if self.process.poll() is not None:
@@ -130,13 +131,13 @@ def lines_of(file):
     return file.read().decode().splitlines()
 
 
-def start_program(words, folder, user, out, err):
-    """Starts mitm with these words in this folder, as this user where one is named."""
+def start_program(words, folder, user, out, err, in_front=()):
+    """Starts mitm with these words in this folder, as this user where one is named, by the words in front."""
     program, names = MITM, {}
     if user is not None:
         program = shutil.copy(MITM, os.path.join(folder, "mitm"))
         names = {"user": user, "group": user, "extra_groups": []}
-    return subprocess.Popen([program, *words], cwd=folder, stdin=subprocess.DEVNULL, stdout=out, stderr=err, **names)
+    return subprocess.Popen([*in_front, program, *words], cwd=folder, stdin=subprocess.DEVNULL, stdout=out, stderr=err, **names)
 
 
 def run_program(*words, options=None, user=None):
@@ -157,9 +158,9 @@ def run_program(*words, options=None, user=None):
         return status, lines_of(out), lines_of(err)
 
 
-def talk(sent, pieces=None):
+def talk(sent, pieces=None, to=PROXY):
     """Sends bytes, whole or in pieces of so many bytes, and gives all that comes until the close."""
-    with socket.create_connection(PROXY, timeout=20) as client:
+    with socket.create_connection(to, timeout=20) as client:
         client.setsockopt(socket.IPPROTO_TCP, socket.TCP_NODELAY, 1)
         if pieces is None:
             client.sendall(sent)
