@@ -159,10 +159,10 @@ front_answers bytes start end block raw at slice reads =
 
 -- ---- requests
 
-abbrev request_line : RequestHead → List ℕ
+abbrev pub request_line : RequestHead → List ℕ
 request_line h = h.method ++ 32 ∷ (h.target ++ 32 ∷ print_version h.minor)
 
-print_request-lines : (h : RequestHead) → print_request h ≡ head_text h.blank (request_line h) h.line_end h.fields h.last
+pub print_request-lines : (h : RequestHead) → print_request h ≡ head_text h.blank (request_line h) h.line_end h.fields h.last
 unfolding print_request
 print_request-lines h = lines (print_blank h.blank) h.method h.target (print_version h.minor) (print_end h.line_end) (print_section h.fields h.last)
   where
@@ -215,10 +215,10 @@ request_found block rest h x fits =
 
 -- ---- responses
 
-abbrev status_line : ResponseHead → List ℕ
+abbrev pub status_line : ResponseHead → List ℕ
 status_line h = print_version h.minor ++ 32 ∷ (h.digits ++ print_reason h.reason)
 
-print_response-lines : (h : ResponseHead) → print_response h ≡ head_text h.blank (status_line h) h.line_end h.fields h.last
+pub print_response-lines : (h : ResponseHead) → print_response h ≡ head_text h.blank (status_line h) h.line_end h.fields h.last
 unfolding print_response
 print_response-lines h = lines (print_blank h.blank) (print_version h.minor) h.digits (print_reason h.reason) (print_end h.line_end) (print_section h.fields h.last)
   where

@@ -26,7 +26,8 @@ use Rattle.px_head.specs.Heads.{raw_request, raw_response, raw_trailers}
 use Rattle.px_head.specs.Laws.{IsPlainByte, IsValueText, IsPair, IsVersionText, IsRequestParts, IsResponseParts, IsTrailerParts}
 use Rattle.px_head.specs.Within.{IsPlaceWithin}
 use Rattle.px_head.proofs.BlockLemmas.{request_in-source, response_in-source, trailers_in-source, AllDigits-from_AllPass, code_short}
-use Rattle.px_head.proofs.PlaceLemmas.{place_within, place-stays, place-long}
+use Rattle.px_head.proofs.PlaceLemmas.{place_within, place-stays}
+use Rattle.px_head.proofs.TrimLemmas.{trim_twice}
 
 -- ---- from the place to the front
 
@@ -121,23 +122,17 @@ front_of-decided : (o : Option RawHead) (end : ℕ) → (front_of o end ≢ Noth
 front_of-decided None end = (λ e. cc, λ e. cc)
 front_of-decided (Some raw) end = (λ e. cc, λ e. cc)
 
-nothing_by : (kind : Kind) (bytes : List ℕ) (p : Place) → front_in (read_as kind) bytes p ≡ Nothing → p ≡ Missing
+pub nothing_by : (kind : Kind) (bytes : List ℕ) (p : Place) → front_in (read_as kind) bytes p ≡ Nothing → p ≡ Missing
 nothing_by kind bytes Missing is = refl
 nothing_by kind bytes Exceeded is = absurd (let e = is in cc)
 nothing_by kind bytes (Block start end) is =
     absurd ((front_of-decided (read_as kind (slice_range bytes start end)) end).0 is)
 
-pub waiting-short : (kind : Kind) (bytes : List ℕ) → front kind bytes ≡ Nothing → length bytes < 65536
-waiting-short kind bytes is = place-Missing kind bytes (nothing_by kind bytes (place kind bytes) is)
-
-too_long_by : (kind : Kind) (bytes : List ℕ) (p : Place) → front_in (read_as kind) bytes p ≡ TooLong → p ≡ Exceeded
+pub too_long_by : (kind : Kind) (bytes : List ℕ) (p : Place) → front_in (read_as kind) bytes p ≡ TooLong → p ≡ Exceeded
 too_long_by kind bytes Missing is = absurd (let e = is in cc)
 too_long_by kind bytes Exceeded is = refl
 too_long_by kind bytes (Block start end) is =
     absurd ((front_of-decided (read_as kind (slice_range bytes start end)) end).1 is)
-
-pub too_long-long : (kind : Kind) (bytes : List ℕ) → front kind bytes ≡ TooLong → 65536 ≤ length bytes
-too_long-long kind bytes is = place-long kind bytes (too_long_by kind bytes (place kind bytes) is)
 
 -- ---- the parts of a head
 
@@ -158,7 +153,7 @@ token_test : (name : List ℕ) → IsToken name → is_token name ≡ true
 token_test name token = rw (lt-ltb 0 (length name) token.0, list_all-from_AllPass is_token_byte name token.1) refl
 
 field_pair : (f : Field) → IsField f → IsPair (name_and_value f)
-field_pair f x = (token_test f.name x.name, value_text (field_value f) (AllPass-trim_ows is_value_byte f.raw x.raw))
+field_pair f x = (token_test f.name x.name, value_text (field_value f) (AllPass-trim_ows is_value_byte f.raw x.raw), trim_twice f.raw)
 
 field_pairs : (fields : List Field) → All IsField fields → All IsPair (map name_and_value fields)
 field_pairs fields all = All-map IsPair name_and_value fields

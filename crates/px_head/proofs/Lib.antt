@@ -4,3 +4,6 @@ pub mod FrontLemmas
 pub mod EndLemmas
 pub mod LineLemmas
 pub mod PlaceLemmas
+pub mod ReadLemmas
+pub mod SizeLemmas
+pub mod TrimLemmas

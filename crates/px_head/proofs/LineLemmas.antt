@@ -164,6 +164,12 @@ line_end-within = by_lines (λ bytes. line_end bytes ≤ length bytes)
     (λ text ih. rw (line_end-lf text) (omega arith))
     (λ text ih. rw (line_end-crlf text) (omega arith))
 
+pub line_end-short : (bytes : List ℕ) → line_end bytes ≤ 2
+line_end-short = by_lines (λ bytes. line_end bytes ≤ 2)
+    (λ bytes e z. rw e (omega arith))
+    (λ text ih. rw (line_end-lf text) (omega arith))
+    (λ text ih. rw (line_end-crlf text) (omega arith))
+
 -- a line end at the front stays one
 pub line_end-kept : (bytes more : List ℕ) (n : ℕ) → line_end bytes ≡ suc n → line_end (bytes ++ more) ≡ suc n
 line_end-kept bytes more n = by_lines (λ bytes. line_end bytes ≡ suc n → line_end (bytes ++ more) ≡ suc n)

@@ -85,7 +85,7 @@ late_end bytes more start end fits none is =
       | inr f ↦ f.1
     ]
 
-place_at-Exceeded : (bytes : List ℕ) (start : ℕ) (end : Option ℕ) → 65536 ≤ length bytes
+pub place_at-Exceeded : (bytes : List ℕ) (start : ℕ) (end : Option ℕ) → 65536 ≤ length bytes
     → ((e : ℕ) → end ≡ Some e → 65536 < e) → place_at bytes start end ≡ Exceeded
 place_at-Exceeded bytes start None long far = elim (leb_tells 65536 (length bytes)) [
   | inl t ↦ rw t.0 refl

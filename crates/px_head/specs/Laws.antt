@@ -1,13 +1,14 @@
 -- Laws of what stands at the front of bytes.
-use Rattle.std.specs.Prelude.{◌≡◌, ◌≢◌, ℕ, ◌<◌, ◌≤◌, ◌⊎◌, true, List, [], ◌++◌, length, slice_range, All, Some, codes, IsUtf8}
-use Rattle.httparse.specs.Grammar.{AllPass, is_token, is_uri_byte, is_value_byte, Field, LineEnd, RequestHead, ResponseHead}
+use Rattle.std.specs.Prelude.{◌≡◌, ◌≢◌, ℕ, ◌<◌, ◌≤◌, ◌⊎◌, ◌↔◌, true, List, [], ◌++◌, length, take, All, Some, codes, IsUtf8}
+use Rattle.httparse.specs.Grammar.{AllPass, is_token, is_uri_byte, is_value_byte, trim_ows, Field, LineEnd, RequestHead, ResponseHead}
 use Rattle.px_text.specs.Number.{decimal_value}
 use Rattle.px_head.specs.declared.raw.RawHead.{RawHead}
-use Rattle.px_head.specs.declared.front.Front.TheVariants.{Nothing, TooLong, BadHead, Stands}
+use Rattle.px_head.specs.declared.front.Front.TheVariants.{Nothing, TooLong, Stands}
 use Rattle.px_head.specs.declared.front.Kind.{Kind}
-use Rattle.px_head.specs.declared.place.Place.TheVariants.{Block}
-use Rattle.px_head.specs.Front.{head_place, trailers_place, front, request_front, response_front, trailer_front}
+use Rattle.px_head.specs.declared.front.Kind.TheVariants.{Request, Response, Trailers}
+use Rattle.px_head.specs.Front.{blank_lines, line_end, front, request_front, response_front, trailer_front}
 use Rattle.px_head.specs.Heads.{IsRequest, IsResponse, IsTrailers, raw_request, raw_response, raw_trailers}
+use Rattle.px_head.specs.Marks.{HasNoEnd}
 
 -- ---- the front is what the grammar says of the block
 
@@ -24,18 +25,19 @@ abbrev pub TrailersAreFound : Type 0
 TrailersAreFound = (block rest : List ℕ) (s : List Field × LineEnd) → IsTrailers block s → length block ≤ 65536
     → trailer_front (block ++ rest) ≡ Stands (raw_trailers s) (length block)
 
--- a block that the grammar does not read is no head
-abbrev pub BadRequestIsRefused : Type 0
-BadRequestIsRefused = (bytes : List ℕ) (start end : ℕ) → head_place bytes ≡ Block start end
-    → ((h : RequestHead) → IsRequest (slice_range bytes start end) h → ⊥) → request_front bytes ≡ BadHead
+-- a head that was found is one that the grammar reads: the bytes that it used, the empty lines before it among them, are that
+-- head. So the two directions say that a head is found exactly where the grammar reads one.
+abbrev pub FoundRequestIsRead : Type 0
+FoundRequestIsRead = (bytes : List ℕ) (raw : RawHead) (used : ℕ) → request_front bytes ≡ Stands raw used
+    → (h : RequestHead) × IsRequest (take used bytes) h × (raw ≡ raw_request h)
 
-abbrev pub BadResponseIsRefused : Type 0
-BadResponseIsRefused = (bytes : List ℕ) (start end : ℕ) → head_place bytes ≡ Block start end
-    → ((h : ResponseHead) → IsResponse (slice_range bytes start end) h → ⊥) → response_front bytes ≡ BadHead
+abbrev pub FoundResponseIsRead : Type 0
+FoundResponseIsRead = (bytes : List ℕ) (raw : RawHead) (used : ℕ) → response_front bytes ≡ Stands raw used
+    → (h : ResponseHead) × IsResponse (take used bytes) h × (raw ≡ raw_response h)
 
-abbrev pub BadTrailersAreRefused : Type 0
-BadTrailersAreRefused = (bytes : List ℕ) (start end : ℕ) → trailers_place bytes ≡ Block start end
-    → ((s : List Field × LineEnd) → IsTrailers (slice_range bytes start end) s → ⊥) → trailer_front bytes ≡ BadHead
+abbrev pub FoundTrailersAreRead : Type 0
+FoundTrailersAreRead = (bytes : List ℕ) (raw : RawHead) (used : ℕ) → trailer_front bytes ≡ Stands raw used
+    → (s : List Field × LineEnd) × IsTrailers (take used bytes) s × (raw ≡ raw_trailers s)
 
 -- ---- bytes that follow
 
@@ -51,13 +53,22 @@ abbrev pub UsedIsWithin : Type 0
 UsedIsWithin = (kind : Kind) (bytes : List ℕ) (raw : RawHead) (used : ℕ) → front kind bytes ≡ Stands raw used
     → (1 ≤ used) × (used ≤ length bytes) × (used ≤ 65536)
 
--- fewer than 65,536 bytes are waited on
-abbrev pub WaitingIsShort : Type 0
-WaitingIsShort = (kind : Kind) (bytes : List ℕ) → front kind bytes ≡ Nothing → length bytes < 65536
+-- no block ends within the first so many bytes: behind the empty lines for a start line, and at once for trailers
+abbrev pub HasNoBlock : Kind → List ℕ → ℕ → Type 0
+HasNoBlock Request bytes reached = HasNoEnd bytes (blank_lines bytes) reached
+HasNoBlock Response bytes reached = HasNoEnd bytes (blank_lines bytes) reached
+HasNoBlock Trailers bytes reached = (line_end bytes ≡ 0) × HasNoEnd bytes 0 reached
 
--- and no fewer are too long
-abbrev pub TooLongIsLong : Type 0
-TooLongIsLong = (kind : Kind) (bytes : List ℕ) → front kind bytes ≡ TooLong → 65536 ≤ length bytes
+-- more bytes are waited for exactly where fewer than 65,536 are there, and no block ends in them
+abbrev pub WaitingIsExact : Type 0
+WaitingIsExact = (kind : Kind) (bytes : List ℕ)
+    → (front kind bytes ≡ Nothing) ↔ ((length bytes < 65536) × HasNoBlock kind bytes (length bytes))
+
+-- a head is too long exactly where 65,536 bytes or more are there, and no block ends within the first 65,536. What is neither
+-- waited for nor too long is a block, so it is a head that the grammar reads, or refused at once.
+abbrev pub TooLongIsExact : Type 0
+TooLongIsExact = (kind : Kind) (bytes : List ℕ)
+    → (front kind bytes ≡ TooLong) ↔ ((65536 ≤ length bytes) × HasNoBlock kind bytes 65536)
 
 -- ---- the parts of a head
 
@@ -70,9 +81,9 @@ pub record IsValueText (text : List ℕ) : Type 0 where
   pub bytes : AllPass is_value_byte text
   pub plain : All IsPlainByte text
 
--- a name is a token, and a value is such a text
+-- a name is a token, and a value is such a text, without a blank at either end
 abbrev pub IsPair : List ℕ × List ℕ → Type 0
-IsPair p = (is_token p.0 ≡ true) × IsValueText p.1
+IsPair p = (is_token p.0 ≡ true) × IsValueText p.1 × (trim_ows p.1 ≡ p.1)
 
 abbrev pub IsVersionText : List ℕ → Type 0
 IsVersionText text = (text ≡ codes "HTTP/1.0") ⊎ (text ≡ codes "HTTP/1.1")

@@ -1,7 +1,7 @@
 //! Laws of what stands at the front of bytes, each the contract of a function that does nothing.
 //!
-//! They tie the definition to the grammar (a head that the grammar reads is found, a block that it does not read is
-//! refused), and say what may be relied on of a head that was found, whatever bytes follow.
+//! They tie the definition to the grammar (a head is found exactly where the grammar reads one), say exactly where it is waited
+//! for or too long, so that all else is refused, and what may be relied on of a head that was found, whatever bytes follow.
 ghost use Rattle.px_head.specs.Laws as law;
 
 /// A request that the grammar reads is found with its parts, the empty lines before it skipped, whatever follows.
@@ -19,19 +19,19 @@ pub fn trailers_are_found()
     ensures { law.TrailersAreFound }
 {}
 
-/// A block that the grammar does not read as a request is refused.
-pub fn bad_request_is_refused()
-    ensures { law.BadRequestIsRefused }
+/// A request that was found is one that the grammar reads: the bytes that it used are that head, its empty lines in front.
+pub fn found_request_is_read()
+    ensures { law.FoundRequestIsRead }
 {}
 
-/// A block that the grammar does not read as a response is refused.
-pub fn bad_response_is_refused()
-    ensures { law.BadResponseIsRefused }
+/// A response that was found is one that the grammar reads: the bytes that it used are that head, its empty lines in front.
+pub fn found_response_is_read()
+    ensures { law.FoundResponseIsRead }
 {}
 
-/// A block that the grammar does not read as trailers is refused.
-pub fn bad_trailers_are_refused()
-    ensures { law.BadTrailersAreRefused }
+/// Trailers that were found are ones that the grammar reads: the bytes that they used are those trailers.
+pub fn found_trailers_are_read()
+    ensures { law.FoundTrailersAreRead }
 {}
 
 /// What is decided at the front stays decided, whatever bytes follow.
@@ -44,29 +44,30 @@ pub fn used_is_within()
     ensures { law.UsedIsWithin }
 {}
 
-/// Fewer than 65,536 bytes are waited on.
-pub fn waiting_is_short()
-    ensures { law.WaitingIsShort }
+/// More bytes are waited for exactly where fewer than 65,536 are there, and no block ends in them.
+pub fn waiting_is_exact()
+    ensures { law.WaitingIsExact }
 {}
 
-/// Fewer than 65,536 bytes are not too long.
-pub fn too_long_is_long()
-    ensures { law.TooLongIsLong }
+/// A head is too long exactly where 65,536 bytes or more are there, and no block ends within the first 65,536.
+pub fn too_long_is_exact()
+    ensures { law.TooLongIsExact }
 {}
 
 /// A request's method and names are tokens, its target is UTF-8 without blanks and control bytes, its values have
-/// value bytes only, and its fields are at most 100.
+/// value bytes only and no blank at either end, and its fields are at most 100.
 pub fn request_parts_are_valid()
     ensures { law.RequestPartsAreValid }
 {}
 
-/// A response's code is 100 to 999 in three digits, its names are tokens, its reason and values have value bytes only,
-/// and its fields are at most 100.
+/// A response's code is 100 to 999 in three digits, its names are tokens, its reason and values have value bytes only, its
+/// values no blank at either end, and its fields are at most 100.
 pub fn response_parts_are_valid()
     ensures { law.ResponsePartsAreValid }
 {}
 
-/// Trailers have fields alone, at most 100; their names are tokens and their values have value bytes only.
+/// Trailers have fields alone, at most 100; their names are tokens, their values have value bytes only and no blank at either
+/// end.
 pub fn trailer_parts_are_valid()
     ensures { law.TrailerPartsAreValid }
 {}

@@ -1,18 +1,18 @@
 -- Turns of a reader in a body.
 use Rattle.std.proofs.Common.{ℕ, zero, suc, ◌+◌, ◌-◌, ◌<◌, ◌≤◌, ◌≡◌, ◌≢◌, Bool, true, false, nat_le, List, [], ◌∷◌, ◌++◌, length, map, take, drop, refl, sym, ap, ap₂, ◌∙◌, subst, arith, inl, inr, append-nil, append_assoc, length-append, add-zero, take-append-drop, length-take-le, le-leb, drop_of_length-le}
-use Rattle.std.specs.Prelude.{if◌then◌else◌, Option, Some, None, Ok, Err}
+use Rattle.std.specs.Prelude.{◌⊎◌, if◌then◌else◌, Option, Some, None, Ok, Err}
 use Rattle.std.proofs.lemmas.Bool.Decides.{leb_tells}
 use Rattle.std.proofs.lemmas.List.{map-append, length-map}
 use Rattle.std.proofs.Math.Seq.{take-append-add}
 use Rattle.px_message.specs.declared.fault.Fault.{Fault}
 use Rattle.px_message.specs.declared.fault.Fault.TheVariants.{BadChunk, ServerClosed}
-use Rattle.px_read.specs.Marks.{Mark, byte, marks_of}
+use Rattle.px_read.specs.Marks.{BeginsWithNoByte, Mark, byte, marks_of}
 use Rattle.px_read.specs.Chunking.{Chunking}
 use Rattle.px_read.specs.Chunking as chunking
-use Rattle.px_read.specs.ChunkSteps.{Gives, Hears, UsesFor, Steps}
+use Rattle.px_read.specs.ChunkSteps.{feed_marks, Gives, Hears, UsesFor, Steps}
 use Rattle.px_read.specs.Chunks.{Place, Turn, GoesOn, hear_all, chunks_from, Finish, goes_on, whole, fails, Reading}
 use Rattle.px_read.specs.Readings.{only, behind_bytes, counted_reading, closing_reading}
-use Rattle.px_read.specs.Reader.{MessagePlace, in_counted, in_chunks, up_to_close, behind_end, refused, State, as_sent, has_shut, reading_from, MayFollow, behind_marks, Tells, has_stopped, IsTurn}
+use Rattle.px_read.specs.Reader.{MessagePlace, in_counted, in_chunks, up_to_close, behind_end, refused, State, as_sent, has_shut, reading_from, MayFollow, behind_marks, Tells, has_stopped, IsLongest, IsTurn}
 use Rattle.px_read.specs.Stages.{IsStage, StandOnce, chunk_place, state_at, seen_as, cut_off, fault_of}
 use Rattle.px_read.specs.Waits.{waited, given}
 use Rattle.px_read.specs.declared.message_reader.stage.Sender.{Sender}
@@ -70,9 +70,30 @@ taken marks old new n rest closed reads =
 some_piece : (n : ℕ) (rest : List ℕ) → 0 < n → n ≤ length rest → 0 < length (map byte (take n rest))
 some_piece n rest some fits = let size = piece_size n rest fits in let same = length-map (take n rest) (λ (b : ℕ). byte b) in omega arith
 
+take_none : {A : Type 0} (n : ℕ) → take {A = A} n [] ≡ []
+take_none zero = refl
+take_none (suc n) = refl
+
+sent_marks : (from : Sender) (closed : Bool) (r : Reading) → (as_sent from closed r).marks ≡ r.marks
+sent_marks Client closed r = refl
+sent_marks Server closed r = refl
+
+sent_longest : (from : Sender) (closed : Bool) (r : Reading) → BeginsWithNoByte r.marks → BeginsWithNoByte (as_sent from closed r).marks
+sent_longest from closed r longest = subst BeginsWithNoByte (sym (sent_marks from closed r)) longest
+
+none_longest : (marks : List Mark) → marks ≡ [] → BeginsWithNoByte marks
+none_longest marks none = subst BeginsWithNoByte (sym none) (λ value rest e. cc)
+
+counted_longest : (left n : ℕ) (rest : List ℕ) → (n ≡ left) ⊎ (n ≡ length rest) → map byte (take (left - n) (drop n rest)) ≡ []
+counted_longest left n rest (inl same) = let none : left - n ≡ 0 = omega arith in ap (λ (k : ℕ). map byte (take k (drop n rest))) none
+counted_longest left n rest (inr all) =
+    let none : drop n rest ≡ [] = drop_of_length-le rest (omega arith) in
+    ap (λ (l : List ℕ). map byte (take (left - n) l)) none ∙ ap (λ (l : List ℕ). map byte l) (take_none (left - n))
+
 pub counted-gives : (from : Sender) (left n : ℕ) (rest : List ℕ) (closed : Bool) → n ≤ left → n ≤ length rest → 0 < n
+    → (n ≡ left) ⊎ (n ≡ length rest)
     → IsTurn (state_at (in_counted from left) rest closed) (part.Piece (take n rest)) (state_at (in_counted from (left - n)) (drop n rest) closed)
-counted-gives from left n rest closed fits there some =
+counted-gives from left n rest closed fits there some all =
     let size = piece_size n rest there in
     let split : length (take n rest) + (left - n) ≡ left = omega arith in
     turn-gives _ _ (part.Piece (take n rest))
@@ -81,15 +102,19 @@ counted-gives from left n rest closed fits there some =
     ∙ ap (λ (r : Reading). as_sent from later r) (counted_behind (take n rest) (drop n rest ++ more) (left - n))
     ∙ sent_behind from later (map byte (take n rest)) (length (take n rest)) (counted_reading (left - n) (drop n rest ++ more))))
     (some_piece n rest some there) refl
+    (sent_longest from closed (counted_reading (left - n) (drop n rest)) (none_longest _ (counted_longest left n rest all)))
 
 pub closing-gives : (from : Sender) (n : ℕ) (rest : List ℕ) (closed : Bool) → n ≤ length rest → 0 < n
+    → n ≡ length rest
     → IsTurn (state_at (up_to_close from) rest closed) (part.Piece (take n rest)) (state_at (up_to_close from) (drop n rest) closed)
-closing-gives from n rest closed there some =
+closing-gives from n rest closed there some all =
     turn-gives _ _ (part.Piece (take n rest))
     (taken (map byte (take n rest)) (up_to_close from) (up_to_close from) n rest closed (λ more later follows.
     ap (λ (r : Reading). as_sent from later r) (closing_behind (has_shut from later) (take n rest) (drop n rest ++ more))
     ∙ sent_behind from later (map byte (take n rest)) (length (take n rest)) (closing_reading (has_shut from later) (drop n rest ++ more))))
     (some_piece n rest some there) refl
+    (sent_longest from closed (closing_reading (has_shut from closed) (drop n rest))
+    (none_longest _ (ap (λ (l : List ℕ). map byte l) (drop_of_length-le rest (omega arith)))))
 
 -- ---- ends
 
@@ -206,10 +231,6 @@ pub wait-stage : (cut : Bool) (kept : Stage) (rest : List ℕ) → IsStage kept 
 wait-stage false kept rest is = is
 wait-stage true kept rest is = tt
 
-take_none : {A : Type 0} (n : ℕ) → take {A = A} n [] ≡ []
-take_none zero = refl
-take_none (suc n) = refl
-
 counted_goes : (left : ℕ) → 0 < left → counted_reading left [] ≡ only goes_on
 counted_goes left some = elim (leb_tells left 0) [
   | inl t ↦ let none = t.1 in absurd (omega arith)
@@ -265,11 +286,12 @@ chunk_fails from place rest closed is =
 
 -- a part that these bytes gave
 chunk_gives : (from : Sender) (place : Place) (n : ℕ) (rest : List ℕ) (closed : Bool) (given : Part) (after : Chunking)
-    → Hears place (take n rest) (marks_of given) after → IsGiven given
+    → (hears : Hears place (take n rest) (marks_of given) after) → IsGiven given
+    → IsLongest given (as_sent from closed (chunks_from hears.0 (drop n rest)))
     → IsTurn (state_at (in_chunks from place) rest closed) given (state_at (chunk_place from after) (drop n rest) closed)
-chunk_gives from place n rest closed given after hears some =
+chunk_gives from place n rest closed given after hears some longest =
     subst (λ (c : Chunking). IsTurn (state_at (in_chunks from place) rest closed) given (state_at (chunk_place from c) (drop n rest) closed)) (sym hears.2)
-    (turn-gives _ _ given (chunk_tells from place hears.0 n rest (marks_of given) closed hears.1 hears.3) some refl)
+    (turn-gives _ _ given (chunk_tells from place hears.0 n rest (marks_of given) closed hears.1 hears.3) some refl longest)
 
 chunk_waits : (from : Sender) (place : Place) (n : ℕ) (rest : List ℕ) (closed : Bool) (after : Chunking) → n ≡ length rest
     → Hears place (take n rest) [] after
@@ -290,13 +312,15 @@ chunk_by : (from : Sender) (place : Place) (rest : List ℕ) (closed : Bool) (us
     (given told (stage.Chunked from after) (drop used rest) (has_shut from closed)).rest closed)
 chunk_by from place rest closed used None after within uses gives = chunk_waits from place used rest closed after uses gives
 chunk_by from place rest closed used (Some (chunk_part.Size size)) after within uses gives =
-    chunk_gives from place used rest closed (part.ChunkStart size) after gives.0 (omega arith)
+    chunk_gives from place used rest closed (part.ChunkStart size) after gives.0 (omega arith) tt
 chunk_by from place rest closed used (Some (chunk_part.Piece bytes)) after within uses gives =
     let some = gives.1 in
     let same = length-map bytes (λ (b : ℕ). byte b) in
     chunk_gives from place used rest closed (part.Piece bytes) after gives.0 (omega arith)
+    (sent_longest from closed (chunks_from gives.0.0 (drop used rest))
+    (subst (λ (c : Chunking). BeginsWithNoByte (feed_marks c (drop used rest))) gives.0.2 gives.2))
 chunk_by from place rest closed used (Some chunk_part.EndOfChunk) after within uses gives =
-    chunk_gives from place used rest closed part.ChunkEnd after gives.0 (omega arith)
+    chunk_gives from place used rest closed part.ChunkEnd after gives.0 (omega arith) tt
 chunk_by from place rest closed used (Some (chunk_part.Trailers trailers)) after within uses gives =
     chunk_ends from place used rest trailers closed within gives.0
 

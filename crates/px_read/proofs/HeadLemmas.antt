@@ -166,7 +166,7 @@ pub request-gives : (old new : Reader) (raw : RawHead) (rest : List ℕ) (closed
     (state_at (request_place (request_length raw.pairs)) rest closed)
 request-gives old new raw rest closed f left =
     subst (λ (rest : List ℕ). IsTurn (state_at (at_head request) old.rest closed) (part.Request (request_head raw)) (state_at (request_place (request_length raw.pairs)) rest closed))
-    (sym (left ∙ f.left)) (turn-gives _ _ (part.Request (request_head raw)) (request_tells old.rest raw f.used closed f.at) (omega arith) refl)
+    (sym (left ∙ f.left)) (turn-gives _ _ (part.Request (request_head raw)) (request_tells old.rest raw f.used closed f.at) (omega arith) refl tt)
 
 -- ---- responses
 
@@ -245,7 +245,7 @@ response_gives bytes raw used asked_head closed (Ok framing) at is =
     ∙ sent_behind Server later head used (body_reading framing later (drop used bytes ++ more))
     ∙ ap (λ (r : Reading). behind_marks head used r) (response_body_from framing later (drop used bytes ++ more))
     ∙ ap (λ (n : ℕ). behind_marks head n (reading_from (body_place Server framing) later (drop used bytes ++ more))) (sym (piece_size used bytes within.1))))
-    (omega arith) refl
+    (omega arith) refl tt
 
 pub response-gives : (old new : Reader) (raw : RawHead) (rest : List ℕ) (asked_head closed : Bool) → Finds kind.Response old new raw → rest ≡ new.rest
     → IsTurn (state_at (at_head (response asked_head)) old.rest closed)

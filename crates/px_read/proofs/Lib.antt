@@ -6,6 +6,7 @@ pub mod FeedLemmas
 pub mod GrowthLemmas
 pub mod HeadLemmas
 pub mod HearLemmas
+pub mod HeedLemmas
 pub mod ItemLemmas
 pub mod KeptLemmas
 pub mod LawLemmas
@@ -17,4 +18,7 @@ pub mod StepLemmas
 pub mod TrailerLemmas
 pub mod TrailerTurnLemmas
 pub mod TurnLemmas
+pub mod ValidLemmas
+pub mod WholeLemmas
+pub mod RequestEndLemmas
 pub mod RequestListLemmas

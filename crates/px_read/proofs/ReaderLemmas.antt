@@ -9,7 +9,7 @@ use Rattle.px_message.specs.declared.fault.Fault.{Fault}
 use Rattle.px_read.specs.Marks.{Mark, marks_of}
 use Rattle.px_read.specs.Chunks.{Finish, goes_on, whole, fails, Reading}
 use Rattle.px_read.specs.Readings.{only, behind_bytes, response_finish}
-use Rattle.px_read.specs.Reader.{Message, MessagePlace, behind_end, refused, State, as_sent, has_shut, reading_of, reading_from, to_come, MayFollow, behind_marks, Tells, before_all, Reads, IsNext, HasStopped, has_stopped, IsTurn}
+use Rattle.px_read.specs.Reader.{Message, MessagePlace, behind_end, refused, State, as_sent, has_shut, reading_of, reading_from, to_come, MayFollow, behind_marks, Tells, IsLongest, before_all, Reads, IsNext, HasStopped, has_stopped, IsTurn}
 use Rattle.px_read.specs.Stages.{state_at, seen_as, cut_off}
 use Rattle.px_read.specs.declared.message_reader.stage.Stage.{Stage}
 use Rattle.px_read.specs.declared.message_reader.stage.Stage.TheVariants as stage
@@ -113,9 +113,10 @@ now marks old new t =
     ∙ ap (λ (rest : List ℕ). behind_marks marks (length t.used) (reading_from new.place old.closed rest)) (append-nil new.rest)
 
 pub turn-gives : (old new : State) (given : Part) → Tells (marks_of given) old new → IsGiven given → has_stopped old.place ≡ false
-    → IsTurn old given new
-turn-gives old new given t some going = record {
+    → IsLongest given (to_come new) → IsTurn old given new
+turn-gives old new given t some going longest = record {
   tells = t;
+  longest = longest;
   next = given_next given (to_come old) _ some (ap (λ (r : Reading). r.marks) (now (marks_of given) old new t));
   stopped = given_stopped given new some;
   again = λ e. goes old.place _ going e;
@@ -125,6 +126,7 @@ pub turn-waits : (old new : State) → Tells [] old new → reading_from new.pla
     → has_stopped old.place ≡ false → IsTurn old part.More new
 turn-waits old new t waits going = record {
   tells = t;
+  longest = tt;
   next = now [] old new t ∙ ap (λ (r : Reading). behind_marks [] (length t.used) r) waits;
   stopped = tt;
   again = λ e. goes old.place _ going e;
@@ -134,6 +136,7 @@ pub turn-ends : (old new : State) (trailers : List (List ℕ × List ℕ)) → T
     → has_stopped old.place ≡ false → IsTurn old (part.End trailers) new
 turn-ends old new trailers t at going = record {
   tells = t;
+  longest = tt;
   next = (
     length t.used + 0,
     now [] old new t
@@ -147,6 +150,7 @@ pub turn-fails : (old new : State) (fault : Fault) → Tells [] old new → new.
     → has_stopped old.place ≡ false → IsTurn old (part.Bad fault) new
 turn-fails old new fault t at going = record {
   tells = t;
+  longest = tt;
   next = now [] old new t
       ∙ ap (λ (place : MessagePlace). behind_marks [] (length t.used) (reading_from place old.closed new.rest)) at;
   stopped = at;
@@ -158,6 +162,7 @@ pub turn-ended : (trailers : List (List ℕ × List ℕ)) (rest : List ℕ) (clo
     → IsTurn (state_at (behind_end trailers) rest closed) (part.End trailers) (state_at (behind_end trailers) rest closed)
 turn-ended trailers rest closed = record {
   tells = tells-nothing _;
+  longest = tt;
   next = (0, refl);
   stopped = refl;
   again = λ e. refl;
@@ -167,6 +172,7 @@ pub turn-refused : (fault : Fault) (rest : List ℕ) (closed : Bool)
     → IsTurn (state_at (refused fault) rest closed) (part.Bad fault) (state_at (refused fault) rest closed)
 turn-refused fault rest closed = record {
   tells = tells-nothing _;
+  longest = tt;
   next = refl;
   stopped = refl;
   again = λ e. refl;

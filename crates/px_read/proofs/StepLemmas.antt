@@ -1,5 +1,5 @@
 -- One stage behind the other, up to a part.
-use Rattle.std.proofs.Common.{ℕ, ◌+◌, ◌<◌, ◌≤◌, ◌≡◌, ◌≢◌, List, [], ◌++◌, length, take, drop, refl, sym, ap, ◌∙◌, subst, arith, Option, Some, None}
+use Rattle.std.proofs.Common.{ℕ, ◌+◌, ◌<◌, ◌≤◌, ◌≡◌, ◌≢◌, List, [], ◌++◌, length, take, drop, refl, sym, ap, ◌∙◌, subst, arith, Option, Some, None, drop-drop}
 use Rattle.std.specs.Prelude.{true, false, is_some, IfOk, IsErrAnd, Result, Ok, Err}
 use Rattle.std.proofs.Math.Seq.{take-add}
 use Rattle.std.proofs.lemmas.List.{take-append-drop, length-take-le, length-drop}
@@ -11,11 +11,11 @@ use Rattle.px_read.specs.declared.chunk_reader.stage.Stage.{Stage}
 use Rattle.px_read.specs.declared.chunk_reader.stage.Stage.TheVariants as stage
 use Rattle.px_read.specs.declared.part.ChunkPart.{ChunkPart}
 use Rattle.px_read.specs.declared.part.ChunkPart.TheVariants as chunk_part
-use Rattle.px_read.specs.Marks.{Mark}
+use Rattle.px_read.specs.Marks.{BeginsWithNoByte, Mark}
 use Rattle.px_read.specs.Chunks.{Place, silent, hear_all, Finish, whole, fails, GoesOn, Reading, chunks_from, in_line, at_lf, in_trailers, behind_content}
 use Rattle.px_read.specs.Chunking.{Chunking, reads, ended, refused}
 use Rattle.px_read.specs.ChunkStages.{IsStage, seen_as}
-use Rattle.px_read.specs.ChunkSteps.{Gives, Hears, IsOpen, IsRefusal, UsesFor, Steps}
+use Rattle.px_read.specs.ChunkSteps.{feed_marks, Gives, Hears, IsOpen, IsRefusal, UsesFor, Steps}
 use Rattle.px_read.specs.ChunkTurns.{IsGoing, IsMove, Moves}
 use Rattle.px_read.specs.ChunkLoops.{Waits}
 use Rattle.px_read.proofs.HearLemmas.{reading_behind, resumes_as, waits_on}
@@ -30,6 +30,9 @@ hears_behind place next xs ys marks after first w = (w.0, heard_both place xs ys
 
 take_both : (at used : ℕ) (bytes : List ℕ) → take (at + used) bytes ≡ take at bytes ++ take used (drop at bytes)
 take_both at used bytes = take-add at used bytes
+
+drop_both : (at used : ℕ) (bytes : List ℕ) → drop used (drop at bytes) ≡ drop (at + used) bytes
+drop_both at used bytes = drop-drop used at bytes ∙ ap (λ (n : ℕ). drop n bytes) (omega arith)
 
 hears_more : (place next : Place) (bytes : List ℕ) (at used : ℕ) (marks : List Mark) (after : Chunking)
     → hear_all place (take at bytes) ≡ silent next → Hears next (take used (drop at bytes)) marks after
@@ -52,7 +55,11 @@ pub gives_more : (place next : Place) (bytes : List ℕ) (at used : ℕ) (part :
     → Gives place bytes (at + used) part after
 gives_more place next bytes at used None after fits first on w = hears_more place next bytes at used [] after first w
 gives_more place next bytes at used (Some (chunk_part.Size n)) after fits first on w = (hears_more place next bytes at used _ after first w.0, w.1)
-gives_more place next bytes at used (Some (chunk_part.Piece piece)) after fits first on w = (hears_more place next bytes at used _ after first w.0, w.1)
+gives_more place next bytes at used (Some (chunk_part.Piece piece)) after fits first on w = (
+  hears_more place next bytes at used _ after first w.0,
+  w.1,
+  subst (λ (l : List ℕ). BeginsWithNoByte (feed_marks after l)) (drop_both at used bytes) w.2,
+)
 gives_more place next bytes at used (Some chunk_part.EndOfChunk) after fits first on w = (hears_more place next bytes at used _ after first w.0, w.1)
 gives_more place next bytes at used (Some (chunk_part.Trailers trailers)) after fits first on w =
     (reads_more place next bytes at (whole trailers used) fits first on w.0, w.1)

@@ -1,7 +1,7 @@
 -- What one stage of a chunked body makes of its bytes.
-use Rattle.std.proofs.Common.{ℕ, zero, suc, ◌-◌, ◌<◌, ◌≤◌, ◌≡◌, ◌≢◌, List, [], ◌∷◌, ◌++◌, length, map, take, drop, get_or, refl, sym, ap, ◌∙◌, subst, arith, inl, inr, Some, None}
-use Rattle.std.specs.Prelude.{if◌then◌else◌, ◌==◌, Result, Ok, Err, IsErrAnd}
-use Rattle.std.proofs.lemmas.Bool.Decides.{eqb_tells}
+use Rattle.std.proofs.Common.{ℕ, zero, suc, ◌-◌, ◌<◌, ◌≤◌, ◌≡◌, ◌≢◌, List, [], ◌∷◌, ◌++◌, length, map, take, drop, get_or, refl, sym, ap, ◌∙◌, subst, arith, inl, inr, Some, None, drop_of_length-le}
+use Rattle.std.specs.Prelude.{◌⊎◌, min, Bool, true, false, if◌then◌else◌, ◌==◌, Result, Ok, Err, IsErrAnd}
+use Rattle.std.proofs.lemmas.Bool.Decides.{eqb_tells, leb_tells}
 use Rattle.std.proofs.lemmas.List.{take-append-drop, length-take-le}
 use Rattle.px_message.specs.declared.fault.Fault.TheVariants as fault
 use Rattle.px_read.specs.declared.chunk_reader.ChunkError.{ChunkError}
@@ -9,7 +9,7 @@ use Rattle.px_read.specs.declared.chunk_reader.ChunkError.TheVariants.{BadChunk,
 use Rattle.px_read.specs.declared.chunk_reader.stage.Stage.TheVariants as stage
 use Rattle.px_read.specs.declared.chunk_reader.stage.Turn.{Turn as StageTurn}
 use Rattle.px_read.specs.declared.part.ChunkPart.TheVariants as chunk_part
-use Rattle.px_read.specs.Marks.{Mark, byte, ends}
+use Rattle.px_read.specs.Marks.{BeginsWithNoByte, Mark, byte, ends}
 use Rattle.px_read.specs.Chunks.{Place, in_line, at_cr, at_lf, broken, Turn, silent, behind_content, hear_all, Finish, goes_on, fails, place_finish, GoesOn, Reading, chunks_from}
 use Rattle.px_read.specs.ChunkSteps.{IsRefusal}
 use Rattle.px_read.specs.ChunkTurns.{IsTurn, Turns}
@@ -89,9 +89,50 @@ pub content_goes : (left : ℕ) → GoesOn (behind_content left)
 content_goes zero = refl
 content_goes (suc left) = refl
 
+-- a piece of as many bytes as are to come and are there has all of the one or of the other
+pub piece_whole : (left there count : ℕ) → count ≡ min left there → (count ≡ left) ⊎ (count ≡ there)
+piece_whole left there count is = elim (leb_tells left there) [
+  | inl t ↦ (let fits = t.1 in inl (omega arith))
+  | inr f ↦ (let fits = f.1 in inr (omega arith))
+]
+
+broken_no_byte : (bytes : List ℕ) → BeginsWithNoByte (hear_all broken bytes).marks
+broken_no_byte [] = λ value rest e. cc
+broken_no_byte (b ∷ bytes) = broken_no_byte bytes
+
+lf_no_byte : (bytes : List ℕ) → BeginsWithNoByte (hear_all at_lf bytes).marks
+lf_no_byte [] = λ value rest e. cc
+lf_no_byte (b ∷ bytes) = by_test (b == 10)
+  where
+    ended : Turn
+    ended = record { marks = ends ∷ []; place = in_line [] }
+
+    by_test : (t : Bool) → BeginsWithNoByte ((if t then ended else silent broken).marks ++ (hear_all (if t then ended else silent broken).place bytes).marks)
+    by_test true = λ value rest e. cc
+    by_test false = broken_no_byte bytes
+
+cr_no_byte : (bytes : List ℕ) → BeginsWithNoByte (hear_all at_cr bytes).marks
+cr_no_byte [] = λ value rest e. cc
+cr_no_byte (b ∷ bytes) = by_test (b == 13)
+  where
+    by_test : (t : Bool)
+        → BeginsWithNoByte ((if t then silent at_lf else silent broken).marks ++ (hear_all (if t then silent at_lf else silent broken).place bytes).marks)
+    by_test true = lf_no_byte bytes
+    by_test false = broken_no_byte bytes
+
+content_longest : (left count : ℕ) (bytes : List ℕ) → (count ≡ left) ⊎ (count ≡ length bytes)
+    → BeginsWithNoByte (hear_all (behind_content (left - count)) (drop count bytes)).marks
+content_longest left count bytes (inl same) =
+    let none : left - count ≡ 0 = omega arith in
+    subst (λ (n : ℕ). BeginsWithNoByte (hear_all (behind_content n) (drop count bytes)).marks) (sym none) (cr_no_byte (drop count bytes))
+content_longest left count bytes (inr all) =
+    let none : drop count bytes ≡ [] = drop_of_length-le bytes (omega arith) in
+    subst (λ (l : List ℕ). BeginsWithNoByte (hear_all (behind_content (left - count)) l).marks) (sym none) (λ value rest e. cc)
+
 pub piece_taken : (left count : ℕ) (bytes piece : List ℕ) → 0 < count → count ≤ left → count ≤ length bytes → piece ≡ take count bytes
+    → (count ≡ left) ⊎ (count ≡ length bytes)
     → IsTurn (behind_content left) bytes [] (record { used = count; part = Some (chunk_part.Piece piece); stage = stage.Content (left - count) })
-piece_taken left count bytes piece some low within is =
+piece_taken left count bytes piece some low within is all =
     let size = length-take-le count bytes within in
     let same = ap (λ (l : List ℕ). length l) is in
     let heard : hear_all (behind_content left) (take count bytes) ≡ record { marks = map byte piece; place = behind_content (left - count) } =
@@ -102,7 +143,7 @@ piece_taken left count bytes piece some low within is =
       some = some;
       within = within;
       stage = refl;
-      gives = ((behind_content (left - count), heard, refl, content_goes (left - count)), omega arith);
+      gives = ((behind_content (left - count), heard, refl, content_goes (left - count)), omega arith, content_longest left count bytes all);
     }
   where
     to_turn : List Mark → Place → Turn

@@ -1,12 +1,12 @@
 -- What the calls of a reader of a chunked body answer, and what each makes of the reader.
-use Rattle.std.specs.Prelude.{◌≡◌, ℕ, ◌<◌, ◌≤◌, ⊤, List, [], ◌∷◌, ◌++◌, length, take, All, Option, Some, None, Result, Ok, Err}
+use Rattle.std.specs.Prelude.{◌≡◌, ℕ, ◌<◌, ◌≤◌, ⊤, List, [], ◌∷◌, ◌++◌, length, take, drop, All, Option, Some, None, Result, Ok, Err}
 use Rattle.px_message.specs.declared.fault.Fault.TheVariants as fault
 use Rattle.px_read.specs.declared.chunk_reader.ChunkError.{ChunkError}
 use Rattle.px_read.specs.declared.chunk_reader.ChunkError.TheVariants.{BadChunk, NoMemory}
 use Rattle.px_read.specs.declared.chunk_reader.ChunkStep.{ChunkStep}
 use Rattle.px_read.specs.declared.part.ChunkPart.{ChunkPart}
 use Rattle.px_read.specs.declared.part.ChunkPart.TheVariants as chunk_part
-use Rattle.px_read.specs.Marks.{Mark, all_chunk_marks, chunk_marks_of}
+use Rattle.px_read.specs.Marks.{BeginsWithNoByte, Mark, all_chunk_marks, chunk_marks_of}
 use Rattle.px_read.specs.Chunks.{Place, Finish, goes_on, whole, fails, hear_all, GoesOn, Reading, chunks_from}
 use Rattle.px_read.specs.Chunking.{Chunking, reads, ended, refused}
 
@@ -39,10 +39,19 @@ Ends place bytes trailers used after =
 abbrev pub IsRefusal : Place → List ℕ → Type 0
 IsRefusal place bytes = chunks_from place bytes ≡ record { marks = []; finish = fails fault.BadChunk }
 
--- so many bytes give this part and no other
+-- what the bytes tell to a reader
+abbrev pub feed_marks : Chunking → List ℕ → List Mark
+feed_marks (reads place) bytes = (chunks_from place bytes).marks
+feed_marks (ended trailers) bytes = []
+feed_marks refused bytes = []
+
+-- so many bytes give this part and no other; a piece has all bytes of the content that are there
 abbrev pub Gives : Place → List ℕ → ℕ → Option ChunkPart → Chunking → Type 0
 Gives place bytes used None after = Hears place (take used bytes) [] after
 Gives place bytes used (Some (chunk_part.Trailers trailers)) after = Ends place bytes trailers used after
+Gives place bytes used (Some (chunk_part.Piece piece)) after =
+    Hears place (take used bytes) (chunk_marks_of (chunk_part.Piece piece)) after × IsBodyPart (chunk_part.Piece piece)
+    × BeginsWithNoByte (feed_marks after (drop used bytes))
 Gives place bytes used (Some part) after =
     Hears place (take used bytes) (chunk_marks_of part) after × IsBodyPart part
 
@@ -87,12 +96,6 @@ abbrev pub after_feed : Chunking → List ℕ → Chunking
 after_feed (reads place) bytes = after_of (hear_all place bytes).place (chunks_from place bytes).finish
 after_feed (ended trailers) bytes = ended trailers
 after_feed refused bytes = refused
-
--- what they tell
-abbrev pub feed_marks : Chunking → List ℕ → List Mark
-feed_marks (reads place) bytes = (chunks_from place bytes).marks
-feed_marks (ended trailers) bytes = []
-feed_marks refused bytes = []
 
 -- the part that ends a body
 abbrev pub last_part : Finish → List ChunkPart

@@ -19,3 +19,4 @@ pub mod Requests
 pub mod Stages
 pub mod TellLine
 pub mod Waits
+pub mod Whole

@@ -1,5 +1,5 @@
 -- What a message is told in: its least parts, one for each byte of its body, so that no cut shows.
-use Rattle.std.specs.Prelude.{ℕ, List, [], ◌∷◌, map}
+use Rattle.std.specs.Prelude.{◌≢◌, ℕ, List, [], ◌∷◌, map}
 use Rattle.std.specs.List.{flat_map}
 use Rattle.px_read.specs.declared.head.RequestHead.{RequestHead}
 use Rattle.px_read.specs.declared.head.ResponseHead.{ResponseHead}
@@ -19,6 +19,10 @@ pub data Mark : Type 0 where
   byte : (value : ℕ) → Mark
   -- a chunk ends
   ends : Mark
+
+-- no byte of a body is told first
+abbrev pub BeginsWithNoByte : List Mark → Type 0
+BeginsWithNoByte marks = (value : ℕ) (rest : List Mark) → marks ≢ byte value ∷ rest
 
 -- what a part tells; that the message is whole, or refused, is told beside
 abbrev pub marks_of : Part → List Mark

@@ -4,7 +4,7 @@
 use Rattle.std.specs.Prelude.{◌≡◌, ℕ, ◌+◌, ◌<◌, Bool, true, false, List, [], ◌++◌, length, min, ⊤}
 use Rattle.px_text.specs.Prefix.{IsPrefixOf}
 use Rattle.px_message.specs.declared.fault.Fault.{Fault}
-use Rattle.px_read.specs.Marks.{Mark, marks_of}
+use Rattle.px_read.specs.Marks.{BeginsWithNoByte, Mark, marks_of}
 use Rattle.px_read.specs.Chunking.{place_keeps}
 use Rattle.px_read.specs.Kept.{fields_keep}
 use Rattle.px_read.specs.Chunks.{Place, goes_on, whole, fails, Reading, chunks_from}
@@ -55,6 +55,24 @@ has_shut Server closed = closed
 abbrev pub as_sent : Sender → Bool → Reading → Reading
 as_sent Client closed reading = reading
 as_sent Server closed reading = as_response closed reading
+
+abbrev pub is_client : Sender → Bool
+is_client Client = true
+is_client Server = false
+
+-- a close changes nothing of what is to come there: the sender is a client, or the message has ended
+abbrev pub is_clients : MessagePlace → Bool
+is_clients (at_head request) = true
+is_clients (at_head (response asked_head)) = false
+is_clients (in_counted side left) = is_client side
+is_clients (in_chunks side place) = is_client side
+is_clients (up_to_close side) = is_client side
+is_clients (behind_end trailers) = true
+is_clients (refused fault) = true
+
+-- the state as it is where its sender has not closed
+abbrev pub opened : State → State
+opened state = record state { closed = false }
 
 -- what bytes from a place on tell
 abbrev pub reading_from : MessagePlace → Bool → List ℕ → Reading
@@ -111,6 +129,11 @@ IsNext (part.End trailers) reading = (used : ℕ) × (reading ≡ only (whole tr
 IsNext (part.Bad fault) reading = reading ≡ only (fails fault)
 IsNext given reading = (0 < length (marks_of given)) × IsPrefixOf (marks_of given) reading.marks
 
+-- a piece is as long as what is there: what is to come behind it begins with no byte of the body
+abbrev pub IsLongest : Part → Reading → Type 0
+IsLongest (part.Piece bytes) reading = BeginsWithNoByte reading.marks
+IsLongest given reading = ⊤
+
 -- the end and a fault are for ever
 abbrev pub HasStopped : Part → State → Type 0
 HasStopped (part.End trailers) state = state.place ≡ behind_end trailers
@@ -126,6 +149,7 @@ has_stopped place = false
 pub record IsTurn (old : State) (given : Part) (new : State) : Type 0 where
   pub tells : Tells (marks_of given) old new
   pub next : IsNext given (to_come old)
+  pub longest : IsLongest given (to_come new)
   pub stopped : HasStopped given new
   pub again : has_stopped old.place ≡ true → new ≡ old
 

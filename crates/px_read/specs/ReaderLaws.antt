@@ -1,10 +1,10 @@
 -- What the state of a reader says of the bytes that it was fed.
-use Rattle.std.specs.Prelude.{◌≡◌, ℕ, ◌-◌, Bool, List, length, drop}
+use Rattle.std.specs.Prelude.{◌≡◌, ℕ, ◌-◌, Bool, false, List, ◌++◌, length, drop}
 use Rattle.px_read.specs.Marks.{Mark}
 use Rattle.px_read.specs.Chunks.{goes_on, whole, fails, Reading}
 use Rattle.px_read.specs.Readings.{only}
 use Rattle.px_message.specs.declared.fault.Fault.{Fault}
-use Rattle.px_read.specs.Reader.{Message, reading_of, behind_end, refused, State, to_come, behind_marks, Reads, IsNext}
+use Rattle.px_read.specs.Reader.{Message, request, opened, reading_of, behind_end, refused, State, to_come, behind_marks, Reads, IsNext}
 use Rattle.px_read.specs.declared.part.Part.{Part}
 use Rattle.px_read.specs.declared.part.Part.TheVariants as part
 
@@ -33,3 +33,8 @@ NextIsExact = (given : Part) (reading : Reading) → IsNext given reading
     → (reading ≡ only goes_on → given ≡ part.More)
     × ((trailers : List (List ℕ × List ℕ)) (used : ℕ) → reading ≡ only (whole trailers used) → given ≡ part.End trailers)
     × ((fault : Fault) → reading ≡ only (fails fault) → given ≡ part.Bad fault)
+
+-- a client's close changes nothing: bytes that are fed behind it are more of what the reader of a request has to come
+abbrev pub FedBehindClose : Type 0
+FedBehindClose = (told : List Mark) (fed bytes : List ℕ) (state : State) → Reads request told fed false (opened state)
+    → Reads request told (fed ++ bytes) false (opened (record state { rest = state.rest ++ bytes }))

@@ -8,7 +8,7 @@ use Rattle.px_read.specs.Chunks.{Place, in_line, Reading, goes_on, fails}
 use Rattle.px_read.specs.Chunking.{Chunking, reads, ended}
 use Rattle.px_read.specs.Chunking as chunking
 use Rattle.px_read.specs.Readings.{only}
-use Rattle.px_read.specs.Reader.{State, MessagePlace, at_head, in_counted, in_chunks, up_to_close, behind_end, refused, request, response}
+use Rattle.px_read.specs.Reader.{State, MessagePlace, has_shut, at_head, in_counted, in_chunks, up_to_close, behind_end, refused, request, response}
 use Rattle.px_read.specs.declared.head.ResponseHead.{ResponseHead}
 use Rattle.px_read.specs.declared.message_reader.stage.Sender.{Sender}
 use Rattle.px_read.specs.declared.message_reader.stage.Sender.TheVariants.{Client, Server}
@@ -39,6 +39,16 @@ seen_as (stage.Chunked side reader) rest closed = state_at (chunk_place side rea
 seen_as (stage.ToClose side) rest closed = state_at (up_to_close side) rest closed
 seen_as (stage.Ended trailers) rest closed = state_at (behind_end trailers) rest closed
 seen_as (stage.Refused fault) rest closed = state_at (refused fault) rest closed
+
+-- the close counts there
+abbrev pub heeded : Stage → Bool → Bool
+heeded (stage.Request reader) closed = false
+heeded (stage.Response asked_head reader) closed = closed
+heeded (stage.Counted side left) closed = has_shut side closed
+heeded (stage.Chunked side reader) closed = has_shut side closed
+heeded (stage.ToClose side) closed = has_shut side closed
+heeded (stage.Ended trailers) closed = false
+heeded (stage.Refused fault) closed = false
 
 -- the readers within have not stopped
 abbrev pub IsStage : Stage → Type 0

@@ -120,8 +120,7 @@ impl ChunkReader {
         }
     }
 
-    /// Hears the bytes, and adds the parts that they give, each byte of a content in the first piece that can have it.
-    /// Returns how many bytes the body used: all of them, but where it ends.
+    /// Hears the bytes, and adds the parts that they give. Returns how many bytes the body used: all of them, but where it ends.
     ///
     /// After its end, and where it has ended, nothing is used. `BadChunk` comes with the parts before it, and again for
     /// ever.

@@ -4,6 +4,7 @@
 //! it gave, and who looks again over more bytes finds the same.
 ghost use Rattle.px_read.specs.Laws as law;
 ghost use Rattle.px_read.specs.Requests as requests;
+ghost use Rattle.px_read.specs.Whole as whole;
 ghost use Rattle.px_read.specs.ReaderLaws as reader;
 
 /// No bytes are no request.
@@ -124,4 +125,75 @@ pub fn whole_requests_grow()
 /// The whole requests of a stream use no byte that is not there.
 pub fn whole_requests_are_within()
     ensures { requests.WholeRequestsAreWithin }
+{}
+
+/// What stands behind the whole requests of a stream is what the bytes that they did not use are, and it is not whole.
+pub fn last_is_left()
+    ensures { requests.LastIsLeft }
+{}
+
+/// A CONNECT is the last request of a stream, and nothing is said of what stands behind it.
+pub fn connect_is_last()
+    ensures { requests.ConnectIsLast }
+{}
+
+/// Nothing is said of what stands behind the whole requests of a stream only where the last of them is a CONNECT.
+pub fn list_ends_by_connect()
+    ensures { requests.ListEndsByConnect }
+{}
+
+/// Behind a CONNECT, or before a refused request, the requests of a stream are the same whatever follows.
+pub fn ended_list_stays()
+    ensures { requests.EndedListStays }
+{}
+
+/// The content and the trailers of a whole request are those of a body of the length that its head gives.
+pub fn whole_request_fits()
+    ensures { whole.WholeRequestFits }
+{}
+
+/// The content and the trailers of a whole response are those of a body of the length that its head gives.
+pub fn whole_response_fits()
+    ensures { whole.WholeResponseFits }
+{}
+
+/// The target of a whole request is UTF-8 without blanks and control bytes; its fields and its trailers are at most 100 each, with
+/// values that have no blank at either end and no control byte but the tab.
+pub fn whole_request_is_valid()
+    ensures { whole.WholeRequestIsValid }
+{}
+
+/// The reason of a whole response has no control byte but the tab; its fields and its trailers are as those of a request.
+pub fn whole_response_is_valid()
+    ensures { whole.WholeResponseIsValid }
+{}
+
+/// The final response is the one at the front of the bytes behind the interim ones.
+pub fn final_is_behind_interim()
+    ensures { whole.FinalIsBehindInterim }
+{}
+
+/// A request that was read is whole: its own head tells its body's length.
+pub fn read_request_is_whole()
+    ensures { whole.ReadRequestIsWhole }
+{}
+
+/// Settling changes nothing of a request that was read.
+pub fn read_request_stays()
+    ensures { whole.ReadRequestStays }
+{}
+
+/// A response that was read is whole: its own head tells its body's length.
+pub fn read_response_is_whole()
+    ensures { whole.ReadResponseIsWhole }
+{}
+
+/// Settling changes nothing of a response that was read.
+pub fn read_response_stays()
+    ensures { whole.ReadResponseStays }
+{}
+
+/// What is fed to the reader of a request behind its client's close is more of what it has to come.
+pub fn fed_behind_close()
+    ensures { reader.FedBehindClose }
 {}

@@ -5,7 +5,7 @@
 //! (`specs/Reader.antt`, `Reads`): each call keeps this, so it holds for every cut.
 ghost use Rattle.std.specs.Prelude.{◌≡◌, ℕ, ◌-◌, ◌^◌, ◌++◌, min, Bool, true, false, List, [], IfOk, OnOk};
 ghost use Rattle.px_read.specs.Marks.{Mark, marks_of};
-ghost use Rattle.px_read.specs.Reader.{Message, request, response, Reads, IsNext, HasStopped, has_stopped, keeps, to_come, before_all};
+ghost use Rattle.px_read.specs.Reader.{Message, request, response, Reads, IsLongest, is_clients, opened, IsNext, HasStopped, has_stopped, keeps, to_come, before_all};
 
 mod body;
 mod head;
@@ -78,9 +78,10 @@ impl MessageReader {
         }
     }
 
-    /// Adds a piece of the sender's bytes behind those that came before. None comes behind the sender's close.
+    /// Adds a piece of the sender's bytes behind those that came before. None comes behind a server's close; a client's changes
+    /// nothing, so of a request they may.
     pub fn feed(&mut self, bytes: &Bytes) -> Result<(), NoMemory>
-        requires before_close { self.old.closed ≡ false }
+        requires before_close { is_clients self.old.place ≡ false → self.old.closed ≡ false }
         ensures state { OnOk result (self.new ≡ record self.old { rest = self.old.rest ++ bytes.now }) }
         ensures reads { (message : Message) (told : List Mark) (fed : List ℕ) → Reads message told fed false self.old → OnOk result (Reads message told (fed ++ bytes.now) false self.new) }
     {
@@ -104,11 +105,14 @@ impl MessageReader {
     ///
     /// `More` comes exactly where nothing further is told and the message goes on, `End` where nothing further is told and
     /// it is whole, and `Bad` where it is refused: then nothing changes any more, and the same part is given for ever. A
-    /// head is given before a fault of the body behind it, and before a fault of its length too where it is a request's. Each
+    /// piece is as long as what is there of its content: it ends with that, or with what was fed. A head is given before a fault of the body behind it, and before a fault of its length too where it is a request's. Each
     /// fault of a response is `BadResponse`, but for `ServerClosed`.
     pub fn next(&mut self) -> Result<Part, NoMemory>
         ensures next { IfOk result (λ part. IsNext part (to_come self.old)) }
         ensures reads { (message : Message) (told : List Mark) (fed : List ℕ) (closed : Bool) → Reads message told fed closed self.old → IfOk result (λ part. Reads message (told ++ marks_of part) fed closed self.new) }
+        ensures unclosed { is_clients self.old.place ≡ true → (told : List Mark) (fed : List ℕ) → Reads request told fed false (opened self.old) → IfOk result (λ part. Reads request (told ++ marks_of part) fed false (opened self.new)) }
+        ensures client { is_clients self.old.place ≡ true → OnOk result (is_clients self.new.place ≡ true) }
+        ensures longest { IfOk result (λ part. IsLongest part (to_come self.new)) }
         ensures stopped { IfOk result (λ part. HasStopped part self.new) }
         ensures closed { OnOk result (self.new.closed ≡ self.old.closed) }
         ensures again { has_stopped self.old.place ≡ true → OnOk result (self.new ≡ self.old) }

@@ -1,8 +1,9 @@
 pub mod TargetTextLemmas
 pub mod PlainLemmas
 pub mod ReadBackLemmas
+pub mod ReadLemmas
 pub mod TargetLemmas
+pub mod TargetPathLemmas
 pub mod ChunkTextLemmas
 pub mod PrefixLemmas
 mod FramingLemmas
-mod PartTextLemmas

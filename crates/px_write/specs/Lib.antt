@@ -3,4 +3,4 @@ pub mod Text
 pub mod Short
 pub mod Framing
 pub mod ReadBack
-pub mod PartText
+pub mod TargetPath

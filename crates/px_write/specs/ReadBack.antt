@@ -12,8 +12,10 @@ use Rattle.px_message.specs.declared.length.Length.TheVariants.{ToClose}
 use Rattle.px_message.specs.declared.request.Request.{Request}
 use Rattle.px_message.specs.declared.response.Response.{Response}
 use Rattle.px_read.specs.Items.{Body, complete, request_item, response_item}
+use Rattle.px_read.specs.Whole.{IsReadRequest, IsReadResponse}
 use Rattle.px_read.specs.declared.head.RequestHead.{RequestHead}
 use Rattle.px_read.specs.declared.head.ResponseHead.{ResponseHead}
+use Rattle.px_write.specs.TargetPath.{path_said}
 use Rattle.px_write.specs.Text.{fields_text, request_head_text, request_text, response_head_text, response_text, target_text, version_text}
 use Rattle.px_write.specs.declared.form.Form.{Form}
 use Rattle.px_write.specs.declared.form.Form.TheVariants.{Origin, Absolute}
@@ -109,13 +111,18 @@ one_chunk framed content =
 
 -- ---- laws of requests
 
--- Where head and trailers are read as they stand, the text is read as this one message, whatever follows it: with the same
--- head, body and trailers, and the message behind it begins where it ends.
-abbrev pub RequestReadsBack : Request → Form → Type 0
-RequestReadsBack request form = RequestHeadStands request form → TrailersStand request.fields request.trailers → (rest : List ℕ)
-    → request_item (request_text request form ++ rest)
+-- The text is read as this one request, whatever follows it: with the same head, body and trailers, and the message behind it
+-- begins where it ends.
+abbrev pub IsRequestText : List ℕ → Request → Form → Type 0
+IsRequestText text request form = (rest : List ℕ)
+    → request_item (text ++ rest)
     ≡ complete (read_request_head request form) (one_chunk (is_framed_in_chunks request.fields) request.body) request.trailers
-    (length (request_text request form))
+    (length text)
+
+-- where head and trailers are read as they stand, the text that is written of a request is read as it
+abbrev pub RequestReadsBack : Request → Form → Type 0
+RequestReadsBack request form = RequestHeadStands request form → TrailersStand request.fields request.trailers
+    → IsRequestText (request_text request form) request form
 
 -- a whole request is read back
 abbrev pub WholeRequestReadsBack : Request → Form → Type 0
@@ -124,6 +131,15 @@ WholeRequestReadsBack request form = IsWholeRequest request → RequestReadsBack
 -- and so is every request, once it is settled
 abbrev pub SettledRequestReadsBack : Request → Form → Type 0
 SettledRequestReadsBack request form = RequestReadsBack (settled_request request) form
+
+-- A request that was read, whose path is the one that its target says, is read as it was once it is settled and written. A
+-- blank may be written behind a colon where none was read, so the head and the trailers that are written are to have at most
+-- 65,536 bytes each.
+abbrev pub ReadRequestReadsBack : Request → Form → Type 0
+ReadRequestReadsBack request form = (bytes : List ℕ) (read : IsReadRequest bytes request)
+    → path_said (target_form request.method read.head.target) ≡ Some request.path
+    → length (request_head_text request form) ≤ 65536 → length (fields_text request.trailers) ≤ 65536
+    → IsRequestText (request_text (settled_request request) form) request form
 
 -- the target of a request to a server is read as its path; `*` is the server as a whole
 abbrev pub OriginReadsBack : Request → Type 0
@@ -139,22 +155,33 @@ AbsoluteReadsBack request = request.path ≢ codes "*"
 
 -- ---- laws of responses, to HEAD or not
 
+-- the bytes, behind which the server has closed or not, are read as this one response, which uses so many of them
+abbrev pub AreReadAs : Bool → Bool → List ℕ → ℕ → Response → Type 0
+AreReadAs asked_head closed bytes used response =
+    response_item asked_head closed bytes
+    ≡ complete (read_response_head response) (one_chunk (is_framed_in_chunks response.fields) response.body) response.trailers used
+
+-- so is this text, whatever follows it
+abbrev pub IsResponseText : Bool → List ℕ → Response → Type 0
+IsResponseText asked_head text response = (closed : Bool) (rest : List ℕ)
+    → AreReadAs asked_head closed (text ++ rest) (length text) response
+
+-- so is this text where the server closes right behind it
+abbrev pub IsResponseTextAtClose : Bool → List ℕ → Response → Type 0
+IsResponseTextAtClose asked_head text response = AreReadAs asked_head true text (length text) response
+
 -- the response is read as this one, whatever follows it, whether its server has closed behind that or not
 abbrev pub ResponseReadsBack : Bool → Response → Type 0
 ResponseReadsBack asked_head response =
     ResponseHeadStands response → TrailersStand response.fields response.trailers
-    → response_length response.status asked_head response.fields ≢ Ok ToClose → (closed : Bool) (rest : List ℕ)
-    → response_item asked_head closed (response_text response asked_head ++ rest)
-    ≡ complete (read_response_head response) (one_chunk (is_framed_in_chunks response.fields) response.body) response.trailers
-    (length (response_text response asked_head))
+    → response_length response.status asked_head response.fields ≢ Ok ToClose
+    → IsResponseText asked_head (response_text response asked_head) response
 
 -- a response whose body runs to the close is read as it is where the server closes right behind it
 abbrev pub ResponseReadsBackAtClose : Bool → Response → Type 0
 ResponseReadsBackAtClose asked_head response =
     ResponseHeadStands response → TrailersStand response.fields response.trailers
-    → response_item asked_head true (response_text response asked_head)
-    ≡ complete (read_response_head response) (one_chunk (is_framed_in_chunks response.fields) response.body) response.trailers
-    (length (response_text response asked_head))
+    → IsResponseTextAtClose asked_head (response_text response asked_head) response
 
 -- a whole response is read back
 abbrev pub WholeResponseReadsBack : Bool → Response → Type 0
@@ -166,3 +193,12 @@ abbrev pub SettledResponseReadsBack : Bool → Response → Type 0
 SettledResponseReadsBack asked_head response =
     let settled = settled_response asked_head response in
     ResponseReadsBack asked_head settled × ResponseReadsBackAtClose asked_head settled
+
+-- A response that was read, settled and written is read as it was: whatever follows it, where its body does not run to the
+-- close, and in any case where its server closes right behind it.
+abbrev pub ReadResponseReadsBack : Bool → Response → Type 0
+ReadResponseReadsBack asked_head response = (shut : Bool) (bytes : List ℕ) → IsReadResponse asked_head shut bytes response
+    → length (response_head_text response) ≤ 65536 → length (fields_text response.trailers) ≤ 65536
+    → (response_length response.status asked_head response.fields ≢ Ok ToClose
+    → IsResponseText asked_head (response_text (settled_response asked_head response) asked_head) response)
+    × IsResponseTextAtClose asked_head (response_text (settled_response asked_head response) asked_head) response

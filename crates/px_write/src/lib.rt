@@ -18,7 +18,6 @@ mod form;
 pub mod framing;
 mod line;
 mod message;
-pub mod part_text;
 pub mod read_back;
 mod short;
 

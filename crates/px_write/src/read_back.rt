@@ -3,7 +3,8 @@
 //! A message whose text could be read as two, or as another one, would smuggle a request past whoever looks at it
 //! (RFC 9112 section 11.2). So the texts that are written (`specs/Text.antt`) are tied here to what a reader makes of the
 //! bytes of a stream (`px_read`): the text of a whole message is one message, with the same head, body and trailers, and
-//! not a byte of it is left for the next. Every settled message is whole.
+//! not a byte of it is left for the next. Every settled message is whole. Of a message that was read all this holds as it is:
+//! what is read, settled and written is read as it was.
 //!
 //! The laws ask that the head by itself, and trailers by themselves, are read as they stand. They are where their fields
 //! are plain: no blank at either end of a value, which no reader takes for a part of it, no control byte but the tab, no
@@ -11,6 +12,7 @@
 //! but look at the parts.
 ghost use Rattle.std.specs.Prelude.{◌<◌, ◌^◌, length};
 ghost use Rattle.px_write.specs.ReadBack as law;
+ghost use Rattle.px_write.specs.TargetPath as target;
 
 use crate::Form;
 use px_message::{Body, Fields, Request, Response, fields_are_valid};
@@ -58,6 +60,20 @@ pub fn settled_request_reads_back(request: &Request, form: Form)
     let _ = form;
 }
 
+/// The path that a target in UTF-8 says is UTF-8.
+pub fn target_path_is_text()
+    ensures { target.TargetPathIsText }
+{}
+
+/// A request that was read, settled and written is read as it was, whatever follows it.
+pub fn read_request_reads_back(request: &Request, form: Form)
+    ensures { law.ReadRequestReadsBack request.now form }
+{
+    plain_request_stands(request, form);
+    plain_trailers_stand(&request.trailers);
+    whole_request_reads_back(request, form);
+}
+
 /// The target that is written is read as the request's path, or as its host, port and path.
 pub fn target_reads_back(request: &Request)
     ensures origin { law.OriginReadsBack request.now }
@@ -84,6 +100,15 @@ pub fn settled_response_reads_back(asked_head: bool, response: &Response)
     let _code = response.status.code();
     is_held(&response.body);
     let _ = asked_head;
+}
+
+/// A response that was read, settled and written is read as it was: whatever follows it, or up to its server's close.
+pub fn read_response_reads_back(asked_head: bool, response: &Response)
+    ensures { law.ReadResponseReadsBack asked_head response.now }
+{
+    plain_response_stands(response);
+    plain_trailers_stand(&response.trailers);
+    whole_response_reads_back(asked_head, response);
 }
 
 // Memory holds a body.

@@ -1,5 +1,5 @@
 //! The content of a chunk, as far as the bytes go, and the CRLF behind it.
-ghost use Rattle.std.specs.Prelude.{◌<◌, ◌≤◌, [], length};
+ghost use Rattle.std.specs.Prelude.{◌≡◌, ◌<◌, ◌≤◌, min, [], length};
 ghost use Rattle.px_read.specs.Chunks.{at_cr, at_lf, behind_content};
 ghost use Rattle.px_read.specs.ChunkTurns.{Turns};
 
@@ -24,6 +24,7 @@ pub fn hear_content(left: u64, bytes: &Bytes) -> Result<Turn, ChunkError>
 }
 
 fn piece_length(left: u64, there: usize) -> usize
+    ensures least { result ≡ min left there }
     ensures left { result ≤ left }
     ensures within { result ≤ there }
     ensures some { 0 < left → 0 < there → 0 < result }

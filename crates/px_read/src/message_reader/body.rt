@@ -1,8 +1,8 @@
 //! Bodies: counted, in chunks, or up to the close (RFC 9112 section 6.3). Each piece is as long as what is there.
-ghost use Rattle.std.specs.Prelude.{◌≡◌, ◌≤◌, ◌<◌, take, drop, length, IfOk};
+ghost use Rattle.std.specs.Prelude.{◌≡◌, ◌≤◌, ◌<◌, min, take, drop, length, IfOk, true};
 ghost use Rattle.px_read.specs.Chunking.{reads};
 ghost use Rattle.px_read.specs.Chunks.{Place};
-ghost use Rattle.px_read.specs.Reader.{IsTurn, has_shut, in_counted, in_chunks, up_to_close};
+ghost use Rattle.px_read.specs.Reader.{IsTurn, has_shut, is_client, is_clients, in_counted, in_chunks, up_to_close};
 ghost use Rattle.px_read.specs.Stages.{IsStage, StandOnce, chunk_place, fault_of, seen_as, state_at};
 ghost use Rattle.px_read.specs.Waits.{given};
 ghost use Rattle.px_message.specs.declared.fault.Fault.TheVariants.{BadChunk};
@@ -24,6 +24,7 @@ pub fn take_counted(
     closed: bool,
 ) -> Result<Turn, NoMemory>
     ensures turn { IfOk result (λ turn. IsTurn (state_at (in_counted sender left) rest closed) turn.part (seen_as turn.stage turn.rest closed)) }
+    ensures client { is_client sender ≡ true → IfOk result (λ turn. is_clients (seen_as turn.stage turn.rest closed).place ≡ true) }
     ensures stage { IfOk result (λ turn. IsStage turn.stage) }
     ensures once { IfOk result (λ turn. StandOnce turn.stage turn.rest) }
 {
@@ -50,6 +51,7 @@ pub fn take_to_close(
     closed: bool,
 ) -> Result<Turn, NoMemory>
     ensures turn { IfOk result (λ turn. IsTurn (state_at (up_to_close sender) rest closed) turn.part (seen_as turn.stage turn.rest closed)) }
+    ensures client { is_client sender ≡ true → IfOk result (λ turn. is_clients (seen_as turn.stage turn.rest closed).place ≡ true) }
     ensures stage { IfOk result (λ turn. IsStage turn.stage) }
     ensures once { IfOk result (λ turn. StandOnce turn.stage turn.rest) }
 {
@@ -69,6 +71,7 @@ pub fn take_to_close(
 
 // How many bytes of a body are there, of those that are to come.
 fn piece_length(left: u64, there: usize) -> usize
+    ensures least { result ≡ min left there }
     ensures left { result ≤ left }
     ensures within { result ≤ there }
     ensures all { result ≡ 0 → 0 < left → there ≡ 0 }
@@ -93,8 +96,8 @@ fn take_piece(count: usize, stage: Stage, mut rest: Pending) -> Result<Turn, NoM
     })
 }
 
-// Whether the close counts.
-fn is_shut(sender: Sender, closed: bool) -> bool
+/// Whether the close counts.
+pub fn is_shut(sender: Sender, closed: bool) -> bool
     ensures { result ≡ has_shut sender closed }
 {
     match sender {
@@ -112,6 +115,7 @@ pub fn take_chunk(
 ) -> Result<Turn, NoMemory>
     requires { (place : Place) × (reader ≡ reads place) }
     ensures turn { IfOk result (λ turn. IsTurn (state_at (chunk_place sender reader) rest closed) turn.part (seen_as turn.stage turn.rest closed)) }
+    ensures client { is_client sender ≡ true → IfOk result (λ turn. is_clients (seen_as turn.stage turn.rest closed).place ≡ true) }
     ensures stage { IfOk result (λ turn. IsStage turn.stage) }
     ensures once { IfOk result (λ turn. StandOnce turn.stage turn.rest) }
 {

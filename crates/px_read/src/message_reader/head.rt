@@ -1,7 +1,7 @@
 //! Heads, and what follows each of them by its length (RFC 9112 section 6.3).
-ghost use Rattle.std.specs.Prelude.{◌≡◌, ℕ, Bool, List, [], None, IfOk};
+ghost use Rattle.std.specs.Prelude.{◌≡◌, ℕ, Bool, List, [], None, IfOk, true};
 ghost use Rattle.px_message.specs.Length.{response_length};
-ghost use Rattle.px_read.specs.Reader.{IsTurn, at_head, request, response};
+ghost use Rattle.px_read.specs.Reader.{IsTurn, is_client, is_clients, at_head, request, response};
 ghost use Rattle.px_read.specs.Stages.{answered, IsStage, StandOnce, body_place, request_place, seen_as, state_at};
 
 use super::pending::Pending;
@@ -23,6 +23,7 @@ pub fn take_request(
     requires going { reader.failed ≡ None }
     requires once { rest ≡ [] }
     ensures turn { IfOk result (λ turn. IsTurn (state_at (at_head request) reader.rest closed) turn.part (seen_as turn.stage turn.rest closed)) }
+    ensures client { IfOk result (λ turn. is_clients (seen_as turn.stage turn.rest closed).place ≡ true) }
     ensures stage { IfOk result (λ turn. IsStage turn.stage) }
     ensures once { IfOk result (λ turn. StandOnce turn.stage turn.rest) }
 {
@@ -111,6 +112,7 @@ fn give_response(alloc: Global, asked_head: bool, head: ResponseHead, rest: Pend
 // What follows the head of a request.
 fn behind_request(alloc: Global, length: Result<Length, Fault>) -> Stage
     ensures seen { (rest : List ℕ) (closed : Bool) → seen_as result rest closed ≡ state_at (request_place length) rest closed }
+    ensures client { (rest : List ℕ) (closed : Bool) → is_clients (seen_as result rest closed).place ≡ true }
     ensures stage { IsStage result }
     ensures once { (rest : List ℕ) → StandOnce result rest }
 {
@@ -123,6 +125,7 @@ fn behind_request(alloc: Global, length: Result<Length, Fault>) -> Stage
 // What follows a head, by the length of its body.
 fn behind_head(alloc: Global, sender: Sender, length: Length) -> Stage
     ensures seen { (rest : List ℕ) (closed : Bool) → seen_as result rest closed ≡ state_at (body_place sender length) rest closed }
+    ensures client { is_client sender ≡ true → (rest : List ℕ) (closed : Bool) → is_clients (seen_as result rest closed).place ≡ true }
     ensures stage { IsStage result }
     ensures once { (rest : List ℕ) → StandOnce result rest }
 {

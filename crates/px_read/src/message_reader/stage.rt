@@ -1,10 +1,10 @@
 //! Where a reader is in its message, and one turn of it: the next part, and where it is behind it.
-ghost use Rattle.std.specs.Prelude.{◌≡◌, IfOk};
-ghost use Rattle.px_read.specs.Reader.{IsTurn};
-ghost use Rattle.px_read.specs.Stages.{IsStage, StandOnce, seen_as};
+ghost use Rattle.std.specs.Prelude.{◌≡◌, IfOk, true, false};
+ghost use Rattle.px_read.specs.Reader.{is_clients, IsTurn};
+ghost use Rattle.px_read.specs.Stages.{IsStage, StandOnce, heeded, seen_as};
 ghost use Rattle.px_read.specs.Waits.{waited};
 
-use super::body::{take_chunk, take_counted, take_to_close};
+use super::body::{is_shut, take_chunk, take_counted, take_to_close};
 use super::head::{take_request, take_response};
 use super::pending::Pending;
 use crate::{ChunkReader, Part};
@@ -58,11 +58,41 @@ pub struct Turn {
     pub rest: Pending,
 }
 
-/// The next part of the bytes.
+/// The next part of the bytes. A client's close changes nothing, so bytes may come behind it.
 pub fn take_turn(alloc: Global, stage: Stage, rest: Pending, closed: bool) -> Result<Turn, NoMemory>
     requires stage { IsStage stage }
     requires once { StandOnce stage rest }
     ensures turn { IfOk result (λ turn. IsTurn (seen_as stage rest closed) turn.part (seen_as turn.stage turn.rest closed)) }
+    ensures unclosed { is_clients (seen_as stage rest closed).place ≡ true → IfOk result (λ turn. IsTurn (seen_as stage rest false) turn.part (seen_as turn.stage turn.rest false)) }
+    ensures client { is_clients (seen_as stage rest closed).place ≡ true → IfOk result (λ turn. is_clients (seen_as turn.stage turn.rest closed).place ≡ true) }
+    ensures stage { IfOk result (λ turn. IsStage turn.stage) }
+    ensures once { IfOk result (λ turn. StandOnce turn.stage turn.rest) }
+{
+    let shut = heeds(&stage, closed);
+    take_part(alloc, stage, rest, shut)
+}
+
+// Whether the close counts there.
+fn heeds(stage: &Stage, closed: bool) -> bool
+    ensures { result ≡ heeded stage.now closed }
+{
+    match stage {
+        Stage::Request(_) => false,
+        Stage::Response { .. } => closed,
+        Stage::Counted { sender, .. } => is_shut(*sender, closed),
+        Stage::Chunked { sender, .. } => is_shut(*sender, closed),
+        Stage::ToClose { sender } => is_shut(*sender, closed),
+        Stage::Ended(_) => false,
+        Stage::Refused(_) => false,
+    }
+}
+
+// The same, where the close is one that counts.
+fn take_part(alloc: Global, stage: Stage, rest: Pending, closed: bool) -> Result<Turn, NoMemory>
+    requires stage { IsStage stage }
+    requires once { StandOnce stage rest }
+    ensures turn { IfOk result (λ turn. IsTurn (seen_as stage rest closed) turn.part (seen_as turn.stage turn.rest closed)) }
+    ensures client { is_clients (seen_as stage rest closed).place ≡ true → IfOk result (λ turn. is_clients (seen_as turn.stage turn.rest closed).place ≡ true) }
     ensures stage { IfOk result (λ turn. IsStage turn.stage) }
     ensures once { IfOk result (λ turn. StandOnce turn.stage turn.rest) }
 {

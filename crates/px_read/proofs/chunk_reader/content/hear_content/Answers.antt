@@ -1,5 +1,5 @@
-use Rattle.std.proofs.Common.{ℕ, ◌-◌, ◌<◌, ◌≤◌, ◌≡◌, ◌∙◌, ap, length, take, arith}
-use Rattle.px_read.proofs.TurnLemmas.{piece_taken, want_of_memory}
+use Rattle.std.proofs.Common.{ℕ, ◌-◌, ◌<◌, ◌≤◌, ◌≡◌, ◌∙◌, ap, length, min, take, arith}
+use Rattle.px_read.proofs.TurnLemmas.{piece_taken, piece_whole, want_of_memory}
 use Rattle.px_read.proofs.chunk_reader.content.hear_content.Goals as goal
 
 pub returns-in_err-piece : goal.returns-in_err-piece
@@ -14,3 +14,4 @@ returns c =
     let whole : c.piece_length-count.result - 0 ≡ c.piece_length-count.result = omega arith in
     piece_taken c.args.left c.piece_length-count.result c.args.bytes.now c.in_ok-piece.piece (count.some c.requires.left there) count.left within
     (c.in_ok-piece.ensures ∙ ap (λ (n : ℕ). take n c.args.bytes.now) whole)
+    (piece_whole c.args.left (length c.args.bytes.now) c.piece_length-count.result (count.least ∙ ap (min c.args.left) c.len.ensures))

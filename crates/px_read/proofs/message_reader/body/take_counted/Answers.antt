@@ -1,4 +1,4 @@
-use Rattle.std.proofs.Common.{Bool, ◌∙◌, ◌≡◌, ◌<◌, ◌≤◌, ◌-◌, take, drop, length, arith, ap, subst, sym}
+use Rattle.std.proofs.Common.{Bool, ◌∙◌, ◌≡◌, ◌<◌, ◌≤◌, ◌-◌, min, take, drop, length, arith, ap, subst, sym}
 use Rattle.px_read.specs.Reader.{in_counted, IsTurn}
 use Rattle.px_read.specs.Stages.{state_at, seen_as}
 use Rattle.px_read.specs.Waits.{waited}
@@ -7,6 +7,7 @@ use Rattle.px_read.specs.declared.message_reader.stage.Turn.{Turn}
 use Rattle.px_read.specs.declared.part.Part.TheVariants as part
 use Rattle.px_read.proofs.BodyLemmas.{counted-gives, counted-ends, counted-waits}
 use Rattle.px_read.proofs.ReaderLemmas.{turn-made}
+use Rattle.px_read.proofs.TurnLemmas.{piece_whole}
 use Rattle.px_read.proofs.message_reader.body.take_counted.Goals as goal
 
 pub returns-then-left-eq0-clause-turn : goal.returns-then-left-eq0-clause-turn
@@ -31,7 +32,8 @@ returns-clause-turn c =
     let n = c.piece_length-count.result in
     let there : n ≤ length c.args.rest = omega arith in
     let some : 0 < n = omega arith in
+    let all = piece_whole c.args.left (length c.args.rest) n (c.piece_length-count.ensures.least ∙ ap (min c.args.left) c.len.ensures) in
     turn-made c.take_piece.result
     (record { part = part.Piece (take n c.args.rest); stage = stage.Counted c.args.sender (c.args.left - n); rest = drop n c.args.rest })
     (state_at (in_counted c.args.sender c.args.left) c.args.rest c.args.closed) c.args.closed
-    (counted-gives c.args.sender c.args.left n c.args.rest c.args.closed c.piece_length-count.ensures.left there some) c.take_piece.ensures
+    (counted-gives c.args.sender c.args.left n c.args.rest c.args.closed c.piece_length-count.ensures.left there some all) c.take_piece.ensures

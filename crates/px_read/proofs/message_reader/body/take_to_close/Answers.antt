@@ -14,7 +14,7 @@ returns-then-count-gt0-clause-turn c =
     turn-made c.take_piece.result
     (record { part = part.Piece (take n c.args.rest); stage = stage.ToClose c.args.sender; rest = drop n c.args.rest })
     (state_at (up_to_close c.args.sender) c.args.rest c.args.closed) c.args.closed
-    (closing-gives c.args.sender n c.args.rest c.args.closed there c.if-count-gt0.true) c.take_piece.ensures
+    (closing-gives c.args.sender n c.args.rest c.args.closed there c.if-count-gt0.true (omega arith)) c.take_piece.ensures
 
 pub returns-then-is_shut-clause-turn : goal.returns-then-is_shut-clause-turn
 returns-then-is_shut-clause-turn c =
