@@ -1,7 +1,34 @@
--- Changes of a course that are all so.
-use Rattle.std.proofs.Common.{List, [], ◌∷◌, ◌++◌, subst, sym}
-use Rattle.px_core.specs.Answers.{AnswererState}
-use Rattle.px_core.specs.Course.{AllAre, Change, Course, IsFrontOf}
+-- Changes of a course that are all so, and one change more.
+use Rattle.std.proofs.Common.{◌≡◌, ℕ, List, [], ◌∷◌, ◌++◌, Option, refl, ap, ◌∙◌, subst, sym}
+use Rattle.px_event.specs.declared.ask.Ask.{Ask}
+use Rattle.px_event.specs.declared.command.Command.{Command}
+use Rattle.px_event.specs.Layer.{Move, Standing}
+use Rattle.px_event.specs.Trace.{Trace}
+use Rattle.px_core.specs.declared.table.Table.{Table}
+use Rattle.px_core.specs.Answered.{at_change}
+use Rattle.px_core.specs.Answers.{Answering, AnswererState, FilesMeaning}
+use Rattle.px_core.specs.Course.{AllAre, Change, Course, IsFrontOf, with_change}
+use Rattle.px_core.specs.Due.{Due}
+use Rattle.px_core.specs.Router.{TableStands}
+
+-- a state is told by its parts
+pub same_state : {S : Type 0} (a b : AnswererState S) → a.own ≡ b.own → a.files ≡ b.files → a ≡ b
+same_state {S} a b own files =
+    let with_own : S → AnswererState S = λ o. record { own = o; files = a.files } in
+    let with_files : FilesMeaning → AnswererState S = λ f. record { own = b.own; files = f } in
+    ap with_own own ∙ ap with_files files
+
+-- behind all steps something else became of the state
+pub stands_changed : {C : Type 0} (standing : Standing C) (awaited : C → Option Ask) (number : C → ℕ) (made_due : C → List Move → List Command) {S : Type 0} (answers : Answering S)
+    (due : Due) (course : Course S) (old new : AnswererState S) (table : Table C) (trace : Trace) → TableStands standing awaited number made_due answers due course old table trace →
+    TableStands standing awaited number made_due answers due (with_change course trace old new) new table trace
+stands_changed standing awaited number made_due answers due course old new table trace s = record {
+  at = s.at;
+  served = s.served;
+  pending = s.pending;
+  answered = at_change course (with_change course trace old new) trace old new s.pending s.answered refl;
+  drafts = s.drafts;
+}
 
 -- the last of them too
 pub last_is : {S : Type 0} (Is : Change S → Type 0) (changes : List (Change S)) (last : Change S) → AllAre Is (changes ++ last ∷ []) → AllAre Is changes × Is last

@@ -21,15 +21,17 @@ use Rattle.px_core.specs.declared.held.Held.{Held}
 use Rattle.px_core.specs.declared.news.News.{News}
 use Rattle.px_core.specs.declared.news.News.TheVariants as news
 use Rattle.px_core.specs.Answers.{Answering, AnswererState}
-use Rattle.px_core.specs.Calls.{Calls, calls, calls_of, hears_by, takes, addressed, is_connected, is_dialling, dial_ends, dial_reply, connected_by, moved}
+use Rattle.px_core.specs.Calls.{Calls, calls, calls_of, hears_by, takes, addressed, is_connected, is_dialling, dial_ends, dial_reply, moved}
 use Rattle.px_core.specs.Conversation.{AllNamed, AsksWhile}
 use Rattle.px_core.specs.Due.{Due, due_by, due_in, IsServed}
-use Rattle.px_core.specs.Held.{dial_from, dial_of, IsSettled, IsReady, IsKept, IsDrafted, IsDraftedBehind, IsOneOn, Follows, Gives, Within, Stood, Works, Takes, Hears}
+use Rattle.px_core.specs.Held.{is_side, servers_by, AreServers, dial_from, dial_of, IsSettled, IsReady, IsKept, IsDrafted, IsDraftedBehind, IsOneOn, Follows, Gives, Within, Stood, Works, Takes, Hears}
 use Rattle.px_core.specs.Hooks.{hook_of, AsksInTurn}
+use Rattle.px_core.specs.Runs.{has}
 use Rattle.px_core.proofs.AskLemmas.{asks_one, dial_now, quiet}
 use Rattle.px_core.proofs.CallLemmas.{calls_more, seen_more, same_number}
 use Rattle.px_core.proofs.HookLemmas.{hook_heard, hook_is, one_turn, quiet_turn, quiet_same, kept_on}
 use Rattle.px_core.proofs.ServedLemmas.{due_there}
+use Rattle.px_core.proofs.SideLemmas.{servers_along, servers_same, side_connected, servers_end}
 
 pub heard_seen : (view : View) (conv moment : ℕ) (heard : Heard) → step_atoms view conv (steps.Heard moment heard) ≡ []
 heard_seen (line side) conv moment heard = refl
@@ -114,10 +116,10 @@ gives_end standing awaited conv move server before after given is named goes one
 
 module _ {C : Type 0} (standing : Standing C) (awaited : C → Option Ask) (number : C → ℕ) (made_due : C → List Move → List Command) where
   -- a call was taken
-  taken_stands : (due : Due) (conv : ℕ) (peer : Address) (moment : ℕ) (move : Move) (dial : Option ℕ) (sides : List ℕ) (before after : Held C) (trace next : Trace) (given : List Command) →
-      (w : Stood standing awaited number made_due due conv peer before.conversation trace) → IsOneOn conv peer moment move dial sides trace next →
+  taken_stands : (due : Due) (conv : ℕ) (peer : Address) (moment : ℕ) (move : Move) (dial : Option ℕ) (servers : ℕ → Bool) (before after : Held C) (trace next : Trace) (given : List Command) →
+      (w : Stood standing awaited number made_due due conv peer before.conversation trace) → IsOneOn conv peer moment move dial servers trace next →
       Gives standing awaited move dial before.conversation after.conversation given → standing w.made after.conversation (calls_of conv next) (w.earlier ++ given)
-  taken_stands due conv peer moment move dial sides before after trace next given w on gives =
+  taken_stands due conv peer moment move dial servers before after trace next given w on gives =
       let P : List Move → Type 0 = λ l. standing w.made after.conversation l (w.earlier ++ given) in
       let Q : List Command → Type 0 = λ l. standing w.made after.conversation (calls_of conv trace ++ move ∷ []) l in
       let all : (w.earlier ++ []) ++ gives.goes.more ≡ w.earlier ++ given =
@@ -125,21 +127,21 @@ module _ {C : Type 0} (standing : Standing C) (awaited : C → Option Ask) (numb
       subst P (sym on.moves) (subst Q all (gives.goes.stands w.made (calls_of conv trace) (w.earlier ++ []) w.stands))
 
   -- and its commands are still to be told
-  taken_within : (due : Due) (conv : ℕ) (peer : Address) (moment : ℕ) (move : Move) (dial : Option ℕ) (sides : List ℕ) (before after : Held C) (trace next : Trace) (given : List Command) →
-      Stood standing awaited number made_due due conv peer before.conversation trace → IsOneOn conv peer moment move dial sides trace next → number after.conversation ≡ conv →
-      Gives standing awaited move dial before.conversation after.conversation given → sides ≡ after.connected.items →
+  taken_within : (due : Due) (conv : ℕ) (peer : Address) (moment : ℕ) (move : Move) (dial : Option ℕ) (servers : ℕ → Bool) (before after : Held C) (trace next : Trace) (given : List Command) →
+      Stood standing awaited number made_due due conv peer before.conversation trace → IsOneOn conv peer moment move dial servers trace next → number after.conversation ≡ conv →
+      Gives standing awaited move dial before.conversation after.conversation given → ((n : ℕ) → servers n ≡ has after.connected n) →
       Within standing awaited number made_due due conv after next given
-  taken_within due conv peer moment move dial sides before after trace next given w on named gives same =
+  taken_within due conv peer moment move dial servers before after trace next given w on named gives same =
       record {
         made = w.made;
         peer = peer;
         earlier = w.earlier;
-        stands = taken_stands due conv peer moment move dial sides before after trace next given w on gives;
+        stands = taken_stands due conv peer moment move dial servers before after trace next given w on gives;
         owes = w.owes;
         tells = λ view told. w.tells view told ∙ sym (on.sees view told);
         named = named;
         begun = on.begun;
-        sides = on.connected ∙ same;
+        servers = servers_same servers (has after.connected) (calls conv next).connected same on.connected;
         dial = ap (λ d. dial_from d given) on.dials ∙ gives.dials;
         turn =
             let R : Option Ask → Type 0 = λ h. AsksInTurn h given (hook_of (awaited after.conversation)) in
@@ -150,11 +152,11 @@ module _ {C : Type 0} (standing : Standing C) (awaited : C → Option Ask) (numb
     -- where the call's commands ask nothing, a hook that was awaited goes on to wait with its draft
     drafted_taken : (gave : (made state : C) (moves : List Move) (given : List Command) → standing made state moves given →
         (view : View) → seen_of view given ≡ seen_of view (made_due made moves)) (due : Due) (conv : ℕ) (peer : Address) (moment : ℕ) (move : Move)
-        (dial : Option ℕ) (sides : List ℕ) (before after : Held C) (trace next : Trace) (given : List Command) →
-        Stood standing awaited number made_due due conv peer before.conversation trace → IsOneOn conv peer moment move dial sides trace next →
+        (dial : Option ℕ) (servers : ℕ → Bool) (before after : Held C) (trace next : Trace) (given : List Command) →
+        Stood standing awaited number made_due due conv peer before.conversation trace → IsOneOn conv peer moment move dial servers trace next →
         Gives standing awaited move dial before.conversation after.conversation given → after.draft ≡ before.draft →
         IsDrafted awaited answers due conv before trace → IsDraftedBehind awaited answers due conv after next given
-    drafted_taken gave due conv peer moment move dial sides before after trace next given w on gives kept drafted none flow hook waits =
+    drafted_taken gave due conv peer moment move dial servers before after trace next given w on gives kept drafted none flow hook waits =
         let ask : Ask = asks.Hook flow hook in
         let was_open : hook_of (awaited before.conversation) ≡ Some ask =
         quiet_same given none (hook_of (awaited before.conversation)) (hook_of (awaited after.conversation)) gives.turn ∙ ap hook_of waits in
@@ -166,7 +168,7 @@ module _ {C : Type 0} (standing : Standing C) (awaited : C → Option Ask) (numb
         let later : due_in due flows conv next ≡ seen_of flows w.earlier =
         due_there due conv next peer on.begun flows
         ∙ (ap (seen_of flows) (sym (w.owes (calls_of conv next)))
-        ∙ (sym (gave w.made after.conversation (calls_of conv next) (w.earlier ++ given) (taken_stands due conv peer moment move dial sides before after trace next given w on gives) flows)
+        ∙ (sym (gave w.made after.conversation (calls_of conv next) (w.earlier ++ given) (taken_stands due conv peer moment move dial servers before after trace next given w on gives) flows)
         ∙ (seen_append flows w.earlier given
         ∙ (ap (λ l. seen_of flows w.earlier ++ l) (quiet given none None None).sees ∙ append-nil (seen_of flows w.earlier))))) in
         let P : Option Draft → Type 0 = λ d. IsKept answers due next conv ask d in
@@ -174,19 +176,19 @@ module _ {C : Type 0} (standing : Standing C) (awaited : C → Option Ask) (numb
 
     pub works_taken : (gave : (made state : C) (moves : List Move) (given : List Command) → standing made state moves given →
         (view : View) → seen_of view given ≡ seen_of view (made_due made moves))
-        (conv moment : ℕ) (move : Move) (dial : Option ℕ) (sides : List ℕ) (before between after : Held C) {old new : AnswererState S} (given : List Command) (out new_out : List Step) →
-        number between.conversation ≡ conv → Gives standing awaited move dial before.conversation between.conversation given → sides ≡ between.connected.items →
+        (conv moment : ℕ) (move : Move) (dial : Option ℕ) (servers : ℕ → Bool) (before between after : Held C) {old new : AnswererState S} (given : List Command) (out new_out : List Step) →
+        number between.conversation ≡ conv → Gives standing awaited move dial before.conversation between.conversation given → ((n : ℕ) → servers n ≡ has between.connected n) →
         between.draft ≡ before.draft →
         Works standing awaited number made_due answers conv moment given between after old new None out new_out →
-        Takes standing awaited number made_due answers conv moment move dial sides before after old new out new_out
-    works_taken gave conv moment move dial sides before between after {old} {new} given out new_out named gives same kept works = record {
+        Takes standing awaited number made_due answers conv moment move dial servers before after old new out new_out
+    works_taken gave conv moment move dial servers before between after {old} {new} given out new_out named gives same kept works = record {
       more = works.more;
       grown = works.grown;
       own = works.own;
       takes = λ due course pending peer trace next w drafted on served follows.
           let P : Option Draft → Type 0 = λ d. Follows answers due course pending conv d old next in
-          let to = works.works due course pending next (taken_within due conv peer moment move dial sides before between trace next given w on named gives same) on.now served
-          (drafted_taken gave due conv peer moment move dial sides before between trace next given w on gives kept drafted) (subst P (sym kept) follows) in
+          let to = works.works due course pending next (taken_within due conv peer moment move dial servers before between trace next given w on named gives same) on.now served
+          (drafted_taken gave due conv peer moment move dial servers before between trace next given w on gives kept drafted) (subst P (sym kept) follows) in
           (to.within, to.served, to.drafted, to.follows);
       settled = works.next;
     }
@@ -194,18 +196,18 @@ module _ {C : Type 0} (standing : Standing C) (awaited : C → Option Ask) (numb
     -- the same where a side was noted before the call
     pub works_end : (gave : (made state : C) (moves : List Move) (given : List Command) → standing made state moves given →
         (view : View) → seen_of view given ≡ seen_of view (made_due made moves))
-        (conv moment : ℕ) (move : Move) (dial : Option ℕ) (sides : List ℕ) (before noted between after : Held C) {old new : AnswererState S} (given : List Command) (out new_out : List Step) →
-        noted.conversation ≡ before.conversation → number between.conversation ≡ conv → Gives standing awaited move dial noted.conversation between.conversation given → sides ≡ between.connected.items →
+        (conv moment : ℕ) (move : Move) (dial : Option ℕ) (servers : ℕ → Bool) (before noted between after : Held C) {old new : AnswererState S} (given : List Command) (out new_out : List Step) →
+        noted.conversation ≡ before.conversation → number between.conversation ≡ conv → Gives standing awaited move dial noted.conversation between.conversation given → ((n : ℕ) → servers n ≡ has between.connected n) →
         between.draft ≡ before.draft →
         Works standing awaited number made_due answers conv moment given between after old new None out new_out →
-        Takes standing awaited number made_due answers conv moment move dial sides before after old new out new_out
-    works_end gave conv moment move dial sides before noted between after given out new_out same named gives sides_are kept works =
+        Takes standing awaited number made_due answers conv moment move dial servers before after old new out new_out
+    works_end gave conv moment move dial servers before noted between after given out new_out same named gives are kept works =
         let P : C → Type 0 = λ s. Gives standing awaited move dial s between.conversation given in
-        works_taken gave conv moment move dial sides before between after given out new_out named (subst P same gives) sides_are kept works
+        works_taken gave conv moment move dial servers before between after given out new_out named (subst P same gives) are kept works
 
     -- news that are no call
     pub ignored : (conv moment : ℕ) (what : News) (held : Held C) {state : AnswererState S} (out : List Step) →
-        ((c : Calls) (peer : Address) → c.peer ≡ Some peer → c.connected ≡ held.connected.items → c.dial ≡ dial_of (awaited held.conversation) → takes moment c what ≡ c) → IsSettled awaited held →
+        ((c : Calls) (peer : Address) → c.peer ≡ Some peer → AreServers (has held.connected) c.connected → c.dial ≡ dial_of (awaited held.conversation) → takes moment c what ≡ c) → IsSettled awaited held →
         Hears standing awaited number made_due answers conv moment what held held state state out out
     ignored conv moment what held {state} out nothing settled = record {
       more = [];
@@ -213,7 +215,7 @@ module _ {C : Type 0} (standing : Standing C) (awaited : C → Option Ask) (numb
       own = tt;
       hears = λ due course pending trace heard is w drafted served follows.
           let on : calls conv (trace ++ steps.Heard moment heard ∷ []) ≡ record (calls conv trace) { moment = moment } =
-          calls_heard conv trace moment heard what is ∙ ap (λ (c : Calls). record c { moment = moment }) (nothing (calls conv trace) w.peer w.begun w.sides w.dial) in
+          calls_heard conv trace moment heard what is ∙ ap (λ (c : Calls). record c { moment = moment }) (nothing (calls conv trace) w.peer w.begun w.servers w.dial) in
           let P : List Move → Type 0 = λ l. standing w.made held.conversation l (w.earlier ++ []) in
           let Q : Trace → Type 0 = λ t. Within standing awaited number made_due due conv held t [] × IsServed answers due t × IsDrafted awaited answers due conv held t × Follows answers due course pending conv held.draft state t in
           let there : Trace = trace ++ steps.Heard moment heard ∷ [] in
@@ -227,7 +229,7 @@ module _ {C : Type 0} (standing : Standing C) (awaited : C → Option Ask) (numb
               tells = λ view told. w.tells view told ∙ sym (seen_heard view conv trace moment heard);
               named = w.named;
               begun = ap (λ (c : Calls). c.peer) on ∙ w.begun;
-              sides = ap (λ (c : Calls). c.connected) on ∙ w.sides;
+              servers = servers_along (has held.connected) _ _ (ap (λ (c : Calls). c.connected) on) w.servers;
               dial = ap (λ (c : Calls). c.dial) on ∙ w.dial;
               turn = hook_heard conv trace moment heard ∙ w.turn;
             },
@@ -239,23 +241,23 @@ module _ {C : Type 0} (standing : Standing C) (awaited : C → Option Ask) (numb
     }
 
     -- news that are a call
-    pub taken : (conv moment : ℕ) (what : News) (move : Move) (dial : Option ℕ) (sides : List ℕ) (before after : Held C) {old new : AnswererState S} (out new_out : List Step) →
-        ((c : Calls) (peer : Address) → c.peer ≡ Some peer → c.connected ≡ before.connected.items → c.dial ≡ dial_of (awaited before.conversation) →
-        (takes moment c what).moves ≡ c.moves ++ move ∷ [] × ((takes moment c what).peer ≡ Some peer) × ((takes moment c what).dial ≡ dial) × ((takes moment c what).connected ≡ sides)) →
-        Takes standing awaited number made_due answers conv moment move dial sides before after old new out new_out →
+    pub taken : (conv moment : ℕ) (what : News) (move : Move) (dial : Option ℕ) (servers : ℕ → Bool) (before after : Held C) {old new : AnswererState S} (out new_out : List Step) →
+        ((c : Calls) (peer : Address) → c.peer ≡ Some peer → AreServers (has before.connected) c.connected → c.dial ≡ dial_of (awaited before.conversation) →
+        (takes moment c what).moves ≡ c.moves ++ move ∷ [] × ((takes moment c what).peer ≡ Some peer) × ((takes moment c what).dial ≡ dial) × AreServers servers (takes moment c what).connected) →
+        Takes standing awaited number made_due answers conv moment move dial servers before after old new out new_out →
         Hears standing awaited number made_due answers conv moment what before after old new out new_out
-    taken conv moment what move dial sides before after {old} {new} out new_out one t = record {
+    taken conv moment what move dial servers before after {old} {new} out new_out one t = record {
       more = t.more;
       grown = t.grown;
       own = t.own;
       hears = λ due course pending trace heard is w drafted served follows.
           let on = calls_heard conv trace moment heard what is in
-          let facts = one (calls conv trace) w.peer w.begun w.sides w.dial in
+          let facts = one (calls conv trace) w.peer w.begun w.servers w.dial in
           t.takes due course pending w.peer trace (trace ++ steps.Heard moment heard ∷ []) (record { made = w.made; earlier = w.earlier; stands = w.stands; owes = w.owes; tells = w.tells; hook = w.turn; there = λ _ _. w.begun }) drafted (record {
             moves = ap (λ (c : Calls). c.moves) on ∙ facts.0;
             begun = ap (λ (c : Calls). c.peer) on ∙ facts.1;
             dials = ap (λ (c : Calls). c.dial) on ∙ facts.2;
-            connected = ap (λ (c : Calls). c.connected) on ∙ facts.3;
+            connected = servers_along servers _ _ (ap (λ (c : Calls). c.connected) on) facts.3;
             now = ap (λ (c : Calls). c.moment) on;
             sees = λ view told. seen_heard view conv trace moment heard;
             hook = hook_heard conv trace moment heard;
@@ -267,15 +269,15 @@ module _ {C : Type 0} (standing : Standing C) (awaited : C → Option Ask) (numb
 pub takes_begun : (moment : ℕ) (c : Calls) (peer at : Address) → c.peer ≡ Some peer → takes moment c (news.Begun at) ≡ c
 takes_begun moment c peer at is = rw is refl
 
-pub takes_not_connected : (moment : ℕ) (c : Calls) (peer : Address) (side : Side) (event : Event) (sides : List ℕ) → c.peer ≡ Some peer → c.connected ≡ sides → is_connected side sides ≡ false →
+pub takes_not_connected : (moment : ℕ) (c : Calls) (peer : Address) (side : Side) (event : Event) (servers : ℕ → Bool) → c.peer ≡ Some peer → AreServers servers c.connected → is_side side servers ≡ false →
     takes moment c (news.Event side event) ≡ c
-takes_not_connected moment c peer side event sides begun same not =
-    let no : is_connected side c.connected ≡ false = ap (is_connected side) same ∙ not in rw (begun, no) refl
+takes_not_connected moment c peer side event servers begun are not =
+    let none : is_connected side c.connected ≡ false = side_connected side servers c.connected are ∙ not in rw (begun, none) refl
 
-pub takes_connected : (moment : ℕ) (c : Calls) (peer : Address) (side : Side) (event : Event) (sides : List ℕ) → c.peer ≡ Some peer → c.connected ≡ sides → is_connected side sides ≡ true →
+pub takes_connected : (moment : ℕ) (c : Calls) (peer : Address) (side : Side) (event : Event) (servers : ℕ → Bool) → c.peer ≡ Some peer → AreServers servers c.connected → is_side side servers ≡ true →
     takes moment c (news.Event side event) ≡ moved (Took moment event) c
-takes_connected moment c peer side event sides begun same is =
-    let yes : is_connected side c.connected ≡ true = ap (is_connected side) same ∙ is in rw (begun, yes) refl
+takes_connected moment c peer side event servers begun are is =
+    let one : is_connected side c.connected ≡ true = side_connected side servers c.connected are ∙ is in rw (begun, one) refl
 
 pub takes_no_end : (moment : ℕ) (c : Calls) (server : ℕ) (ok : Bool) (dial : Option ℕ) → c.dial ≡ dial → is_dialling server dial ≡ false →
     takes moment c (news.Dialled server ok) ≡ c
@@ -289,21 +291,21 @@ takes_end moment c server ok dial same is =
 
 module _ {C : Type 0} (standing : Standing C) (awaited : C → Option Ask) (number : C → ℕ) (made_due : C → List Move → List Command) {S : Type 0} (answers : Answering S) where
   pub heard_event : (conv moment : ℕ) (what : News) (side : Side) (event : Event) (before after : Held C) {old new : AnswererState S} (out new_out : List Step) → what ≡ news.Event side event →
-      is_connected side before.connected.items ≡ true →
-      Takes standing awaited number made_due answers conv moment (Took moment event) (dial_of (awaited before.conversation)) before.connected.items before after old new out new_out →
+      is_side side (has before.connected) ≡ true →
+      Takes standing awaited number made_due answers conv moment (Took moment event) (dial_of (awaited before.conversation)) (has before.connected) before after old new out new_out →
       Hears standing awaited number made_due answers conv moment what before after old new out new_out
   heard_event conv moment what side event before after out new_out is connected t =
-      taken standing awaited number made_due answers conv moment what (Took moment event) (dial_of (awaited before.conversation)) before.connected.items before after out new_out
-      (λ c peer begun sides dial.
-      let on : takes moment c what ≡ moved (Took moment event) c = ap (takes moment c) is ∙ takes_connected moment c peer side event before.connected.items begun sides connected in
-      (ap (λ (c : Calls). c.moves) on, ap (λ (c : Calls). c.peer) on ∙ begun, ap (λ (c : Calls). c.dial) on ∙ dial, ap (λ (c : Calls). c.connected) on ∙ sides)) t
+      taken standing awaited number made_due answers conv moment what (Took moment event) (dial_of (awaited before.conversation)) (has before.connected) before after out new_out
+      (λ c peer begun are dial.
+      let on : takes moment c what ≡ moved (Took moment event) c = ap (takes moment c) is ∙ takes_connected moment c peer side event (has before.connected) begun are connected in
+      (ap (λ (c : Calls). c.moves) on, ap (λ (c : Calls). c.peer) on ∙ begun, ap (λ (c : Calls). c.dial) on ∙ dial, servers_along (has before.connected) _ _ (ap (λ (c : Calls). c.connected) on) are)) t
 
   pub heard_end : (conv moment : ℕ) (what : News) (server : ℕ) (ok : Bool) (before after : Held C) {old new : AnswererState S} (out new_out : List Step) → what ≡ news.Dialled server ok →
       is_dialling server (dial_of (awaited before.conversation)) ≡ true →
-      Takes standing awaited number made_due answers conv moment (Replied moment (dial_reply ok)) None (connected_by server ok before.connected.items) before after old new out new_out →
+      Takes standing awaited number made_due answers conv moment (Replied moment (dial_reply ok)) None (servers_by server ok (has before.connected)) before after old new out new_out →
       Hears standing awaited number made_due answers conv moment what before after old new out new_out
   heard_end conv moment what server ok before after out new_out is dialling t =
-      taken standing awaited number made_due answers conv moment what (Replied moment (dial_reply ok)) None (connected_by server ok before.connected.items) before after out new_out
-      (λ c peer begun sides dial.
+      taken standing awaited number made_due answers conv moment what (Replied moment (dial_reply ok)) None (servers_by server ok (has before.connected)) before after out new_out
+      (λ c peer begun are dial.
       let on : takes moment c what ≡ dial_ends moment server ok c = ap (takes moment c) is ∙ takes_end moment c server ok (dial_of (awaited before.conversation)) dial dialling in
-      (ap (λ (c : Calls). c.moves) on, ap (λ (c : Calls). c.peer) on ∙ begun, ap (λ (c : Calls). c.dial) on, ap (λ (c : Calls). c.connected) on ∙ ap (connected_by server ok) sides)) t
+      (ap (λ (c : Calls). c.moves) on, ap (λ (c : Calls). c.peer) on ∙ begun, ap (λ (c : Calls). c.dial) on, servers_along (servers_by server ok (has before.connected)) _ _ (ap (λ (c : Calls). c.connected) on) (servers_end server ok (has before.connected) c.connected are))) t

@@ -10,7 +10,7 @@ use Rattle.px_event.specs.Trace.{Trace}
 use Rattle.px_event.specs.View.{Atom, about, asked, byte, close, course, dialled, done, seen_in, seen_of}
 use Rattle.px_core.specs.Calls.{calls, calls_of}
 use Rattle.px_core.specs.Due.{Due, due_at, IsWithinDue}
-use Rattle.px_core.specs.Leaving.{leaving_ordered}
+use Rattle.px_core.proofs.LeavingLemmas.{leaving_ordered}
 use Rattle.px_core.specs.Ordered.{AsksNoneOf, AsksBeforeEnds, HooksNoneOf, HooksBeforeEnds, IsInOrder, LeavesFlows}
 
 -- what is due of a chain that leaves its flows behind

@@ -1,5 +1,5 @@
--- Clauses of a result joined, and clauses on a list that began empty.
-use Rattle.std.proofs.Common.{◌≡◌, ℕ, List, [], ◌++◌, Option, ap, sym, ◌∙◌, subst, option_to_list, IfOk, OnOk}
+-- Clauses of a result joined, clauses on a list that began empty, and what an option has.
+use Rattle.std.proofs.Common.{◌≡◌, ℕ, List, [], ◌++◌, Option, Some, ap, sym, ◌∙◌, subst, option_to_list, IfOk, OnOk}
 use Rattle.std.specs.Prelude.{Result, Ok, Err}
 use Rattle.std.specs.List.{flat_map}
 use Rattle.px_event.specs.declared.ask.Ask.{Ask}
@@ -7,6 +7,9 @@ use Rattle.px_event.specs.declared.command.Command.{Command}
 use Rattle.px_event.specs.declared.reply.Reply.{Reply}
 use Rattle.px_event.specs.Layer.{Move, Replied, Standing, Goes, AsksOnly, asks_in}
 use Rattle.px_core.specs.Conversation.{AllNamed, NamesOnly, AsksWhile}
+
+pub same_some : {A : Type 0} (a b : A) → Some a ≡ Some b → a ≡ b
+same_some a b is = cc
 
 pub if_ok_both : {T E A : Type 0} (r : Result T E) (B P : T → Type 0) → ((t : T) → A → B t → P t) → OnOk r A → IfOk r B → IfOk r P
 if_ok_both (Ok t) B P all a b = all t a b

@@ -1,12 +1,9 @@
 -- From the end of a step to the end of the next, for a table of conversations.
-use Rattle.std.proofs.Common.{◌≡◌, ◌≢◌, ◌⊎◌, inl, inr, ℕ, Bool, true, false, ◌==◌, List, [], ◌∷◌, ◌++◌, Option, Some, None, refl, ap, sym, ◌∙◌, subst, append_assoc, is_some, arith}
+use Rattle.std.proofs.Common.{◌≡◌, ◌≢◌, ◌⊎◌, inl, inr, ℕ, Bool, true, false, ◌==◌, List, [], ◌∷◌, ◌++◌, Option, Some, None, refl, ap, sym, ◌∙◌, subst, append_assoc, is_some}
 use Rattle.std.specs.Prelude.{if◌then◌else◌}
 use Rattle.std.proofs.lemmas.List.{append-nil}
-use Rattle.std.proofs.lemmas.Bool.Decides.{eqb_tells, nat_tests}
+use Rattle.std.proofs.lemmas.Bool.Decides.{eqb_tells}
 use Rattle.slab.specs.Slab as slab
-use Rattle.std.specs.BTreeMap as tree
-use Rattle.std.specs.BTreeMap.{is_at}
-use Rattle.std.specs.Ordering.{nat_cmp}
 use Rattle.px_text.specs.Prefix.{IsPrefixOf}
 use Rattle.px_event.proofs.Growth.{prefix_self}
 use Rattle.px_message.specs.declared.address.Address.{Address}
@@ -36,11 +33,13 @@ use Rattle.px_core.specs.Calls.{Calls, calls, calls_of, takes, moved, addressed,
 use Rattle.px_core.specs.Due.{Due, due_at, due_by, due_in, IsWithinDue, IsAllTold, EndsMet, Waits, OpenOnesWait, IsServed}
 use Rattle.px_core.specs.Held.{AllOf, dial_of, waiting, Follows, Hears, Takes}
 use Rattle.px_core.specs.Hooks.{open_hook, hook_of, EndsInTurn}
-use Rattle.px_core.specs.Router.{Found, unknown, over, lost, live, found_at, found_by, place_of, found, draft_of, IsUnknown, IsOver, IsLive, StandsIn, TableStands, IsTabled, HearsAt, Hands, Admits, Routes, IsAtKey}
+use Rattle.px_core.specs.Router.{Found, unknown, over, lost, live, found_at, found_by, place_of, found, draft_of, PutsPlace, IsUnknown, IsOver, IsLive, StandsIn, TableStands, IsTabled, HearsAt, Hands, Admits, Routes, IsAtKey}
+use Rattle.px_core.specs.Runs.{has}
 use Rattle.px_core.proofs.AnsweredLemmas.{follows_step}
 use Rattle.px_core.proofs.CallLemmas.{others_calls, others_seen}
 use Rattle.px_core.proofs.HearLemmas.{seen_heard, calls_heard, calls_heard_other, calls_heard_none}
 use Rattle.px_core.proofs.HookLemmas.{hook_heard, others_hook, hook_is, hook_named, kept_on}
+use Rattle.px_core.proofs.SideLemmas.{servers_along}
 use Rattle.px_core.proofs.ServedLemmas.{due_is, due_same, due_there, last_step, ends_in_turn}
 
 -- a state that has ended is over by its calls, so no call changes what is due
@@ -161,10 +160,7 @@ same_found before after (Some place.Ended) now key same others not = ap (found_b
 same_found before after (Some (place.Live k)) now key same others not =
     ap (found_by after) same ∙ ap found_at (others k (λ is. not (ap (λ n. Some (place.Live n)) is)))
 
-not_at : (conv other : ℕ) → conv ≢ other → is_at (nat_cmp conv) other ≡ false
-not_at conv other apart = grind (arith, nat_tests)
-
-unplaced : {A : Type 0} (o : Option A) → is_some o ≡ false → o ≡ None
+pub unplaced : {A : Type 0} (o : Option A) → is_some o ≡ false → o ≡ None
 unplaced None is = refl
 unplaced (Some a) is = absurd (let no : true ≡ false = is in cc)
 
@@ -194,7 +190,7 @@ module _ {C : Type 0} (standing : Standing C) (awaited : C → Option Ask) (numb
           tells = λ view told. v.tells view told ∙ sym (s.sees view told);
           named = v.named;
           begun = s.peer ∙ v.begun;
-          sides = s.connected ∙ v.sides;
+          servers = servers_along (has held.connected) _ _ s.connected v.servers;
           dial = s.dial ∙ v.dial;
           turn = s.hook ∙ v.turn;
         };
@@ -413,7 +409,7 @@ module _ {C : Type 0} (standing : Standing C) (awaited : C → Option Ask) (numb
 
       pub admits_of : (conv moment : ℕ) (conversation : C) (before after : Table C) (held new_held : Held C) {old new : AnswererState S} (out new_out : List Step) → found before conv ≡ unknown →
           held.conversation ≡ conversation → held.draft ≡ None → awaited conversation ≡ None → standing conversation conversation [] [] →
-          Takes standing awaited number made_due answers conv moment (Took moment events.Begun) None [] held new_held old new out new_out → IsHeldOr new_held (found after conv) →
+          Takes standing awaited number made_due answers conv moment (Took moment events.Begun) None (has []) held new_held old new out new_out → IsHeldOr new_held (found after conv) →
           ((other : ℕ) → conv ≢ other → found after other ≡ found before other) → Admits standing awaited number made_due answers conv moment conversation before after old new out new_out
       admits_of conv moment conversation before after held new_held {old} {new} out new_out was same no_draft free fresh t there others = record {
         more = t.more;
@@ -444,7 +440,7 @@ module _ {C : Type 0} (standing : Standing C) (awaited : C → Option Ask) (numb
               moves = ap (λ (c : Calls). c.moves) on ∙ ap (λ (c : Calls). c.moves) took;
               begun = ap (λ (c : Calls). c.peer) on ∙ ap (λ (c : Calls). c.peer) took;
               dials = ap (λ (c : Calls). c.dial) on ∙ (ap (λ (c : Calls). c.dial) took ∙ w.dial);
-              connected = ap (λ (c : Calls). c.connected) on ∙ (ap (λ (c : Calls). c.connected) took ∙ w.connected);
+              connected = servers_along (has []) _ _ (ap (λ (c : Calls). c.connected) on ∙ (ap (λ (c : Calls). c.connected) took ∙ w.connected)) (λ n. refl);
               now = ap (λ (c : Calls). c.moment) on;
               sees = λ view told. seen_heard view conv trace moment heard;
               hook = hook_heard conv trace moment heard;
@@ -570,13 +566,13 @@ module _ {C : Type 0} (standing : Standing C) (awaited : C → Option Ask) (numb
         let there : found table other ≡ lost = ap (found_by table.live) at ∙ ap found_at is in
         let P : Found (Held C) → Type 0 = StandsIn standing awaited number made_due answers due other trace in subst P there (stands.at other)
 
-    first_takes : (conv moment : ℕ) (conversation : C) (held new_held : Held C) {old new : AnswererState S} (out new_out : List Step) → held.conversation ≡ conversation → held.connected.items ≡ [] →
+    first_takes : (conv moment : ℕ) (conversation : C) (held new_held : Held C) {old new : AnswererState S} (out new_out : List Step) → held.conversation ≡ conversation → held.connected ≡ [] →
         awaited conversation ≡ None →
-        Takes standing awaited number made_due answers conv moment (Took moment events.Begun) (dial_of (awaited held.conversation)) held.connected.items held new_held old new out new_out →
-        Takes standing awaited number made_due answers conv moment (Took moment events.Begun) None [] held new_held old new out new_out
+        Takes standing awaited number made_due answers conv moment (Took moment events.Begun) (dial_of (awaited held.conversation)) (has held.connected) held new_held old new out new_out →
+        Takes standing awaited number made_due answers conv moment (Took moment events.Begun) None (has []) held new_held old new out new_out
     first_takes conv moment conversation held new_held {old} {new} out new_out same sides free t =
-        let P : Option ℕ → Type 0 = λ d. Takes standing awaited number made_due answers conv moment (Took moment events.Begun) d [] held new_held old new out new_out in
-        let Q : List ℕ → Type 0 = λ l. Takes standing awaited number made_due answers conv moment (Took moment events.Begun) (dial_of (awaited held.conversation)) l held new_held old new out new_out in
+        let P : Option ℕ → Type 0 = λ d. Takes standing awaited number made_due answers conv moment (Took moment events.Begun) d (has []) held new_held old new out new_out in
+        let Q : List (ℕ × ℕ) → Type 0 = λ l. Takes standing awaited number made_due answers conv moment (Took moment events.Begun) (dial_of (awaited held.conversation)) (has l) held new_held old new out new_out in
         subst P (ap (λ s. dial_of (awaited s)) same ∙ ap dial_of free) (subst Q sides t)
 
     pub at_key : (due : Due) {course : Course S} {now : AnswererState S} (table : Table C) (trace : Trace) (conv key : ℕ) → TableStands standing awaited number made_due answers due course now table trace →
@@ -613,43 +609,43 @@ module _ {C : Type 0} (standing : Standing C) (awaited : C → Option Ask) (numb
           Hands standing awaited number made_due answers conv moment what before after old new out new_out
       hands_live conv moment key what before after over_now out new_out (due, course, now, trace, stands) at h =
           hands_of ended ends rests conv moment what before after h.held h.new_held out new_out (ap (found_by before.live) at ∙ ap found_at h.was) h.hears
-          (inl (ap (found_by after.live) (ap (λ m. tree.get nat_cmp m conv) h.places ∙ at) ∙ ap found_at h.live_now.changed))
-          (λ other apart. same_found before.live after.live (place_of before other) (place_of after other) key (ap (λ m. tree.get nat_cmp m other) h.places) h.live_now.others
+          (inl (ap (found_by after.live) (h.places conv ∙ at) ∙ ap found_at h.live_now.changed))
+          (λ other apart. same_found before.live after.live (place_of before other) (place_of after other) key (h.places other) h.live_now.others
           (apart_keys due before trace conv other key h.held stands h.was (named_at due before trace conv key h.held stands at h.was) apart))
 
       pub hands_ended : (conv moment key : ℕ) (what : News) (before between after : Table C) {old new : AnswererState S} (over_now : Bool) (out new_out : List Step) →
           IsTabled standing awaited number made_due answers before → place_of before conv ≡ Some (place.Live key) →
           HearsAt standing awaited number made_due answers ended conv moment what key before between old new over_now out new_out → over_now ≡ true →
-          slab.Updates between.live after.live key None → tree.Updates nat_cmp between.places after.places conv (Some place.Ended) →
+          slab.Updates between.live after.live key None → PutsPlace between after conv (Some place.Ended) →
           Hands standing awaited number made_due answers conv moment what before after old new out new_out
       hands_ended conv moment key what before between after over_now out new_out (due, course, now, trace, stands) at h is_over_now removed noted =
           hands_of ended ends rests conv moment what before after h.held h.new_held out new_out (ap (found_by before.live) at ∙ ap found_at h.was) h.hears
-          (inr (ap (found_by after.live) noted.1, sym h.ends ∙ is_over_now))
+          (inr (ap (found_by after.live) noted.here, sym h.ends ∙ is_over_now))
           (λ other apart. same_found before.live after.live (place_of before other) (place_of after other) key
-          (noted.2 other (not_at conv other apart) ∙ ap (λ m. tree.get nat_cmp m other) h.places)
+          (noted.others other apart ∙ h.places other)
           (λ k k_apart. removed.others k k_apart ∙ h.live_now.others k k_apart)
           (apart_keys due before trace conv other key h.held stands h.was (named_at due before trace conv key h.held stands at h.was) apart))
 
       pub admits_added : (conv moment key : ℕ) (conversation : C) (before after : Table C) (held new_held : Held C) {old new : AnswererState S} (out new_out : List Step) →
           IsTabled standing awaited number made_due answers before → is_some (place_of before conv) ≡ false →
-          held.conversation ≡ conversation → held.connected.items ≡ [] → held.draft ≡ None → awaited conversation ≡ None → standing conversation conversation [] [] →
-          Takes standing awaited number made_due answers conv moment (Took moment events.Begun) (dial_of (awaited held.conversation)) held.connected.items held new_held old new out new_out →
-          slab.Updates before.live after.live key (Some new_held) → slab.get before.live key ≡ None → tree.Updates nat_cmp before.places after.places conv (Some (place.Live key)) →
+          held.conversation ≡ conversation → held.connected ≡ [] → held.draft ≡ None → awaited conversation ≡ None → standing conversation conversation [] [] →
+          Takes standing awaited number made_due answers conv moment (Took moment events.Begun) (dial_of (awaited held.conversation)) (has held.connected) held new_held old new out new_out →
+          slab.Updates before.live after.live key (Some new_held) → slab.get before.live key ≡ None → PutsPlace before after conv (Some (place.Live key)) →
           Admits standing awaited number made_due answers conv moment conversation before after old new out new_out
       admits_added conv moment key conversation before after held new_held out new_out (due, course, now, trace, stands) unknown_here same sides no_draft free fresh t added vacant noted =
           admits_of ended ends rests conv moment conversation before after held new_held out new_out (ap (found_by before.live) (unplaced (place_of before conv) unknown_here)) same no_draft free fresh
           (first_takes conv moment conversation held new_held out new_out same sides free t)
-          (inl (ap (found_by after.live) noted.1 ∙ ap found_at added.changed))
-          (λ other apart. same_found before.live after.live (place_of before other) (place_of after other) key (noted.2 other (not_at conv other apart)) added.others
+          (inl (ap (found_by after.live) noted.here ∙ ap found_at added.changed))
+          (λ other apart. same_found before.live after.live (place_of before other) (place_of after other) key (noted.others other apart) added.others
           (no_vacant_key due before trace other key stands vacant))
 
       pub admits_ended : (conv moment : ℕ) (conversation : C) (before after : Table C) (held new_held : Held C) {old new : AnswererState S} (out new_out : List Step) → is_some (place_of before conv) ≡ false →
-          held.conversation ≡ conversation → held.connected.items ≡ [] → held.draft ≡ None → awaited conversation ≡ None → standing conversation conversation [] [] →
-          Takes standing awaited number made_due answers conv moment (Took moment events.Begun) (dial_of (awaited held.conversation)) held.connected.items held new_held old new out new_out →
-          ended new_held.conversation ≡ true → after.live ≡ before.live → tree.Updates nat_cmp before.places after.places conv (Some place.Ended) →
+          held.conversation ≡ conversation → held.connected ≡ [] → held.draft ≡ None → awaited conversation ≡ None → standing conversation conversation [] [] →
+          Takes standing awaited number made_due answers conv moment (Took moment events.Begun) (dial_of (awaited held.conversation)) (has held.connected) held new_held old new out new_out →
+          ended new_held.conversation ≡ true → after.live ≡ before.live → PutsPlace before after conv (Some place.Ended) →
           Admits standing awaited number made_due answers conv moment conversation before after old new out new_out
       admits_ended conv moment conversation before after held new_held out new_out unknown_here same sides no_draft free fresh t is_over_now kept noted =
           admits_of ended ends rests conv moment conversation before after held new_held out new_out (ap (found_by before.live) (unplaced (place_of before conv) unknown_here)) same no_draft free fresh
           (first_takes conv moment conversation held new_held out new_out same sides free t)
-          (inr (ap (found_by after.live) noted.1, is_over_now))
-          (λ other apart. ap (λ l. found_by l (place_of after other)) kept ∙ ap (found_by before.live) (noted.2 other (not_at conv other apart)))
+          (inr (ap (found_by after.live) noted.here, is_over_now))
+          (λ other apart. ap (λ l. found_by l (place_of after other)) kept ∙ ap (found_by before.live) (noted.others other apart))

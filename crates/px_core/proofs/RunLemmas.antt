@@ -95,12 +95,12 @@ tellable_behind (y ∷ front) x rest (here, all) = tellable_behind front x rest 
 pub tellable_at : (front : List Step) (x : Step) (rest list : List Step) → front ++ x ∷ rest ≡ list → AllTellable list → IsTellable x
 tellable_at front x rest list split all = let P : List Step → Type 0 = AllTellable in tellable_behind front x rest (subst P (sym split) all)
 
--- what is left begins with the step that is told next
-pub rest_is : (front rest next list : List Step) → rest ≡ next → front ++ rest ≡ list → front ++ next ≡ list
+-- what is left begins with what comes next
+pub rest_is : {A : Type 0} (front rest next list : List A) → rest ≡ next → front ++ rest ≡ list → front ++ next ≡ list
 rest_is front rest next list is split = ap (λ l. front ++ l) (sym is) ∙ split
 
--- the step moves from those that are left to those that are told
-pub front_next : (front : List Step) (x : Step) (rest list : List Step) → front ++ x ∷ rest ≡ list → (front ++ x ∷ []) ++ rest ≡ list
+-- it moves from those that are left to those that are done
+pub front_next : {A : Type 0} (front : List A) (x : A) (rest list : List A) → front ++ x ∷ rest ≡ list → (front ++ x ∷ []) ++ rest ≡ list
 front_next front x rest list split = append_assoc front (x ∷ []) rest ∙ split
 
 -- some of the steps were told, and the flows that those before finish were handed on

@@ -23,8 +23,10 @@ use Rattle.px_core.specs.Conversation.{IsNamed, AllNamed}
 use Rattle.px_core.specs.Due.{Due, due_at, due_by, due_in, IsWithinDue, IsAllTold, IsMet, EndsMet, OpenOnesWait, IsServed}
 use Rattle.px_core.specs.Held.{step_of, IsOf, AllOf, dial_by, dial_from, Within}
 use Rattle.px_core.specs.Hooks.{IsInTurn, EndsInTurn, hook_of}
+use Rattle.px_core.specs.Runs.{has}
 use Rattle.px_core.proofs.CallLemmas.{calls_more, seen_more, others_calls, others_seen, told_calls, told_seen, told_own}
 use Rattle.px_core.proofs.HookLemmas.{turn_is, turn_on}
+use Rattle.px_core.proofs.SideLemmas.{servers_along}
 
 -- the last elements of two equal lists
 last_in : (x y : Step) (trace front : Trace) → IsFrontOfMore trace x front (y ∷ []) → (front ≡ trace) × (y ≡ x)
@@ -156,7 +158,7 @@ module _ {S : Type 0} (answers : Answering S) (due : Due) where
               ∙ (ap (λ l. l ++ step_atoms view conv (step_of conv command)) (w.tells view told) ∙ sym (seen_more view conv trace (step_of conv command))));
           named = w.named;
           begun = ap (λ (c : Calls). c.peer) on ∙ w.begun;
-          sides = ap (λ (c : Calls). c.connected) on ∙ w.sides;
+          servers = servers_along (has held.connected) _ _ (ap (λ (c : Calls). c.connected) on) w.servers;
           dial = ap (λ (c : Calls). dial_from c.dial rest) on ∙ w.dial;
           turn = turn_on conv trace command rest (hook_of (awaited held.conversation)) w.turn;
         }

@@ -23,11 +23,14 @@ use Rattle.px_core.specs.Conversation.{AllNamed}
 use Rattle.px_core.specs.Due.{Due, due_by, due_in, IsMet, Waits}
 use Rattle.px_core.specs.Held.{step_of, AllOf, asked_from, dial_from, dial_of, IsSettled, IsNext, IsReady, IsAbout, IsDraftedBut, IsDraftedBehind, Follows, Replies, Within, WorkedTo, Asks, Works, turns_left}
 use Rattle.px_core.specs.Hooks.{hook_of, AsksInTurn}
+use Rattle.px_core.specs.Runs.{has}
 use Rattle.px_core.proofs.AnsweredLemmas.{follows_told, follows_wait, follows_reply}
 use Rattle.px_core.proofs.AskLemmas.{asks_one, dial_now, quiet, IsTheQuestion}
 use Rattle.px_core.proofs.CallLemmas.{calls_more, seen_more, same_number, told_calls}
 use Rattle.px_core.proofs.HookLemmas.{hook_answered, one_turn, kept_on}
 use Rattle.px_core.proofs.ServedLemmas.{due_is, within_due, told_all, served_step, ends_met, all_own}
+use Rattle.px_core.proofs.ResultLemmas.{same_some}
+use Rattle.px_core.proofs.SideLemmas.{servers_along, servers_same}
 
 own_append : (conv : ℕ) (xs ys : List Step) → AllOf conv xs → AllOf conv ys → AllOf conv (xs ++ ys)
 own_append conv [] ys a b = b
@@ -115,9 +118,6 @@ module _ {C : Type 0} (standing : Standing C) (awaited : C → Option Ask) (numb
         next = next.0;
       }
 
-  some_ask : (a b : Ask) → Some a ≡ Some b → a ≡ b
-  some_ask a b e = cc
-
   -- a hook that waits
   pub wait_works : (conv moment : ℕ) (question : Question) (draft : Draft) (before after : Held C) (out new_out : List Step)
       (old new : AnswererState S) → IsNext awaited before (Some question) →
@@ -144,7 +144,7 @@ module _ {C : Type 0} (standing : Standing C) (awaited : C → Option Ask) (numb
             tells = w.tells;
             named = ap number same ∙ w.named;
             begun = w.begun;
-            sides = w.sides ∙ ap (λ s. s.items) (sym sides);
+            servers = servers_same (has before.connected) (has after.connected) (calls conv trace).connected (λ n. ap (λ r. has r n) (sym sides)) w.servers;
             dial = w.dial ∙ ap (λ s. dial_of (awaited s)) (sym same);
             turn = w.turn ∙ ap (λ s. hook_of (awaited s)) (sym same);
           };
@@ -153,7 +153,7 @@ module _ {C : Type 0} (standing : Standing C) (awaited : C → Option Ask) (numb
           last = tt;
           drafted = λ flow hook waits.
               let ask : Ask = asks.Hook flow hook in
-              let is_asked : question.ask ≡ ask = some_ask question.ask ask (sym next_before.0 ∙ (ap awaited (sym same) ∙ waits)) in
+              let is_asked : question.ask ≡ ask = same_some question.ask ask (sym next_before.0 ∙ (ap awaited (sym same) ∙ waits)) in
               let R : Ask → Type 0 = λ a. Waits answers due trace conv a draft in
               record {
                 draft = draft;
@@ -202,7 +202,8 @@ module _ {C : Type 0} (standing : Standing C) (awaited : C → Option Ask) (numb
             ∙ sym (seen_more view conv trace (steps.Answered conv ask reply) ∙ (ap (λ l. seen_in view conv trace ++ l) (answered_seen view conv conv ask reply) ∙ append-nil (seen_in view conv trace)));
         named = named_after;
         begun = ap (λ (c : Calls). c.peer) on ∙ w.begun;
-        sides = ap (λ (c : Calls). c.connected) on ∙ (w.sides ∙ ap (λ s. s.items) (sym sides));
+        servers = servers_along (has after.connected) _ _ (ap (λ (c : Calls). c.connected) on)
+            (servers_same (has before.connected) (has after.connected) (calls conv trace).connected (λ n. ap (λ r. has r n) (sym sides)) w.servers);
         dial = ap (λ (c : Calls). dial_from c.dial given) on
             ∙ (ap (λ d. dial_from d given) was ∙ ((asks_one conv (awaited after.conversation) None given named one).dials ∙ dial_now (awaited after.conversation)));
         turn = let T : Option Ask → Type 0 = λ h. AsksInTurn h given (hook_of (awaited after.conversation)) in

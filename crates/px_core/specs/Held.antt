@@ -1,5 +1,5 @@
 -- What a held conversation is in a trace, within a step and at its end.
-use Rattle.std.specs.Prelude.{◌≡◌, ℕ, ◌≢◌, ◌+◌, List, [], ◌∷◌, ◌++◌, map, Option, Some, None, IsSome, option_to_list, ◌⊎◌}
+use Rattle.std.specs.Prelude.{◌≡◌, ℕ, ◌≢◌, ◌+◌, ◌==◌, ◌||◌, Bool, true, false, List, [], ◌∷◌, ◌++◌, map, Option, Some, None, IsSome, option_to_list, ◌⊎◌}
 use Rattle.std.specs.List.{flat_map}
 use Rattle.px_message.specs.declared.address.Address.{Address}
 use Rattle.px_message.specs.declared.flow.Flow.{Flow}
@@ -10,6 +10,8 @@ use Rattle.px_event.specs.declared.reply.Reply.{Reply}
 use Rattle.px_event.specs.declared.command.Command.{Command}
 use Rattle.px_event.specs.declared.command.Command.TheVariants as commands
 use Rattle.px_event.specs.declared.said.Said.TheVariants as said
+use Rattle.px_event.specs.declared.side.Side.{Side}
+use Rattle.px_event.specs.declared.side.Side.TheVariants.{Client, Server}
 use Rattle.px_event.specs.declared.step.Step.{Step}
 use Rattle.px_event.specs.declared.step.Step.TheVariants as steps
 use Rattle.px_event.specs.declared.heard.Heard.{Heard}
@@ -25,10 +27,25 @@ use Rattle.px_core.specs.Answers.{Answering, AnswererState}
 use Rattle.px_core.specs.Course.{Course}
 use Rattle.px_core.specs.declared.news.News.{News}
 use Rattle.px_core.specs.declared.news.News.TheVariants as news
-use Rattle.px_core.specs.Calls.{calls, calls_of, addressed}
+use Rattle.px_core.specs.Calls.{calls, calls_of, addressed, is_connected}
 use Rattle.px_core.specs.Conversation.{AllNamed}
 use Rattle.px_core.specs.Due.{Due, due_in, Waits, IsServed}
 use Rattle.px_core.specs.Hooks.{open_hook, hook_of, AsksInTurn}
+use Rattle.px_core.specs.Runs.{has}
+
+-- whether a side is connected, by the test which servers are
+abbrev pub is_side : Side → (ℕ → Bool) → Bool
+is_side Client servers = true
+is_side (Server number) servers = servers number
+
+-- the test once a dial has ended
+abbrev pub servers_by : ℕ → Bool → (ℕ → Bool) → ℕ → Bool
+servers_by server true servers number = (server == number) || servers number
+servers_by server false servers number = servers number
+
+-- the servers for which the test holds are those of the list
+abbrev pub AreServers : (ℕ → Bool) → List ℕ → Type 0
+AreServers servers connected = (number : ℕ) → is_connected (Server number) connected ≡ servers number
 
 -- the step by which a command is carried out
 abbrev pub step_of : ℕ → Command → Step
@@ -186,12 +203,12 @@ pub record Gives {C : Type 0} (standing : Standing C) (awaited : C → Option As
   pub turn : AsksInTurn (hook_of (awaited before)) given (hook_of (awaited after))
 
 -- The trace goes on by one call of the conversation, whose client is there, at this moment; then this dial awaits its end,
--- and these sides are connected. No view has more of it, and no hook is asked or answered.
-pub record IsOneOn (conv : ℕ) (peer : Address) (moment : ℕ) (move : Move) (dial : Option ℕ) (sides : List ℕ) (trace next : Trace) : Type 0 where
+-- and these servers are connected. No view has more of it, and no hook is asked or answered.
+pub record IsOneOn (conv : ℕ) (peer : Address) (moment : ℕ) (move : Move) (dial : Option ℕ) (servers : ℕ → Bool) (trace next : Trace) : Type 0 where
   pub moves : calls_of conv next ≡ calls_of conv trace ++ move ∷ []
   pub begun : (calls conv next).peer ≡ Some peer
   pub dials : (calls conv next).dial ≡ dial
-  pub connected : (calls conv next).connected ≡ sides
+  pub connected : AreServers servers (calls conv next).connected
   pub now : (calls conv next).moment ≡ moment
   pub sees : (view : View) → IsTold view → seen_in view conv next ≡ seen_in view conv trace
   pub hook : open_hook conv next ≡ open_hook conv trace
@@ -213,7 +230,7 @@ module _ {C : Type 0} (standing : Standing C) (awaited : C → Option Ask) (numb
     pub tells : (view : View) → IsTold view → seen_of view earlier ≡ seen_in view conv trace
     pub named : number held.conversation ≡ conv
     pub begun : (calls conv trace).peer ≡ Some peer
-    pub sides : (calls conv trace).connected ≡ held.connected.items
+    pub servers : AreServers (has held.connected) (calls conv trace).connected
     pub dial : dial_from (calls conv trace).dial rest ≡ dial_of (awaited held.conversation)
     pub turn : AsksInTurn (open_hook conv trace) rest (hook_of (awaited held.conversation))
 
@@ -261,12 +278,12 @@ module _ {C : Type 0} (standing : Standing C) (awaited : C → Option Ask) (numb
 
     -- A call that was taken and worked off adds steps of the conversation's; wherever it stood in a trace that goes on by
     -- that call, it stands in that trace with these steps more.
-    pub record Takes (conv moment : ℕ) (move : Move) (dial : Option ℕ) (sides : List ℕ) (before after : Held C) (old new : AnswererState S) (out new_out : List Step) : Type 0 where
+    pub record Takes (conv moment : ℕ) (move : Move) (dial : Option ℕ) (servers : ℕ → Bool) (before after : Held C) (old new : AnswererState S) (out new_out : List Step) : Type 0 where
       pub more : List Step
       pub grown : new_out ≡ out ++ more
       pub own : AllOf conv more
       pub takes : (due : Due) (course : Course S) (pending : Pending) (peer : Address) (trace next : Trace) → Stood due conv peer before.conversation trace →
-          IsDrafted awaited answers due conv before trace → IsOneOn conv peer moment move dial sides trace next → IsServed answers due next →
+          IsDrafted awaited answers due conv before trace → IsOneOn conv peer moment move dial servers trace next → IsServed answers due next →
           Follows answers due course pending conv before.draft old next →
           Within due conv after (next ++ more) [] × IsServed answers due (next ++ more) × IsDrafted awaited answers due conv after (next ++ more)
           × Follows answers due course pending conv after.draft new (next ++ more)

@@ -5,12 +5,10 @@ pub mod Course
 pub mod Calls
 pub mod Conversation
 pub mod Due
-pub mod GateLaws
 pub mod Held
 pub mod Hooks
 pub mod Kind
-pub mod Leaving
-pub mod Named
 pub mod Ordered
 pub mod Router
 pub mod Run
+pub mod Runs

@@ -27,6 +27,7 @@ use Rattle.px_core.specs.Calls.{calls, calls_of, addressed}
 use Rattle.px_core.specs.Due.{Due, due_in, IsServed}
 use Rattle.px_core.specs.Held.{AllOf, IsSettled, IsDrafted, waiting, Within, Hears}
 use Rattle.px_core.specs.Hooks.{open_hook}
+use Rattle.px_core.specs.Runs.{has}
 
 -- what a router has under a number: nothing was admitted, the conversation has ended, or it is live. A number whose
 -- conversation is nowhere is lost; no router has one.
@@ -45,8 +46,20 @@ found_by held None = unknown
 found_by held (Some place.Ended) = over
 found_by held (Some (place.Live key)) = found_at (slab.get held key)
 
+-- it has ended, or is live under this key, if there is one
+abbrev pub placed : Bool → Option ℕ → Option Place
+placed true key = Some place.Ended
+placed false None = None
+placed false (Some key) = Some (place.Live key)
+
+-- It has ended where the runs have its number; else it is where the map of live ones says.
 abbrev pub place_of : {C : Type 0} → Table C → ℕ → Option Place
-place_of table conv = tree.get nat_cmp table.places conv
+place_of table conv = placed (has table.ended conv) (tree.get nat_cmp table.keys conv)
+
+-- this number's place is so from then on, and that of each other is what it was
+pub record PutsPlace {C : Type 0} (before after : Table C) (conv : ℕ) (now : Option Place) : Type 0 where
+  pub here : place_of after conv ≡ now
+  pub others : (other : ℕ) → conv ≢ other → place_of after other ≡ place_of before other
 
 abbrev pub found : {C : Type 0} → Table C → ℕ → Found (Held C)
 found table conv = found_by table.live (place_of table conv)
@@ -136,7 +149,7 @@ module _ {C : Type 0} (standing : Standing C) (awaited : C → Option Ask) (numb
       pub new_held : Held C
       pub was : slab.get before.live key ≡ Some held
       pub live_now : slab.Updates before.live after.live key (Some new_held)
-      pub places : after.places ≡ before.places
+      pub places : (other : ℕ) → place_of after other ≡ place_of before other
       pub hears : Hears standing awaited number made_due answers conv moment what held new_held old new out new_out
       pub ends : over_now ≡ ended new_held.conversation
 

@@ -54,7 +54,7 @@ impl<L: Numbered> Conversation for Gate<L> {
 impl<L: Numbered> Owes for Gate<L> {
     ghost use Rattle.std.specs.Prelude.{refl};
     ghost use Rattle.px_event.specs.Stands.{due_by, has_ended};
-    ghost use Rattle.px_core.specs.GateLaws.{calls_ended, calls_gave, calls_grow, calls_last, calls_over, calls_rest};
+    ghost use Rattle.px_gate.proofs.GateCalls.{calls_ended, calls_gave, calls_grow, calls_last, calls_over, calls_rest};
 
     ghost due = { λ made moves. due_by (L.chain made.layer) (L.start made.layer) moves };
 

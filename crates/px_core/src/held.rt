@@ -3,16 +3,17 @@
 //! Within a step the trace lags behind the conversation: it gave commands that are not told yet. So `Within` says where it
 //! stands with the commands that are still to be told, and each step that is told takes one of them. An answer stands in
 //! the trace before what it causes; so each front of the steps has no more than is due by the calls in that front.
-ghost use Rattle.std.specs.Prelude.{◌≡◌, ◌==◌, ◌<◌, true, ◌++◌, ◌∷◌, [], ℕ, None, Some, OnOk, IfOk, map};
-ghost use Rattle.std.specs.List.{list_any};
+ghost use Rattle.std.specs.Prelude.{◌≡◌, ◌<◌, true, ◌++◌, ◌∷◌, [], ℕ, None, Some, OnOk, IfOk, map};
 ghost use Rattle.px_event.specs.Layer.{IsSound, IsNews, MayAnswer, Took, Replied};
 ghost use Rattle.px_event.specs.declared.ask.Ask.TheVariants.{Hook as AsksHook, Dial as AsksDial};
 ghost use Rattle.px_core.specs.Answers.{ByAnswers, FilesAfter, files_meaning, state_of};
-ghost use Rattle.px_core.specs.Calls.{dial_reply, connected_by, is_connected, is_dialling};
+ghost use Rattle.px_core.specs.Calls.{dial_reply, is_dialling};
 ghost use Rattle.px_core.specs.Conversation.{AllNamed};
-ghost use Rattle.px_core.specs.Held.{step_of, question_about, question_by, question_in, asked_from, dial_of, Replies, Gives, Works, Takes, Hears, IsHeardNews, Asks, IsNext, IsReady, IsSettled, turns_left};
+ghost use Rattle.px_core.specs.Held.{is_side, servers_by, step_of, question_about, question_by, question_in, asked_from, dial_of, Replies, Gives, Works, Takes, Hears, IsHeardNews, Asks, IsNext, IsReady, IsSettled, turns_left};
+ghost use Rattle.px_core.specs.Runs.{has};
 
 use crate::news::News;
+use crate::runs::Runs;
 use crate::{Answer, Answerer, Draft, Owes};
 use px_event::{Ask, Command, Event, Hook, Reply, Said, Side, Step};
 use px_message::{Fault, Flow};
@@ -20,11 +21,11 @@ use px_outside::Files;
 use px_text::NoMemory;
 use std::alloc::Global;
 
-/// A live conversation, the server sides that are connected, and the draft of its hook if that waits.
+/// A live conversation, the numbers of the servers that are connected, and the draft of its hook if that waits.
 #[derive(Drop)]
 pub struct Held<C> {
     pub(crate) conversation: C,
-    pub(crate) connected: Vec<u32>,
+    pub(crate) connected: Runs,
     pub(crate) draft: Option<Draft>,
 }
 
@@ -95,7 +96,7 @@ impl<C: Owes> Held<C> {
         requires number { C.number self.old.conversation ≡ call.conv }
         requires settled { IsSettled C.awaited self.old }
         requires news { IsNews event }
-        ensures takes { OnOk result (Takes C.stands C.awaited C.number C.due A.answers call.conv call.moment (Took call.moment event) (dial_of (C.awaited self.old.conversation)) self.old.connected.items self.old self.new (state_of A.state F.contents F.calls F.misses F.faults F.losses answerer.old files.old) (state_of A.state F.contents F.calls F.misses F.faults F.losses answerer.new files.new) steps.old.items steps.new.items) }
+        ensures takes { OnOk result (Takes C.stands C.awaited C.number C.due A.answers call.conv call.moment (Took call.moment event) (dial_of (C.awaited self.old.conversation)) (has self.old.connected) self.old self.new (state_of A.state F.contents F.calls F.misses F.faults F.losses answerer.old files.old) (state_of A.state F.contents F.calls F.misses F.faults F.losses answerer.new files.new) steps.old.items steps.new.items) }
         ensures files { FilesAfter A.answers A.fails (state_of A.state F.contents F.calls F.misses F.faults F.losses answerer.old files.old) (files_meaning F.contents F.calls F.misses F.faults F.losses files.new) }
         ensures given { OnOk result (ByAnswers A.answers (state_of A.state F.contents F.calls F.misses F.faults F.losses answerer.old files.old) (state_of A.state F.contents F.calls F.misses F.faults F.losses answerer.new files.new)) }
     {
@@ -116,7 +117,7 @@ impl<C: Owes> Held<C> {
         requires sound { IsSound C.stands self.old.conversation }
         requires number { C.number self.old.conversation ≡ call.conv }
         requires awaited { C.awaited self.old.conversation ≡ Some (AsksDial server) }
-        ensures takes { OnOk result (Takes C.stands C.awaited C.number C.due A.answers call.conv call.moment (Replied call.moment (dial_reply ok)) None (connected_by server ok self.old.connected.items) self.old self.new (state_of A.state F.contents F.calls F.misses F.faults F.losses answerer.old files.old) (state_of A.state F.contents F.calls F.misses F.faults F.losses answerer.new files.new) steps.old.items steps.new.items) }
+        ensures takes { OnOk result (Takes C.stands C.awaited C.number C.due A.answers call.conv call.moment (Replied call.moment (dial_reply ok)) None (servers_by server ok (has self.old.connected)) self.old self.new (state_of A.state F.contents F.calls F.misses F.faults F.losses answerer.old files.old) (state_of A.state F.contents F.calls F.misses F.faults F.losses answerer.new files.new) steps.old.items steps.new.items) }
         ensures files { FilesAfter A.answers A.fails (state_of A.state F.contents F.calls F.misses F.faults F.losses answerer.old files.old) (files_meaning F.contents F.calls F.misses F.faults F.losses files.new) }
         ensures given { OnOk result (ByAnswers A.answers (state_of A.state F.contents F.calls F.misses F.faults F.losses answerer.old files.old) (state_of A.state F.contents F.calls F.misses F.faults F.losses answerer.new files.new)) }
     {
@@ -127,19 +128,12 @@ impl<C: Owes> Held<C> {
 
     /// Whether the side is the client, or a server that is connected.
     fn is_connected(&self, side: Side) -> bool
-        ensures { result ≡ is_connected side self.now.connected.items }
+        ensures { result ≡ is_side side (has self.now.connected) }
     {
         match side {
             Side::Client => true,
-            Side::Server(number) => self.has_server(number),
+            Side::Server(number) => self.connected.has(number),
         }
-    }
-
-    /// Whether the server of this number is connected.
-    fn has_server(&self, number: u32) -> bool
-        ensures { result ≡ list_any (λ other. other == number) self.now.connected.items }
-    {
-        self.connected.iter().rev().any(|other| *other == number)
     }
 
     /// Whether the end of the dial of this server is awaited.
@@ -155,12 +149,12 @@ impl<C: Owes> Held<C> {
 
     /// Notes the server, if it is connected.
     fn connect(&mut self, server: u32, ok: bool) -> Result<(), NoMemory>
-        ensures connected { OnOk result (self.new.connected.items ≡ connected_by server ok self.old.connected.items) }
+        ensures connected { OnOk result ((number : ℕ) → has self.new.connected number ≡ servers_by server ok (has self.old.connected) number) }
         ensures conversation { self.new.conversation ≡ self.old.conversation }
         ensures draft { self.new.draft ≡ self.old.draft }
     {
         if ok {
-            self.connected.push(server)?;
+            self.connected.add(server)?;
         }
         Ok(())
     }

@@ -8,8 +8,8 @@
 //! (`specs/Due.antt`, `IsServed`). `work_off` keeps it in every exit, for any conversation whose due only grows (`Owes`).
 //!
 //! One answerer answers the hooks of all conversations, and what it is goes along the trace: it moves at each hook that is
-//! asked, once, by its own relation, and at nothing else (`specs/Answered.antt`). So each answer follows from what the answerer
-//! was at first and from all that it was asked before, in every exit too, and so does what becomes of files (`specs/Answers.antt`).
+//! asked, once, by its own relation, and else only where the course of the run says so (`specs/Answered.antt`, `specs/Course.antt`). So
+//! each answer follows from what the answerer was at first, from all that it was asked before and from those changes, in every exit too, and so does what becomes of files (`specs/Answers.antt`).
 //! And what holds of each answer from states of one property holds of each reply in the trace, for the flow with which its hook
 //! was asked (`specs/Kind.antt`).
 //!
@@ -31,6 +31,7 @@ mod news;
 mod numbered;
 mod owes;
 mod router;
+mod runs;
 mod table;
 mod work;
 

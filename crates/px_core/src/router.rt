@@ -2,24 +2,23 @@
 //!
 //! A router stands for a trace (`RouterStands`): each live conversation stands for the calls of its number in the trace
 //! and gave what the trace has of it; of one that has ended the trace has all that will ever be due; the trace is served;
-//! and the answerer came over it, from what it was at first to what it is with the files as they are. Each call holds for
-//! every trace that the router stands for, so it needs no word of the network. No conversation that has ended is held.
+//! and the answerer came over it by a course (`specs/Course.antt`): from what it was at first, by what it answered and by the
+//! changes of the course, to what it is with the files as they are. Each call holds for every trace that the router stands for,
+//! so it needs no word of the network. No conversation that has ended is held: of it only its number is kept, in a run of
+//! neighbours. No call walks over the conversations.
 //!
 //! Steps are given to the caller once the whole call has succeeded. A router in which memory ran out answers so for ever.
-ghost use Rattle.std.specs.Prelude.{◌≡◌, Some, None, IsErr, true, false, [], List, IfOk, OnOk, OnErr};
-ghost use Rattle.slab.specs.Slab.{get as held_under};
+ghost use Rattle.std.specs.Prelude.{◌≡◌, Some, None, IsErr, true, false, [], IfOk, OnOk, OnErr};
 ghost use Rattle.px_message.specs.declared.address.Address.{Address as PeerAddress};
-ghost use Rattle.px_event.specs.Layer.{IsSound};
-ghost use Rattle.px_event.specs.declared.event.Event.TheVariants.{Begun as HasBegun};
 ghost use Rattle.px_core.specs.Answers.{ByAnswers, FilesAfter, FilesMeaning, files_meaning, state_of};
 ghost use Rattle.px_core.specs.Due.{Due};
-ghost use Rattle.px_core.specs.Held.{IsHeardNews, IsSettled};
+ghost use Rattle.px_core.specs.Held.{IsHeardNews};
 ghost use Rattle.px_core.specs.Course.{begins_at};
-ghost use Rattle.px_core.specs.Router.{found, HoldsNoEnded, is_known, kept_in, place_of, IsTabled, RouterStands, IsRouted, IsAtKey, HearsAt, Hands, Admits, Routes, BeginsNone};
-ghost use Rattle.px_core.specs.declared.table.Place.TheVariants.{Live as IsLiveUnder};
+ghost use Rattle.px_core.specs.Router.{found, HoldsNoEnded, is_known, kept_in, IsTabled, RouterStands, IsRouted, IsAtKey, HearsAt, Hands, Admits, Routes, BeginsNone};
 
 use crate::held::{Call, Held};
 use crate::news::{News, news_of};
+use crate::runs::Runs;
 use crate::table::{Place, Table};
 use crate::{Answerer, Owes};
 use px_event::{Event, Heard, Step};
@@ -37,11 +36,13 @@ pub struct Router<C, A> {
 }
 
 impl<C: Owes, A: Answerer> Router<C, A> {
-    /// No conversation was admitted. It stands for the empty trace, with any files, and the answerer is what it was at first.
+    /// No conversation was admitted. It stands for the empty trace, with any files, and the answerer is the one that is given; nothing has
+    /// changed it yet.
     pub fn new(alloc: Global, answerer: A) -> Router<C, A>
         ensures stands { (due : Due) (files : FilesMeaning) → RouterStands C.stands C.awaited C.number C.due A.answers A.state due (begins_at (record { own = A.state answerer; files = files })) files result [] }
         ensures sound { IsRouted C.stands C.awaited C.number C.due A.answers result }
         ensures goes_on { HoldsNoEnded C.ended result.table }
+        ensures answerer { result.answerer ≡ answerer }
     {
         Router {
             alloc,
@@ -253,7 +254,7 @@ impl<C: Owes, A: Answerer> Router<C, A> {
     {
         let mut held = Held {
             conversation,
-            connected: Vec::new(call.alloc),
+            connected: Runs::new(call.alloc),
             draft: None,
         };
         held.hand(call, Event::Begun, &mut self.answerer, files, steps)?;

@@ -1,15 +1,17 @@
 //! Conversations by their numbers.
 //!
-//! A slab holds the live ones, and an ordered map has the place of each number. One that has ended leaves the slab; only
-//! its number is kept.
-ghost use Rattle.std.specs.Prelude.{◌≡◌, Some, None, IfOk, OnOk, option_copied};
+//! A slab holds the live ones, and an ordered map has their keys. One that has ended leaves both; only its number is kept, and
+//! the numbers of those that have ended are kept as runs of neighbours. Over lines they are nearly one run; over any network
+//! there is at most one run more than conversations that are live or were passed over.
+ghost use Rattle.std.specs.Prelude.{◌≡◌, Some, None, IfOk, OnOk};
 ghost use Rattle.std.specs.Ordering.{nat_cmp};
-ghost use Rattle.std.specs.BTreeMap.{get as entry_of, Updates as UpdatesEntry};
+ghost use Rattle.std.specs.BTreeMap.{get as entry_of};
 ghost use Rattle.slab.specs.Slab.{get as held_under, Updates as UpdatesHeld};
-ghost use Rattle.px_core.specs.Router.{place_of};
+ghost use Rattle.px_core.specs.Router.{place_of, PutsPlace};
 ghost use Rattle.px_core.specs.declared.table.Place.TheVariants.{Live as IsLiveUnder, Ended as HasEnded};
 
 use crate::held::Held;
+use crate::runs::Runs;
 use px_text::NoMemory;
 use slab::Slab;
 use std::alloc::Global;
@@ -24,11 +26,12 @@ pub enum Place {
     Ended,
 }
 
-/// The live conversations, and the place of each number that was admitted.
+/// The live conversations with their keys by number, and the numbers of those that have ended.
 #[derive(Drop)]
 pub struct Table<C> {
     pub(crate) live: Slab<Held<C>>,
-    places: BTreeMap<u32, Place>,
+    keys: BTreeMap<u32, usize>,
+    ended: Runs,
 }
 
 impl<C: Drop> Table<C> {
@@ -39,44 +42,52 @@ impl<C: Drop> Table<C> {
     {
         Table {
             live: Slab::new(alloc),
-            places: BTreeMap::new(alloc),
+            keys: BTreeMap::new(alloc),
+            ended: Runs::new(alloc),
         }
     }
 
     /// Where the conversation of this number is, if it was admitted.
     pub(crate) fn place(&self, conv: u32) -> Option<Place>
-        ensures { result ≡ place_of self.now conv }
+        ensures place { result ≡ place_of self.now conv }
     {
-        match self.places.get(&conv) {
-            Some(place) => Some(*place),
+        if self.ended.has(conv) {
+            return Some(Place::Ended);
+        }
+        match self.keys.get(&conv) {
+            Some(key) => Some(Place::Live(*key)),
             None => None,
         }
     }
 
     /// Holds a conversation under a number.
     pub(crate) fn add(&mut self, conv: u32, held: Held<C>) -> Result<usize, NoMemory>
+        requires unknown { place_of self.old conv ≡ None }
         ensures live { IfOk result (λ key. UpdatesHeld self.old.live self.new.live key (Some held)) }
         ensures vacant { IfOk result (λ key. held_under self.old.live key ≡ None) }
-        ensures places { IfOk result (λ key. UpdatesEntry nat_cmp self.old.places self.new.places conv (Some (IsLiveUnder key))) }
+        ensures places { IfOk result (λ key. PutsPlace self.old self.new conv (Some (IsLiveUnder key))) }
     {
         let key = self.live.insert(held)?;
-        self.places.insert(conv, Place::Live(key))?;
+        self.keys.insert(conv, key)?;
         Ok(key)
     }
 
     /// Notes that the conversation of a number has ended.
     pub(crate) fn note_end(&mut self, conv: u32) -> Result<(), NoMemory>
         ensures live { self.new.live ≡ self.old.live }
-        ensures places { OnOk result (UpdatesEntry nat_cmp self.old.places self.new.places conv (Some HasEnded)) }
+        ensures places { OnOk result (PutsPlace self.old self.new conv (Some HasEnded)) }
+        ensures forgets { OnOk result (entry_of nat_cmp self.new.keys conv ≡ None) }
     {
-        self.places.insert(conv, Place::Ended)?;
+        self.ended.add(conv)?;
+        self.keys.remove(&conv);
         Ok(())
     }
 
     /// Lets go of the conversation of a number, which has ended.
     pub(crate) fn end(&mut self, conv: u32, key: usize) -> Result<(), NoMemory>
         ensures live { OnOk result (UpdatesHeld self.old.live self.new.live key None) }
-        ensures places { OnOk result (UpdatesEntry nat_cmp self.old.places self.new.places conv (Some HasEnded)) }
+        ensures places { OnOk result (PutsPlace self.old self.new conv (Some HasEnded)) }
+        ensures forgets { OnOk result (entry_of nat_cmp self.new.keys conv ≡ None) }
     {
         self.live.try_remove(key);
         self.note_end(conv)

@@ -29,9 +29,9 @@ use std::alloc::Global;
 
 /// Works off one thing that the network has just told: makes and admits the conversation that it begins, or hands it to
 /// its own; then says and notes each step in its order, and hands on each finished flow. Each step is of the conversation
-/// that was heard alone, and nothing changes of another. In every exit the answerer came over the trace that is told by its
-/// own relation, from what it was at first; and files are what its answers made of them, each from the state that the one
-/// before left.
+/// that was heard alone, and nothing changes of another. In every exit the answerer came over the trace that is told by a course:
+/// from what it was at first, at each hook by its own relation, and else by the changes of the course; and files are what its
+/// answers made of them, each from the state that the one before left.
 ///
 /// `NoMemory` where memory ran out: in the router, the maker, the network or the taker. The trace is served all the same,
 /// the flows that were handed on are a front of those that it finishes, and the router is spent: it answers want of memory

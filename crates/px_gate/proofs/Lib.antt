@@ -1,2 +1,3 @@
+pub mod GateCalls
 pub mod GateDue
 pub mod GateLaws

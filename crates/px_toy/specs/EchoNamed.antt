@@ -13,7 +13,7 @@ use Rattle.px_toy.specs.declared.echo.LineEcho.{LineEcho}
 use Rattle.px_toy.specs.Echo.{Stage, Reading, Over, unread, first_line, is_closed, pass, pass_by, look, look_by, turn, turn_by, turn_line, is_kill, echoed, echo_chain}
 use Rattle.px_toy.specs.Stands.{IsAt, EchoStands}
 use Rattle.px_core.specs.Conversation.{AllNamed}
-use Rattle.px_core.specs.Named.{all_named}
+use Rattle.px_core.proofs.ChainNamedLemmas.{all_named}
 
 -- the flow with this number and this client
 abbrev pub flow_of : Flow → ℕ → Address → Flow

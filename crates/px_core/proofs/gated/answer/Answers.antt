@@ -2,7 +2,7 @@ use Rattle.std.proofs.Common.{refl, sym, ap, subst, ◌∙◌, Err}
 use Rattle.px_event.specs.Layer.{Replied, IsSound}
 use Rattle.px_gate.specs.Gate.{GateStands}
 use Rattle.px_gate.specs.declared.gate.Gate.{Gate}
-use Rattle.px_core.specs.GateLaws.{calls_gave}
+use Rattle.px_gate.proofs.GateCalls.{calls_gave}
 use Rattle.px_core.proofs.NamedLemmas.{number_after, names_after, names_nothing}
 use Rattle.px_core.proofs.gated.answer.Goals as goal
 

@@ -1,6 +1,6 @@
 use Rattle.std.proofs.Common.{refl}
 use Rattle.px_event.specs.Layer.{Took}
-use Rattle.px_core.specs.GateLaws.{calls_gave}
+use Rattle.px_gate.proofs.GateCalls.{calls_gave}
 use Rattle.px_core.proofs.NamedLemmas.{number_after, names_after, while_awaited}
 use Rattle.px_core.proofs.ResultLemmas.{on_ok_map}
 use Rattle.px_core.proofs.gated.hear.Goals as goal

@@ -10,27 +10,27 @@ use Rattle.px_core.proofs.router.Router.hand.Goals as goal
 
 pub hear_at-requires-clause-held : goal.hear_at-requires-clause-held
 hear_at-requires-clause-held g c =
-    at_key g.C.Conversation.stands g.C.Conversation.awaited g.C.Conversation.number g.C.Owes.due g.met.C.Owes.gave g.C.Owes.grows g.A.Answerer.answers c.requires.sound.0 c.args.self.now.table c.requires.sound.3 c.args.call.conv c.in-Some-Live.key c.requires.sound.4 (sym c.place.ensures ∙ (c.in-Some-Live.is) ∙ ap Some c.in-Some-Live.field-0-is)
+    at_key g.C.Conversation.stands g.C.Conversation.awaited g.C.Conversation.number g.C.Owes.due g.met.C.Owes.gave g.C.Owes.grows g.A.Answerer.answers c.requires.sound.0 c.args.self.now.table c.requires.sound.3 c.args.call.conv c.in-Some-Live.key c.requires.sound.4 (sym c.place.ensures.place ∙ (c.in-Some-Live.is) ∙ ap Some c.in-Some-Live.field-0-is)
 
 pub returns-then-over-clause-hands : goal.returns-then-over-clause-hands
 returns-then-over-clause-hands g c = on_ok_both c.end.result
     (λ removed noted. hands_ended g.C.Conversation.stands g.C.Conversation.awaited g.C.Conversation.number g.C.Owes.due g.met.C.Owes.gave g.C.Owes.grows g.A.Answerer.answers g.C.Conversation.ended (ended_stays g.C.Conversation.stands g.C.Owes.due g.C.Conversation.ended g.C.Owes.is_over g.met.C.Owes.ends g.C.Owes.over) g.met.C.Owes.rests
-    c.args.call.conv c.args.call.moment c.in-Some-Live.key c.args.news c.args.self.now.table c.hear_at.new.self.table _ _ _ _ c.requires.sound (sym c.place.ensures ∙ (c.in-Some-Live.is) ∙ ap Some c.in-Some-Live.field-0-is)
+    c.args.call.conv c.args.call.moment c.in-Some-Live.key c.args.news c.args.self.now.table c.hear_at.new.self.table _ _ _ _ c.requires.sound (sym c.place.ensures.place ∙ (c.in-Some-Live.is) ∙ ap Some c.in-Some-Live.field-0-is)
     c.in_ok-over-in-Some-Live.ensures.hears c.if-over.true removed noted) c.end.ensures.live c.end.ensures.places
 
 pub returns-else-over-clause-hands : goal.returns-else-over-clause-hands
 returns-else-over-clause-hands g c =
     hands_live g.C.Conversation.stands g.C.Conversation.awaited g.C.Conversation.number g.C.Owes.due g.met.C.Owes.gave g.C.Owes.grows g.A.Answerer.answers g.C.Conversation.ended (ended_stays g.C.Conversation.stands g.C.Owes.due g.C.Conversation.ended g.C.Owes.is_over g.met.C.Owes.ends g.C.Owes.over) g.met.C.Owes.rests
-    c.args.call.conv c.args.call.moment c.in-Some-Live.key c.args.news c.args.self.now.table _ _ _ _ c.requires.sound (sym c.place.ensures ∙ (c.in-Some-Live.is) ∙ ap Some c.in-Some-Live.field-0-is) c.in_ok-over-in-Some-Live.ensures.hears
+    c.args.call.conv c.args.call.moment c.in-Some-Live.key c.args.news c.args.self.now.table _ _ _ _ c.requires.sound (sym c.place.ensures.place ∙ (c.in-Some-Live.is) ∙ ap Some c.in-Some-Live.field-0-is) c.in_ok-over-in-Some-Live.ensures.hears
 
 pub returns-in-Some-Ended-clause-hands : goal.returns-in-Some-Ended-clause-hands
 returns-in-Some-Ended-clause-hands g c =
-    over_hands g.C.Conversation.stands g.C.Conversation.awaited g.C.Conversation.number g.C.Owes.due g.met.C.Owes.gave g.C.Owes.grows g.A.Answerer.answers c.args.call.conv c.args.call.moment c.args.news c.args.self.now.table _ (ap (found_by c.args.self.now.table.live) (sym c.place.ensures ∙ c.in-Some-Ended.is ∙ ap Some c.in-Some-Ended.field-0-is))
+    over_hands g.C.Conversation.stands g.C.Conversation.awaited g.C.Conversation.number g.C.Owes.due g.met.C.Owes.gave g.C.Owes.grows g.A.Answerer.answers c.args.call.conv c.args.call.moment c.args.news c.args.self.now.table _ (ap (found_by c.args.self.now.table.live) (sym c.place.ensures.place ∙ c.in-Some-Ended.is ∙ ap Some c.in-Some-Ended.field-0-is))
 
 pub returns-in-None-clause-hands : goal.returns-in-None-clause-hands
 returns-in-None-clause-hands g c =
-    unknown_hands g.C.Conversation.stands g.C.Conversation.awaited g.C.Conversation.number g.C.Owes.due g.met.C.Owes.gave g.C.Owes.grows g.A.Answerer.answers c.args.call.conv c.args.call.moment c.args.news c.args.self.now.table _ (ap (found_by c.args.self.now.table.live) (sym c.place.ensures ∙ c.in-None.is))
-    (λ peer begun. let no : false ≡ true = ap is_some (sym (sym c.place.ensures ∙ c.in-None.is)) ∙ c.requires.begins peer begun in cc)
+    unknown_hands g.C.Conversation.stands g.C.Conversation.awaited g.C.Conversation.number g.C.Owes.due g.met.C.Owes.gave g.C.Owes.grows g.A.Answerer.answers c.args.call.conv c.args.call.moment c.args.news c.args.self.now.table _ (ap (found_by c.args.self.now.table.live) (sym c.place.ensures.place ∙ c.in-None.is))
+    (λ peer begun. let no : false ≡ true = ap is_some (sym (sym c.place.ensures.place ∙ c.in-None.is)) ∙ c.requires.begins peer begun in cc)
 
 pub returns-in-Some-Ended-clause-files : goal.returns-in-Some-Ended-clause-files
 returns-in-Some-Ended-clause-files g c = after_none _

@@ -8,7 +8,7 @@ returns-clause-hears g c = record {
   new_held = c.hear.new.self;
   was = sym c.in-Some.ensures.value;
   live_now = Updates-with_value c.args.self.now.table.live c.args.key c.hear.new.self (ap is_some (sym c.in-Some.ensures.value));
-  places = refl;
+  places = λ other. refl;
   hears = c.in_ok-hear.ensures.hears;
   ends = c.ended.ensures;
 }
