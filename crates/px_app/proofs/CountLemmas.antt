@@ -10,6 +10,7 @@ use Rattle.px_core.specs.declared.news.News.{News}
 use Rattle.px_core.specs.Calls.{addressed}
 use Rattle.px_core.specs.Held.{AllOf}
 use Rattle.px_core.specs.Run.{IsOfHeard, TellsOfHeard}
+use Rattle.px_core.proofs.ResultLemmas.{same_some}
 use Rattle.px_app.specs.Own.{IsOwn}
 use Rattle.px_app.specs.Statuses.{is_heard, heard_count, is_end, ends_by, ends_from, ends_heard}
 use Rattle.px_app.proofs.OwnLemmas.{own_next}
@@ -55,14 +56,11 @@ next_is trace moment what list of =
       own = λ own. own_next trace moment what list own of;
     }
 
-one_trace : (a b : Trace) → Some a ≡ Some b → a ≡ b
-one_trace a b e = cc
-
 -- the trace that is told is one thing heard further
 pub next_told : (trace : Trace) (moment : ℕ) (what : Heard) (told : Option Trace) (after : Trace) → told ≡ Some after → TellsOfHeard what (trace ++ steps.Heard moment what ∷ []) told →
     IsNext trace what after
 next_told trace moment what told after is of =
     let P : Trace → Type 0 = IsNext trace what in
     let same : trace ++ steps.Heard moment what ∷ of.more ≡ after =
-    one_trace _ _ (ap Some (sym (append_assoc trace (steps.Heard moment what ∷ []) of.more)) ∙ (sym of.is ∙ is)) in
+    same_some _ _ (ap Some (sym (append_assoc trace (steps.Heard moment what ∷ []) of.more)) ∙ (sym of.is ∙ is)) in
     subst P same (next_is trace moment what of.more of.own)

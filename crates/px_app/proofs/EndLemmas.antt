@@ -1,6 +1,5 @@
 -- What is printed when a run ends.
-use Rattle.std.proofs.Common.{◌≡◌, ◌≢◌, ◌≤◌, ◌⊎◌, inl, inr, ℕ, List, [], ◌++◌, Option, Some, None, refl, sym, ap, ◌∙◌, subst, arith}
-use Rattle.std.proofs.lemmas.List.{append-nil}
+use Rattle.std.proofs.Common.{◌≡◌, ◌≢◌, ◌≤◌, ◌⊎◌, inl, inr, ℕ, List, [], ◌++◌, Option, refl, sym, ap, ◌∙◌, subst, arith}
 use Rattle.px_outside.specs.Count.{Rose}
 use Rattle.px_outside.specs.Sink.{Writes, WritesPart}
 use Rattle.px_app.specs.Lines.{line_of}
@@ -96,7 +95,3 @@ printed_whole failed shown Failed lines start mid new first old later has ends l
 printed_whole failed shown Whole lines start mid new first old later has ends low was rose (inr quiet) =
     let e = ends has in
     whole_by e.printing _ start new (λ lost. quiet (rose (e.failed first low (λ (wrong : Whole ≡ Failed). absurd (cc)) lost))) e.has
-
-pub writes_none : (start now : Option (List ℕ)) → now ≡ start → Writes [] start now
-writes_none None now same = same
-writes_none (Some text) now same = same ∙ ap Some (sym (append-nil text))

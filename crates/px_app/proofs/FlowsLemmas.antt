@@ -28,8 +28,7 @@ use Rattle.px_app.specs.Lines.{bad_filter, bad_flow_file, cannot_read}
 use Rattle.px_app.specs.Outside.{IsTold, Outside}
 use Rattle.px_app.specs.declared.flows.Turn.{Turn}
 use Rattle.px_app.specs.declared.flows.Turn.TheVariants as turns
-use Rattle.px_app.proofs.EndLemmas.{writes_none}
-use Rattle.px_app.proofs.PrintLemmas.{whole_part, writes_more, writes_part}
+use Rattle.px_app.proofs.PrintLemmas.{whole_part, writes_more, writes_none, writes_part}
 use Rattle.px_app.proofs.ToldLemmas.{told_none, told_nothing}
 
 -- what stands behind a frame is less

@@ -17,15 +17,16 @@ use Rattle.px_event.specs.Layer.{Move}
 use Rattle.px_read.specs.Items.{Item, missing, part, complete, bad_head, bad_body}
 use Rattle.px_read.specs.declared.head.RequestHead.{RequestHead as ReadRequest}
 use Rattle.px_read.specs.declared.head.ResponseHead.{ResponseHead as ReadResponse}
-use Rattle.px_stream.specs.declared.asked.Judged.{Judged}
-use Rattle.px_stream.specs.declared.asked.Judged.TheVariants.{Refused, Accepted}
-use Rattle.px_stream.specs.declared.ending.Used.{Used}
-use Rattle.px_stream.specs.declared.taken.Taken.{Taken}
-use Rattle.px_stream.specs.declared.taken.Taken.TheVariants.{GoesOn, Responds, Kills}
-use Rattle.px_stream.specs.declared.terms.Terms.{Terms}
-use Rattle.px_stream.specs.Chain.{http_chain, sequence, look, leaving, or_leaves, pass, pass_body, so_far, turn, set_out, turn_taken_head, turn_judged, turn_head, turn_taken_body, turn_body, dial_leads, turn_taken_answer, turn_answer, turn_taken_returned, turn_response, turn_returned, turn_taken_given, look_judged, look_head, look_body, look_answer_head, look_answer, look_returned, request_over, answers_over, is_relayed, ask_of, response_of, used_server, with_answer, with_end, with_returned, with_start}
-use Rattle.px_stream.specs.Endings.{behind_flow}
-use Rattle.px_stream.specs.Quiet.{AllQuiet, LooksQuiet, any_flow}
+use Rattle.px_exchange.specs.declared.asked.Judged.{Judged}
+use Rattle.px_exchange.specs.declared.asked.Judged.TheVariants.{Refused, Accepted}
+use Rattle.px_exchange.specs.declared.ending.Used.{Used}
+use Rattle.px_exchange.specs.declared.taken.Taken.{Taken}
+use Rattle.px_exchange.specs.declared.taken.Taken.TheVariants.{GoesOn, Responds, Kills}
+use Rattle.px_exchange.specs.declared.terms.Terms.{Terms}
+use Rattle.px_stream.specs.Chain.{http_chain, sequence, look, leaving, pass, pass_body, so_far, turn, set_out, turn_taken_head, turn_judged, turn_head, turn_taken_body, turn_body, dial_leads, turn_taken_answer, turn_answer, turn_taken_returned, turn_response, turn_returned, turn_taken_given, request_over, answers_over, used_server, behind_flow}
+use Rattle.px_exchange.specs.Finds.{or_leaves, look_judged, look_head, look_body, look_answer_head, look_answer, look_returned, is_relayed}
+use Rattle.px_exchange.specs.Flows.{ask_of, response_of, with_answer, with_end, with_returned, with_start}
+use Rattle.px_stream.proofs.Quiet.{AllQuiet, LooksQuiet, any_flow}
 use Rattle.px_stream.specs.Streams.{client_closed, now_over}
 use Rattle.px_stream.specs.Stages.{At, Link, Stage, idle, receiving, dialling, answering, returning, given_head, given_body, next, over}
 use Rattle.px_stream.proofs.QuietLemmas.{so_far_quiet, turn_quiet, finds_quiet_end}

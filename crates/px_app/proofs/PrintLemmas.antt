@@ -7,6 +7,11 @@ use Rattle.px_app.specs.declared.printing.Printing.{Printing}
 use Rattle.px_app.specs.declared.printing.Printing.TheVariants.{Whole, Failed}
 use Rattle.px_app.specs.Printed.{Has}
 
+-- nothing was written
+pub writes_none : (start now : Option (List ℕ)) → now ≡ start → Writes [] start now
+writes_none None now same = same
+writes_none (Some text) now same = same ∙ ap Some (sym (append-nil text))
+
 -- two texts, the second whole
 pub writes_more : (a b : List ℕ) (old mid new : Option (List ℕ)) → Writes a old mid → Writes b mid new → Writes (a ++ b) old new
 writes_more a b None mid new w v = let P : Option (List ℕ) → Type 0 = λ m. Writes b m new in subst P w v

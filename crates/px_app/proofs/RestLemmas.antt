@@ -14,6 +14,7 @@ use Rattle.px_core.specs.Calls.{addressed}
 use Rattle.px_core.specs.Course.{Change, change}
 use Rattle.px_core.specs.Held.{AllOf}
 use Rattle.px_core.specs.Run.{IsOfHeard}
+use Rattle.px_core.proofs.CourseLemmas.{same_state}
 use Rattle.px_app.specs.Listed.{listed}
 use Rattle.px_app.specs.Over.{Reaches, ReachesPart, SavedOver, nothing_yet, all_saved, is_cut, is_broken, stays_cut, behind_of, finished_in, rests, rests_of}
 use Rattle.px_app.specs.Saved.{Append, Broke, Came, Puts, SavesTo}
@@ -58,9 +59,6 @@ one_on : (front : Trace) (step : Step) (trace : Trace) (moment : ℕ) (what : He
     rests (front ++ step ∷ []) (trace ++ steps.Heard moment what ∷ more) ≡ rests (front ++ step ∷ []) trace ++ ((front ++ step ∷ trace) ++ steps.Heard moment what ∷ more) ∷ []
 one_on front step trace moment what more is =
     is ∙ ap (λ t. rests (front ++ step ∷ []) trace ++ (t ++ steps.Heard moment what ∷ more) ∷ []) (append_assoc front (step ∷ []) trace)
-
-same_state : {S : Type 0} (new old : AnswererState S) → new.own ≡ old.own → new.files ≡ old.files → new ≡ old
-same_state new old own files = ap (λ o. record { own = o; files = new.files }) own ∙ ap (λ f. record { own = old.own; files = f }) files
 
 -- one thing heard behind a trace
 rests_on : (front trace : Trace) (moment : ℕ) (what : Heard) (more : Trace) → NoneHeard more →

@@ -12,6 +12,7 @@ use Rattle.px_core.specs.Answers.{Answering, AnswererState, Failing, FilesMeanin
 use Rattle.px_core.specs.Course.{Change, Course}
 use Rattle.px_core.specs.Due.{Due, IsServed, IsAllTold, OpenOnesWait}
 use Rattle.px_core.proofs.AnsweredLemmas.{whole_front}
+use Rattle.px_core.proofs.ResultLemmas.{same_some}
 use Rattle.px_http.specs.Fixed.{fixed_due}
 use Rattle.px_options.specs.Mode.{ModeIs, reverse}
 use Rattle.px_app.specs.Over.{Reaches, course_from}
@@ -158,19 +159,16 @@ same_address read wanted is =
 pub same_server : (mode : ModeIs) (server wanted : Address) → mode ≡ reverse (server.host, server.port) → Some mode ≡ Some (reverse (wanted.host, wanted.port)) → server ≡ wanted
 same_server mode server wanted is wants = same_address server wanted (ap Some (sym is) ∙ wants)
 
-pub one_trace : (a b : Trace) → Some a ≡ Some b → a ≡ b
-one_trace a b e = cc
-
 -- what is told is the trace
 pub told_trace : (P : Trace → Type 0) (told : Option Trace) (trace : Trace) → Told P told → told ≡ Some trace → P trace
-told_trace P told trace h is = subst P (one_trace h.trace trace (sym h.tells ∙ is)) h.holds
+told_trace P told trace h is = subst P (same_some h.trace trace (sym h.tells ∙ is)) h.holds
 
 pub told_by : (P Q : Trace → Type 0) (told : Option Trace) → ((trace : Trace) → P trace → Q trace) → Told P told → Told Q told
 told_by P Q told f h = record { trace = h.trace; tells = h.tells; holds = f h.trace h.holds }
 
 -- where something was heard the trace changed
 pub listens_where_heard : (old new : Option Trace) (trace : Trace) (P : Type 0) → (new ≡ old) ⊎ P → old ≡ Some [] → new ≡ Some trace → trace ≢ [] → P
-listens_where_heard old new trace P (inl same) empty tells heard_some = absurd (heard_some (one_trace trace [] (sym tells ∙ same ∙ empty)))
+listens_where_heard old new trace P (inl same) empty tells heard_some = absurd (heard_some (same_some trace [] (sym tells ∙ same ∙ empty)))
 listens_where_heard old new trace P (inr h) empty tells heard_some = h
 
 pub if_err_by : {T : Type 0} (result : Result T Status) (Q P : Status → Type 0) → IsErrAnd result Q → ((status : Status) → Q status → P status) → IfErr result P

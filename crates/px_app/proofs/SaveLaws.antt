@@ -1,7 +1,8 @@
 -- What follows of runs that save: their changes leave the own state alone and append, and without a save file there are none.
-use Rattle.std.proofs.Common.{◌≡◌, List, [], ◌∷◌, ◌++◌, Option, None, sym, ap, ◌∙◌, subst}
+use Rattle.std.proofs.Common.{◌≡◌, List, [], ◌∷◌, ◌++◌, Option, None, sym, ap, subst}
 use Rattle.px_core.specs.Answers.{Answering, AnswererState, ByAnswers, Failing, FilesAfter, FilesMeaning, after_answers, after_failure, by_answer, by_none}
 use Rattle.px_core.specs.Course.{AllAre, Change, KeepsOwn, MovesFiles}
+use Rattle.px_core.proofs.CourseLemmas.{same_state}
 use Rattle.px_app.specs.Over.{Goes, LeavesBehind, SavedOver, all_saved, goes_answer, goes_append, goes_none, is_broken, is_cut, left_by_answer, left_by_append, left_whole, nothing_yet, stays_cut}
 use Rattle.px_app.specs.Saved.{Append, Appending, BrokeAppending, SavesTo}
 use Rattle.px_app.specs.declared.printing.Printing.{Printing}
@@ -50,13 +51,6 @@ module _ {S : Type 0} (to : Option SavesTo) where
         next_are (MovesFiles goes) changes next one grown (changes_move Whole changes made before) (by_broken one.old.files more one.new.files appends)
     changes_move reached next all (stays_cut changes more_changes one made before still grown) =
         next_are (MovesFiles goes) changes next one grown (changes_move Failed changes all before) (still_moves one still)
-
--- a state is told by its parts
-same_state : {S : Type 0} (a b : AnswererState S) → a.own ≡ b.own → a.files ≡ b.files → a ≡ b
-same_state {S} a b own files =
-    let with_own : S → AnswererState S = λ o. record { own = o; files = a.files } in
-    let with_files : FilesMeaning → AnswererState S = λ f. record { own = b.own; files = f } in
-    ap with_own own ∙ ap with_files files
 
 module _ {S : Type 0} (answers : Answering S) where
   -- without a save file nothing but answers goes on

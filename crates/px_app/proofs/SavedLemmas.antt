@@ -9,17 +9,13 @@ use Rattle.px_text.specs.declared.no_memory.NoMemory.{NoMemory}
 use Rattle.px_message.specs.declared.flow.Flow.{Flow}
 use Rattle.px_outside.specs.Sink.{Writes, WritesPart}
 use Rattle.px_core.specs.Answers.{FilesMeaning}
+use Rattle.px_core.proofs.RunLemmas.{front_next}
 use Rattle.px_view.specs.Line.{flow_line}
 use Rattle.px_app.specs.Printed.{Has}
 use Rattle.px_app.specs.Saved.{SavesTo, Piece, piece_at, pieces_of, saved, Append, put, lost, piece_in, IsPut, IsLost, IsKept, IsMade, Appending, none_made, one_made, BrokeAppending, broke_elsewhere, broke_at, AppendsBy, StopsAt, at_line, at_text, HasStopped, Came, Broke, CameOrBroke, Puts, CameOfAppend, MadeOf, Saves, texts_in, KeepsCounts, ArePut, all_put, last_lost}
 use Rattle.px_app.specs.declared.printing.Printing.{Printing}
 use Rattle.px_app.specs.declared.printing.Printing.TheVariants.{Whole, Failed}
-use Rattle.px_app.proofs.PrintLemmas.{writes_more, writes_part, whole_part, part_longer}
-
--- nothing was written
-pub writes_none : (start : Option (List ℕ)) → Writes [] start start
-writes_none None = refl
-writes_none (Some x) = ap Some (sym (append-nil x))
+use Rattle.px_app.proofs.PrintLemmas.{writes_none, writes_more, writes_part, whole_part, part_longer}
 
 -- the lines of flows, those of others behind them
 lines_more : (front more : List Flow) → flat_map flow_line (front ++ more) ≡ flat_map flow_line front ++ flat_map flow_line more
@@ -208,13 +204,13 @@ pub line_whole : (printing : Printing) (text : List ℕ) (old new : Option (List
     ((start : Option (List ℕ)) (before : List ℕ) → Has Whole before start old → Has printing (before ++ text) start new) → Writes text old new
 line_whole printing text old new is prints =
     let P : Printing → Type 0 = λ p. Has p text old new in
-    subst P is (prints old [] (writes_none old))
+    subst P is (prints old [] (writes_none old old refl))
 
 pub line_failed : (printing : Printing) (text : List ℕ) (old new : Option (List ℕ)) → printing ≡ Failed →
     ((start : Option (List ℕ)) (before : List ℕ) → Has Whole before start old → Has printing (before ++ text) start new) → WritesPart text old new
 line_failed printing text old new is prints =
     let P : Printing → Type 0 = λ p. Has p text old new in
-    subst P is (prints old [] (writes_none old))
+    subst P is (prints old [] (writes_none old old refl))
 
 -- one flow, where memory ran out before its line
 pub puts_line_broke : (to : Option SavesTo) (flow : Flow) (e : NoMemory) (files : FilesMeaning) (before after : Option (List ℕ)) → after ≡ before →
@@ -301,7 +297,7 @@ came_whole printing to flows start now made whole came =
 
 -- no flow came yet
 pub came_none : (to : Option SavesTo) (start : Option (List ℕ)) → Came Whole to [] start start []
-came_none to start = (writes_none start, refl)
+came_none to start = (writes_none start start refl, refl)
 
 kept_on : (first before after : FilesMeaning) → KeepsCounts first before → after.misses ≡ before.misses → after.faults ≡ before.faults → before.losses ≤ after.losses → KeepsCounts first after
 kept_on first before after kept misses faults losses = record {
@@ -386,14 +382,6 @@ pub came_or_broke_part : (result : Result Printing NoMemory) (to : Option SavesT
     WritesPart (flat_map flow_line flows) start now
 came_or_broke_part (Ok printing) to flows start now made came = came_part printing to flows start now made came
 came_or_broke_part (Err e) to flows start now made broke = broke.printed
-
--- what is left begins with the flow that comes next
-pub rest_is : (front rest next list : List Flow) → rest ≡ next → front ++ rest ≡ list → front ++ next ≡ list
-rest_is front rest next list is split = ap (λ l. front ++ l) (sym is) ∙ split
-
--- the flow moves from those that are left to those that are done
-pub front_next : (front : List Flow) (x : Flow) (rest list : List Flow) → front ++ x ∷ rest ≡ list → (front ++ x ∷ []) ++ rest ≡ list
-front_next front x rest list split = append_assoc front (x ∷ []) rest ∙ split
 
 -- one flow more, and memory ran out there
 pub puts_stop : (to : Option SavesTo) (was mid : Printing) (list front : List Flow) (x : Flow) (rest : List Flow) (e : NoMemory) (result : Result Printing NoMemory) (old between new : FilesMeaning)

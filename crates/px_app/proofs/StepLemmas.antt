@@ -25,6 +25,8 @@ use Rattle.px_core.specs.Router.{RouterStands, TableStands}
 use Rattle.px_core.specs.Run.{Tells, TellsOfHeard, done_of}
 use Rattle.px_event.proofs.TraceLemmas.{always_empty, before_empty}
 use Rattle.px_core.proofs.AnsweredLemmas.{whole_front}
+use Rattle.px_core.proofs.CourseLemmas.{stands_changed}
+use Rattle.px_core.proofs.ResultLemmas.{same_some}
 use Rattle.px_core.proofs.RouteLemmas.{all_told, open_ones_wait}
 use Rattle.px_app.specs.declared.printing.Printing.{Printing}
 use Rattle.px_app.specs.declared.printing.Printing.TheVariants.{Whole}
@@ -45,19 +47,16 @@ use Rattle.px_app.proofs.RunLemmas.{leaves_all, memory_run, ended_run, spent_run
 pub own_empty : IsOwn []
 own_empty = tt
 
-one_trace : (a b : Trace) → Some a ≡ Some b → a ≡ b
-one_trace a b e = cc
-
 -- what is told of the trace holds of it
 told_of : (P : Trace → Type 0) (before after : Trace) (told : Option Trace) → told ≡ Some after → Tells P before told → P after
-told_of P before after told is tells = subst P (one_trace (before ++ tells.more) after (sym tells.is ∙ is)) tells.holds
+told_of P before after told is tells = subst P (same_some (before ++ tells.more) after (sym tells.is ∙ is)) tells.holds
 
 -- the trace that is told is one rest further
 rest_told : (trace : Trace) (moment : ℕ) (what : Heard) (told : Option Trace) (after : Trace) → told ≡ Some after → TellsOfHeard what (trace ++ steps.Heard moment what ∷ []) told →
     rests_of after ≡ rests_of trace ++ after ∷ []
 rest_told trace moment what told after is of =
     let P : Trace → Type 0 = λ t. rests_of t ≡ rests_of trace ++ t ∷ [] in
-    subst P (one_trace ((trace ++ steps.Heard moment what ∷ []) ++ of.more) after (sym of.is ∙ is)) (rests_next trace moment what of.more of.own)
+    subst P (same_some ((trace ++ steps.Heard moment what ∷ []) ++ of.more) after (sym of.is ∙ is)) (rests_next trace moment what of.more of.own)
 
 module _ {C S : Type 0} (standing : Standing C) (awaited : C → Option Ask) (number : C → ℕ) (made_due : C → List Move → List Command)
     (gave : (made state : C) (moves : List Move) (given : List Command) → standing made state moves given → (view : View) → seen_of view given ≡ seen_of view (made_due made moves))
@@ -75,18 +74,6 @@ module _ {C S : Type 0} (standing : Standing C) (awaited : C → Option Ask) (nu
   files_all : {course : Course S} {now : AnswererState S} {table : Table C} {trace : Trace} → TableStands standing awaited number made_due answers due course now table trace → (W : Type 0) →
       LeavesFiles answers fails due course W now.files trace
   files_all {course} {now} {table} {trace} stands W = leaves_all answers fails due course now stands.pending now.files trace stands.answered refl W
-
-  -- behind all steps something else became of the state
-  changed : {first old : AnswererState S} {changes : List (Change S)} (new : AnswererState S) (table : Table C) (trace : Trace) →
-      TableStands standing awaited number made_due answers due (course_from first changes) old table trace →
-      TableStands standing awaited number made_due answers due (course_from first (changes ++ change trace old new ∷ [])) new table trace
-  changed {first} {old} {changes} new table trace s = record {
-    at = s.at;
-    served = s.served;
-    pending = s.pending;
-    answered = at_change (course_from first changes) (course_from first (changes ++ change trace old new ∷ [])) trace old new s.pending s.answered refl;
-    drafts = s.drafts;
-  }
 
   module _ {A : Type 0} {state : A → S} (first : AnswererState S) (to : Option SavesTo) where
     -- the flows that a step finished were printed and saved
@@ -109,7 +96,7 @@ module _ {C S : Type 0} (standing : Standing C) (awaited : C → Option Ask) (nu
           holds = record {
             changes = r.changes ++ change after old next ∷ [];
             made = r.made ++ puts.made;
-            stands = changed next new.table after tells.holds;
+            stands = stands_changed standing awaited number made_due answers due (course_from first r.changes) old next new.table after tells.holds;
             own = (next_told trace moment what told after tells.is of).own r.own;
             reaches = reaches_next to r.changes r.made trace after flows start before now old next refl (subst P is_earlier done) (rest_told trace moment what told after tells.is of) was is r.reaches puts;
           };
@@ -129,7 +116,7 @@ module _ {C S : Type 0} (standing : Standing C) (awaited : C → Option Ask) (nu
         let next : AnswererState S = record { own = state new.answerer; files = new_files } in
         let done = told_of (λ t. earlier ++ flows ≡ flat_map done_of t) heard after told tells.is finished in
         let P : List Flow → Type 0 = λ l. l ++ flows ≡ flat_map done_of after in
-        let stands = changed next new.table after tells.holds in
+        let stands = stands_changed standing awaited number made_due answers due (course_from first r.changes) old next new.table after tells.holds in
         record {
           more = tells.more;
           is = tells.is;
@@ -320,14 +307,7 @@ pub sound_changed : {C : Type 0} (standing : Standing C) (awaited : C → Option
 sound_changed {C} standing awaited number made_due {S} answers state made old new router (due, course, trace, owes, s) =
     let was : AnswererState S = record { own = state router.answerer; files = old } in
     let now : AnswererState S = record { own = state router.answerer; files = new } in
-    let stands : TableStands standing awaited number made_due answers due (with_change course trace was now) now router.table trace = record {
-      at = s.at;
-      served = s.served;
-      pending = s.pending;
-      answered = at_change course (with_change course trace was now) trace was now s.pending s.answered refl;
-      drafts = s.drafts;
-    } in
-    (due, with_change course trace was now, trace, owes, stands)
+    (due, with_change course trace was now, trace, owes, stands_changed standing awaited number made_due answers due course was now router.table trace s)
 
 -- where flows are saved does not change from turn to turn
 pub next_saving : {C : Type 0} (standing : Standing C) (awaited : C → Option Ask) (number : C → ℕ) (made_due : C → List Move → List Command) {S : Type 0} (answers : Answering S)

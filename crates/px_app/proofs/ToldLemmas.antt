@@ -10,8 +10,7 @@ use Rattle.px_app.specs.Serves.{where_listening}
 use Rattle.px_app.specs.Statuses.{code_of}
 use Rattle.px_app.specs.declared.status.Status.{Status}
 use Rattle.px_app.specs.declared.status.Status.TheVariants.{Ended, NetFault, BudgetSpent, OutputFailed, NoMemory}
-use Rattle.px_app.proofs.EndLemmas.{writes_none}
-use Rattle.px_app.proofs.PrintLemmas.{whole_part}
+use Rattle.px_app.proofs.PrintLemmas.{whole_part, writes_none}
 
 -- nothing of it
 pub none_part : (text : List ℕ) (start now : Option (List ℕ)) → now ≡ start → WritesPart text start now

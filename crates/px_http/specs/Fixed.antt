@@ -5,7 +5,7 @@ use Rattle.px_event.specs.Layer.{Move}
 use Rattle.px_event.specs.Stands.{due_by}
 use Rattle.px_core.specs.Due.{Due}
 use Rattle.px_core.specs.Ordered.{AsksBeforeEnds}
-use Rattle.px_stream.specs.declared.terms.Terms.{Terms}
+use Rattle.px_exchange.specs.declared.terms.Terms.{Terms}
 use Rattle.px_stream.specs.Chain.{http_chain, sequence}
 use Rattle.px_stream.specs.Stages.{idle}
 use Rattle.px_stream.specs.Stands.{start_of}

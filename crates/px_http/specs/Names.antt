@@ -10,10 +10,10 @@ use Rattle.px_event.specs.Chain.{Timed, Look, NotYet, Asks, Ends, found}
 use Rattle.px_event.specs.Layer.{Move}
 use Rattle.px_event.specs.Stands.{due_by}
 use Rattle.px_core.specs.Conversation.{IsNamed, AllNamed}
-use Rattle.px_core.specs.Named.{StaysNamed, stays_named}
-use Rattle.px_stream.specs.declared.terms.Terms.{Terms}
+use Rattle.px_core.proofs.ChainNamedLemmas.{StaysNamed, stays_named}
+use Rattle.px_exchange.specs.declared.terms.Terms.{Terms}
 use Rattle.px_stream.specs.Chain.{http_chain, look, pass, sequence, so_far, turn}
-use Rattle.px_stream.specs.Quiet.{AllQuiet, IsOf, IsAskOf, LooksQuiet}
+use Rattle.px_stream.proofs.Quiet.{AllQuiet, IsOf, IsAskOf, LooksQuiet}
 use Rattle.px_stream.specs.Stages.{Stage, idle, receiving, dialling, answering, returning, given_head, given_body, next, over}
 use Rattle.px_stream.proofs.QuietLemmas.{looks_quiet, pass_of, so_far_quiet, turn_led}
 use Rattle.px_stream.proofs.TakeLemmas.{pass_owes_nothing}

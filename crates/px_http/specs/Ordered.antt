@@ -13,15 +13,16 @@ use Rattle.px_event.specs.Chain.{Timed, Look, NotYet, Asks, Ends, found}
 use Rattle.px_event.specs.Layer.{Move}
 use Rattle.px_event.specs.Stands.{due_by, events_in, replies_in}
 use Rattle.px_core.specs.Ordered.{AsksNoneOf, EndsOneOf, AsksBeforeEnds, LeavesBehind, LeavesNone, LeavesFlows}
-use Rattle.px_core.specs.Leaving.{leaving_ordered}
+use Rattle.px_core.proofs.LeavingLemmas.{leaving_ordered}
 use Rattle.px_read.specs.Items.{Item, missing, part, complete, bad_head, bad_body}
 use Rattle.px_read.specs.declared.head.RequestHead.{RequestHead as ReadRequest}
 use Rattle.px_message.specs.declared.response.Response.{Response}
-use Rattle.px_stream.specs.declared.terms.Terms.{Terms}
-use Rattle.px_stream.specs.Chain.{http_chain, look, or_leaves, pass, pass_body, request_over, sequence, so_far, turn}
+use Rattle.px_exchange.specs.declared.terms.Terms.{Terms}
+use Rattle.px_stream.specs.Chain.{http_chain, look, pass, pass_body, request_over, sequence, so_far, turn}
+use Rattle.px_exchange.specs.Finds.{or_leaves}
 use Rattle.px_stream.specs.Left.{stage_left}
-use Rattle.px_stream.specs.Quiet.{AllQuiet, EndsNone, IsAskOf, IsBehind, IsOf, LooksQuiet, at_of, no_flow}
-use Rattle.px_stream.specs.Stages.{At, Stage, idle, receiving, dialling, answering, returning, given_head, given_body, next, over}
+use Rattle.px_stream.proofs.Quiet.{AllQuiet, EndsNone, IsAskOf, IsBehind, IsOf, LooksQuiet, no_flow}
+use Rattle.px_stream.specs.Stages.{At, Stage, idle, receiving, dialling, answering, returning, given_head, given_body, next, over, place_of}
 use Rattle.px_stream.specs.Streams.{client_closed, now_over}
 use Rattle.px_stream.proofs.QuietLemmas.{IsGoing, looks_quiet, so_far_quiet, turn_led}
 use Rattle.px_http.specs.declared.conversation.HttpConv.{HttpConv}
@@ -213,13 +214,13 @@ module _ (terms : Terms) where
   Leaves = LeavesBehind is_counted is_past
 
   asked_leaves : (stage : Stage) (front : List (Timed Event)) (ask : Command) (reply : Timed Reply) → IsGoing stage →
-      ((index : ℕ) → is_past stage index ≡ nat_lt index (at_of stage).flow) → IsOf terms (HasIndex (at_of stage).flow) stage → look terms stage front ≡ Asks ask →
+      ((index : ℕ) → is_past stage index ≡ nat_lt index (place_of stage).flow) → IsOf terms (HasIndex (place_of stage).flow) stage → look terms stage front ≡ Asks ask →
       Leaves stage (so_far stage front ++ ask ∷ (turn terms stage front reply).owed) (sequence (turn terms stage front reply).stage)
   asked_leaves stage front ask reply goes past is asked =
-      let here : ℕ = (at_of stage).flow in
+      let here : ℕ = (place_of stage).flow in
       let owed : List Command = (turn terms stage front reply).owed in
       let led = turn_led terms (HasIndex here) stage front reply goes is in
-      let on = leads_past here owed terms (at_of stage).dials (stage_left stage) led.quiet (turn terms stage front reply).stage led.behind led.is_of led.ends_none in
+      let on = leads_past here owed terms (place_of stage).dials (stage_left stage) led.quiet (turn terms stage front reply).stage led.behind led.is_of led.ends_none in
       let said : AllQuiet no_flow (so_far stage front) = so_far_quiet no_flow stage front in
       let P : Look Command → Type 0 = LooksQuiet (HasIndex here) in
       let asks_own : IsAskOf (HasIndex here) ask = subst P asked (looks_quiet (HasIndex here) terms stage front is) in
@@ -253,10 +254,10 @@ module _ (terms : Terms) where
   stops_by here (Asks ask) is = (ask_ordered here ask [] is tt, λ index less. ask_none index here ask [] is less tt)
   stops_by here (Ends owed) is = (quiet_ordered (HasIndex here) owed is, λ index less. quiet_none (HasIndex here) index owed is)
 
-  stops_there : (stage : Stage) (front : List (Timed Event)) → ((index : ℕ) → is_past stage index ≡ nat_lt index (at_of stage).flow) →
-      IsOf terms (HasIndex (at_of stage).flow) stage → LeavesNone is_past stage (so_far stage front ++ found (look terms stage front))
+  stops_there : (stage : Stage) (front : List (Timed Event)) → ((index : ℕ) → is_past stage index ≡ nat_lt index (place_of stage).flow) →
+      IsOf terms (HasIndex (place_of stage).flow) stage → LeavesNone is_past stage (so_far stage front ++ found (look terms stage front))
   stops_there stage front past is =
-      let here : ℕ = (at_of stage).flow in
+      let here : ℕ = (place_of stage).flow in
       let both = stops_by here (look terms stage front) (looks_quiet (HasIndex here) terms stage front is) in
       record {
         ordered = ordered_behind (so_far stage front) _ (so_far_quiet no_flow stage front) both.0;

@@ -4,8 +4,7 @@ use Rattle.px_message.specs.declared.address.Address.{Address}
 use Rattle.px_event.specs.declared.side.Side.TheVariants.{Server}
 use Rattle.px_event.specs.Layer.{Move}
 use Rattle.px_event.specs.View.{bytes_in, line, seen_of}
-use Rattle.px_stream.specs.Chain.{sequence}
-use Rattle.px_stream.specs.Cuts.{is_sequence}
+use Rattle.px_stream.specs.Chain.{sequence, is_sequence}
 use Rattle.px_stream.specs.Silent.{NoAnswer}
 use Rattle.px_stream.specs.Stands.{start_of}
 use Rattle.px_stream.proofs.SilentLemmas.{nothing_yet, silent_from}

@@ -4,7 +4,7 @@ ghost use Rattle.px_event.specs.Layer.{Move};
 ghost use Rattle.px_event.specs.declared.command.Command.{Command as GivenCommand};
 ghost use Rattle.px_http.specs.Stands.{HttpStands, awaits, stop_at};
 ghost use Rattle.px_stream.specs.Chain.{look};
-ghost use Rattle.px_stream.specs.Places.{IsDialled, terms_of};
+ghost use Rattle.px_exchange.specs.Places.{IsDialled, terms_of};
 ghost use Rattle.px_stream.specs.Rests.{LeavesRests, phase_rest};
 ghost use Rattle.px_stream.specs.Sequence.{is_end, outcome_at, outcome_in};
 ghost use Rattle.px_stream.specs.Stands.{is_last};

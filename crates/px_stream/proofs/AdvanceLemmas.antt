@@ -18,10 +18,11 @@ use Rattle.px_stream.specs.declared.phase.Ready.{Ready}
 use Rattle.px_stream.specs.declared.phase.Ready.TheVariants as ready
 use Rattle.px_stream.specs.declared.reading.Progress.{Progress}
 use Rattle.px_stream.specs.declared.reading.Progress.TheVariants as progress
-use Rattle.px_stream.specs.declared.terms.Numbers.{Numbers}
-use Rattle.px_stream.specs.declared.terms.Terms.{Terms}
+use Rattle.px_stream.specs.declared.numbers.Numbers.{Numbers}
+use Rattle.px_exchange.specs.declared.terms.Terms.{Terms}
 use Rattle.px_stream.specs.Bodies.{BodyFound}
-use Rattle.px_stream.specs.Chain.{address_of, pass, pass_body}
+use Rattle.px_exchange.specs.Dials.{address_of}
+use Rattle.px_stream.specs.Chain.{pass, pass_body}
 use Rattle.px_stream.specs.Found.{LookedAt}
 use Rattle.px_stream.specs.Looking.{HeadFound, LookFound}
 use Rattle.px_stream.specs.Stages.{At, Stage, idle, receiving, dialling, answering, returning, given_head, given_body, next, over}

@@ -13,28 +13,31 @@ use Rattle.px_read.specs.Laws.{head_in}
 use Rattle.px_read.specs.Marks.{answers}
 use Rattle.px_read.specs.Reader.{State}
 use Rattle.px_read.specs.declared.head.ResponseHead.{ResponseHead as ReadResponse}
-use Rattle.px_stream.specs.declared.ending.Used.{Used}
-use Rattle.px_stream.specs.declared.ending.Used.TheVariants.{ByServer}
+use Rattle.px_exchange.specs.declared.ending.Used.{Used}
+use Rattle.px_exchange.specs.declared.ending.Used.TheVariants.{ByServer}
 use Rattle.px_stream.specs.declared.link.Link.{Link as KeptLink}
 use Rattle.px_stream.specs.declared.phase.Asked.TheVariants as asked
 use Rattle.px_stream.specs.declared.phase.Phase.{Phase}
 use Rattle.px_stream.specs.declared.phase.Ready.TheVariants as ready
 use Rattle.px_stream.specs.declared.reading.Answer.{Answer}
 use Rattle.px_stream.specs.declared.reading.Answer.TheVariants as answer
-use Rattle.px_stream.specs.declared.terms.Terms.{Terms}
-use Rattle.px_stream.specs.Chain.{answers_over, ask_of, is_relayed, look, look_answer, look_answer_head, or_leaves, leaving, response_of, so_far, used_server, with_answer}
-use Rattle.px_stream.specs.Endings.{closed_message, ends_by_fault, ends_early}
+use Rattle.px_exchange.specs.declared.terms.Terms.{Terms}
+use Rattle.px_stream.specs.Chain.{answers_over, look, leaving, so_far, used_server}
+use Rattle.px_exchange.specs.Flows.{ask_of, response_of, with_answer}
+use Rattle.px_exchange.specs.Finds.{is_relayed, look_answer, look_answer_head, or_leaves}
+use Rattle.px_exchange.specs.Endings.{closed_message, ends_by_fault, ends_early}
 use Rattle.px_stream.specs.Found.{LookedAt}
 use Rattle.px_stream.specs.Laws.{commands_append}
 use Rattle.px_stream.specs.Looks.{answer_gives, answer_phase, relays, relayed_phase, where_left}
 use Rattle.px_stream.specs.Phases.{is_over, unless_left}
-use Rattle.px_stream.specs.Requests.{is_head, is_http11}
+use Rattle.px_exchange.specs.Requests.{is_head, is_http11}
 use Rattle.px_stream.specs.Responses.{AnswerCome, AnswerFound, sends_on}
 use Rattle.px_stream.specs.Stages.{At, Link, answering}
 use Rattle.px_stream.specs.Stands.{KeepsBehind, Keeps, IsLink, IsAnswering, PhaseAt, sent_on}
 use Rattle.px_stream.specs.Streams.{client_closed, now_over, server_bytes, server_closed}
-use Rattle.px_stream.specs.Texts.{interim_commands}
+use Rattle.px_exchange.specs.Texts.{interim_commands}
 use Rattle.px_stream.proofs.LookLemmas.{at_look}
+use Rattle.px_stream.specs.Sights.{sight}
 
 -- what is found, by the head
 look_at : (flow : Flow) (item : Item ReadResponse) (head : ReadResponse) (moment : ℕ) (used : Used) (closed : Bool) → head_in item ≡ Some head →
@@ -70,7 +73,7 @@ module _ (terms : Terms) (at : At) (flow : Flow) (link : Link) (front : List (Ti
       let told : Flow = with_answer flow (response_of head) (now_over at.since front) in
       let asks_now : look_answer_head flow head (now_over at.since front) (used_server link front) (client_closed front) ≡ Asks (ask_of told AtHead) = rw relayed refl in
       let is : look terms (answering at flow link) front ≡ Asks (ask_of told AtHead) =
-      ap (or_leaves (client_closed front) (leaving (answering at flow link) front))
+      ap (or_leaves (client_closed front) (leaving (answering at flow link) (sight (answering at flow link) front)))
       (look_at flow (answers_over flow.request link front).final head (now_over at.since front) (used_server link front) (client_closed front) stands ∙ asks_now) in
       answered (Asks (ask_of told AtHead)) is (ask_of told AtHead ∷ []) refl gives (
         asked.Answer told new,
@@ -93,7 +96,7 @@ module _ (terms : Terms) (at : At) (flow : Flow) (link : Link) (front : List (Ti
       let owed : List Command = ends_by_fault flow BadResponse (now_over at.since front) (used_server link front) (client_closed front) in
       let ends_now : look_answer_head flow head (now_over at.since front) (used_server link front) (client_closed front) ≡ Ends owed = rw relayed refl in
       let is : look terms (answering at flow link) front ≡ Ends owed =
-      ap (or_leaves (client_closed front) (leaving (answering at flow link) front))
+      ap (or_leaves (client_closed front) (leaving (answering at flow link) (sight (answering at flow link) front)))
       (look_at flow (answers_over flow.request link front).final head (now_over at.since front) (used_server link front) (client_closed front) stands ∙ ends_now) in
       answered (Ends owed) is (ends_by_fault flow BadResponse (now_over at.since front) (ByServer new.server new.closed) (client_closed front))
       (ap (λ u. ends_by_fault flow BadResponse (now_over at.since front) u (client_closed front)) used) gives (there, tt)

@@ -19,16 +19,17 @@ use Rattle.px_stream.specs.declared.phase.Phase.TheVariants as phase
 use Rattle.px_stream.specs.declared.phase.Ready.{Ready}
 use Rattle.px_stream.specs.declared.phase.Ready.TheVariants as ready
 use Rattle.px_stream.specs.declared.stream.Stream.{Stream}
-use Rattle.px_stream.specs.declared.terms.Numbers.{Numbers}
-use Rattle.px_stream.specs.declared.terms.Terms.{Terms}
+use Rattle.px_stream.specs.declared.numbers.Numbers.{Numbers}
+use Rattle.px_exchange.specs.declared.terms.Terms.{Terms}
 use Rattle.px_stream.specs.Calls.{Answers, Hears, IsSome, LooksOnce, MayHear, TakesEvent, TurnsTo, ended, hears}
-use Rattle.px_stream.specs.Chain.{alone, look, look_head, onto, or_leaves, sequence, turn, http_chain}
+use Rattle.px_stream.specs.Chain.{alone, look, onto, sequence, turn, http_chain}
+use Rattle.px_exchange.specs.Finds.{look_head, or_leaves}
 use Rattle.px_stream.specs.Heard.{LinkAgrees, closes_client, ready_takes, requests_take}
 use Rattle.px_stream.specs.Laws.{open_still, settles}
 use Rattle.px_stream.specs.Led.{Turned}
 use Rattle.px_stream.specs.Left.{flow_left, sequence_left, stage_left, stages_left}
 use Rattle.px_stream.specs.Looking.{LookFound, MayLook}
-use Rattle.px_stream.specs.Requests.{is_head}
+use Rattle.px_exchange.specs.Requests.{is_head}
 use Rattle.px_stream.specs.Sequence.{IsFew, IsInSequence, Stands, StandsInSequence, ready_onward, requests_onward}
 use Rattle.px_stream.specs.Stages.{Stage, idle, receiving, dialling, answering, returning, given_head, given_body, next, over}
 use Rattle.px_stream.specs.Stands.{IsAsked, IsAt, IsReady, PhaseAt, awaits, is_last, last_of, start_of}

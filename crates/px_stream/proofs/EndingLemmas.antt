@@ -1,122 +1,38 @@
 -- What a reply brings at once, and what is owed at an end: bytes, then the end of a flow, then closes.
-use Rattle.std.proofs.Common.{◌≡◌, ℕ, ◌+◌, Bool, true, false, List, [], ◌∷◌, ◌++◌, Option, Some, None, refl}
-use Rattle.px_message.specs.declared.fault.Fault.{Fault}
-use Rattle.px_message.specs.declared.fault.Fault.TheVariants.{BadResponse}
+use Rattle.std.proofs.Common.{ℕ, ◌+◌, Bool, true, List, Option, Some, None}
 use Rattle.px_message.specs.declared.flow.Flow.{Flow}
 use Rattle.px_message.specs.declared.request.Request.{Request}
 use Rattle.px_message.specs.declared.response.Response.{Response}
 use Rattle.px_event.specs.declared.command.Command.{Command}
-use Rattle.px_event.specs.declared.command.Command.TheVariants as commands
 use Rattle.px_event.specs.declared.event.Event.{Event}
 use Rattle.px_event.specs.declared.reply.Reply.{Reply}
-use Rattle.px_event.specs.declared.reply.Reply.TheVariants as reply
-use Rattle.px_event.specs.Chain.{Timed, Look, NotYet, Asks, Ends, Turn}
+use Rattle.px_event.specs.Chain.{Timed, Turn}
 use Rattle.px_read.specs.Items.{Item, missing, part, complete, bad_head, bad_body}
 use Rattle.px_read.specs.declared.head.RequestHead.{RequestHead as ReadRequest}
 use Rattle.px_read.specs.declared.head.ResponseHead.{ResponseHead as ReadResponse}
-use Rattle.px_stream.specs.declared.asked.Judged.{Judged}
-use Rattle.px_stream.specs.declared.asked.Judged.TheVariants.{Refused, Accepted}
-use Rattle.px_stream.specs.declared.ending.Used.{Used}
-use Rattle.px_stream.specs.declared.ending.Used.TheVariants.{NoServer, ByServer}
-use Rattle.px_stream.specs.declared.taken.Taken.{Taken}
-use Rattle.px_stream.specs.declared.taken.Taken.TheVariants.{GoesOn, Responds, Kills}
-use Rattle.px_stream.specs.declared.terms.Terms.{Terms}
-use Rattle.px_stream.specs.Chain.{find, leaving, look, or_leaves, turn, look_head, look_judged, look_body, look_answer, look_answer_head, look_returned, turn_head, turn_judged, turn_taken_head, turn_body, turn_taken_body, turn_dial, turn_answer, turn_answer_head, turn_taken_answer, turn_returned, turn_whole_answer, turn_response, turn_taken_returned, turn_taken_given, meets_expectation, is_relayed, set_out, request_over, answers_over, response_of, used_server, with_answer, with_body, with_end, with_returned, with_start}
-use Rattle.px_stream.specs.Endings.{shut_server, shut_client, shut_all, shut_unless, without_response, killed_message, closed_message, ends_early, ends_by_fault, refuses, finished, connection_goes_on}
-use Rattle.px_stream.specs.EndOrder.{EndsInOrder, FoundInOrder, OnlyCloses}
-use Rattle.px_stream.specs.Replies.{taken_at_request_body, taken_at_request_head, taken_at_response_body, taken_at_response_head}
-use Rattle.px_stream.specs.Requests.{is_head, expects, flow_of, judged}
+use Rattle.px_exchange.specs.declared.asked.Judged.{Judged}
+use Rattle.px_exchange.specs.declared.asked.Judged.TheVariants.{Refused, Accepted}
+use Rattle.px_exchange.specs.declared.ending.Used.{Used}
+use Rattle.px_exchange.specs.declared.ending.Used.TheVariants.{NoServer}
+use Rattle.px_exchange.specs.declared.taken.Taken.{Taken}
+use Rattle.px_exchange.specs.declared.taken.Taken.TheVariants.{GoesOn, Responds, Kills}
+use Rattle.px_exchange.specs.declared.terms.Terms.{Terms}
+use Rattle.px_stream.specs.Chain.{find, leaving, look, turn, turn_head, turn_judged, turn_taken_head, turn_body, turn_taken_body, turn_dial, turn_answer, turn_answer_head, turn_taken_answer, turn_returned, turn_whole_answer, turn_response, turn_taken_returned, turn_taken_given, set_out, request_over, answers_over, used_server}
+use Rattle.px_exchange.specs.Flows.{response_of, with_answer, with_body, with_end, with_returned, with_start}
+use Rattle.px_exchange.specs.Endings.{without_response, killed_message, closed_message, connection_goes_on}
+use Rattle.px_exchange.specs.EndOrder.{EndsInOrder, FoundInOrder}
+use Rattle.px_exchange.specs.Replies.{taken_at_request_body, taken_at_request_head, taken_at_response_body, taken_at_response_head}
+use Rattle.px_exchange.specs.Requests.{expects, flow_of, judged}
 use Rattle.px_stream.specs.Stages.{At, Link, Stage, idle, receiving, dialling, answering, returning, given_head, given_body, next, over}
 use Rattle.px_stream.specs.Streams.{client_closed, now_over, from_here}
-
--- ---- ends
-
-closes_both : (xs ys : List Command) → OnlyCloses xs → OnlyCloses ys → OnlyCloses (xs ++ ys)
-closes_both [] ys all more = more
-closes_both (commands.Close side ∷ xs) ys all more = closes_both xs ys all more
-closes_both (commands.Send side bytes ∷ xs) ys all more = absurd all
-closes_both (commands.Dial server address inside ∷ xs) ys all more = absurd all
-closes_both (commands.Ask ask flow ∷ xs) ys all more = absurd all
-closes_both (commands.Done flow ∷ xs) ys all more = absurd all
-
-client_closes : (closed : Bool) → OnlyCloses (shut_client closed)
-client_closes true = tt
-client_closes false = tt
-
-server_closes : (used : Used) → OnlyCloses (shut_server used)
-server_closes NoServer = tt
-server_closes (ByServer number true) = tt
-server_closes (ByServer number false) = tt
-
-all_close : (used : Used) (closed : Bool) → OnlyCloses (shut_all used closed)
-all_close used closed = closes_both (shut_server used) (shut_client closed) (server_closes used) (client_closes closed)
-
--- closes alone end no flow
-closes_end : (l : List Command) → OnlyCloses l → EndsInOrder l
-closes_end [] all = tt
-closes_end (commands.Close side ∷ l) all = all
-closes_end (commands.Send side bytes ∷ l) all = absurd all
-closes_end (commands.Dial server address inside ∷ l) all = absurd all
-closes_end (commands.Ask ask flow ∷ l) all = absurd all
-closes_end (commands.Done flow ∷ l) all = absurd all
-
-early_ends : (flow : Flow) (message : List ℕ) (moment : ℕ) (used : Used) (closed : Bool) → EndsInOrder (ends_early flow message moment used closed)
-early_ends flow message moment used closed = all_close used closed
-
-fault_ends : (flow : Flow) (fault : Fault) (moment : ℕ) (used : Used) (closed : Bool) → EndsInOrder (ends_by_fault flow fault moment used closed)
-fault_ends flow fault moment used closed = all_close used closed
-
-refuses_ends : (fault : Fault) (asked_head closed : Bool) → EndsInOrder (refuses fault asked_head closed)
-refuses_ends fault asked_head closed = closes_end (shut_client closed) (client_closes closed)
-
-unless_closes : (stays closed : Bool) → OnlyCloses (shut_unless stays closed)
-unless_closes true closed = tt
-unless_closes false closed = client_closes closed
-
-finished_ends : (flow : Flow) (response : Response) (used : Used) (stays closed : Bool) → EndsInOrder (finished flow response used ++ shut_unless stays closed)
-finished_ends flow response used stays closed = closes_both (shut_server used) (shut_unless stays closed) (server_closes used) (unless_closes stays closed)
+use Rattle.px_exchange.proofs.OrderLemmas.{early_ends, finished_ends, dial_ends, expectation_ends, head_ends, body_ends, answer_ends, returned_ends, leaves_ends}
+use Rattle.px_stream.specs.Sights.{sight}
 
 -- ---- what is found
 
 module _ (terms : Terms) where
-  judged_ends : (index : ℕ) (head : ReadRequest) (made : Judged) (moment : ℕ) (closed : Bool) → FoundInOrder (look_judged terms index head made moment closed)
-  judged_ends index head (Refused fault) moment closed = refuses_ends fault (is_head head.method) closed
-  judged_ends index head (Accepted message) moment closed = tt
-
-  head_ends : (index : ℕ) (item : Item ReadRequest) (moment : ℕ) (closed : Bool) → FoundInOrder (look_head terms index item moment closed)
-  head_ends index missing moment closed = tt
-  head_ends index (part head body) moment closed = judged_ends index head (judged terms.address head) moment closed
-  head_ends index (complete head body trailers used) moment closed = judged_ends index head (judged terms.address head) moment closed
-  head_ends index (bad_head fault) moment closed = refuses_ends fault false closed
-  head_ends index (bad_body fault head body) moment closed = judged_ends index head (judged terms.address head) moment closed
-
-  body_ends : (flow : Flow) (item : Item ReadRequest) (moment : ℕ) (closed : Bool) → FoundInOrder (look_body flow item moment closed)
-  body_ends flow missing moment closed = tt
-  body_ends flow (part head body) moment closed = tt
-  body_ends flow (complete head body trailers used) moment closed = tt
-  body_ends flow (bad_head fault) moment closed = tt
-  body_ends flow (bad_body fault head body) moment closed = fault_ends flow fault moment NoServer closed
-
-  relays_ends : (flow : Flow) (head : ReadResponse) (moment : ℕ) (used : Used) (closed relays : Bool) → is_relayed head.code ≡ relays → FoundInOrder (look_answer_head flow head moment used closed)
-  relays_ends flow head moment used closed true at = rw at tt
-  relays_ends flow head moment used closed false at = rw at (fault_ends flow BadResponse moment used closed)
-
-  answer_ends : (flow : Flow) (item : Item ReadResponse) (moment : ℕ) (used : Used) (closed : Bool) → FoundInOrder (look_answer flow item moment used closed)
-  answer_ends flow missing moment used closed = tt
-  answer_ends flow (part head body) moment used closed = relays_ends flow head moment used closed (is_relayed head.code) refl
-  answer_ends flow (complete head body trailers size) moment used closed = relays_ends flow head moment used closed (is_relayed head.code) refl
-  answer_ends flow (bad_head fault) moment used closed = fault_ends flow fault moment used closed
-  answer_ends flow (bad_body fault head body) moment used closed = relays_ends flow head moment used closed (is_relayed head.code) refl
-
-  returned_ends : (flow : Flow) (item : Item ReadResponse) (moment : ℕ) (used : Used) (closed : Bool) → FoundInOrder (look_returned flow item moment used closed)
-  returned_ends flow missing moment used closed = tt
-  returned_ends flow (part head body) moment used closed = tt
-  returned_ends flow (complete head body trailers size) moment used closed = tt
-  returned_ends flow (bad_head fault) moment used closed = tt
-  returned_ends flow (bad_body fault head body) moment used closed = fault_ends flow fault moment used closed
-
-  finds_ends : (stage : Stage) (front : List (Timed Event)) → FoundInOrder (find terms stage front)
-  finds_ends (idle at) front = head_ends at.flow (request_over at front) (now_over at.since front) (client_closed front)
+  finds_ends : (stage : Stage) (front : List (Timed Event)) → FoundInOrder (find terms stage (sight stage front))
+  finds_ends (idle at) front = head_ends terms at.flow (request_over at front) (now_over at.since front) (client_closed front)
   finds_ends (receiving at flow given) front = body_ends flow (request_over at front) (now_over at.since front) (client_closed front)
   finds_ends (dialling at flow) front = tt
   finds_ends (answering at flow link) front = answer_ends flow (answers_over flow.request link front).final (now_over at.since front) (used_server link front) (client_closed front)
@@ -126,7 +42,7 @@ module _ (terms : Terms) where
   finds_ends (next at) front = tt
   finds_ends over front = tt
 
-  leaving_ends : (stage : Stage) (front : List (Timed Event)) → EndsInOrder (leaving stage front)
+  leaving_ends : (stage : Stage) (front : List (Timed Event)) → EndsInOrder (leaving stage (sight stage front))
   leaving_ends (idle at) front = tt
   leaving_ends (receiving at flow given) front = early_ends flow closed_message (now_over at.since front) NoServer true
   leaving_ends (dialling at flow) front = tt
@@ -137,21 +53,11 @@ module _ (terms : Terms) where
   leaving_ends (next at) front = tt
   leaving_ends over front = tt
 
-  leaves_ends : (closed : Bool) (leaves : List Command) (l : Look Command) → EndsInOrder leaves → FoundInOrder l → FoundInOrder (or_leaves closed leaves l)
-  leaves_ends true leaves NotYet ends is = ends
-  leaves_ends false leaves NotYet ends is = tt
-  leaves_ends closed leaves (Asks ask) ends is = is
-  leaves_ends closed leaves (Ends owed) ends is = is
-
   -- An end that is found is in order.
   pub looks_in_order : (stage : Stage) (front : List (Timed Event)) → FoundInOrder (look terms stage front)
-  looks_in_order stage front = leaves_ends (client_closed front) (leaving stage front) (find terms stage front) (leaving_ends stage front) (finds_ends stage front)
+  looks_in_order stage front = leaves_ends (client_closed front) (leaving stage (sight stage front)) (find terms stage (sight stage front)) (leaving_ends stage front) (finds_ends stage front)
 
   -- ---- replies
-
-  expectation_ends : (expected : Bool) → EndsInOrder (meets_expectation expected)
-  expectation_ends true = tt
-  expectation_ends false = tt
 
   taken_head_ends : (at : At) (flow : Flow) (expected : Bool) (taken : Taken Request) (moment : ℕ) (closed : Bool) → EndsInOrder (turn_taken_head at flow expected taken moment closed).owed
   taken_head_ends at flow expected (GoesOn message) moment closed = expectation_ends expected
@@ -184,13 +90,8 @@ module _ (terms : Terms) where
   turn_body_ends at flow (bad_head fault) moment answer front = tt
   turn_body_ends at flow (bad_body fault head body) moment answer front = tt
 
-  dial_ends : (at : At) (flow : Flow) (answer : Reply) (moment : ℕ) (front : List (Timed Event)) → EndsInOrder (turn_dial at flow answer moment front).owed
-  dial_ends at flow reply.Dialled moment front = tt
-  dial_ends at flow (reply.Refused fault) moment front = fault_ends flow fault moment NoServer (client_closed front)
-  dial_ends at flow (reply.Go other stream) moment front = tt
-  dial_ends at flow (reply.Respond given) moment front = tt
-  dial_ends at flow reply.Kill moment front = tt
-  dial_ends at flow reply.Discard moment front = tt
+  turn_dial_ends : (at : At) (flow : Flow) (answer : Reply) (moment : ℕ) (front : List (Timed Event)) → EndsInOrder (turn_dial at flow answer moment front).owed
+  turn_dial_ends at flow answer moment front = dial_ends flow at.dials answer moment (client_closed front)
 
   taken_answer_ends : (at : At) (flow : Flow) (link : Link) (taken : Taken Response) (moment : ℕ) (used : Used) (closed : Bool) → EndsInOrder (turn_taken_answer at flow link taken moment used closed).owed
   taken_answer_ends at flow link (GoesOn message) moment used closed = tt
@@ -240,7 +141,7 @@ module _ (terms : Terms) where
   pub turns_in_order : (stage : Stage) (front : List (Timed Event)) (answer : Timed Reply) → EndsInOrder (turn terms stage front answer).owed
   turns_in_order (idle at) front answer = turn_head_ends at (request_over at front) (now_over at.since front) answer front
   turns_in_order (receiving at flow given) front answer = turn_body_ends at flow (request_over at front) (now_over at.since front) answer front
-  turns_in_order (dialling at flow) front answer = dial_ends at flow answer.value answer.moment front
+  turns_in_order (dialling at flow) front answer = turn_dial_ends at flow answer.value answer.moment front
   turns_in_order (answering at flow link) front answer = turn_answer_ends at flow link (answers_over flow.request link front).final (now_over at.since front) answer front
   turns_in_order (returning at flow link) front answer = turn_returned_ends at flow link (answers_over flow.request link front).final (now_over at.since front) answer front
   turns_in_order (given_head at flow) front answer =

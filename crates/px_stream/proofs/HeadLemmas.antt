@@ -9,12 +9,12 @@ use Rattle.px_read.specs.Marks.{marks_of}
 use Rattle.px_read.specs.declared.head.RequestHead.{RequestHead}
 use Rattle.px_read.specs.declared.part.Part.{Part}
 use Rattle.px_read.specs.declared.part.Part.TheVariants as given
-use Rattle.px_stream.specs.declared.asked.Judged.{Judged}
-use Rattle.px_stream.specs.declared.asked.Judged.TheVariants.{Refused, Accepted}
-use Rattle.px_stream.specs.declared.terms.Terms.{Terms}
-use Rattle.px_stream.specs.Chain.{look_head, look_judged, or_leaves}
+use Rattle.px_exchange.specs.declared.asked.Judged.{Judged}
+use Rattle.px_exchange.specs.declared.asked.Judged.TheVariants.{Refused, Accepted}
+use Rattle.px_exchange.specs.declared.terms.Terms.{Terms}
+use Rattle.px_exchange.specs.Finds.{look_head, look_judged, or_leaves}
 use Rattle.px_stream.specs.Phases.{head_phase, judged_phase}
-use Rattle.px_stream.specs.Requests.{judged}
+use Rattle.px_exchange.specs.Requests.{judged}
 use Rattle.px_stream.proofs.ReadLemmas.{HeadShown}
 
 -- a fact holds after Ok

@@ -13,10 +13,10 @@ use Rattle.px_read.specs.declared.head.ResponseHead.{ResponseHead}
 use Rattle.px_message.specs.declared.request.Request.{Request}
 use Rattle.px_stream.specs.declared.link.Link.{Link as KeptLink}
 use Rattle.px_stream.specs.declared.phase.Ready.{Ready}
-use Rattle.px_stream.specs.declared.terms.Numbers.{Numbers}
+use Rattle.px_stream.specs.declared.numbers.Numbers.{Numbers}
 use Rattle.px_stream.specs.Heard.{feeds, shuts, link_hears, link_closes, link_takes, requests_take, ready_takes, closes_client}
 use Rattle.px_stream.specs.Laws.{bytes_more, bytes_shut, closed_more, open_behind}
-use Rattle.px_stream.specs.Requests.{is_head}
+use Rattle.px_exchange.specs.Requests.{is_head}
 use Rattle.px_stream.specs.Stages.{At, Link, Stage, idle, receiving, dialling, answering, returning, given_head, given_body, next, over}
 use Rattle.px_stream.specs.Stands.{Passes, Keeps, IsLink, KeepsBehind, IsReady, IsPlaced, HasPlace}
 use Rattle.px_stream.specs.Streams.{piece_of, closes, bytes_of, is_closed, client_bytes, client_closed}

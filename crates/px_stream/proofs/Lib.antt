@@ -15,9 +15,8 @@ pub mod QuietLemmas
 pub mod MoveLemmas
 pub mod CallLemmas
 pub mod LookingLemmas
-pub mod PieceLemmas
-pub mod CutLemmas
-pub mod MomentLemmas
 pub mod RestLemmas
 pub mod SilentLemmas
 pub mod EndingLemmas
+pub mod Quiet
+pub mod OutcomeLemmas

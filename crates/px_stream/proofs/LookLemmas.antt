@@ -17,23 +17,26 @@ use Rattle.px_read.specs.Laws.{head_in}
 use Rattle.px_read.specs.Marks.{Mark, asks}
 use Rattle.px_read.specs.Reader.{request, State, Reads}
 use Rattle.px_read.specs.declared.head.RequestHead.{RequestHead as ReadRequest}
-use Rattle.px_stream.specs.declared.ending.Used.TheVariants.{NoServer}
+use Rattle.px_exchange.specs.declared.ending.Used.TheVariants.{NoServer}
 use Rattle.px_stream.specs.declared.phase.Asked.TheVariants as asked
 use Rattle.px_stream.specs.declared.phase.Phase.{Phase}
 use Rattle.px_stream.specs.declared.phase.Phase.TheVariants as phase
 use Rattle.px_stream.specs.declared.phase.Ready.TheVariants as ready
 use Rattle.px_stream.specs.declared.reading.Progress.{Progress}
 use Rattle.px_stream.specs.declared.reading.Progress.TheVariants as progress
-use Rattle.px_stream.specs.declared.terms.Terms.{Terms}
+use Rattle.px_exchange.specs.declared.terms.Terms.{Terms}
 use Rattle.px_stream.specs.Bodies.{HasRead, BodyFound}
-use Rattle.px_stream.specs.Chain.{address_of, ask_of, look, look_head, look_judged, or_leaves, pass, pass_body, request_over, so_far, with_body, with_end, with_start}
-use Rattle.px_stream.specs.Endings.{closed_message, ends_by_fault, ends_early, refuses}
+use Rattle.px_exchange.specs.Dials.{address_of}
+use Rattle.px_exchange.specs.Flows.{ask_of, with_body, with_end, with_start}
+use Rattle.px_stream.specs.Chain.{look, pass, pass_body, request_over, so_far}
+use Rattle.px_exchange.specs.Finds.{look_head, look_judged, or_leaves}
+use Rattle.px_exchange.specs.Endings.{closed_message, ends_by_fault, ends_early, refuses}
 use Rattle.px_stream.specs.Found.{LookedAt}
 use Rattle.px_stream.specs.Looks.{body_gives, body_phase, where_left}
 use Rattle.px_stream.specs.Phases.{head_phase, is_over, judged_phase, marks_at, unless_left}
-use Rattle.px_stream.specs.Requests.{expects, flow_of, is_head, judged}
-use Rattle.px_stream.specs.declared.asked.Judged.{Judged}
-use Rattle.px_stream.specs.declared.asked.Judged.TheVariants.{Refused, Accepted}
+use Rattle.px_exchange.specs.Requests.{expects, flow_of, is_head, judged}
+use Rattle.px_exchange.specs.declared.asked.Judged.{Judged}
+use Rattle.px_exchange.specs.declared.asked.Judged.TheVariants.{Refused, Accepted}
 use Rattle.px_stream.proofs.HeadLemmas.{gives_at, gives_missing, look_at_head, phase_at}
 use Rattle.px_stream.specs.Laws.{now_here}
 use Rattle.px_stream.specs.Stages.{At, Stage, idle, receiving, dialling, given_head, given_body}

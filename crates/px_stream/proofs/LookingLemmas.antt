@@ -14,14 +14,14 @@ use Rattle.px_stream.specs.declared.phase.Phase.{Phase}
 use Rattle.px_stream.specs.declared.phase.Ready.{Ready}
 use Rattle.px_stream.specs.declared.reading.Answer.{Answer}
 use Rattle.px_stream.specs.declared.reading.Progress.{Progress}
-use Rattle.px_stream.specs.declared.terms.Numbers.{Numbers}
-use Rattle.px_stream.specs.declared.terms.Terms.{Terms}
+use Rattle.px_stream.specs.declared.numbers.Numbers.{Numbers}
+use Rattle.px_exchange.specs.declared.terms.Terms.{Terms}
 use Rattle.px_stream.specs.Bodies.{HasRead, BodyFound, ReturnFound}
-use Rattle.px_stream.specs.Chain.{look_head, or_leaves}
+use Rattle.px_exchange.specs.Finds.{look_head, or_leaves}
 use Rattle.px_stream.specs.Looking.{HeadFound, FoundAtOnce, LookFound, MayLook}
 use Rattle.px_stream.specs.Looks.{answer_gives, answer_phase, body_gives, body_phase, returned_gives, returned_phase}
 use Rattle.px_stream.specs.Phases.{head_phase, marks_at}
-use Rattle.px_stream.specs.Requests.{is_http11}
+use Rattle.px_exchange.specs.Requests.{is_http11}
 use Rattle.px_stream.specs.Responses.{AnswerFound, ReadsAnswer}
 
 -- the head of a request

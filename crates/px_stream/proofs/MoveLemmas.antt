@@ -22,20 +22,23 @@ use Rattle.px_read.specs.Laws.{head_in}
 use Rattle.px_read.specs.Reader.{State}
 use Rattle.px_read.specs.declared.head.RequestHead.{RequestHead as ReadRequest}
 use Rattle.px_read.specs.declared.head.ResponseHead.{ResponseHead as ReadResponse}
-use Rattle.px_stream.specs.declared.ending.Used.{Used}
+use Rattle.px_exchange.specs.declared.ending.Used.{Used}
 use Rattle.px_stream.specs.declared.phase.Asked.{Asked}
 use Rattle.px_stream.specs.declared.phase.Phase.{Phase}
 use Rattle.px_stream.specs.declared.phase.Phase.TheVariants as phase
 use Rattle.px_stream.specs.declared.phase.Ready.{Ready}
 use Rattle.px_stream.specs.declared.stream.Stream.{Stream}
-use Rattle.px_stream.specs.declared.terms.Numbers.{Numbers}
-use Rattle.px_stream.specs.declared.terms.Terms.{Terms}
-use Rattle.px_stream.specs.Chain.{address_of, answers_over, ask_of, look, look_answer, look_answer_head, look_body, look_head, look_judged, look_returned, or_leaves, pass, pass_body, request_over, response_of, sequence, so_far, turn, used_server, with_answer, with_body, with_end, with_returned, with_start, http_chain}
+use Rattle.px_stream.specs.declared.numbers.Numbers.{Numbers}
+use Rattle.px_exchange.specs.declared.terms.Terms.{Terms}
+use Rattle.px_exchange.specs.Dials.{address_of}
+use Rattle.px_stream.specs.Chain.{answers_over, look, pass, pass_body, request_over, sequence, so_far, turn, used_server, http_chain}
+use Rattle.px_exchange.specs.Flows.{ask_of, response_of, with_answer, with_body, with_end, with_returned, with_start}
+use Rattle.px_exchange.specs.Finds.{look_answer, look_answer_head, look_body, look_head, look_judged, look_returned, or_leaves}
 use Rattle.px_stream.specs.Left.{asked_left, behind_left, flow_left, phase_left, ready_left, sequence_by, sequence_left, stage_left, stages_left}
-use Rattle.px_stream.specs.Quiet.{AllQuiet, LooksQuiet, IsBehind, any_flow, at_of}
-use Rattle.px_stream.specs.Requests.{flow_of, judged}
+use Rattle.px_stream.proofs.Quiet.{AllQuiet, LooksQuiet, IsBehind, any_flow}
+use Rattle.px_exchange.specs.Requests.{flow_of, judged}
 use Rattle.px_stream.specs.Sequence.{IsCounted, IsFew}
-use Rattle.px_stream.specs.Stages.{At, Stage, idle, receiving, dialling, answering, returning, given_head, given_body, next, over}
+use Rattle.px_stream.specs.Stages.{At, Stage, idle, receiving, dialling, answering, returning, given_head, given_body, next, over, place_of}
 use Rattle.px_stream.specs.Stands.{IsAsked, IsReady, HasPlace, PhaseAt, IsAt, asked_of, awaited_in, awaits, last_of}
 use Rattle.px_stream.specs.Streams.{client_closed, now_over}
 use Rattle.px_stream.proofs.QuietLemmas.{IsGoing, finds_quiet_end, so_far_quiet, turn_behind, turn_quiet}
@@ -206,7 +209,7 @@ module _ (flow dials count : ℕ) (few : flow < 1000000) (early : 3 ≤ count �
   few_behind over is = tt
 
 -- the stage behind a reply is one of a few flows too
-few_turn : (stage there : Stage) → IsGoing stage → IsFew stage → IsBehind (at_of stage).flow (at_of stage).dials (stage_left stage) there → IsFew there
+few_turn : (stage there : Stage) → IsGoing stage → IsFew stage → IsBehind (place_of stage).flow (place_of stage).dials (stage_left stage) there → IsFew there
 few_turn (idle at) there goes is behind = let f = is.few in let d = is.dials in few_behind at.flow at.dials 5 f (λ _. d) (omega arith) there behind
 few_turn (receiving at flow given) there goes is behind = let f = is.few in let d = is.dials in few_behind at.flow at.dials 4 f (λ _. d) (omega arith) there behind
 few_turn (dialling at flow) there goes is behind = let f = is.few in let d = is.dials in few_behind at.flow at.dials 3 f (λ _. d) (omega arith) there behind
@@ -402,7 +405,7 @@ some_left terms over front ask is = absurd (ends_go (client_closed front) ask is
 pub flow_falls : (terms : Terms) (stage : Stage) (front : List (Timed Event)) (answer : Timed Reply) (ask : Command) → look terms stage front ≡ Asks ask →
     stage_left (turn terms stage front answer).stage < stage_left stage
 flow_falls terms stage front answer ask is =
-    flow_behind (at_of stage).flow (at_of stage).dials (stage_left stage) (turn terms stage front answer).stage (some_left terms stage front ask is)
+    flow_behind (place_of stage).flow (place_of stage).dials (stage_left stage) (turn terms stage front answer).stage (some_left terms stage front ask is)
     (turn_behind terms stage front answer (goes_on terms stage front ask is))
 
 -- ---- of flows in sequence
@@ -503,7 +506,7 @@ sequence_behind flow dials count (given_body at told) some ((same, most), more) 
 sequence_behind flow dials count (next at) some ((same, most), less) = omega arith
 sequence_behind flow dials count over some is = omega arith
 
-stages_are : (terms : Terms) (stage : Stage) (front : List (Timed Event)) (ask : Command) → look terms stage front ≡ Asks ask → behind_left (at_of stage).flow + stage_left stage ≡ stages_left stage
+stages_are : (terms : Terms) (stage : Stage) (front : List (Timed Event)) (ask : Command) → look terms stage front ≡ Asks ask → behind_left (place_of stage).flow + stage_left stage ≡ stages_left stage
 stages_are terms (idle at) front ask is = refl
 stages_are terms (receiving at flow given) front ask is = refl
 stages_are terms (dialling at flow) front ask is = refl
@@ -517,7 +520,7 @@ stages_are terms over front ask is = absurd (ends_go (client_closed front) ask i
 pub sequence_falls : (terms : Terms) (stage : Stage) (front : List (Timed Event)) (answer : Timed Reply) (ask : Command) → look terms stage front ≡ Asks ask →
     stages_left (sequence (turn terms stage front answer).stage) < stages_left stage
 sequence_falls terms stage front answer ask is =
-    let less = sequence_behind (at_of stage).flow (at_of stage).dials (stage_left stage) (turn terms stage front answer).stage (some_left terms stage front ask is)
+    let less = sequence_behind (place_of stage).flow (place_of stage).dials (stage_left stage) (turn terms stage front answer).stage (some_left terms stage front ask is)
     (turn_behind terms stage front answer (goes_on terms stage front ask is)) in
     let same = stages_are terms stage front ask is in
     omega arith

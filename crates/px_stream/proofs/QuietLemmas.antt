@@ -18,22 +18,25 @@ use Rattle.px_event.specs.Chain.{Timed, Look, NotYet, Asks, Ends, Turn}
 use Rattle.px_read.specs.Items.{Item, missing, part, complete, bad_head, bad_body}
 use Rattle.px_read.specs.declared.head.RequestHead.{RequestHead as ReadRequest}
 use Rattle.px_read.specs.declared.head.ResponseHead.{ResponseHead as ReadResponse}
-use Rattle.px_stream.specs.declared.asked.Judged.{Judged}
-use Rattle.px_stream.specs.declared.asked.Judged.TheVariants.{Refused, Accepted}
-use Rattle.px_stream.specs.declared.ending.Used.{Used}
-use Rattle.px_stream.specs.declared.ending.Used.TheVariants.{NoServer, ByServer}
-use Rattle.px_stream.specs.declared.taken.Taken.{Taken}
-use Rattle.px_stream.specs.declared.taken.Taken.TheVariants.{GoesOn, Responds, Kills}
-use Rattle.px_stream.specs.declared.terms.Terms.{Terms}
-use Rattle.px_stream.specs.Chain.{find, leaving, look, or_leaves, pass, pass_body, so_far, turn, look_head, look_judged, look_body, look_answer, look_answer_head, look_returned, turn_head, turn_judged, turn_taken_head, turn_body, turn_taken_body, turn_dial, turn_answer, turn_answer_head, turn_taken_answer, turn_returned, turn_whole_answer, turn_response, turn_taken_returned, turn_taken_given, meets_expectation, killed, is_relayed, set_out, request_over, answers_over, response_of, used_server, with_answer, with_body, with_end, with_returned, with_start}
-use Rattle.px_stream.specs.Endings.{shut_server, shut_client, shut_all, shut_unless, without_response, killed_message, closed_message, ends_early, ends_by_fault, refuses, finished, behind_flow, connection_goes_on}
+use Rattle.px_exchange.specs.declared.asked.Judged.{Judged}
+use Rattle.px_exchange.specs.declared.asked.Judged.TheVariants.{Refused, Accepted}
+use Rattle.px_exchange.specs.declared.ending.Used.{Used}
+use Rattle.px_exchange.specs.declared.ending.Used.TheVariants.{NoServer, ByServer}
+use Rattle.px_exchange.specs.declared.taken.Taken.{Taken}
+use Rattle.px_exchange.specs.declared.taken.Taken.TheVariants.{GoesOn, Responds, Kills}
+use Rattle.px_exchange.specs.declared.terms.Terms.{Terms}
+use Rattle.px_stream.specs.Chain.{find, leaving, look, pass, pass_body, so_far, turn, turn_head, turn_judged, turn_taken_head, turn_body, turn_taken_body, turn_dial, turn_answer, turn_answer_head, turn_taken_answer, turn_returned, turn_whole_answer, turn_response, turn_taken_returned, turn_taken_given, killed, set_out, request_over, answers_over, used_server, behind_flow}
+use Rattle.px_exchange.specs.Finds.{or_leaves, look_head, look_judged, look_body, look_answer, look_answer_head, look_returned, is_relayed}
+use Rattle.px_exchange.specs.Texts.{meets_expectation, interim_command, interim_commands}
+use Rattle.px_exchange.specs.Flows.{response_of, with_answer, with_body, with_end, with_returned, with_start}
+use Rattle.px_exchange.specs.Endings.{shut_server, shut_client, shut_all, shut_unless, without_response, killed_message, closed_message, ends_early, ends_by_fault, refuses, finished, connection_goes_on}
 use Rattle.px_stream.specs.Left.{stage_left}
-use Rattle.px_stream.specs.Quiet.{AllQuiet, LooksQuiet, IsOf, any_flow, no_flow, id_in, at_of, SameFlow, IsBehind, Leads}
-use Rattle.px_stream.specs.Replies.{taken_at_request_body, taken_at_request_head, taken_at_response_body, taken_at_response_head}
-use Rattle.px_stream.specs.Requests.{is_head, expects, flow_of, judged}
-use Rattle.px_stream.specs.Stages.{At, Link, Stage, idle, receiving, dialling, answering, returning, given_head, given_body, next, over}
+use Rattle.px_stream.proofs.Quiet.{AllQuiet, LooksQuiet, IsOf, any_flow, no_flow, id_in, SameFlow, IsBehind, Leads}
+use Rattle.px_exchange.specs.Replies.{taken_at_request_body, taken_at_request_head, taken_at_response_body, taken_at_response_head}
+use Rattle.px_exchange.specs.Requests.{is_head, expects, flow_of, judged}
+use Rattle.px_stream.specs.Stages.{At, Link, Stage, idle, receiving, dialling, answering, returning, given_head, given_body, next, over, place_of}
 use Rattle.px_stream.specs.Streams.{client_closed, now_over, from_here}
-use Rattle.px_stream.specs.Texts.{interim_command, interim_commands}
+use Rattle.px_stream.specs.Sights.{sight}
 
 -- ---- lists
 
@@ -138,7 +141,7 @@ module _ (names : FlowId → Type 0) where
     returned_quiet flow (bad_head fault) moment used closed is = tt
     returned_quiet flow (bad_body fault head body) moment used closed is = fault_quiet flow fault moment used closed is
 
-    finds_quiet : (stage : Stage) (front : List (Timed Event)) → IsOf terms names stage → LooksQuiet names (find terms stage front)
+    finds_quiet : (stage : Stage) (front : List (Timed Event)) → IsOf terms names stage → LooksQuiet names (find terms stage (sight stage front))
     finds_quiet (idle at) front is = head_quiet at.flow (request_over at front) (now_over at.since front) (client_closed front) is
     finds_quiet (receiving at flow given) front is = body_quiet flow (request_over at front) (now_over at.since front) (client_closed front) is
     finds_quiet (dialling at flow) front is = tt
@@ -151,7 +154,7 @@ module _ (names : FlowId → Type 0) where
     finds_quiet (next at) front is = tt
     finds_quiet over front is = tt
 
-    leaving_quiet : (stage : Stage) (front : List (Timed Event)) → IsOf terms names stage → AllQuiet names (leaving stage front)
+    leaving_quiet : (stage : Stage) (front : List (Timed Event)) → IsOf terms names stage → AllQuiet names (leaving stage (sight stage front))
     leaving_quiet (idle at) front is = tt
     leaving_quiet (receiving at flow given) front is = early_quiet flow closed_message (now_over at.since front) NoServer true is
     leaving_quiet (dialling at flow) front is = tt
@@ -169,7 +172,7 @@ module _ (names : FlowId → Type 0) where
     leaves_quiet closed leaves (Ends owed) quiet is = is
 
     pub looks_quiet : (stage : Stage) (front : List (Timed Event)) → IsOf terms names stage → LooksQuiet names (look terms stage front)
-    looks_quiet stage front is = leaves_quiet (client_closed front) (leaving stage front) (find terms stage front) (leaving_quiet stage front is) (finds_quiet stage front is)
+    looks_quiet stage front is = leaves_quiet (client_closed front) (leaving stage (sight stage front)) (find terms stage (sight stage front)) (leaving_quiet stage front is) (finds_quiet stage front is)
 
     -- ---- turns
 
@@ -300,7 +303,7 @@ IsGoing (next at) = ⊥
 IsGoing stage = ⊤
 
 pub turn_led : (terms : Terms) (names : FlowId → Type 0) (stage : Stage) (front : List (Timed Event)) (answer : Timed Reply) → IsGoing stage → IsOf terms names stage →
-    Leads terms names (at_of stage).flow (at_of stage).dials (stage_left stage) (turn terms stage front answer)
+    Leads terms names (place_of stage).flow (place_of stage).dials (stage_left stage) (turn terms stage front answer)
 turn_led terms names (idle at) front answer goes is =
     head_led names terms at.flow at.dials 5 at (request_over at front) (now_over at.since front) answer front (refl, omega arith) (omega arith) is
 turn_led terms names (receiving at flow given) front answer goes is =
@@ -372,5 +375,5 @@ pass_of terms names over front is = is
 
 -- and where it leads
 pub turn_behind : (terms : Terms) (stage : Stage) (front : List (Timed Event)) (answer : Timed Reply) → IsGoing stage →
-    IsBehind (at_of stage).flow (at_of stage).dials (stage_left stage) (turn terms stage front answer).stage
+    IsBehind (place_of stage).flow (place_of stage).dials (stage_left stage) (turn terms stage front answer).stage
 turn_behind terms stage front answer goes = (turn_led terms any_flow stage front answer goes (is_any terms stage)).behind

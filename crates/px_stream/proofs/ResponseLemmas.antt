@@ -27,7 +27,7 @@ use Rattle.px_stream.specs.declared.reading.Answer.TheVariants as answer
 use Rattle.px_stream.specs.declared.reading.Came.TheVariants as came
 use Rattle.px_stream.specs.Responses.{came_by, came_of, sends_on, fresh, GaveOne, NextBegun, IsKept, SendsOn, begun, left_of, AnswerCome, ReadsAnswer}
 use Rattle.px_stream.specs.Stands.{Passes, Keeps}
-use Rattle.px_stream.specs.Texts.{interim_command}
+use Rattle.px_exchange.specs.Texts.{interim_command}
 use Rattle.px_stream.proofs.AnswerLemmas.{here, OfResponse, of_response, StandsThere, stands_there, final_here, nothing_here, interim_length, list_behind}
 use Rattle.px_stream.proofs.ReadLemmas.{come, OfRequest, of_request}
 use Rattle.px_stream.proofs.ReturnLemmas.{final_behind, interim_behind}

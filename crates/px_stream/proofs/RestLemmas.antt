@@ -11,7 +11,7 @@ use Rattle.px_stream.specs.declared.link.Link.{Link as KeptLink}
 use Rattle.px_stream.specs.declared.phase.Asked.{Asked}
 use Rattle.px_stream.specs.declared.phase.Phase.{Phase}
 use Rattle.px_stream.specs.declared.phase.Ready.{Ready}
-use Rattle.px_stream.specs.declared.terms.Terms.{Terms}
+use Rattle.px_exchange.specs.declared.terms.Terms.{Terms}
 use Rattle.px_stream.specs.Chain.{answers_over}
 use Rattle.px_stream.specs.Rests.{ready_rest, asked_rest, phase_rest, IsLinkUnread, ClientWaiting, ClientAsked, ClientLast, ServerWaiting, ServerAsked, size_in, LeavesRests}
 use Rattle.px_stream.specs.Stages.{Link, Stage, idle, receiving, dialling, answering, returning, given_head, given_body, next, over}

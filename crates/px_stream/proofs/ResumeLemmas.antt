@@ -12,8 +12,8 @@ use Rattle.px_stream.specs.declared.phase.Asked.{Asked}
 use Rattle.px_stream.specs.declared.phase.Phase.TheVariants as phase
 use Rattle.px_stream.specs.declared.phase.Ready.{Ready}
 use Rattle.px_stream.specs.declared.stream.Stream.{Stream}
-use Rattle.px_stream.specs.declared.terms.Numbers.{Numbers}
-use Rattle.px_stream.specs.declared.terms.Terms.{Terms}
+use Rattle.px_stream.specs.declared.numbers.Numbers.{Numbers}
+use Rattle.px_exchange.specs.declared.terms.Terms.{Terms}
 use Rattle.px_read.specs.Reader.{request, before_all, reading_from, Reads}
 use Rattle.px_read.specs.declared.head.ResponseHead.{ResponseHead as ReadResponse}
 use Rattle.px_stream.specs.declared.phase.Ready.TheVariants as ready

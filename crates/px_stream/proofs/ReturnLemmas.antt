@@ -14,7 +14,7 @@ use Rattle.px_read.specs.Marks.{Mark, answers}
 use Rattle.px_read.specs.Readings.{response_reading}
 use Rattle.px_read.specs.Reader.{response, State}
 use Rattle.px_read.specs.declared.head.ResponseHead.{ResponseHead as ReadResponse}
-use Rattle.px_stream.specs.declared.ending.Used.TheVariants.{ByServer}
+use Rattle.px_exchange.specs.declared.ending.Used.TheVariants.{ByServer}
 use Rattle.px_stream.specs.declared.link.Link.{Link as KeptLink}
 use Rattle.px_stream.specs.declared.phase.Asked.TheVariants as asked
 use Rattle.px_stream.specs.declared.phase.Phase.{Phase}
@@ -22,14 +22,15 @@ use Rattle.px_stream.specs.declared.phase.Phase.TheVariants as phase
 use Rattle.px_stream.specs.declared.phase.Ready.TheVariants as ready
 use Rattle.px_stream.specs.declared.reading.Progress.{Progress}
 use Rattle.px_stream.specs.declared.reading.Progress.TheVariants as progress
-use Rattle.px_stream.specs.declared.terms.Terms.{Terms}
+use Rattle.px_exchange.specs.declared.terms.Terms.{Terms}
 use Rattle.px_stream.specs.Bodies.{HasRead, ReturnFound}
-use Rattle.px_stream.specs.Chain.{answers_over, ask_of, used_server, with_returned}
-use Rattle.px_stream.specs.Endings.{closed_message, ends_by_fault, ends_early, without_response}
+use Rattle.px_stream.specs.Chain.{answers_over, used_server}
+use Rattle.px_exchange.specs.Flows.{ask_of, with_returned}
+use Rattle.px_exchange.specs.Endings.{closed_message, ends_by_fault, ends_early, without_response}
 use Rattle.px_stream.specs.Found.{LookedAt}
 use Rattle.px_stream.specs.Looks.{returned_gives, returned_phase, where_left}
 use Rattle.px_stream.specs.Phases.{unless_left}
-use Rattle.px_stream.specs.Requests.{is_head}
+use Rattle.px_exchange.specs.Requests.{is_head}
 use Rattle.px_stream.specs.Stages.{At, Link, returning}
 use Rattle.px_stream.specs.Stands.{content_of, KeepsBehind, Passes, Keeps, IsLink, IsReturning}
 use Rattle.px_stream.specs.Streams.{client_closed, now_over, server_bytes, server_closed}

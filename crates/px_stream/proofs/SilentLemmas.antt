@@ -23,23 +23,25 @@ use Rattle.px_event.proofs.Seen.{seen_append}
 use Rattle.px_read.specs.Items.{Item, missing, part, complete, bad_head, bad_body, request_item}
 use Rattle.px_read.specs.declared.head.RequestHead.{RequestHead as ReadRequest}
 use Rattle.px_read.specs.declared.head.ResponseHead.{ResponseHead as ReadResponse}
-use Rattle.px_stream.specs.declared.asked.Judged.{Judged}
-use Rattle.px_stream.specs.declared.asked.Judged.TheVariants.{Refused, Accepted}
-use Rattle.px_stream.specs.declared.ending.Used.{Used}
-use Rattle.px_stream.specs.declared.ending.Used.TheVariants.{NoServer, ByServer}
-use Rattle.px_stream.specs.declared.taken.Taken.{Taken}
-use Rattle.px_stream.specs.declared.taken.Taken.TheVariants.{GoesOn, Responds, Kills}
-use Rattle.px_stream.specs.declared.terms.Terms.{Terms}
-use Rattle.px_stream.specs.Chain.{sequence, http_chain, find, leaving, look, or_leaves, pass, pass_body, so_far, turn, look_head, look_judged, look_body, look_answer, look_answer_head, look_returned, turn_head, turn_judged, turn_taken_head, turn_body, turn_taken_body, turn_dial, turn_answer, turn_answer_head, turn_taken_answer, turn_returned, turn_whole_answer, turn_response, turn_taken_returned, turn_taken_given, meets_expectation, killed, is_relayed, set_out, request_over, answers_over, response_of, used_server, with_answer, with_body, with_end, with_returned, with_start}
-use Rattle.px_stream.specs.Cuts.{IsOnward, is_alone, is_sequence, place_of}
-use Rattle.px_stream.specs.Endings.{shut_server, shut_client, shut_unless, without_response, killed_message, closed_message, ends_early, ends_by_fault, refuses, finished, behind_flow, connection_goes_on}
-use Rattle.px_stream.specs.Replies.{taken_at_request_body, taken_at_request_head, taken_at_response_body, taken_at_response_head}
-use Rattle.px_stream.specs.Requests.{is_head, expects, flow_of, judged}
+use Rattle.px_exchange.specs.declared.asked.Judged.{Judged}
+use Rattle.px_exchange.specs.declared.asked.Judged.TheVariants.{Refused, Accepted}
+use Rattle.px_exchange.specs.declared.ending.Used.{Used}
+use Rattle.px_exchange.specs.declared.ending.Used.TheVariants.{NoServer, ByServer}
+use Rattle.px_exchange.specs.declared.taken.Taken.{Taken}
+use Rattle.px_exchange.specs.declared.taken.Taken.TheVariants.{GoesOn, Responds, Kills}
+use Rattle.px_exchange.specs.declared.terms.Terms.{Terms}
+use Rattle.px_stream.specs.Chain.{sequence, http_chain, find, leaving, look, pass, pass_body, so_far, turn, turn_head, turn_judged, turn_taken_head, turn_body, turn_taken_body, turn_dial, turn_answer, turn_answer_head, turn_taken_answer, turn_returned, turn_whole_answer, turn_response, turn_taken_returned, turn_taken_given, killed, set_out, request_over, answers_over, used_server, IsOnward, is_alone, is_sequence, behind_flow}
+use Rattle.px_exchange.specs.Finds.{or_leaves, look_head, look_judged, look_body, look_answer, look_answer_head, look_returned, is_relayed}
+use Rattle.px_exchange.specs.Texts.{meets_expectation, interim_command, interim_commands}
+use Rattle.px_exchange.specs.Flows.{response_of, with_answer, with_body, with_end, with_returned, with_start}
+use Rattle.px_stream.specs.Stages.{place_of, At, Link, Stage, idle, receiving, dialling, answering, returning, given_head, given_body, next, over}
+use Rattle.px_exchange.specs.Endings.{shut_server, shut_client, shut_unless, without_response, killed_message, closed_message, ends_early, ends_by_fault, refuses, finished, connection_goes_on}
+use Rattle.px_exchange.specs.Replies.{taken_at_request_body, taken_at_request_head, taken_at_response_body, taken_at_response_head}
+use Rattle.px_exchange.specs.Requests.{is_head, expects, flow_of, judged}
 use Rattle.px_stream.specs.Silent.{connects, connections, NoAnswer}
-use Rattle.px_stream.specs.Stages.{At, Link, Stage, idle, receiving, dialling, answering, returning, given_head, given_body, next, over}
 use Rattle.px_stream.specs.Streams.{client_closed, now_over, from_here}
-use Rattle.px_stream.specs.Texts.{interim_command, interim_commands}
 use Rattle.px_stream.proofs.TakeLemmas.{pass_owes_nothing}
+use Rattle.px_stream.specs.Sights.{sight}
 
 -- how many servers were dialled before the stage's flow dials
 abbrev dialled : Stage → ℕ
@@ -149,7 +151,7 @@ module _ (server : ℕ) where
     returned_silent flow (bad_head fault) moment used closed = refl
     returned_silent flow (bad_body fault head body) moment used closed = fault_silent flow fault moment used closed
 
-    finds_silent : (stage : Stage) (front : List (Timed Event)) → IsSilent (found (find terms stage front))
+    finds_silent : (stage : Stage) (front : List (Timed Event)) → IsSilent (found (find terms stage (sight stage front)))
     finds_silent (idle at) front = head_silent at.flow (request_over at front) (now_over at.since front) (client_closed front)
     finds_silent (receiving at flow given) front = body_silent flow (request_over at front) (now_over at.since front) (client_closed front)
     finds_silent (dialling at flow) front = refl
@@ -162,7 +164,7 @@ module _ (server : ℕ) where
     finds_silent (next at) front = refl
     finds_silent over front = refl
 
-    leaving_silent : (stage : Stage) (front : List (Timed Event)) → IsSilent (leaving stage front)
+    leaving_silent : (stage : Stage) (front : List (Timed Event)) → IsSilent (leaving stage (sight stage front))
     leaving_silent (idle at) front = refl
     leaving_silent (receiving at flow given) front = early_silent flow closed_message (now_over at.since front) NoServer true
     leaving_silent (dialling at flow) front = refl
@@ -180,7 +182,7 @@ module _ (server : ℕ) where
     leaves_silent closed leaves (Ends owed) silent is = is
 
     looks_silent : (stage : Stage) (front : List (Timed Event)) → IsSilent (found (look terms stage front))
-    looks_silent stage front = leaves_silent (client_closed front) (leaving stage front) (find terms stage front) (leaving_silent stage front) (finds_silent stage front)
+    looks_silent stage front = leaves_silent (client_closed front) (leaving stage (sight stage front)) (find terms stage (sight stage front)) (leaving_silent stage front) (finds_silent stage front)
 
     -- ---- replies
 

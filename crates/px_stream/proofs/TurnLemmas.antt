@@ -23,28 +23,30 @@ use Rattle.px_read.specs.Readings.{behind_bytes}
 use Rattle.px_read.specs.Reader.{Message, response, State, reading_from, behind_marks, before_all, Reads}
 use Rattle.px_read.specs.declared.head.RequestHead.{RequestHead as ReadRequest}
 use Rattle.px_read.specs.declared.head.ResponseHead.{ResponseHead as ReadResponse}
-use Rattle.px_stream.specs.declared.ending.Used.{Used}
-use Rattle.px_stream.specs.declared.ending.Used.TheVariants.{NoServer, ByServer}
+use Rattle.px_exchange.specs.declared.ending.Used.{Used}
+use Rattle.px_exchange.specs.declared.ending.Used.TheVariants.{NoServer, ByServer}
 use Rattle.px_stream.specs.declared.link.Link.{Link as KeptLink}
 use Rattle.px_stream.specs.declared.phase.Asked.{Asked}
 use Rattle.px_stream.specs.declared.phase.Ready.{Ready}
 use Rattle.px_stream.specs.declared.phase.Ready.TheVariants as ready
-use Rattle.px_stream.specs.declared.taken.Taken.{Taken}
-use Rattle.px_stream.specs.declared.taken.Taken.TheVariants.{GoesOn, Responds, Kills}
-use Rattle.px_stream.specs.declared.terms.Numbers.{Numbers}
-use Rattle.px_stream.specs.declared.terms.Terms.{Terms}
-use Rattle.px_stream.specs.Chain.{turn, turn_head, turn_judged, turn_taken_head, turn_body, turn_taken_body, turn_dial, dial_owes, turn_answer, turn_answer_head, turn_taken_answer, turn_returned, turn_whole_answer, turn_response, turn_taken_returned, turn_taken_given, set_out, request_over, answers_over, response_of, used_server, with_answer, with_body, with_end, with_returned, with_start}
-use Rattle.px_stream.specs.Endings.{behind_flow as flow_leads, connection_goes_on}
+use Rattle.px_exchange.specs.declared.taken.Taken.{Taken}
+use Rattle.px_exchange.specs.declared.taken.Taken.TheVariants.{GoesOn, Responds, Kills}
+use Rattle.px_stream.specs.declared.numbers.Numbers.{Numbers}
+use Rattle.px_exchange.specs.declared.terms.Terms.{Terms}
+use Rattle.px_stream.specs.Chain.{turn, turn_head, turn_judged, turn_taken_head, turn_body, turn_taken_body, turn_dial, turn_answer, turn_answer_head, turn_taken_answer, turn_returned, turn_whole_answer, turn_response, turn_taken_returned, turn_taken_given, set_out, request_over, answers_over, used_server, behind_flow as flow_leads}
+use Rattle.px_exchange.specs.Dials.{dial_owes}
+use Rattle.px_exchange.specs.Flows.{response_of, with_answer, with_body, with_end, with_returned, with_start}
+use Rattle.px_exchange.specs.Endings.{connection_goes_on}
 use Rattle.px_stream.specs.Laws.{now_here}
 use Rattle.px_stream.specs.Led.{Turned}
 use Rattle.px_stream.specs.Phases.{behind_dial, behind_given_head, behind_request, behind_request_head, behind_response, behind_response_head, behind_flow, new_link, no_link, numbered, where_response}
-use Rattle.px_stream.specs.Replies.{taken_at_request_body, taken_at_request_head, taken_at_response_body, taken_at_response_head}
-use Rattle.px_stream.specs.Requests.{is_head, expects, flow_of, judged}
+use Rattle.px_exchange.specs.Replies.{taken_at_request_body, taken_at_request_head, taken_at_response_body, taken_at_response_head, taken_at_body_of, taken_at_head_of}
+use Rattle.px_exchange.specs.Requests.{is_head, expects, flow_of, judged}
 use Rattle.px_stream.specs.Stages.{At, Link, Stage, idle, receiving, dialling, answering, returning, given_head, given_body, next, over}
 use Rattle.px_stream.specs.Stands.{ReadsRequest, KeepsBehind, Keeps, IsLink, IsAsked, IsPlaced, HasPlace, Dials}
 use Rattle.px_stream.specs.Streams.{bytes_of, client_closed, is_closed, now_over, from_here}
-use Rattle.px_stream.specs.Texts.{interim_commands}
-use Rattle.px_stream.specs.Turns.{answer_leads, answer_owes, asked_leads, asked_owes, behind_asked, behind_ready, given_leads, given_owes, one_on, returned_leads, returned_owes, taken_at_body_of, taken_at_head_of, whole_leads, whole_owes}
+use Rattle.px_exchange.specs.Texts.{interim_commands}
+use Rattle.px_stream.specs.Turns.{answer_leads, answer_owes, asked_leads, asked_owes, behind_asked, behind_ready, given_leads, given_owes, one_on, returned_leads, returned_owes, whole_leads, whole_owes}
 
 -- ---- numbers
 

@@ -5,7 +5,7 @@ use Rattle.px_event.specs.declared.event.Event.{Event}
 use Rattle.px_event.specs.Chain.{Timed, found}
 use Rattle.px_read.specs.Reader.{State}
 use Rattle.px_stream.specs.declared.phase.Phase.{Phase}
-use Rattle.px_stream.specs.declared.terms.Terms.{Terms}
+use Rattle.px_exchange.specs.declared.terms.Terms.{Terms}
 use Rattle.px_stream.specs.Chain.{look, so_far}
 use Rattle.px_stream.specs.Stages.{Stage}
 use Rattle.px_stream.specs.Stands.{PhaseAt}

@@ -5,7 +5,7 @@ use Rattle.px_event.specs.View.{View, seen_of}
 use Rattle.px_read.specs.Laws.{InterimGrow}
 use Rattle.px_read.proofs.AnswerLemmas.{answers_carry}
 use Rattle.px_read.proofs.LawLemmas.{chunk_laws}
-use Rattle.px_stream.specs.declared.terms.Terms.{Terms}
+use Rattle.px_exchange.specs.declared.terms.Terms.{Terms}
 use Rattle.px_stream.specs.Chain.{alone, http_chain}
 use Rattle.px_stream.specs.Laws.{so_far_grows}
 use Rattle.px_stream.specs.Stages.{Stage}

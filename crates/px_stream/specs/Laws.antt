@@ -22,12 +22,14 @@ use Rattle.px_read.specs.Items.{Item, missing, part, complete, bad_head, bad_bod
 use Rattle.px_read.specs.Laws.{InterimGrow}
 use Rattle.px_read.specs.declared.head.RequestHead.{RequestHead as ReadRequest}
 use Rattle.px_read.specs.declared.head.ResponseHead.{ResponseHead as ReadResponse}
-use Rattle.px_stream.specs.declared.terms.Terms.{Terms}
-use Rattle.px_stream.specs.Chain.{or_leaves, leaving, find, pass_body, pass, look, so_far, request_over, http_chain}
-use Rattle.px_stream.specs.Requests.{is_head}
+use Rattle.px_exchange.specs.declared.terms.Terms.{Terms}
+use Rattle.px_exchange.specs.Finds.{or_leaves}
+use Rattle.px_stream.specs.Chain.{leaving, find, pass_body, pass, look, so_far, request_over, http_chain}
+use Rattle.px_exchange.specs.Requests.{is_head}
 use Rattle.px_stream.specs.Stages.{At, Link, Stage, idle, receiving, dialling, answering, returning, given_head, given_body, next, over}
 use Rattle.px_stream.specs.Streams.{piece_of, closes, bytes_of, is_closed, server_bytes, server_closed, client_closed, now_over, from_here}
-use Rattle.px_stream.specs.Texts.{interim_command, interim_commands}
+use Rattle.px_exchange.specs.Texts.{interim_command, interim_commands}
+use Rattle.px_stream.specs.Sights.{sight}
 
 -- ---- one event more
 
@@ -211,7 +213,7 @@ open_by true leaves (Asks ask) is = absurd (let e : Asks ask ≡ NotYet = is in 
 open_by true leaves (Ends owed) is = absurd (let e : Ends owed ≡ NotYet = is in cc)
 
 pub open_still : (terms : Terms) (stage : Stage) (front : List (Timed Event)) → look terms stage front ≡ NotYet → client_closed front ≡ false
-open_still terms stage front is = open_by (client_closed front) (leaving stage front) (find terms stage front) is
+open_still terms stage front is = open_by (client_closed front) (leaving stage (sight stage front)) (find terms stage (sight stage front)) is
 
 grows_at : InterimGrow → (onward : Stage → Stage) (terms : Terms) (view : View) (stage : Stage) (front : List (Timed Event)) (e : Timed Event) →
     look terms stage front ≡ NotYet →

@@ -6,7 +6,7 @@ use Rattle.px_event.specs.Chain.{Timed, Turn}
 use Rattle.px_read.specs.Reader.{State}
 use Rattle.px_read.specs.declared.head.ResponseHead.{ResponseHead as ReadResponse}
 use Rattle.px_stream.specs.declared.phase.Ready.{Ready}
-use Rattle.px_stream.specs.declared.terms.Numbers.{Numbers}
+use Rattle.px_stream.specs.declared.numbers.Numbers.{Numbers}
 use Rattle.px_stream.specs.Stages.{Stage}
 use Rattle.px_stream.specs.Stands.{Dials, IsNow, IsReady, HasPlace, sent_on}
 

@@ -7,7 +7,7 @@ use Rattle.px_stream.specs.declared.phase.Phase.TheVariants as phase
 use Rattle.px_stream.specs.declared.phase.Ready.{Ready}
 use Rattle.px_stream.specs.declared.phase.Ready.TheVariants as ready
 use Rattle.px_stream.specs.declared.stream.Stream.{Stream}
-use Rattle.px_stream.specs.declared.terms.Numbers.{Numbers}
+use Rattle.px_stream.specs.declared.numbers.Numbers.{Numbers}
 use Rattle.px_stream.specs.Stages.{Stage, idle, receiving, dialling, answering, returning, given_head, given_body, next, over}
 
 -- A flow asks four hooks and a dial at most: those from here on.

@@ -13,10 +13,12 @@ use Rattle.px_stream.specs.declared.phase.Phase.{Phase}
 use Rattle.px_stream.specs.declared.phase.Phase.TheVariants as phase
 use Rattle.px_stream.specs.declared.phase.Ready.{Ready}
 use Rattle.px_stream.specs.declared.phase.Ready.TheVariants as ready
-use Rattle.px_stream.specs.declared.terms.Numbers.{Numbers}
-use Rattle.px_stream.specs.declared.terms.Terms.{Terms}
+use Rattle.px_stream.specs.declared.numbers.Numbers.{Numbers}
+use Rattle.px_exchange.specs.declared.terms.Terms.{Terms}
 use Rattle.px_stream.specs.Bodies.{BodyFound, IsReading, ReturnFound}
-use Rattle.px_stream.specs.Chain.{address_of, ask_of, look_head, or_leaves, with_end, with_start}
+use Rattle.px_exchange.specs.Dials.{address_of}
+use Rattle.px_exchange.specs.Flows.{ask_of, with_end, with_start}
+use Rattle.px_exchange.specs.Finds.{look_head, or_leaves}
 use Rattle.px_stream.specs.Phases.{head_phase, marks_at}
 use Rattle.px_stream.specs.Responses.{AnswerFound, IsKept}
 

@@ -6,7 +6,7 @@ use Rattle.px_message.specs.declared.response.Response.{Response}
 use Rattle.px_event.specs.declared.ask.Hook.TheVariants.{RequestBody, ResponseHead, ResponseBody}
 use Rattle.px_event.specs.declared.command.Command.{Command}
 use Rattle.px_read.specs.declared.head.ResponseHead.{ResponseHead as ReadResponse}
-use Rattle.px_stream.specs.declared.ending.Used.TheVariants.{NoServer, ByServer}
+use Rattle.px_exchange.specs.declared.ending.Used.TheVariants.{NoServer, ByServer}
 use Rattle.px_stream.specs.declared.link.Link.{Link as KeptLink}
 use Rattle.px_stream.specs.declared.phase.Asked.TheVariants as asked
 use Rattle.px_stream.specs.declared.phase.Phase.{Phase}
@@ -16,8 +16,9 @@ use Rattle.px_stream.specs.declared.reading.Answer.{Answer}
 use Rattle.px_stream.specs.declared.reading.Answer.TheVariants as answer
 use Rattle.px_stream.specs.declared.reading.Progress.{Progress}
 use Rattle.px_stream.specs.declared.reading.Progress.TheVariants as progress
-use Rattle.px_stream.specs.Chain.{ask_of, is_relayed, response_of, with_answer, with_body, with_returned, with_start}
-use Rattle.px_stream.specs.Endings.{closed_message, ends_by_fault, ends_early, without_response}
+use Rattle.px_exchange.specs.Flows.{ask_of, response_of, with_answer, with_body, with_returned, with_start}
+use Rattle.px_exchange.specs.Finds.{is_relayed}
+use Rattle.px_exchange.specs.Endings.{closed_message, ends_by_fault, ends_early, without_response}
 use Rattle.px_stream.specs.Phases.{is_over, unless_left}
 
 -- what is owed where the client leaves, if it has

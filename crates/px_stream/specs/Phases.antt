@@ -9,20 +9,20 @@ use Rattle.px_read.specs.Items.{Item, missing, part, complete, bad_head, bad_bod
 use Rattle.px_read.specs.Marks.{Mark, asks}
 use Rattle.px_read.specs.Reader.{before_all, response}
 use Rattle.px_read.specs.declared.head.RequestHead.{RequestHead as ReadRequest}
-use Rattle.px_stream.specs.declared.asked.Judged.{Judged}
-use Rattle.px_stream.specs.declared.asked.Judged.TheVariants.{Refused, Accepted}
+use Rattle.px_exchange.specs.declared.asked.Judged.{Judged}
+use Rattle.px_exchange.specs.declared.asked.Judged.TheVariants.{Refused, Accepted}
 use Rattle.px_stream.specs.declared.link.Link.{Link as KeptLink}
 use Rattle.px_stream.specs.declared.phase.Asked.TheVariants as asked
 use Rattle.px_stream.specs.declared.phase.Phase.{Phase}
 use Rattle.px_stream.specs.declared.phase.Phase.TheVariants as phase
 use Rattle.px_stream.specs.declared.phase.Ready.{Ready}
 use Rattle.px_stream.specs.declared.phase.Ready.TheVariants as ready
-use Rattle.px_stream.specs.declared.taken.Taken.{Taken}
-use Rattle.px_stream.specs.declared.taken.Taken.TheVariants.{GoesOn, Responds, Kills}
-use Rattle.px_stream.specs.declared.terms.Terms.{Terms}
-use Rattle.px_stream.specs.Chain.{address_of}
-use Rattle.px_stream.specs.Endings.{connection_goes_on}
-use Rattle.px_stream.specs.Requests.{expects, flow_of, is_head, judged}
+use Rattle.px_exchange.specs.declared.taken.Taken.{Taken}
+use Rattle.px_exchange.specs.declared.taken.Taken.TheVariants.{GoesOn, Responds, Kills}
+use Rattle.px_exchange.specs.declared.terms.Terms.{Terms}
+use Rattle.px_exchange.specs.Dials.{address_of}
+use Rattle.px_exchange.specs.Endings.{connection_goes_on}
+use Rattle.px_exchange.specs.Requests.{expects, flow_of, is_head, judged}
 use Rattle.px_stream.specs.Stages.{At, Link}
 
 -- a flow of this number; nothing else of where it stands is looked at

@@ -17,9 +17,9 @@ use Rattle.px_stream.specs.declared.reading.Came.TheVariants as came
 use Rattle.px_message.specs.declared.flow.Flow.{Flow}
 use Rattle.px_stream.specs.declared.phase.Phase.{Phase}
 use Rattle.px_stream.specs.Looks.{answer_gives, answer_phase}
-use Rattle.px_stream.specs.Requests.{is_http11}
+use Rattle.px_exchange.specs.Requests.{is_http11}
 use Rattle.px_stream.specs.Stands.{Keeps}
-use Rattle.px_stream.specs.Texts.{interim_command}
+use Rattle.px_exchange.specs.Texts.{interim_command}
 
 -- what a part of a response is here: the head of an interim one, or what there is of the final one
 abbrev pub came_by : Bool → ResponseHead → Came

@@ -15,7 +15,7 @@ use Rattle.px_stream.specs.declared.phase.Phase.TheVariants as phase
 use Rattle.px_stream.specs.declared.phase.Ready.{Ready}
 use Rattle.px_stream.specs.declared.phase.Ready.TheVariants as ready
 use Rattle.px_stream.specs.Chain.{answers_over, request_over}
-use Rattle.px_stream.specs.Requests.{is_head}
+use Rattle.px_exchange.specs.Requests.{is_head}
 use Rattle.px_stream.specs.Stages.{At, Link, Stage, idle, receiving, dialling, answering, returning, given_head, given_body, next, over}
 use Rattle.px_stream.specs.Stands.{Passes}
 use Rattle.px_stream.specs.Streams.{client_bytes, server_bytes, server_closed}

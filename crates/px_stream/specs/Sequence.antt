@@ -7,14 +7,14 @@ use Rattle.px_event.specs.Chain.{Look, Ends, Stop, Timed}
 use Rattle.px_event.specs.Layer.{Move}
 use Rattle.px_event.specs.Stands.{StandsAt, stop_of}
 use Rattle.px_read.specs.Reader.{State, request, before_all}
-use Rattle.px_stream.specs.declared.outcome.Outcome.{Outcome}
-use Rattle.px_stream.specs.declared.outcome.Outcome.TheVariants as outcomes
+use Rattle.px_exchange.specs.declared.outcome.Outcome.{Outcome}
+use Rattle.px_exchange.specs.declared.outcome.Outcome.TheVariants as outcomes
 use Rattle.px_stream.specs.declared.phase.Phase.{Phase}
 use Rattle.px_stream.specs.declared.phase.Phase.TheVariants as phase
 use Rattle.px_stream.specs.declared.phase.Ready.{Ready}
 use Rattle.px_stream.specs.declared.phase.Ready.TheVariants as ready
 use Rattle.px_stream.specs.declared.stream.Stream.{Stream}
-use Rattle.px_stream.specs.declared.terms.Terms.{Terms}
+use Rattle.px_exchange.specs.declared.terms.Terms.{Terms}
 use Rattle.px_stream.specs.Chain.{sequence, http_chain}
 use Rattle.px_stream.specs.Stages.{At, Stage, idle, receiving, dialling, answering, returning, given_head, given_body, next, over}
 use Rattle.px_stream.specs.Stands.{IsAt, start_of}

@@ -1,5 +1,5 @@
 -- The stages of a conversation of HTTP: where its present flow stands.
-use Rattle.std.specs.Prelude.{ℕ, Option}
+use Rattle.std.specs.Prelude.{ℕ, Option, Some, None}
 use Rattle.px_message.specs.declared.flow.Flow.{Flow}
 use Rattle.px_message.specs.declared.response.Response.{Response}
 use Rattle.px_stream.specs.Streams.{Since}
@@ -37,3 +37,24 @@ pub data Stage : Type 0 where
   next : (at : At) → Stage
   -- the conversation has ended
   over : Stage
+
+-- where its flow stands; at the end that counts for nothing
+abbrev pub ended_at : At
+ended_at = record { flow = 0; dials = 0; used = 0; since = record { events = 0; moment = 0 } }
+
+abbrev pub place_of : Stage → At
+place_of (idle at) = at
+place_of (receiving at flow given) = at
+place_of (dialling at flow) = at
+place_of (answering at flow link) = at
+place_of (returning at flow link) = at
+place_of (given_head at flow) = at
+place_of (given_body at flow) = at
+place_of (next at) = at
+place_of over = ended_at
+
+-- the server's side that it uses
+abbrev pub link_of : Stage → Option Link
+link_of (answering at flow link) = Some link
+link_of (returning at flow link) = Some link
+link_of _ = None

@@ -19,7 +19,7 @@ use Rattle.px_read.specs.Marks.{Mark, asks, answers}
 use Rattle.px_read.specs.Reader.{State, request, response, Reads}
 use Rattle.px_read.specs.declared.head.RequestHead.{RequestHead as ReadRequest}
 use Rattle.px_read.specs.declared.head.ResponseHead.{ResponseHead as ReadResponse}
-use Rattle.px_stream.specs.declared.asked.Judged.TheVariants.{Accepted}
+use Rattle.px_exchange.specs.declared.asked.Judged.TheVariants.{Accepted}
 use Rattle.px_stream.specs.declared.link.Link.{Link as KeptLink}
 use Rattle.px_stream.specs.declared.phase.Asked.{Asked}
 use Rattle.px_stream.specs.declared.phase.Asked.TheVariants as asked
@@ -28,13 +28,15 @@ use Rattle.px_stream.specs.declared.phase.Phase.TheVariants as phase
 use Rattle.px_stream.specs.declared.phase.Ready.{Ready}
 use Rattle.px_stream.specs.declared.phase.Ready.TheVariants as ready
 use Rattle.px_stream.specs.declared.stream.Stream.{Stream}
-use Rattle.px_stream.specs.declared.terms.Numbers.{Numbers}
-use Rattle.px_stream.specs.declared.terms.Terms.{Terms}
-use Rattle.px_stream.specs.Chain.{is_relayed, response_of, with_answer, with_body, with_end, with_returned, with_start, request_over, answers_over, look, so_far}
-use Rattle.px_stream.specs.Requests.{is_head, expects, flow_of, judged}
+use Rattle.px_stream.specs.declared.numbers.Numbers.{Numbers}
+use Rattle.px_exchange.specs.declared.terms.Terms.{Terms}
+use Rattle.px_exchange.specs.Finds.{is_relayed}
+use Rattle.px_exchange.specs.Flows.{response_of, with_answer, with_body, with_end, with_returned, with_start}
+use Rattle.px_stream.specs.Chain.{request_over, answers_over, look, so_far}
+use Rattle.px_exchange.specs.Requests.{is_head, expects, flow_of, judged}
 use Rattle.px_stream.specs.Stages.{At, Link, Stage, idle, receiving, dialling, answering, returning, given_head, given_body, next, over}
 use Rattle.px_stream.specs.Streams.{client_bytes, client_closed, bytes_of, server_bytes, server_closed, now_over}
-use Rattle.px_stream.specs.Texts.{interim_commands}
+use Rattle.px_exchange.specs.Texts.{interim_commands}
 
 -- the content among marks
 abbrev pub content_of : List Mark → List ℕ

@@ -2,20 +2,21 @@
 use Rattle.std.specs.Prelude.{◌+◌, ℕ, Bool, List, [], Option, Some, None, min}
 use Rattle.px_event.specs.declared.command.Command.{Command}
 use Rattle.px_event.specs.declared.reply.Reply.{Reply}
-use Rattle.px_stream.specs.declared.ending.Used.{Used}
-use Rattle.px_stream.specs.declared.ending.Used.TheVariants.{NoServer, ByServer}
+use Rattle.px_exchange.specs.declared.ending.Used.{Used}
+use Rattle.px_exchange.specs.declared.ending.Used.TheVariants.{NoServer, ByServer}
 use Rattle.px_stream.specs.declared.link.Link.{Link as KeptLink}
 use Rattle.px_stream.specs.declared.phase.Asked.{Asked}
 use Rattle.px_stream.specs.declared.phase.Asked.TheVariants as asked
 use Rattle.px_stream.specs.declared.phase.Ready.{Ready}
 use Rattle.px_stream.specs.declared.phase.Ready.TheVariants as ready
-use Rattle.px_stream.specs.declared.taken.Taken.{Taken}
-use Rattle.px_stream.specs.declared.terms.Numbers.{Numbers}
+use Rattle.px_exchange.specs.declared.taken.Taken.{Taken}
+use Rattle.px_stream.specs.declared.numbers.Numbers.{Numbers}
 use Rattle.px_message.specs.declared.flow.Flow.{Flow}
 use Rattle.px_message.specs.declared.response.Response.{Response}
-use Rattle.px_stream.specs.Chain.{dial_owes, turn_response, turn_taken_answer, turn_taken_body, turn_taken_given, turn_taken_head, turn_taken_returned}
+use Rattle.px_exchange.specs.Dials.{dial_owes}
+use Rattle.px_stream.specs.Chain.{turn_response, turn_taken_answer, turn_taken_body, turn_taken_given, turn_taken_head, turn_taken_returned}
 use Rattle.px_stream.specs.Phases.{behind_dial, behind_given_head, behind_request, behind_request_head, behind_response, behind_response_head, no_link, numbered, where_response}
-use Rattle.px_stream.specs.Replies.{taken_at_request_body, taken_at_request_head, taken_at_response_body, taken_at_response_head}
+use Rattle.px_exchange.specs.Replies.{taken_at_request_body, taken_at_request_head, taken_at_response_body, taken_at_response_head}
 
 abbrev pub returned_owes : ℕ → Flow → Used → Reply → ℕ → Bool → List Command
 returned_owes index flow used answer moment closed =
@@ -54,14 +55,6 @@ asked_leads index (asked.GivenHead flow) answer =
 asked_leads index (asked.GivenBody flow) answer = returned_leads index flow answer
 
 -- ---- by what the reply was taken for, where the flow has a response
-
-abbrev pub taken_at_head_of : Option Response → Reply → Option (Taken Response)
-taken_at_head_of None answer = None
-taken_at_head_of (Some message) answer = Some (taken_at_response_head message answer)
-
-abbrev pub taken_at_body_of : Option Response → Reply → Option (Taken Response)
-taken_at_body_of None answer = None
-taken_at_body_of (Some message) answer = Some (taken_at_response_body message answer)
 
 abbrev pub answer_owes : Flow → KeptLink → Option (Taken Response) → ℕ → Bool → List Command
 answer_owes flow link None moment closed = []

@@ -10,7 +10,7 @@ ghost use Rattle.px_read.specs.Laws.{head_in};
 ghost use Rattle.px_read.specs.Reader.{Reads, State, request as OfRequest};
 ghost use Rattle.px_stream.specs.Phases.{head_phase, marks_at};
 ghost use Rattle.px_read.specs.declared.head.ResponseHead.{ResponseHead};
-ghost use Rattle.px_stream.specs.Chain.{http_chain};
+ghost use Rattle.px_stream.specs.Chain.{http_chain, look, pass, request_over, turn, IsOnward};
 ghost use Rattle.px_stream.specs.Heard.{closes_client, ready_takes, requests_take};
 ghost use Rattle.px_event.specs.declared.reply.Reply.{Reply as Answer};
 ghost use Rattle.px_event.specs.declared.command.Command.{Command as Given};
@@ -18,13 +18,12 @@ ghost use Rattle.px_event.specs.declared.side.Side.TheVariants.{Client as TheCli
 ghost use Rattle.px_message.specs.declared.flow.Flow.{Flow as Told};
 ghost use Rattle.px_message.specs.declared.response.Response.{Response as Answered};
 ghost use Rattle.px_stream.specs.Bodies.{BodyFound, ReturnFound};
-ghost use Rattle.px_stream.specs.Chain.{look, look_head, or_leaves, pass, request_over, turn};
-ghost use Rattle.px_stream.specs.EndOrder.{EndsInOrder, FoundInOrder};
-ghost use Rattle.px_stream.specs.Cuts.{IsOnward};
+ghost use Rattle.px_exchange.specs.Finds.{look_head, or_leaves};
+ghost use Rattle.px_exchange.specs.EndOrder.{EndsInOrder, FoundInOrder};
 ghost use Rattle.px_stream.specs.Found.{LookedAt};
 ghost use Rattle.px_stream.specs.Looking.{LookFound};
 ghost use Rattle.px_stream.specs.Silent.{NoAnswer};
-ghost use Rattle.px_stream.specs.Stages.{At, Link, answering, idle, receiving, returning};
+ghost use Rattle.px_stream.specs.Stages.{At, Link, answering, idle, receiving, returning, Stage};
 ghost use Rattle.px_stream.specs.Responses.{AnswerFound};
 ghost use Rattle.px_stream.specs.declared.link.Link.{Link as Kept};
 ghost use Rattle.px_stream.specs.declared.phase.Phase.{Phase as Standing};
@@ -34,10 +33,9 @@ ghost use Rattle.px_stream.specs.Streams.{bytes_of, client_bytes, client_closed,
 ghost use Rattle.px_stream.specs.Turns.{asked_leads, asked_owes, behind_asked, behind_ready};
 ghost use Rattle.px_stream.specs.declared.phase.Asked.{Asked as Awaited};
 ghost use Rattle.px_stream.specs.declared.phase.Ready.{Ready as Looked};
-ghost use Rattle.px_stream.specs.declared.terms.Numbers.{Numbers as Counted};
-ghost use Rattle.px_stream.specs.Stages.{Stage};
+ghost use Rattle.px_stream.specs.declared.numbers.Numbers.{Numbers as Counted};
 ghost use Rattle.px_stream.specs.Stands.{Dials, HasPlace, IsAnswering, IsAsked, IsAt, IsNow, IsReady, IsReceiving, IsReturning, awaits, is_last, sent_on};
-ghost use Rattle.px_stream.specs.declared.terms.Terms.{Terms as Made};
+ghost use Rattle.px_exchange.specs.declared.terms.Terms.{Terms as Made};
 
 /// At one front passing settles at once.
 pub fn passing_settles()

@@ -4,7 +4,7 @@ ghost use Rattle.px_read.specs.Heads.{is_interim};
 ghost use Rattle.px_read.specs.Reader.{before_all, response};
 ghost use Rattle.px_stream.specs.Heard.{link_closes, link_hears};
 
-use crate::ending::Used;
+use px_exchange::ending::Used;
 use px_read::{MessageReader, ResponseHead};
 use px_text::{Bytes, NoMemory};
 use std::alloc::Global;

@@ -2,20 +2,22 @@
 ghost use Rattle.std.specs.Prelude.{◌≡◌, ◌++◌, ◌∷◌, [], None, IfOk, OnOk};
 ghost use Rattle.px_event.specs.declared.ask.Hook.TheVariants.{ResponseHead as AtHead, ResponseBody as AtBody};
 ghost use Rattle.px_event.specs.declared.command.Command.TheVariants as commands;
-ghost use Rattle.px_stream.specs.Chain.{address_of, ask_of, with_end, with_start};
-ghost use Rattle.px_stream.specs.Endings.{closed_message, ends_by_fault, ends_early};
+ghost use Rattle.px_exchange.specs.Dials.{address_of};
+ghost use Rattle.px_exchange.specs.Flows.{ask_of, with_end, with_start};
+ghost use Rattle.px_exchange.specs.Endings.{closed_message, ends_by_fault, ends_early};
 ghost use Rattle.px_stream.specs.Looking.{LookFound, MayLook};
 ghost use Rattle.px_stream.specs.Phases.{is_over};
 
-use crate::ending::{Used, end_by_fault, end_early};
-use crate::flows;
 use crate::looking::answer::{look_for_answer, look_for_returned};
 use crate::looking::request::{look_for_body, look_for_head};
+use crate::numbers::Numbers;
 use crate::phase::{Asked, Phase, Ready};
-use crate::said::ask;
-use crate::terms::{Now, Numbers, Terms};
 use px_event::{Command, Hook};
-use px_message::{Address, Fault, Flow};
+use px_exchange::ending::{Used, end_by_fault, end_early};
+use px_exchange::flows::{self, address_of};
+use px_exchange::said::ask;
+use px_exchange::terms::{Now, Terms};
+use px_message::{Fault, Flow};
 use px_read::MessageReader;
 use px_text::NoMemory;
 
@@ -60,17 +62,6 @@ fn dial(server: u32, flow: Flow, out: &mut Vec<Command>) -> Result<Phase, NoMemo
         inside: None,
     })?;
     Ok(Phase::Asked(Asked::Dial { flow, server }))
-}
-
-/// Where the request of a flow goes, as its hooks left it.
-pub fn address_of(flow: &Flow) -> Result<Address, NoMemory>
-    ensures { IfOk result (λ address. address ≡ address_of flow.now.request) }
-{
-    let request = flow.request.get();
-    Ok(Address {
-        host: request.host.try_clone()?,
-        port: request.port,
-    })
 }
 
 // Asks the hook of the head of a response that was given in place of the server's.

@@ -2,9 +2,9 @@
 ghost use Rattle.std.specs.Prelude.{◌≡◌};
 ghost use Rattle.px_stream.specs.Stands.{asked_of, awaited_in, hook_of};
 
-use crate::content::Content;
 use crate::link::Link;
 use px_event::{Ask, Hook};
+use px_exchange::content::Content;
 use px_message::{Flow, Response, Shared};
 
 /// What a flow looks for, while no answer is awaited.

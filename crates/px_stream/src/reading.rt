@@ -5,11 +5,11 @@ ghost use Rattle.px_read.specs.Marks.{marks_of};
 ghost use Rattle.px_stream.specs.Bodies.{HasRead, IsReading, stop_of};
 ghost use Rattle.px_stream.specs.Stands.{content_of};
 
-use crate::content::Content;
 use crate::link::{Link, is_interim};
-use crate::said::send;
-use crate::texts::interim_text;
 use px_event::{Command, Side};
+use px_exchange::content::Content;
+use px_exchange::said::send;
+use px_exchange::texts::interim_text;
 use px_message::{Fault, Fields};
 use px_read::{MessageReader, Part, ResponseHead};
 use px_text::NoMemory;

@@ -12,7 +12,7 @@ ghost use Rattle.px_stream.specs.Heard.{LinkAgrees, closes_client, ready_closes,
 ghost use Rattle.px_stream.specs.Kept.{asked_keeps, phase_keeps, ready_keeps, stream_keeps};
 ghost use Rattle.px_stream.specs.Left.{flow_left, sequence_left};
 ghost use Rattle.px_stream.specs.Looking.{MayLook};
-ghost use Rattle.px_stream.specs.Places.{IsDialled, terms_of};
+ghost use Rattle.px_exchange.specs.Places.{IsDialled, terms_of};
 ghost use Rattle.px_stream.specs.Rests.{LeavesRests, asked_rest, phase_rest, ready_rest};
 ghost use Rattle.px_stream.specs.Sequence.{Stands, StandsInSequence, is_end, outcome_at, outcome_in, ready_onward, requests_onward, stop_at};
 ghost use Rattle.px_stream.specs.Stages.{Stage};
@@ -22,11 +22,12 @@ ghost use Rattle.px_stream.specs.declared.phase.Ready.{Ready as Looked};
 
 use crate::link::Link;
 use crate::looking::look;
+use crate::numbers::Numbers;
 use crate::phase::{Asked, Phase, Ready};
-use crate::terms::{Now, Numbers, Terms};
 use crate::turning::turn;
-use crate::{Outcome, Place};
 use px_event::{Ask, Command, Event, Reply, Rests, Side};
+use px_exchange::terms::{Now, Terms};
+use px_exchange::{Outcome, Place};
 use px_message::{Address, Flow, FlowId};
 use px_read::MessageReader;
 use px_text::{Bytes, NoMemory};

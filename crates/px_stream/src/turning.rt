@@ -1,24 +1,25 @@
 //! What the answer to an ask leads to.
 ghost use Rattle.std.specs.Prelude.{◌≡◌, ◌++◌, IfOk, OnOk};
-ghost use Rattle.px_stream.specs.Chain.{connected_owes, dial_owes, killed as kills_flow, meets_expectation, turn_taken_answer, turn_taken_body, turn_taken_given, turn_taken_head, turn_taken_returned};
+ghost use Rattle.px_exchange.specs.Dials.{connected_owes, dial_owes};
+ghost use Rattle.px_stream.specs.Chain.{killed as kills_flow, turn_taken_answer, turn_taken_body, turn_taken_given, turn_taken_head, turn_taken_returned};
+ghost use Rattle.px_exchange.specs.Texts.{meets_expectation};
 ghost use Rattle.px_stream.specs.Phases.{behind_dial, behind_flow, behind_given_head, behind_request, behind_request_head, behind_response, behind_response_head, connected, no_link, numbered};
-ghost use Rattle.px_stream.specs.Turns.{answer_leads, answer_owes, asked_leads, asked_owes, given_leads, given_owes, taken_at_body_of, taken_at_head_of, whole_leads, whole_owes};
-ghost use Rattle.px_stream.specs.Replies.{taken_at_request_body, taken_at_request_head};
+ghost use Rattle.px_stream.specs.Turns.{answer_leads, answer_owes, asked_leads, asked_owes, given_leads, given_owes, whole_leads, whole_owes};
+ghost use Rattle.px_exchange.specs.Replies.{taken_at_body_of, taken_at_head_of, taken_at_request_body, taken_at_request_head};
 
-use crate::asked::is_head;
-use crate::content::Content;
-use crate::ending::{Used, end_by_fault, end_early, finish};
-use crate::flows;
 use crate::link::Link;
-use crate::looking::address_of;
 use crate::phase::{Asked, Ready};
-use crate::said::send;
-use crate::taken::{
+use px_event::{Command, Reply, Side};
+use px_exchange::asked::is_head;
+use px_exchange::content::Content;
+use px_exchange::ending::{Used, end_by_fault, end_early, finish};
+use px_exchange::flows::{self, address_of};
+use px_exchange::said::send;
+use px_exchange::taken::{
     Taken, take_at_body_of, take_at_head_of, take_at_request_body, take_at_request_head,
 };
-use crate::terms::Now;
-use crate::texts::{continue_text, onward_text};
-use px_event::{Command, Reply, Side};
+use px_exchange::terms::Now;
+use px_exchange::texts::{continue_text, onward_text};
 use px_message::{Flow, Request, Response, Shared};
 use px_text::NoMemory;
 

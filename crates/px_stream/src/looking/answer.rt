@@ -1,26 +1,25 @@
 //! Looks for the final response: its head, and then its body.
-ghost use Rattle.std.specs.Prelude.{◌≡◌, ◌++◌, true, false, IfOk, OnOk, MatchOption};
+ghost use Rattle.std.specs.Prelude.{◌≡◌, ◌++◌, IfOk, OnOk};
 ghost use Rattle.px_stream.specs.Bodies.{IsReading, ReturnFound};
-ghost use Rattle.px_stream.specs.Chain.{is_relayed, response_of};
-ghost use Rattle.px_stream.specs.Requests.{is_http11};
+ghost use Rattle.px_exchange.specs.Finds.{is_relayed};
+ghost use Rattle.px_exchange.specs.Requests.{is_http11};
 ghost use Rattle.px_stream.specs.Responses.{AnswerFound, IsKept};
 ghost use Rattle.px_stream.specs.Looks.{answer_gives, answer_phase, relayed_phase, relays, returned_gives, returned_phase};
 ghost use Rattle.px_stream.specs.declared.link.Link.{Link as KeptLink};
 
 use super::{fail, leave};
-use crate::asked::is_http11;
-use crate::content::Content;
-use crate::flows;
 use crate::link::Link;
 use crate::phase::{Asked, Phase, Ready};
 use crate::reading::{Answer, Progress, read_answer, read_body};
-use crate::said::ask;
-use crate::terms::Now;
 use px_event::{Command, Hook};
-use px_message::{Body, Fault, Fields, Flow, Response, Status};
+use px_exchange::asked::is_http11;
+use px_exchange::content::Content;
+use px_exchange::flows::{self, response_of, status_of};
+use px_exchange::said::ask;
+use px_exchange::terms::Now;
+use px_message::{Fault, Flow};
 use px_read::ResponseHead;
 use px_text::NoMemory;
-use std::alloc::Global;
 
 /// Looks for the head of the final response.
 pub fn look_for_answer(
@@ -94,32 +93,6 @@ fn relay_head(
             ask(&flow, Hook::ResponseHead, out)?;
             Ok(Phase::Asked(Asked::Answer { flow, link }))
         }
-    }
-}
-
-// The status of a final response that this proxy relays.
-fn status_of(code: u16) -> Option<Status>
-    ensures { MatchOption result (is_relayed code ≡ false) (λ status. (status ≡ code) × (is_relayed code ≡ true)) }
-{
-    if code == 101 {
-        return None;
-    }
-    Status::try_new(code)
-}
-
-// The response of a head, without its body.
-fn response_of(alloc: Global, head: ResponseHead, status: Status) -> Response
-    requires { status ≡ head.code }
-    ensures { result ≡ response_of head }
-{
-    Response {
-        version: head.version,
-        status,
-        reason: head.reason,
-        fields: head.fields,
-        body: Body::empty(),
-        trailers: Fields::new(alloc),
-        streamed: false,
     }
 }
 

@@ -6,7 +6,8 @@ use Rattle.px_stream.specs.declared.phase.Asked.TheVariants as asked
 use Rattle.px_stream.specs.declared.phase.Phase.TheVariants as phase
 use Rattle.px_stream.specs.declared.phase.Ready.TheVariants as ready
 use Rattle.px_stream.specs.Bodies.{ReturnFound}
-use Rattle.px_stream.specs.Chain.{address_of, ask_of, with_end, with_start}
+use Rattle.px_exchange.specs.Dials.{address_of}
+use Rattle.px_exchange.specs.Flows.{ask_of, with_end, with_start}
 use Rattle.px_stream.specs.Responses.{AnswerFound}
 use Rattle.px_stream.proofs.LookingLemmas.{head_looked, at_once, besides, looked_as, nothing_given, may_as}
 use Rattle.px_stream.proofs.looking.look.Goals as goal

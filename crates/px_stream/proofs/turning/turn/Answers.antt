@@ -1,9 +1,10 @@
 use Rattle.std.proofs.Common.{◌≡◌, ◌++◌, subst}
 use Rattle.std.specs.Prelude.{OnOk}
-use Rattle.px_stream.specs.declared.ending.Used.{Used}
-use Rattle.px_stream.specs.declared.ending.Used.TheVariants.{NoServer}
+use Rattle.px_exchange.specs.declared.ending.Used.{Used}
+use Rattle.px_exchange.specs.declared.ending.Used.TheVariants.{NoServer}
 use Rattle.px_stream.specs.declared.phase.Asked.TheVariants as asked
-use Rattle.px_stream.specs.Turns.{taken_at_body_of, whole_owes}
+use Rattle.px_exchange.specs.Replies.{taken_at_body_of}
+use Rattle.px_stream.specs.Turns.{whole_owes}
 use Rattle.px_stream.proofs.TurnLemmas.{answer_led, answer_owed, given_led, given_owed, leads_as, leads_same, owes_as, owes_same, whole_led, whole_owed}
 use Rattle.px_stream.proofs.turning.turn.Goals as goal
 

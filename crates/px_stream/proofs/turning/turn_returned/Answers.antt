@@ -1,8 +1,9 @@
 use Rattle.std.proofs.Common.{◌≡◌, ◌++◌, Option, Some, None, ap, sym, ◌∙◌}
 use Rattle.std.proofs.lemmas.List.{append-nil}
 use Rattle.px_message.specs.declared.response.Response.{Response}
-use Rattle.px_stream.specs.declared.taken.Taken.{Taken}
-use Rattle.px_stream.specs.Turns.{whole_leads, whole_owes, taken_at_body_of}
+use Rattle.px_exchange.specs.declared.taken.Taken.{Taken}
+use Rattle.px_stream.specs.Turns.{whole_leads, whole_owes}
+use Rattle.px_exchange.specs.Replies.{taken_at_body_of}
 use Rattle.px_stream.proofs.TurnLemmas.{owes_by, leads_by}
 use Rattle.px_stream.proofs.turning.turn_returned.Goals as goal
 

@@ -1,5 +1,6 @@
 use Rattle.std.proofs.Common.{[], ◌∷◌, ◌++◌, Ok, le_refl, le_trans}
-use Rattle.px_app.proofs.SavedLemmas.{front_next, puts_more, puts_none, puts_stop, rest_is}
+use Rattle.px_core.proofs.RunLemmas.{front_next, rest_is}
+use Rattle.px_app.proofs.SavedLemmas.{puts_more, puts_none, puts_stop}
 use Rattle.px_app.proofs.printing.Printing.put_flows.Goals as goal
 
 pub loop-flow-init : goal.loop-flow-init

@@ -1,8 +1,8 @@
 use Rattle.std.proofs.Common.{ap, ◌∙◌}
 use Rattle.px_event.specs.Stands.{due_by}
 use Rattle.px_message.specs.declared.address.Address.{Address}
-use Rattle.px_stream.specs.declared.terms.Numbers.{Numbers}
-use Rattle.px_stream.specs.declared.terms.Terms.{Terms}
+use Rattle.px_stream.specs.declared.numbers.Numbers.{Numbers}
+use Rattle.px_exchange.specs.declared.terms.Terms.{Terms}
 use Rattle.px_stream.specs.Chain.{http_chain, sequence}
 use Rattle.px_stream.specs.Stages.{idle}
 use Rattle.px_stream.specs.Stands.{start_of}

@@ -11,7 +11,7 @@ use Rattle.px_read.specs.declared.head.RequestHead.{RequestHead}
 use Rattle.px_read.specs.declared.part.Part.{Part}
 use Rattle.px_read.specs.declared.part.Part.TheVariants as given
 use Rattle.px_stream.specs.declared.phase.Phase.{Phase}
-use Rattle.px_stream.specs.Chain.{look_head, or_leaves}
+use Rattle.px_exchange.specs.Finds.{look_head, or_leaves}
 use Rattle.px_stream.specs.Phases.{head_phase, marks_at}
 use Rattle.px_stream.proofs.ReadLemmas.{head_shown}
 use Rattle.px_stream.proofs.HeadLemmas.{always, gives_at, phase_at, gives_missing, shows_missing}

@@ -1,0 +1,76 @@
+//! However the network cuts the bytes into pieces, what is due is the same. Each law is the contract of a function that
+//! does nothing.
+//!
+//! In one step it is the same to the last moment, with a premise on the replies that are used behind the pieces: none came in
+//! an earlier step. A piece that waits is worked off in the later of its own step and that of the last reply; so one half of
+//! a piece may have another moment than the whole had, where a reply in between came before both. In a run none did: a
+//! reply that was there was used before the next piece came. With no premise on steps it is the same but for the moments
+//! inside flows.
+ghost use Rattle.std.specs.Prelude.{◌≡◌, ℕ, false, List, [], ◌∷◌, ◌++◌, map};
+ghost use Rattle.std.specs.List.{flat_map};
+ghost use Rattle.px_event.specs.Alike.{MayCome};
+ghost use Rattle.px_event.specs.Chain.{Stamp, Stamped, walk_from, due};
+ghost use Rattle.px_event.specs.Trace.{is_same_side};
+ghost use Rattle.px_event.specs.declared.event.Event.{Event as Heard};
+ghost use Rattle.px_event.specs.declared.reply.Reply.{Reply as Answer};
+ghost use Rattle.px_event.specs.declared.side.Side.{Side as Peer};
+ghost use Rattle.px_stream.specs.Chain.{http_chain, IsOnward};
+ghost use Rattle.px_cuts.specs.Cuts.{as_piece, EqualButForMoments, IsNoEarlier, MayBeHeard, MayStand, SameStreams, piece_at, values_of};
+ghost use Rattle.px_stream.specs.Stages.{Stage};
+ghost use Rattle.px_exchange.specs.declared.terms.Terms.{Terms as Made};
+
+/// However the network cuts the bytes of a side into pieces, and in whatever steps they come, what is due is the same but
+/// for the moments inside flows. The events are the same with all neighbouring pieces of a side joined, and the replies are
+/// the same in the same order.
+pub fn same_streams_owe_the_same()
+    ensures { (onward : Stage → Stage) (made : Made) (start : Stage) (these those : List (Stamped Heard)) (replies answers : List (Stamped Answer)) →
+        IsOnward onward → MayStand start [] → SameStreams these those → values_of replies ≡ values_of answers →
+        EqualButForMoments (due (http_chain onward made) start these replies) (due (http_chain onward made) start those answers) }
+{}
+
+/// A piece of a side in two, cut anywhere, changes nothing of what is due: in one step exactly, and in any steps but for the
+/// moments inside flows.
+pub fn cut_pieces_owe_the_same()
+    ensures exactly { (onward : Stage → Stage) (made : Made) (start : Stage) (before after : List (Stamped Heard)) (replies : List (Stamped Answer))
+        (stamp : Stamp) (side : Peer) (bytes more : List ℕ) → IsOnward onward → MayStand start [] →
+        MayCome (IsNoEarlier stamp) (walk_from (http_chain onward made) start before replies).unused →
+        due (http_chain onward made) start (before ++ piece_at stamp side bytes ∷ piece_at stamp side more ∷ after) replies
+        ≡ due (http_chain onward made) start (before ++ piece_at stamp side (bytes ++ more) ∷ after) replies }
+    ensures at_any_moments { (onward : Stage → Stage) (made : Made) (start : Stage) (before after : List (Stamped Heard)) (replies : List (Stamped Answer))
+        (stamp first second : Stamp) (side : Peer) (bytes more : List ℕ) → IsOnward onward → MayStand start [] →
+        EqualButForMoments (due (http_chain onward made) start (before ++ piece_at first side bytes ∷ piece_at second side more ∷ after) replies)
+        (due (http_chain onward made) start (before ++ piece_at stamp side (bytes ++ more) ∷ after) replies) }
+{}
+
+/// However many pieces of a side come one behind the other, what is due is that of all their bytes in one piece: in one step
+/// exactly, and in any steps but for the moments inside flows.
+pub fn joined_pieces_owe_the_same()
+    ensures exactly { (onward : Stage → Stage) (made : Made) (start : Stage) (before after : List (Stamped Heard)) (replies : List (Stamped Answer))
+        (stamp : Stamp) (side : Peer) (first : List ℕ) (rest : List (List ℕ)) → IsOnward onward → MayStand start [] →
+        MayCome (IsNoEarlier stamp) (walk_from (http_chain onward made) start before replies).unused →
+        due (http_chain onward made) start (before ++ (map (piece_at stamp side) (first ∷ rest) ++ after)) replies
+        ≡ due (http_chain onward made) start (before ++ piece_at stamp side (flat_map (λ bytes. bytes) (first ∷ rest)) ∷ after) replies }
+    ensures at_any_moments { (onward : Stage → Stage) (made : Made) (start : Stage) (before after : List (Stamped Heard)) (replies : List (Stamped Answer))
+        (stamp : Stamp) (side : Peer) (first : Stamped (List ℕ)) (rest : List (Stamped (List ℕ))) → IsOnward onward → MayStand start [] →
+        EqualButForMoments (due (http_chain onward made) start (before ++ (map (as_piece side) (first ∷ rest) ++ after)) replies)
+        (due (http_chain onward made) start (before ++ piece_at stamp side (flat_map (λ bytes. bytes.value) (first ∷ rest)) ∷ after) replies) }
+{}
+
+/// Neighbouring pieces of two sides the other way round change nothing of what is due, in one step exactly, and in any
+/// steps but for the moments inside flows. Both sides may be heard by then: a side is the client's, or that of a server that
+/// was dialled. In a run that is so: a server is heard once it is connected. Before its dial its bytes are not heard at all.
+pub fn swapped_pieces_owe_the_same()
+    ensures exactly { (onward : Stage → Stage) (made : Made) (start : Stage) (before after : List (Stamped Heard)) (replies : List (Stamped Answer))
+        (stamp : Stamp) (side other : Peer) (bytes more : List ℕ) → IsOnward onward → MayStand start [] → is_same_side side other ≡ false →
+        MayBeHeard side (walk_from (http_chain onward made) start before replies).stage →
+        MayBeHeard other (walk_from (http_chain onward made) start before replies).stage →
+        MayCome (IsNoEarlier stamp) (walk_from (http_chain onward made) start before replies).unused →
+        due (http_chain onward made) start (before ++ piece_at stamp side bytes ∷ piece_at stamp other more ∷ after) replies
+        ≡ due (http_chain onward made) start (before ++ piece_at stamp other more ∷ piece_at stamp side bytes ∷ after) replies }
+    ensures at_any_moments { (onward : Stage → Stage) (made : Made) (start : Stage) (before after : List (Stamped Heard)) (replies : List (Stamped Answer))
+        (first second : Stamp) (side other : Peer) (bytes more : List ℕ) → IsOnward onward → MayStand start [] → is_same_side side other ≡ false →
+        MayBeHeard side (walk_from (http_chain onward made) start before replies).stage →
+        MayBeHeard other (walk_from (http_chain onward made) start before replies).stage →
+        EqualButForMoments (due (http_chain onward made) start (before ++ piece_at first side bytes ∷ piece_at second other more ∷ after) replies)
+        (due (http_chain onward made) start (before ++ piece_at second other more ∷ piece_at first side bytes ∷ after) replies) }
+{}

@@ -1,0 +1,9 @@
+pub mod Requests
+pub mod Replies
+pub mod Texts
+pub mod Flows
+pub mod Dials
+pub mod Endings
+pub mod EndOrder
+pub mod Finds
+pub mod Places

@@ -1,0 +1,120 @@
+//! The request that a head asks: its target is judged, then its length, and the expectation is taken out that this proxy
+//! meets itself.
+ghost use Rattle.std.specs.Prelude.{◌≡◌, ◌≢◌, ◌∷◌, [], IfOk};
+ghost use Rattle.px_message.specs.Target.{target_form};
+ghost use Rattle.px_exchange.specs.Requests.{connect_method, expects, fields_asked, is_head, is_http11, judged, path_in, request_of, unless_met};
+
+use px_message::{
+    Address, Body, Fault, Fields, Path, Request, Target, TargetError, Version, length_of_request,
+    read_target,
+};
+use px_read::RequestHead;
+use px_text::{Bytes, NoMemory};
+use std::alloc::Global;
+
+/// What is made of a head: a fault that makes no flow, or the request without its body.
+#[derive(Debug, Drop)]
+pub enum Judged {
+    Refused(Fault),
+    Accepted(Request),
+}
+
+/// Whether the method is HEAD.
+pub fn is_head(method: &[u8]) -> bool
+    ensures { result ≡ is_head method.now }
+{
+    method == b"HEAD".as_slice()
+}
+
+/// Whether the version is 1.1.
+pub fn is_http11(version: Version) -> bool
+    ensures { result ≡ is_http11 version }
+{
+    match version {
+        Version::Http10 => false,
+        Version::Http11 => true,
+    }
+}
+
+/// Whether the request asks for an answer before its body is sent (RFC 9110 section 10.1.1).
+pub fn expects(head: &RequestHead) -> bool
+    ensures { result ≡ expects head.now }
+{
+    is_http11(head.version) && head.fields.has_value(b"Expect", b"100-continue")
+}
+
+/// The request of this head, for this address.
+pub fn judge(alloc: Global, address: &Address, head: RequestHead) -> Result<Judged, NoMemory>
+    ensures { IfOk result (λ made. made ≡ judged address.now head) }
+{
+    if head.method.bytes() == b"CONNECT".as_slice() {
+        return Ok(Judged::Refused(Fault::BadTarget));
+    }
+    let Some(path) = allowed_path(alloc, head.method.bytes(), head.target.as_slice())? else {
+        return Ok(Judged::Refused(Fault::BadTarget));
+    };
+    if let Err(fault) = length_of_request(&head.fields) {
+        return Ok(Judged::Refused(fault));
+    }
+    Ok(Judged::Accepted(accept(alloc, address, head, path)?))
+}
+
+// The path of a target in a form that is allowed here.
+fn allowed_path(alloc: Global, method: &[u8], target: &[u8]) -> Result<Option<Path>, NoMemory>
+    ensures { IfOk result (λ path. path ≡ path_in (target_form method.now target.now)) }
+{
+    match read_target(alloc, method, target) {
+        Ok(Target::Origin(path)) => Ok(Some(path)),
+        Ok(Target::Absolute(_, path)) => Ok(Some(path)),
+        Ok(Target::Asterisk) => Ok(Some(asterisk(alloc)?)),
+        Ok(Target::Authority(_)) => Ok(None),
+        Err(TargetError::BadTarget) => Ok(None),
+        Err(TargetError::NoMemory) => Err(NoMemory),
+    }
+}
+
+fn asterisk(alloc: Global) -> Result<Path, NoMemory>
+    ensures { IfOk result (λ path. path ≡ (42 ∷ [])) }
+{
+    match Path::from_bytes(Bytes::copied(alloc, b"*")?) {
+        Ok(path) => Ok(path),
+        Err(_) => unreachable!(),
+    }
+}
+
+// The request of a head that is accepted, without its expectation.
+fn accept(
+    alloc: Global,
+    address: &Address,
+    head: RequestHead,
+    path: Path,
+) -> Result<Request, NoMemory>
+    requires not_connect { head.method ≢ connect_method }
+    ensures { (not_connect : head.method ≢ connect_method) → IfOk result (λ request. request ≡ request_of address.now head path not_connect) }
+{
+    let host = address.host.try_clone()?;
+    let expected = expects(&head);
+    let fields = without_expectation(expected, head.fields)?;
+    Ok(Request {
+        method: head.method,
+        host,
+        port: address.port,
+        path,
+        version: head.version,
+        fields,
+        body: Body::empty(),
+        trailers: Fields::new(alloc),
+        streamed: false,
+    })
+}
+
+// The fields without the expectation, where it is met.
+fn without_expectation(expected: bool, fields: Fields) -> Result<Fields, NoMemory>
+    ensures { IfOk result (λ left. left ≡ unless_met expected fields) }
+{
+    let mut fields = fields;
+    if expected {
+        fields.remove_value(b"Expect", b"100-continue")?;
+    }
+    Ok(fields)
+}

@@ -1,0 +1,202 @@
+//! How flows and conversations end: the bytes, the finished flow and the closes, in this order.
+ghost use Rattle.std.specs.Prelude.{◌≡◌, ◌++◌, OnOk, IfOk};
+ghost use Rattle.px_message.specs.Length.{stands as has_field, transfer_encoding};
+ghost use Rattle.px_message.specs.Settle.{settled_response};
+ghost use Rattle.px_write.specs.Error.{error_text as fault_text};
+ghost use Rattle.px_exchange.specs.Endings.{connection_goes_on, ends_by_fault, ends_early, finished, persists, refuses, runs_to_close, shut_client, shut_server, shut_unless};
+ghost use Rattle.px_exchange.specs.Requests.{is_head as asks_head};
+
+use crate::asked::is_head;
+use crate::flows::{with_error, with_response, without_response};
+use crate::said::{close, done, send};
+use crate::terms::Now;
+use crate::texts::returned_text;
+use px_event::{Command, Side};
+use px_message::{
+    Fault, Fields, Flow, Length, Request, Response, Shared, Version, length_of_response,
+    settle_response,
+};
+use px_text::{Bytes, NoMemory};
+use px_write::{error_text, fault_message};
+use std::alloc::Global;
+
+/// The server that a flow uses, if it uses one, and whether it closed.
+#[derive(Clone, Copy, Debug, PartialEq, Eq)]
+pub enum Used {
+    NoServer,
+    ByServer { number: u32, closed: bool },
+}
+
+/// The most flows of a conversation.
+pub const MOST_FLOWS: u32 = 1_000_000;
+
+// Closes the server's side, unless it closed itself.
+fn shut_server(used: Used, out: &mut Vec<Command>) -> Result<(), NoMemory>
+    ensures { OnOk result (out.new.items ≡ out.old.items ++ shut_server used) }
+{
+    match used {
+        Used::NoServer => Ok(()),
+        Used::ByServer { closed: true, .. } => Ok(()),
+        Used::ByServer {
+            number,
+            closed: false,
+        } => close(Side::Server(number), out),
+    }
+}
+
+// Closes the client's side, unless it closed itself.
+fn shut_client(closed: bool, out: &mut Vec<Command>) -> Result<(), NoMemory>
+    ensures { OnOk result (out.new.items ≡ out.old.items ++ shut_client closed) }
+{
+    if closed {
+        return Ok(());
+    }
+    close(Side::Client, out)
+}
+
+fn fault_text(alloc: Global, fault: Fault, asked_head: bool) -> Result<Bytes, NoMemory>
+    ensures { IfOk result (λ text. text ≡ fault_text fault asked_head) }
+{
+    let mut text = Vec::new(alloc);
+    error_text(fault, asked_head, &mut text)?;
+    Bytes::new(text)
+}
+
+/// Ends the conversation by a head that makes no flow.
+pub fn refuse(
+    now: Now,
+    fault: Fault,
+    asked_head: bool,
+    out: &mut Vec<Command>,
+) -> Result<(), NoMemory>
+    ensures { OnOk result (out.new.items ≡ out.old.items ++ refuses fault asked_head now.client_closed) }
+{
+    send(Side::Client, fault_text(now.alloc, fault, asked_head)?, out)?;
+    shut_client(now.client_closed, out)
+}
+
+/// Ends the flow early with this error, and its conversation; nothing is said to the client.
+pub fn end_early(
+    now: Now,
+    flow: Flow,
+    message: &[u8],
+    used: Used,
+    out: &mut Vec<Command>,
+) -> Result<(), NoMemory>
+    ensures { OnOk result (out.new.items ≡ out.old.items ++ ends_early flow message.now now.moment used now.client_closed) }
+{
+    done(with_error(now, flow, message)?, out)?;
+    shut_server(used, out)?;
+    shut_client(now.client_closed, out)
+}
+
+/// Ends the flow by a fault, before a byte of the response was sent: its text tells the client.
+pub fn end_by_fault(
+    now: Now,
+    flow: Flow,
+    fault: Fault,
+    used: Used,
+    out: &mut Vec<Command>,
+) -> Result<(), NoMemory>
+    ensures { OnOk result (out.new.items ≡ out.old.items ++ ends_by_fault flow fault now.moment used now.client_closed) }
+{
+    let text = fault_text(now.alloc, fault, is_head(flow.request.get().method.bytes()))?;
+    send(Side::Client, text, out)?;
+    end_early(now, without_response(flow), fault_message(fault), used, out)
+}
+
+// Whether a message of this version persists (RFC 9112 section 9.3).
+fn persists(version: Version, fields: &Fields) -> bool
+    ensures { result ≡ persists version fields.now }
+{
+    let closes = fields.has_element(b"Connection", b"close");
+    match version {
+        Version::Http11 => !closes,
+        Version::Http10 => {
+            let stays = fields.has_element(b"Connection", b"keep-alive");
+            let coded = is_coded(fields);
+            stays && !closes && !coded
+        }
+    }
+}
+
+fn is_coded(fields: &Fields) -> bool
+    ensures { result ≡ has_field transfer_encoding fields.now }
+{
+    fields.get_all(b"Transfer-Encoding").next().is_some()
+}
+
+// Whether the response, as it is sent, runs to the close.
+fn runs_to_close(sent: &Response, asked_head: bool) -> bool
+    ensures { result ≡ runs_to_close sent.now asked_head }
+{
+    match length_of_response(sent.status.code(), asked_head, &sent.fields) {
+        Ok(Length::ToClose) => true,
+        _ => false,
+    }
+}
+
+// The response as it is sent: its framing made true to its body.
+fn settled(request: &Request, response: &Response) -> Result<Response, NoMemory>
+    ensures { IfOk result (λ sent. sent ≡ settled_response (asks_head request.now.method) response.now) }
+{
+    let mut sent = response.try_clone()?;
+    settle_response(&mut sent, is_head(request.method.bytes()))?;
+    Ok(sent)
+}
+
+// Whether the client's connection goes on behind this flow, whose response was settled to this one.
+fn connection_goes_on(index: u32, request: &Request, response: &Response, sent: &Response) -> bool
+    requires settled { sent.now ≡ settled_response (asks_head request.now.method) response.now }
+    ensures { result ≡ connection_goes_on index request.now response.now }
+{
+    let asked = persists(request.version, &request.fields);
+    let answered = persists(response.version, &response.fields);
+    let to_close = runs_to_close(sent, is_head(request.method.bytes()));
+    let stays = asked && answered && !to_close;
+    stays && index < MOST_FLOWS - 1
+}
+
+// The text, the flow, and the close of its server's side. The response was settled to the one that is sent.
+fn finish_flow(
+    now: Now,
+    flow: Flow,
+    response: Shared<Response>,
+    sent: &Response,
+    used: Used,
+    out: &mut Vec<Command>,
+) -> Result<(), NoMemory>
+    requires settled { sent.now ≡ settled_response (asks_head flow.request.method) response }
+    ensures { OnOk result (out.new.items ≡ out.old.items ++ finished flow response used) }
+{
+    send(
+        Side::Client,
+        returned_text(now.alloc, flow.request.get(), sent)?,
+        out,
+    )?;
+    done(with_response(flow, response), out)?;
+    shut_server(used, out)
+}
+
+/// Finishes the flow with this response: its text, the flow, the close of its server's side, and the client's where the
+/// connection ends there. Whether it goes on.
+pub fn finish(
+    now: Now,
+    index: u32,
+    flow: Flow,
+    response: Shared<Response>,
+    used: Used,
+    out: &mut Vec<Command>,
+) -> Result<bool, NoMemory>
+    ensures stays { IfOk result (λ stays. stays ≡ connection_goes_on index flow.request response) }
+    ensures gives { OnOk result (out.new.items ≡ out.old.items ++ finished flow response used ++ shut_unless (connection_goes_on index flow.request response) now.client_closed) }
+{
+    let sent = settled(flow.request.get(), response.get())?;
+    let stays = connection_goes_on(index, flow.request.get(), response.get(), &sent);
+    finish_flow(now, flow, response, &sent, used, out)?;
+    if stays {
+        return Ok(true);
+    }
+    shut_client(now.client_closed, out)?;
+    Ok(false)
+}

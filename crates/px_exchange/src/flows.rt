@@ -1,0 +1,242 @@
+//! A flow as it is told so far.
+ghost use Rattle.std.specs.Prelude.{◌≡◌, false, true, Some, IfOk, MatchOption};
+ghost use Rattle.px_exchange.specs.Dials.{address_of};
+ghost use Rattle.px_exchange.specs.Finds.{is_relayed};
+ghost use Rattle.px_exchange.specs.Flows.{filled, response_of, with_answer, with_body, with_end, with_returned, with_start};
+ghost use Rattle.px_exchange.specs.Endings.{with_error, without_response};
+ghost use Rattle.px_exchange.specs.Requests.{flow_of};
+
+use crate::content::Content;
+use crate::terms::{Now, Terms};
+use px_message::{
+    Address, Body, Fields, Flow, FlowError, FlowId, Replayed, Request, Response, Shared, Status,
+    Times,
+};
+use px_read::ResponseHead;
+use px_text::{Bytes, NoMemory};
+use std::alloc::Global;
+
+/// The flow of a request whose head was read at this moment.
+pub fn begin(
+    alloc: Global,
+    terms: &Terms,
+    index: u32,
+    request: Request,
+    moment: u64,
+) -> Result<Flow, NoMemory>
+    ensures { IfOk result (λ flow. flow ≡ flow_of terms.now index request moment) }
+{
+    let request = Shared::new(alloc, request)?;
+    Ok(Flow {
+        id: FlowId {
+            conv: terms.conv,
+            index,
+        },
+        client: terms.client.clone()?,
+        server: None,
+        request,
+        response: None,
+        error: None,
+        times: Times {
+            request_start: moment,
+            request_end: None,
+            response_start: None,
+            response_end: None,
+        },
+        replayed: Replayed::No,
+        marked: false,
+        websocket: false,
+        message: None,
+    })
+}
+
+/// The flow with this request in place of its own.
+pub fn with_request(flow: Flow, request: Shared<Request>) -> Flow
+    ensures { result ≡ record flow { request = request } }
+{
+    let mut flow = flow;
+    flow.request = request;
+    flow
+}
+
+/// The flow with this response.
+pub fn with_response(flow: Flow, response: Shared<Response>) -> Flow
+    ensures { result ≡ record flow { response = Some response } }
+{
+    let mut flow = flow;
+    flow.response = Some(response);
+    flow
+}
+
+/// The flow with the server that it uses.
+pub fn with_server(flow: Flow, server: Address) -> Flow
+    ensures { result ≡ record flow { server = Some server } }
+{
+    let mut flow = flow;
+    flow.server = Some(server);
+    flow
+}
+
+/// The flow with its whole request.
+pub fn with_body(now: Now, flow: Flow, body: Content, trailers: Fields) -> Result<Flow, NoMemory>
+    ensures { IfOk result (λ whole. whole ≡ with_body flow body trailers now.moment) }
+{
+    let mut flow = flow;
+    flow.request = whole_request(now.alloc, flow.request.get(), body, trailers)?;
+    flow.times.request_end = Some(now.moment);
+    Ok(flow)
+}
+
+// The request with its body and trailers.
+fn filled_request(request: Request, body: Content, trailers: Fields) -> Request
+    ensures { result ≡ record request { body = body; trailers = trailers } }
+{
+    let mut filled = request;
+    filled.body = body.into_body();
+    filled.trailers = trailers;
+    filled
+}
+
+// A copy of it with its body and trailers.
+fn whole_request(
+    alloc: Global,
+    request: &Request,
+    body: Content,
+    trailers: Fields,
+) -> Result<Shared<Request>, NoMemory>
+    ensures { IfOk result (λ whole. whole ≡ record request.now { body = body; trailers = trailers }) }
+{
+    let copy = request.try_clone()?;
+    Shared::new(alloc, filled_request(copy, body, trailers))
+}
+
+/// The flow with the head of its response.
+pub fn with_answer(now: Now, flow: Flow, response: Response) -> Result<Flow, NoMemory>
+    ensures { IfOk result (λ answered. answered ≡ with_answer flow response now.moment) }
+{
+    let mut flow = flow;
+    flow.response = Some(Shared::new(now.alloc, response)?);
+    flow.times.response_start = Some(now.moment);
+    Ok(flow)
+}
+
+/// The flow with its whole response.
+pub fn with_returned(
+    now: Now,
+    flow: Flow,
+    body: Content,
+    trailers: Fields,
+) -> Result<Flow, NoMemory>
+    ensures { IfOk result (λ whole. whole ≡ with_returned flow body trailers now.moment) }
+{
+    let mut flow = flow;
+    flow.response = whole_response(now.alloc, &flow.response, body, trailers)?;
+    flow.times.response_end = Some(now.moment);
+    Ok(flow)
+}
+
+// The response with its body and trailers.
+fn filled_response(response: Response, body: Content, trailers: Fields) -> Response
+    ensures { result ≡ record response { body = body; trailers = trailers } }
+{
+    let mut filled = response;
+    filled.body = body.into_body();
+    filled.trailers = trailers;
+    filled
+}
+
+// A copy of the response, if there is one, with its body and trailers.
+fn whole_response(
+    alloc: Global,
+    response: &Option<Shared<Response>>,
+    body: Content,
+    trailers: Fields,
+) -> Result<Option<Shared<Response>>, NoMemory>
+    ensures { IfOk result (λ whole. whole ≡ filled response.now body trailers) }
+{
+    let Some(response) = response else {
+        return Ok(None);
+    };
+    let copy = response.get().try_clone()?;
+    let whole = Shared::new(alloc, filled_response(copy, body, trailers))?;
+    Ok(Some(whole))
+}
+
+/// The flow with the start of its response.
+pub fn with_start(flow: Flow, moment: u64) -> Flow
+    ensures { result ≡ with_start flow moment }
+{
+    let mut flow = flow;
+    flow.times.response_start = Some(moment);
+    flow
+}
+
+/// The flow with the end of its response.
+pub fn with_end(flow: Flow, moment: u64) -> Flow
+    ensures { result ≡ with_end flow moment }
+{
+    let mut flow = flow;
+    flow.times.response_end = Some(moment);
+    flow
+}
+
+/// The flow without a response, which was not whole.
+pub fn without_response(flow: Flow) -> Flow
+    ensures { result ≡ without_response flow }
+{
+    let mut flow = flow;
+    flow.response = None;
+    flow.times.response_start = None;
+    flow.times.response_end = None;
+    flow
+}
+
+/// The flow with an error at this moment.
+pub fn with_error(now: Now, flow: Flow, message: &[u8]) -> Result<Flow, NoMemory>
+    ensures { IfOk result (λ told. told ≡ with_error flow message.now now.moment) }
+{
+    let mut flow = flow;
+    flow.error = Some(FlowError {
+        msg: Bytes::copied(now.alloc, message)?,
+        moment: now.moment,
+    });
+    Ok(flow)
+}
+
+/// Where the request of a flow goes, as its hooks left it.
+pub fn address_of(flow: &Flow) -> Result<Address, NoMemory>
+    ensures { IfOk result (λ address. address ≡ address_of flow.now.request) }
+{
+    let request = flow.request.get();
+    Ok(Address {
+        host: request.host.try_clone()?,
+        port: request.port,
+    })
+}
+
+/// The status of a final response that this proxy relays; none where the code is no status, or is 101, which switches
+/// protocols (RFC 9110 section 15.2.2).
+pub fn status_of(code: u16) -> Option<Status>
+    ensures { MatchOption result (is_relayed code ≡ false) (λ status. (status ≡ code) × (is_relayed code ≡ true)) }
+{
+    if code == 101 {
+        return None;
+    }
+    Status::try_new(code)
+}
+
+/// The response of a head, without its body.
+pub fn response_of(alloc: Global, head: ResponseHead, status: Status) -> Response
+    requires { status ≡ head.code }
+    ensures { result ≡ response_of head }
+{
+    Response {
+        version: head.version,
+        status,
+        reason: head.reason,
+        fields: head.fields,
+        body: Body::empty(),
+        trailers: Fields::new(alloc),
+        streamed: false,
+    }
+}
