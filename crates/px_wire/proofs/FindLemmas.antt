@@ -1,128 +1,61 @@
--- Places among the slots.
-use Rattle.std.proofs.Common.{◌≡◌, ℕ, zero, suc, ◌<◌, Bool, true, false, refl, ap, sym, arith, subst, List, [], ◌∷◌, ◌++◌, ◌==◌, length, get_or, Some, None, position}
-use Rattle.std.specs.Prelude.{slice_set}
-use Rattle.std.specs.List.{list_any, remove}
-use Rattle.std.proofs.lemmas.List.Quantifiers.{position-Some}
-use Rattle.std.proofs.lemmas.List.Folds.{list_any_none}
+-- One of the slots, among the others.
+use Rattle.std.proofs.Common.{◌≡◌, ◌∙◌, ℕ, ◌<◌, Bool, true, false, refl, ap, sym, arith, subst, List, [], ◌∷◌, ◌++◌, ◌==◌, ◌&&◌, Option, Some, None}
+use Rattle.std.specs.Prelude.{nat_eq, is_some, option_copied}
+use Rattle.std.proofs.Common.{Bor}
+use Rattle.std.specs.List.{list_any}
+use Rattle.std.specs.Map.{lookup, set_value}
 use Rattle.std.proofs.lemmas.Bool.{eqb-true}
-use Rattle.px_outside.proofs.StoredLemmas.{all_fail}
 use Rattle.px_event.specs.Trace.{is_same_side}
 use Rattle.px_event.specs.declared.side.Side.{Side}
+use Rattle.px_event.specs.declared.heard.Heard.{Heard}
 use Rattle.px_wire.specs.declared.link.Link.{Link}
-use Rattle.px_wire.specs.Found.{IsAt, Found, Missing, readable_count}
+use Rattle.px_wire.specs.declared.links.Links.{Links}
+use Rattle.px_wire.specs.declared.table.Table.{Table}
+use Rattle.px_wire.specs.Calls.{Calls}
+use Rattle.px_wire.specs.Found.{IsAt, HasTurn, Missing, readable_count}
+use Rattle.px_wire.specs.Holds.{Alike, Holds, Changes, IsFirst, IsSettled, link_at}
+use Rattle.std.specs.BTreeMap.{IsEmpty}
 use Rattle.px_wire.specs.Links.{has_slot, is_link_of, is_over, is_open_to_read}
-use Rattle.px_wire.specs.Stands.{AllCalm}
+use Rattle.px_wire.specs.Stands.{idle, StandsFor, Rests, AllCalm, IsCalm}
+use Rattle.px_wire.proofs.HoldsLemmas.{open_same, in_here, at_slot, change_held, alike_held, alike_back}
+use Rattle.px_wire.proofs.DueLemmas.{none_over, none_open, none_before}
 use Rattle.px_wire.proofs.PlaceLemmas.{side_same}
 use Rattle.px_wire.proofs.ServeLemmas.{neither}
 
--- what stands at a place
-pub record Here (links : List Link) (place : ℕ) : Type 0 where
+-- what is kept, around one slot
+pub record Here (owed : Option Heard) (table : Table) (slot : ℕ) (link : Link) (told : Option Calls) : Type 0 where
   pub front : List Link
-  pub link : Link
   pub back : List Link
-  pub is_at : IsAt links place front link back
+  pub is_at : IsAt table.links slot front link back
+  pub stands : StandsFor idle owed (front ++ link ∷ back) table.accepted table.moment told
 
-pub here_at : (links : List Link) (place : ℕ) → place < length links → Here links place
-here_at [] place below = absurd (omega arith)
-here_at (link ∷ links) zero below = record { front = []; link = link; back = links; is_at = record { are = refl; place_is = refl } }
-here_at (link ∷ links) (suc place) below =
-    let rest = here_at links place (omega arith) in record {
-      front = link ∷ rest.front;
-      link = rest.link;
-      back = rest.back;
-      is_at = record { are = ap (λ (ls : List Link). link ∷ ls) rest.is_at.are; place_is = ap suc rest.is_at.place_is };
-    }
+pub here : (owed : Option Heard) (table : Table) (slot : ℕ) (link : Link) (told : Option Calls) → Rests owed table told → link_at table.links slot ≡ Some link → Here owed table slot link told
+here owed table slot link told rests at =
+    let a = at_slot table.links rests.links slot link rests.held at in
+    let P : List Link → Type 0 = λ ls. Holds table.links ls in
+    let Q : List Link → Type 0 = λ ls. StandsFor idle owed ls table.accepted table.moment told in
+    record { front = a.front; back = a.back; is_at = record { held = subst P a.are rests.held; slot_is = a.slot_is }; stands = subst Q a.are rests.stands }
 
-get_around : (front back : List Link) (link d : Link) → get_or (front ++ link ∷ back) (length front) d ≡ link
-get_around [] back link d = refl
-get_around (first ∷ front) back link d = get_around front back link d
+pub whole : (owed : Option Heard) (table : Table) (slot : ℕ) (front : List Link) (link : Link) (back : List Link) (told : Option Calls) → IsAt table.links slot front link back
+    → StandsFor idle owed (front ++ link ∷ back) table.accepted table.moment told → Rests owed table told
+whole owed table slot front link back told at stands = record { links = front ++ link ∷ back; held = at.held; stands = stands }
 
-set_around : (front back : List Link) (link new : Link) → slice_set (front ++ link ∷ back) (length front) new ≡ front ++ new ∷ back
-set_around [] back link new = refl
-set_around (first ∷ front) back link new = ap (λ (ls : List Link). first ∷ ls) (set_around front back link new)
+-- it is found by its number
+pub link_of : (t : Links) (slot : ℕ) (front : List Link) (link : Link) (back : List Link) → IsAt t slot front link back → link_at t slot ≡ Some link
+link_of t slot front link back at = let P : ℕ → Type 0 = λ n. link_at t n ≡ Some link in subst P at.slot_is (at.held.found link (in_here link front back))
 
-remove_around : (front back : List Link) (link : Link) → remove (front ++ link ∷ back) (length front) ≡ front ++ back
-remove_around [] back link = refl
-remove_around (first ∷ front) back link = ap (λ (ls : List Link). first ∷ ls) (remove_around front back link)
+-- and still is, once it has changed
+pub at_again : (old new : Links) (slot : ℕ) (front : List Link) (link changed : Link) (back : List Link) → IsAt old slot front link back → Changes old new slot link changed
+    → changed.slot ≡ link.slot → changed.conv ≡ link.conv → changed.turn ≡ link.turn → IsAt new slot front changed back
+at_again old new slot front link changed back at ch slot_is conv_is turn_is =
+    record { held = change_held old new slot link changed front back ch at.slot_is slot_is conv_is turn_is at.held; slot_is = slot_is ∙ at.slot_is }
 
-module _ (links : List Link) (place : ℕ) (front : List Link) (link : Link) (back : List Link) (at : IsAt links place front link back) where
-  pub at_is : (d : Link) → get_or links place d ≡ link
-  at_is d =
-      let P : List Link → Type 0 = λ ls. get_or ls place d ≡ link in
-      let Q : ℕ → Type 0 = λ n. get_or (front ++ link ∷ back) n d ≡ link in
-      subst P (sym at.are) (subst Q at.place_is (get_around front back link d))
-
-  pub set_at : (new : Link) → slice_set links place new ≡ front ++ new ∷ back
-  set_at new =
-      let P : List Link → Type 0 = λ ls. slice_set ls place new ≡ front ++ new ∷ back in
-      let Q : ℕ → Type 0 = λ n. slice_set (front ++ link ∷ back) n new ≡ front ++ new ∷ back in
-      subst P (sym at.are) (subst Q at.place_is (set_around front back link new))
-
-  pub remove_at : remove links place ≡ front ++ back
-  remove_at =
-      let P : List Link → Type 0 = λ ls. remove ls place ≡ front ++ back in
-      let Q : ℕ → Type 0 = λ n. remove (front ++ link ∷ back) n ≡ front ++ back in
-      subst P (sym at.are) (subst Q at.place_is (remove_around front back link))
-
--- none of those that were passed
-none_before : (test : Link → Bool) (front back : List Link) (link d : Link) → ((k : ℕ) → k < length front → test (get_or (front ++ link ∷ back) k d) ≡ false) → list_any test front ≡ false
-none_before test [] back link d none = refl
-none_before test (first ∷ front) back link d none =
-    let head : test first ≡ false = none 0 (omega arith) in
-    let rest : list_any test front ≡ false = none_before test front back link d (λ k below. none (suc k) (omega arith)) in
-    rw (head, rest) refl
-
--- the search found a place
-pub found_by : (test : Link → Bool) (links : List Link) (place : ℕ) → Some place ≡ position test links → Found test links place
-found_by test links place is =
-    let d : Link = default links place is in
-    let parts = position-Some test links place d (sym is) in
-    let h = here_at links place parts.0 in
-    record {
-      front = h.front;
-      link = h.link;
-      back = h.back;
-      is_at = h.is_at;
-      passes = (let P : Link → Type 0 = λ l. test l ≡ true in subst P (at_is links place h.front h.link h.back h.is_at d) parts.1);
-      before = none_before test h.front h.back h.link d
-          (λ k below. (let P : List Link → Type 0 = λ ls. test (get_or ls k d) ≡ false in let e = h.is_at.place_is in subst P h.is_at.are (parts.2 k (omega arith))));
-    }
-  where
-    default : (links : List Link) (place : ℕ) → Some place ≡ position test links → Link
-    default [] place e = let wrong : Some place ≡ None = e in cc
-    default (link ∷ links) place e = link
-
--- and one below the length
-pub found_below : (test : Link → Bool) (links : List Link) (place : ℕ) → Some place ≡ position test links → place < length links
-found_below test [] place is = let wrong : Some place ≡ None = is in cc
-found_below test (link ∷ links) place is = (position-Some test (link ∷ links) place link (sym is)).0
-
--- or none
-pub missing_by : (test : Link → Bool) (links : List Link) → None ≡ position test links → Missing test links
-missing_by test links is = list_any_none test links (all_fail test links is)
-
--- the same, where what was searched is equal to the slots
-pub found_in : (test : Link → Bool) (links seen : List Link) (place : ℕ) → seen ≡ links → Some place ≡ position test seen → Found test links place
-found_in test links seen place same is = let P : List Link → Type 0 = λ ls. Some place ≡ position test ls in found_by test links place (subst P same is)
-
-pub below_in : (test : Link → Bool) (links seen : List Link) (place : ℕ) → seen ≡ links → Some place ≡ position test seen → place < length links
-below_in test links seen place same is = let P : List Link → Type 0 = λ ls. Some place ≡ position test ls in found_below test links place (subst P same is)
-
-pub missing_in : (test : Link → Bool) (links seen : List Link) → seen ≡ links → None ≡ position test seen → Missing test links
-missing_in test links seen same is = let P : List Link → Type 0 = λ ls. None ≡ position test ls in missing_by test links (subst P same is)
-
--- the first that may be read was found, or none may
-pub found_open : (links seen : List Link) (place : ℕ) → seen ≡ links → Some place ≡ position (is_open_to_read seen) seen → Found (is_open_to_read links) links place
-found_open links seen place same is =
-    let P : List Link → Type 0 = λ ls. Some place ≡ position (is_open_to_read ls) ls in found_by (is_open_to_read links) links place (subst P same is)
-
-pub below_open : (links seen : List Link) (place : ℕ) → seen ≡ links → Some place ≡ position (is_open_to_read seen) seen → place < length links
-below_open links seen place same is =
-    let P : List Link → Type 0 = λ ls. Some place ≡ position (is_open_to_read ls) ls in found_below (is_open_to_read links) links place (subst P same is)
-
-pub missing_open : (links seen : List Link) → seen ≡ links → None ≡ position (is_open_to_read seen) seen → Missing (is_open_to_read links) links
-missing_open links seen same is =
-    let P : List Link → Type 0 = λ ls. None ≡ position (is_open_to_read ls) ls in missing_by (is_open_to_read links) links (subst P same is)
+-- the same slots
+pub rests_alike : (owed : Option Heard) (old new : Table) (told : Option Calls) → Alike old.links new.links → new.accepted ≡ old.accepted → new.moment ≡ old.moment → Rests owed old told → Rests owed new told
+rests_alike owed old new told alike accepted moment rests =
+    let P : ℕ → Type 0 = λ n. StandsFor idle owed rests.links n old.moment told in
+    let Q : ℕ → Type 0 = λ n. StandsFor idle owed rests.links new.accepted n told in
+    record { links = rests.links; held = alike_held old.links new.links rests.links alike rests.held; stands = subst Q (sym moment) (subst P (sym accepted) rests.stands) }
 
 -- none is over, and none may be read
 pub calm_of : (all links : List Link) → Missing is_over links → Missing (is_open_to_read all) links → AllCalm all links
@@ -145,14 +78,60 @@ side_is conv side link is = by (link.conv == conv) refl (is_same_side link.side 
     by true x false y = let wrong : false ≡ true = rw (x, y) at is in cc
 
 -- one less is readable
-pub fewer : (front back : List Link) (link : Link) → link.is_readable ≡ true → readable_count (front ++ record link { is_readable = false } ∷ back) < readable_count (front ++ link ∷ back)
-fewer [] back link is = rw is (omega arith)
-fewer (first ∷ front) back link is = let rest = fewer front back link is in omega arith
+pub fewer : (slot : ℕ) (link : Link) (entries : List (ℕ × Link)) → lookup (nat_eq slot) entries ≡ Some link → link.is_readable ≡ true
+    → readable_count (set_value (nat_eq slot) entries (record link { is_readable = false })) < readable_count entries
+fewer slot link [] at readable = let wrong : None ≡ Some link = at in cc
+fewer slot link (entry ∷ entries) at readable = by (fewer slot link entries) (nat_eq slot entry.0) refl
+  where
+    by : (lookup (nat_eq slot) entries ≡ Some link → link.is_readable ≡ true → readable_count (set_value (nat_eq slot) entries (record link { is_readable = false })) < readable_count entries)
+        → (b : Bool) → nat_eq slot entry.0 ≡ b → readable_count (set_value (nat_eq slot) (entry ∷ entries) (record link { is_readable = false })) < readable_count (entry ∷ entries)
+    by more true e =
+        let a : Some entry.1 ≡ Some link = rw e at at in
+        let same : entry.1 ≡ link = cc in
+        let r : entry.1.is_readable ≡ true = ap (λ (l : Link). l.is_readable) same ∙ readable in
+        rw (e, r) (omega arith)
+    by more false e =
+        let a : lookup (nat_eq slot) entries ≡ Some link = rw e at at in
+        let less = more a readable in rw e (omega (arith, less))
 
--- none is over still
-pub still_alive : (front back : List Link) (link new : Link) → new.is_over ≡ link.is_over → Missing is_over (front ++ link ∷ back) → Missing is_over (front ++ new ∷ back)
-still_alive [] back link new same live =
-    let a = neither link.is_over (list_any is_over back) live in rw (same, a.0, a.1) refl
-still_alive (first ∷ front) back link new same live =
-    let a = neither first.is_over (list_any is_over (front ++ link ∷ back)) live in
-    let rest : list_any is_over (front ++ new ∷ back) ≡ false = still_alive front back link new same a.1 in rw (a.0, rest) refl
+-- what was looked up
+pub there_is : (got : Option (Bor Link)) (at : Option Link) → option_copied got ≡ at → is_some got ≡ true → (link : Link) × (at ≡ Some link)
+there_is None at same is = let wrong : false ≡ true = is in cc
+there_is (Some link) at same is = (link.now, sym same)
+
+pub gone_is : (got : Option (Bor Link)) (at : Option Link) → option_copied got ≡ at → is_some got ≡ false → at ≡ None
+gone_is None at same is = sym same
+gone_is (Some link) at same is = let wrong : true ≡ false = is in cc
+
+-- what is calm stays so
+pub calm_alike : (old new : Links) → Alike old new → IsCalm old → IsCalm new
+calm_alike old new alike calm links held = calm links (alike_held new old links (alike_back old new alike) held)
+
+-- before something is heard, the conversations that are marked are looked at
+pub rests_due : (owed : Option Heard) (table : Table) (new : Links) (told : Option Calls) → ((links : List Link) → Holds table.links links → Holds new links) → Rests owed table told → Rests owed (record table { links = new }) told
+rests_due owed table new told holds rests = record { links = rests.links; held = holds rests.links rests.held; stands = rests.stands }
+
+-- nothing is left to be heard
+pub calm_due : (t : Links) → IsSettled t → IsEmpty t.ready → IsCalm t
+calm_due t settled empty links held = calm_of links links (none_over t links held settled) (none_open t links held settled empty)
+
+-- it is the first slot's turn
+pub turn_due : (t : Links) (slot : ℕ) (first : IsFirst t slot) (settled : IsSettled t) (front back : List Link) → IsAt t slot front first.link back → HasTurn front first.link back
+turn_due t slot first settled front back at = record {
+  opens = sym (open_same t (front ++ first.link ∷ back) at.held first.link) ∙ first.opens;
+  first = none_before t (front ++ first.link ∷ back) at.held settled front back first.link refl first.least;
+  alive = none_over t (front ++ first.link ∷ back) at.held settled;
+}
+
+-- a slot that has nothing at present is readable no more
+pub fewer_due : (t mid new : Links) (slot : ℕ) (first : IsFirst mid slot) → mid.by_slot ≡ t.by_slot → new.by_slot.entries ≡ set_value (nat_eq slot) mid.by_slot.entries (record first.link { is_readable = false })
+    → readable_count new.by_slot.entries < readable_count t.by_slot.entries
+fewer_due t mid new slot first same is =
+    let P : List (ℕ × Link) → Type 0 = λ es. readable_count es < readable_count t.by_slot.entries in
+    let less = fewer slot first.link mid.by_slot.entries first.at (first_part first.link.is_readable _ first.opens) in
+    let e : readable_count mid.by_slot.entries ≡ readable_count t.by_slot.entries = ap (λ m. readable_count m.entries) same in
+    subst P (sym is) (omega (arith, less, e))
+  where
+    first_part : (a b : Bool) → (a && b) ≡ true → a ≡ true
+    first_part true b is = refl
+    first_part false b is = let wrong : false ≡ true = is in cc

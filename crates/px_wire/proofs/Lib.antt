@@ -2,9 +2,11 @@ pub mod AcceptLemmas
 pub mod AskedLemmas
 pub mod CallLemmas
 pub mod ChangeLemmas
+pub mod DueLemmas
 pub mod FindLemmas
 pub mod GetLemmas
 pub mod HearLemmas
+pub mod HoldsLemmas
 pub mod LedgerLemmas
 pub mod LinesLemmas
 pub mod MemWireLemmas

@@ -1,6 +1,5 @@
 -- What lines keep, over a call.
-use Rattle.std.proofs.Common.{◌≡◌, ◌∙◌, ◌⊎◌, inl, inr, ℕ, ◌+◌, ◌≤◌, Bool, true, false, refl, ap, sym, arith, subst, List, [], ◌∷◌, ◌++◌, drop, length, Option, Some, None}
-use Rattle.std.specs.List.{position}
+use Rattle.std.proofs.Common.{◌≡◌, ◌∙◌, ◌⊎◌, inl, inr, ℕ, ◌+◌, ◌≤◌, Bool, true, false, refl, ap, sym, arith, subst, List, [], ◌∷◌, ◌++◌, Option, Some, None}
 use Rattle.std.specs.Prelude.{Result, Ok, Err, OnOk, OnErr}
 use Rattle.px_event.specs.declared.heard.Heard.{Heard}
 use Rattle.px_event.specs.declared.step.Step.{Step}
@@ -13,14 +12,13 @@ use Rattle.px_wire.specs.declared.table.Table.{Table}
 use Rattle.px_wire.specs.declared.call.WireCall.TheVariants as calls
 use Rattle.px_wire.specs.Calls.{Calls, Tells, NoneTold, AsksMore, AsksAtMost}
 use Rattle.px_wire.specs.declared.link.Flushed.{Flushed}
-use Rattle.px_wire.specs.Found.{IsAt, Found}
-use Rattle.px_wire.specs.Links.{has_slot}
-use Rattle.px_wire.specs.Puts.{FlushedSo, first_queue, queue_at, queue_of}
+use Rattle.px_wire.specs.Found.{IsAt, Loose}
+use Rattle.px_wire.specs.Holds.{link_at}
+use Rattle.px_wire.specs.Puts.{FlushedSo, queue_in, queue_of}
 use Rattle.px_wire.specs.Lines.{Keeps}
 use Rattle.px_wire.specs.Stands.{idle, putting, Stands, StandsFor, Rests}
 use Rattle.px_wire.proofs.TableLemmas.{may_put_to, notes_so}
-use Rattle.px_wire.proofs.StepLemmas.{apart_at}
-use Rattle.px_wire.proofs.FindLemmas.{found_by, slot_is}
+use Rattle.px_wire.proofs.FindLemmas.{here}
 
 -- before the first call
 pub begins_so : (told : Option Calls) → NoneTold told → StandsFor idle None [] 0 0 told
@@ -38,43 +36,37 @@ keeps_by true old new before after step keeps = (keeps.0, step keeps.0 keeps.1)
 pub keeps_loose : (table : Table) (told : Option Calls) → Rests None table told → Keeps true table told
 keeps_loose table told rests = (None, rests)
 
--- a slot was flushed at its place
-pub keeps_flushed : (spent : Bool) (old new : Table) (before after : Option Calls) (slot place : ℕ) → Some place ≡ position (has_slot slot) old.links.items
-    → ((owed : Option Heard) (f b : List Link) (l : Link) → IsAt old.links.items place f l b → StandsFor (putting l.slot) owed (f ++ l ∷ b) old.accepted old.moment before → Rests owed new after)
+-- a slot was flushed
+pub keeps_flushed : (spent : Bool) (old new : Table) (before after : Option Calls) (slot : ℕ) (link : Link) → link_at old.links slot ≡ Some link
+    → ((owed : Option Heard) (f b : List Link) (l : Link) → IsAt old.links slot f l b → StandsFor (putting l.slot) owed (f ++ l ∷ b) old.accepted old.moment before → Rests owed new after)
     → Keeps spent old before → Keeps spent new after
-keeps_flushed spent old new before after slot place is flushes keeps =
-    let f = found_by (has_slot slot) old.links.items place is in
+keeps_flushed spent old new before after slot link at flushes keeps =
     keeps_by spent old new before after
-    (λ owed rests. flushes owed f.front f.back f.link f.is_at
-    (may_put_to owed f.front f.back f.link old.accepted old.moment before (apart_at idle owed old.links.items place f.front f.link f.back old.accepted old.moment before f.is_at rests)))
+    (λ owed rests. let h = here owed old slot link before rests at in
+    flushes owed h.front h.back link h.is_at (may_put_to owed h.front h.back link old.accepted old.moment before h.stands))
     keeps
 
--- the queue of a slot is that of what was found
-queue_here : (front back : List Link) (link : Link) → first_queue (drop (length front) (front ++ link ∷ back)) ≡ link.queue
-queue_here [] back link = refl
-queue_here (first ∷ front) back link = queue_here front back link
-
-queue_found : (slot place : ℕ) (links : List Link) (f : Found (has_slot slot) links place) → Some place ≡ position (has_slot slot) links → f.link.queue ≡ queue_of slot links
-queue_found slot place links f is =
-    let P : Option ℕ → Type 0 = λ p. f.link.queue ≡ queue_at p links in
-    let Q : List Link → Type 0 = λ ls. f.link.queue ≡ first_queue (drop place ls) in
-    let R : ℕ → Type 0 = λ n. f.link.queue ≡ first_queue (drop n (f.front ++ f.link ∷ f.back)) in
-    subst P is (subst Q (sym f.is_at.are) (subst R f.is_at.place_is (sym (queue_here f.front f.back f.link))))
+-- what is kept, whatever is still to be heard
+kept_so : (spent : Bool) (table : Table) (told : Option Calls) → Keeps spent table told → Loose table told
+kept_so false table told keeps = (None, keeps)
+kept_so true table told keeps = keeps
 
 -- what the flush of a slot did, by the slot
-pub flushed_so : (outcome : Flushed) (slot place : ℕ) (links : List Link) (before after : Option Calls) → Some place ≡ position (has_slot slot) links
-    → ((f b : List Link) (l : Link) → IsAt links place f l b → FlushedSo outcome l.slot l.queue before after) → FlushedSo outcome slot (queue_of slot links) before after
-flushed_so outcome slot place links before after is flushes =
-    let f = found_by (has_slot slot) links place is in
-    let P : ℕ → Type 0 = λ s. FlushedSo outcome s f.link.queue before after in
+pub flushed_so : (outcome : Flushed) (spent : Bool) (table : Table) (slot : ℕ) (link : Link) (before after : Option Calls) → link_at table.links slot ≡ Some link → Keeps spent table before
+    → ((f b : List Link) (l : Link) → IsAt table.links slot f l b → FlushedSo outcome l.slot l.queue before after) → FlushedSo outcome slot (queue_of slot table.links) before after
+flushed_so outcome spent table slot link before after at keeps flushes =
+    let loose = kept_so spent table before keeps in
+    let h = here loose.0 table slot link before loose.1 at in
+    let P : ℕ → Type 0 = λ s. FlushedSo outcome s link.queue before after in
     let Q : List ℕ → Type 0 = λ queue. FlushedSo outcome slot queue before after in
-    subst Q (queue_found slot place links f is) (subst P (slot_is slot f.link f.passes) (flushes f.front f.back f.link f.is_at))
+    let R : Option Link → Type 0 = λ o. link.queue ≡ queue_in o in
+    subst Q (subst R (sym at) refl) (subst P h.is_at.slot_is (flushes h.front h.back link h.is_at))
 
 -- a step was noted, or memory ran out and nothing was
 pub keeps_noted : {T E : Type 0} (r : Result T E) (spent : Bool) (table : Table) (step : Step) (before after : Option Calls) → IsNote step → OnOk r (Tells (calls.Noted step) before after)
     → OnErr r (after ≡ before) → Keeps spent table before → Keeps spent table after
 keeps_noted (Ok value) spent table step before after is tells same keeps =
-    keeps_by spent table table before after (λ owed rests. notes_so table.accepted table.moment before after owed table.links.items step is tells rests) keeps
+    keeps_by spent table table before after (λ owed rests. record { links = rests.links; held = rests.held; stands = notes_so table.accepted table.moment before after owed rests.links step is tells rests.stands }) keeps
 keeps_noted (Err error) spent table step before after is tells same keeps =
     let P : Option Calls → Type 0 = λ told. Keeps spent table told in subst P (sym same) keeps
 

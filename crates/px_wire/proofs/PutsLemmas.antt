@@ -11,9 +11,8 @@ use Rattle.px_wire.specs.declared.link.Flushed.{Flushed}
 use Rattle.px_wire.specs.declared.link.Flushed.TheVariants as flushes
 use Rattle.px_wire.specs.declared.link.Link.{Link}
 use Rattle.px_wire.specs.Calls.{Calls, Tells, LastIs, put_call}
-use Rattle.px_wire.specs.Found.{IsAt}
 use Rattle.px_wire.specs.Links.{is_done, after_put}
-use Rattle.px_wire.specs.Puts.{TookSo, FlushedSo, taken_from, taken_in, first_queue, queue_at}
+use Rattle.px_wire.specs.Puts.{TookSo, FlushedSo, taken_from, taken_in}
 use Rattle.px_wire.proofs.PutLemmas.{no_items}
 
 -- nothing was put yet
@@ -108,14 +107,3 @@ flushed_shut flushes.Blocked slot queue link old mid now so left over done tells
     let none : length link.queue ≡ 0 = ap length (done_parts link done).0 in let some = left refl in absurd (omega arith)
 flushed_shut flushes.Broken slot queue link old mid now so left over done tells =
     let wrong : false ≡ true = sym (done_parts link done).1 ∙ over refl in cc
-
--- what waits at the place where the search found the slot
-drop_around : (front back : List Link) (link : Link) → drop (length front) (front ++ link ∷ back) ≡ link ∷ back
-drop_around [] back link = refl
-drop_around (first ∷ front) back link = drop_around front back link
-
-pub queue_here : (links : List Link) (place : ℕ) (front : List Link) (link : Link) (back : List Link) → IsAt links place front link back → queue_at (Some place) links ≡ link.queue
-queue_here links place front link back at =
-    let P : List Link → Type 0 = λ ls. queue_at (Some place) ls ≡ link.queue in
-    let Q : ℕ → Type 0 = λ n. queue_at (Some n) (front ++ link ∷ back) ≡ link.queue in
-    subst P (sym at.are) (subst Q at.place_is (ap first_queue (drop_around front back link)))

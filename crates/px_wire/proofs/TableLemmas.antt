@@ -1,7 +1,5 @@
--- The same at a place among the slots, and over several calls.
-use Rattle.std.proofs.Common.{◌≡◌, ◌∙◌, ℕ, true, false, refl, sym, subst, List, ◌∷◌, ◌++◌, get_or, Option, Some, None}
-use Rattle.std.specs.Prelude.{slice_set}
-use Rattle.std.specs.List.{remove}
+-- The same, where the calls are told.
+use Rattle.std.proofs.Common.{◌≡◌, ℕ, true, false, refl, subst, List, ◌∷◌, ◌++◌, Option, Some, None}
 use Rattle.px_event.specs.declared.side.Side.{Side}
 use Rattle.px_event.specs.declared.side.Side.TheVariants.{Server}
 use Rattle.px_event.specs.declared.heard.Heard.{Heard}
@@ -13,28 +11,16 @@ use Rattle.px_outside.specs.Net.{IsNote}
 use Rattle.px_wire.specs.declared.link.Link.{Link}
 use Rattle.px_wire.specs.declared.call.WireCall.TheVariants as calls
 use Rattle.px_wire.specs.Calls.{Calls, Tells}
-use Rattle.px_wire.specs.Found.{IsAt, Missing}
+use Rattle.px_wire.specs.Found.{Missing}
 use Rattle.px_wire.specs.Hears.{IsPlain}
-use Rattle.px_wire.specs.Links.{is_done, is_link_of}
+use Rattle.px_wire.specs.Links.{is_link_of}
 use Rattle.px_wire.specs.Ledger.{ledger}
 use Rattle.px_wire.specs.Rules.{MayShut}
-use Rattle.px_wire.specs.Stands.{idle, putting, flushed, ending, Stands, StandsFor, EndsFor, name_of}
+use Rattle.px_wire.specs.Stands.{idle, putting, flushed, ending, Stands, StandsFor, EndsFor}
 use Rattle.px_wire.proofs.LedgerLemmas.{told_more, told_so}
 use Rattle.px_wire.proofs.PutLemmas.{reworked, refits}
 use Rattle.px_wire.proofs.HearLemmas.{plain, piece, closed, undialled, heard_at}
 use Rattle.px_wire.proofs.SayLemmas.{sent, sent_over, sent_to_none, closing, closed_none, noted, send_call, close_call}
-use Rattle.px_wire.proofs.FindLemmas.{at_is, set_at, remove_at}
-use Rattle.px_wire.proofs.CallLemmas.{shut_one, goes_on, ends, same_slot}
-
--- a slot that may be shut, at a place
-pub shut_place : (owed : Option Heard) (links new : List Link) (place : ℕ) (front back : List Link) (link taken : Link) (accepted moment : ℕ) (old now : Option Calls)
-    → IsAt links place front link back → taken ≡ get_or links place taken → new ≡ remove links place → Tells (calls.Shut taken.slot) old now
-    → EndsFor link.slot owed (front ++ link ∷ back) accepted moment old → StandsFor idle owed new accepted moment now
-shut_place owed links new place front back link taken accepted moment old now at is gone tells ends =
-    let same : taken ≡ link = is ∙ at_is links place front link back at taken in
-    let T : Link → Type 0 = λ l. Tells (calls.Shut l.slot) old now in
-    let P : List Link → Type 0 = λ ls. StandsFor idle owed ls accepted moment now in
-    subst P (sym (gone ∙ remove_at links place front link back at)) (shut_one owed front back link accepted moment old now (subst T same tells) ends)
 
 -- a slot that is about to be put to
 pub may_put_to : (owed : Option Heard) (front back : List Link) (link : Link) (accepted moment : ℕ) (told : Option Calls)
@@ -119,35 +105,3 @@ module _ (accepted moment : ℕ) (old now : Option Calls) where
       let T : Step → Type 0 = λ s. Tells (calls.Noted s) old now in
       told_more (Stands idle owed links accepted moment) (Stands idle owed links accepted moment) (close_call conv side) old now (subst T is tells) stands
       (λ list s. closed_none owed links accepted moment list s conv side none)
-
--- a slot was flushed at its place
-module _ (owed : Option Heard) (links : List Link) (place : ℕ) (front back : List Link) (link old new seen : Link) (accepted moment : ℕ) (before now : Option Calls)
-    (at : IsAt links place front link back) (old_is : old ≡ get_or links place old)
-    (flushes : (o : Option Heard) (f b : List Link) (a m : ℕ) → StandsFor (putting old.slot) o (f ++ old ∷ b) a m before → StandsFor (flushed old.slot) o (f ++ new ∷ b) a m now)
-    (name : name_of new ≡ name_of old) (seen_is : seen ≡ get_or (slice_set links place new) place seen)
-    (stands : StandsFor (putting link.slot) owed (front ++ link ∷ back) accepted moment before) where
-  pub new_at : IsAt (slice_set links place new) place front new back
-  new_at = record { are = set_at links place front link back at new; place_is = at.place_is }
-
-  seen_new : seen ≡ new
-  seen_new = seen_is ∙ at_is (slice_set links place new) place front new back new_at seen
-
-  flushed_so : StandsFor (flushed old.slot) owed (front ++ new ∷ back) accepted moment now
-  flushed_so =
-      let same : old ≡ link = old_is ∙ at_is links place front link back at old in
-      let P : Link → Type 0 = λ l. StandsFor (putting l.slot) owed (front ++ l ∷ back) accepted moment before in
-      flushes owed front back accepted moment (subst P (sym same) stands)
-
-  slot_same : new.slot ≡ old.slot
-  slot_same = same_slot new old name
-
-  pub flushed_goes_on : is_done seen ≡ false → StandsFor idle owed (slice_set links place new) accepted moment now
-  flushed_goes_on is =
-      let D : Link → Type 0 = λ l. is_done l ≡ false in
-      let P : List Link → Type 0 = λ ls. StandsFor idle owed ls accepted moment now in
-      subst P (sym new_at.are) (goes_on owed front back new accepted moment old.slot now (subst D seen_new is) slot_same flushed_so)
-
-  pub flushed_ends : is_done seen ≡ true → EndsFor new.slot owed (front ++ new ∷ back) accepted moment now
-  flushed_ends is =
-      let D : Link → Type 0 = λ l. is_done l ≡ true in
-      ends owed front back new accepted moment old.slot now (subst D seen_new is) slot_same flushed_so

@@ -1,26 +1,19 @@
--- Places among the slots.
-use Rattle.std.specs.Prelude.{◌≡◌, ◌+◌, ℕ, Bool, true, false, if◌then◌else◌, List, [], ◌∷◌, ◌++◌, length, Option}
+-- One of the slots, among the others.
+use Rattle.std.specs.Prelude.{◌≡◌, ◌+◌, ℕ, Bool, true, false, if◌then◌else◌, List, [], ◌∷◌, ◌++◌, Option}
 use Rattle.std.specs.List.{list_any}
 use Rattle.px_event.specs.declared.heard.Heard.{Heard}
 use Rattle.px_wire.specs.declared.link.Link.{Link}
 use Rattle.px_wire.specs.declared.table.Table.{Table}
+use Rattle.px_wire.specs.declared.links.Links.{Links}
 use Rattle.px_wire.specs.Calls.{Calls}
+use Rattle.px_wire.specs.Holds.{Holds}
 use Rattle.px_wire.specs.Links.{is_open_to_read, is_over}
 use Rattle.px_wire.specs.Stands.{Rests}
 
--- a slot stands at this place, between these others
-pub record IsAt (links : List Link) (place : ℕ) (front : List Link) (link : Link) (back : List Link) : Type 0 where
-  pub are : links ≡ front ++ link ∷ back
-  pub place_is : length front ≡ place
-
--- the first that passes stands at this place
-pub record Found (test : Link → Bool) (links : List Link) (place : ℕ) : Type 0 where
-  pub front : List Link
-  pub link : Link
-  pub back : List Link
-  pub is_at : IsAt links place front link back
-  pub passes : test link ≡ true
-  pub before : list_any test front ≡ false
+-- the slot of this number stands between these others
+pub record IsAt (t : Links) (slot : ℕ) (front : List Link) (link : Link) (back : List Link) : Type 0 where
+  pub held : Holds t (front ++ link ∷ back)
+  pub slot_is : link.slot ≡ slot
 
 -- none passes
 abbrev pub Missing : (Link → Bool) → List Link → Type 0
@@ -33,9 +26,9 @@ pub record HasTurn (front : List Link) (link : Link) (back : List Link) : Type 0
   pub alive : list_any is_over (front ++ link ∷ back) ≡ false
 
 -- how many are readable
-abbrev pub readable_count : List Link → ℕ
+abbrev pub readable_count : List (ℕ × Link) → ℕ
 readable_count [] = 0
-readable_count (link ∷ links) = (if link.is_readable then 1 else 0) + readable_count links
+readable_count (entry ∷ entries) = (if entry.1.is_readable then 1 else 0) + readable_count entries
 
 -- what is kept after want of memory: something that the wire told or gave may not have been heard
 abbrev pub Loose : Table → Option Calls → Type 0

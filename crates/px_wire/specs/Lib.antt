@@ -1,7 +1,9 @@
 pub mod Asked
 pub mod Calls
+pub mod Flushes
 pub mod Found
 pub mod Hears
+pub mod Holds
 pub mod Ledger
 pub mod Lines
 pub mod Links

@@ -13,7 +13,7 @@ use Rattle.px_wire.specs.declared.wire.Got.TheVariants as gots
 -- a slot that was just given
 abbrev pub new_link : ℕ → ℕ → Side → Link
 new_link slot conv side =
-    record { slot = slot; conv = conv; side = side; queue = []; is_closing = false; is_over = false; is_readable = false }
+    record { slot = slot; conv = conv; side = side; queue = []; is_closing = false; is_over = false; is_readable = false; turn = 0 }
 
 -- it is this slot
 abbrev pub has_slot : ℕ → Link → Bool

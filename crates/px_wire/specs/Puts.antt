@@ -1,13 +1,14 @@
 -- What a flush did, by the calls.
-use Rattle.std.specs.Prelude.{◌≡◌, ℕ, ◌<◌, ◌==◌, List, [], ◌∷◌, ◌++◌, length, drop, Option, Some, None, if◌then◌else◌}
-use Rattle.std.specs.List.{flat_map, position}
+use Rattle.std.specs.Prelude.{◌≡◌, ℕ, ◌<◌, ◌==◌, List, [], ◌++◌, length, Option, Some, None, if◌then◌else◌}
+use Rattle.std.specs.List.{flat_map}
 use Rattle.px_wire.specs.declared.call.WireCall.{WireCall}
 use Rattle.px_wire.specs.declared.call.WireCall.TheVariants as calls
 use Rattle.px_wire.specs.declared.link.Flushed.{Flushed}
 use Rattle.px_wire.specs.declared.link.Flushed.TheVariants as flushes
 use Rattle.px_wire.specs.declared.link.Link.{Link}
 use Rattle.px_wire.specs.Calls.{Calls, LastIs}
-use Rattle.px_wire.specs.Links.{has_slot}
+use Rattle.px_wire.specs.declared.links.Links.{Links}
+use Rattle.px_wire.specs.Holds.{link_at}
 
 -- the bytes that the call took for this slot
 abbrev pub taken_from : ℕ → WireCall → List ℕ
@@ -36,14 +37,10 @@ FlushedSo flushes.Empty slot queue old new = TookSo slot queue [] old new
 FlushedSo flushes.Blocked slot queue old new = (left : List ℕ) × TookSo slot queue left old new × (0 < length left) × LastIs (calls.PutBlocked slot) new
 FlushedSo flushes.Broken slot queue old new = (left : List ℕ) × TookSo slot queue left old new × (0 < length left) × LastIs (calls.PutBroke slot) new
 
-abbrev pub first_queue : List Link → List ℕ
-first_queue [] = []
-first_queue (link ∷ links) = link.queue
-
-abbrev pub queue_at : Option ℕ → List Link → List ℕ
-queue_at None links = []
-queue_at (Some place) links = first_queue (drop place links)
+abbrev pub queue_in : Option Link → List ℕ
+queue_in None = []
+queue_in (Some link) = link.queue
 
 -- the bytes that wait for the slot; none where it is not in use
-abbrev pub queue_of : ℕ → List Link → List ℕ
-queue_of slot links = queue_at (position (has_slot slot) links) links
+abbrev pub queue_of : ℕ → Links → List ℕ
+queue_of slot t = queue_in (link_at t slot)

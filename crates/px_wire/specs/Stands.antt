@@ -8,7 +8,9 @@ use Rattle.px_event.specs.declared.heard.Heard.{Heard}
 use Rattle.px_event.specs.declared.heard.Heard.TheVariants as heard
 use Rattle.px_wire.specs.declared.link.Link.{Link}
 use Rattle.px_wire.specs.declared.table.Table.{Table}
+use Rattle.px_wire.specs.declared.links.Links.{Links}
 use Rattle.px_wire.specs.Calls.{Calls, IfTold, slots_of}
+use Rattle.px_wire.specs.Holds.{Holds}
 use Rattle.px_wire.specs.Links.{is_done, is_open_to_read}
 use Rattle.px_wire.specs.declared.wire.Got.{Got}
 use Rattle.px_wire.specs.declared.wire.Got.TheVariants as gots
@@ -126,13 +128,19 @@ EndsFor slot owed links accepted moment told =
     IfTold (λ list. Stands (ending slot) owed links accepted moment list × MayShut (ledger list) slot) told
 
 -- what is kept between two calls of the network
-abbrev pub Rests : Option Heard → Table → Option Calls → Type 0
-Rests owed table told = StandsFor idle owed table.links.items table.accepted table.moment told
+pub record Rests (owed : Option Heard) (table : Table) (told : Option Calls) : Type 0 where
+  pub links : List Link
+  pub held : Holds table.links links
+  pub stands : StandsFor idle owed links table.accepted table.moment told
 
 -- nothing can be heard without waiting
 abbrev pub AllCalm : List Link → List Link → Type 0
 AllCalm links [] = Unit {0}
 AllCalm links (link ∷ rest) = (link.is_over ≡ false) × (is_open_to_read links link ≡ false) × AllCalm links rest
+
+-- of the slots that these are
+abbrev pub IsCalm : Links → Type 0
+IsCalm t = (links : List Link) → Holds t links → AllCalm links links
 
 -- what is to be heard of a side that was read
 abbrev pub owed_by : ℕ → Side → List ℕ → Got → Option Heard

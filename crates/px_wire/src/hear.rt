@@ -1,24 +1,26 @@
 //! What can be heard without waiting: what readable slots give, and the close of a side whose socket ended or failed.
-ghost use Rattle.std.specs.Prelude.{◌≡◌, ◌≢◌, ◌⊎◌, ◌<◌, ℕ, List, [], ◌∷◌, ◌++◌, length, Option, None, Some, Ok, Err, false, true, IfOk, OnOk, OnErr};
+ghost use Rattle.std.specs.Prelude.{◌≡◌, ◌≢◌, ◌⊎◌, ◌<◌, ℕ, List, [], ◌∷◌, ◌++◌, length, Option, None, Some, Ok, Err, false, true, IfOk, OnOk, OnErr, nat_eq};
 ghost use Rattle.px_event.specs.declared.heard.Heard.{Heard as WhatIsHeard};
 ghost use Rattle.px_event.specs.declared.heard.Heard.TheVariants.{Piece as HeardPiece, Closed as HeardClosed, Dialled as HeardDialled};
 ghost use Rattle.px_event.specs.declared.side.Side.TheVariants.{Server as ServerSide};
 ghost use Rattle.px_event.specs.declared.step.Step.TheVariants.{Heard as WasHeard};
 ghost use Rattle.px_outside.specs.Net.{Adds};
 ghost use Rattle.px_wire.specs.declared.link.Link.{Link as LinkState};
-ghost use Rattle.px_wire.specs.Links.{is_over, after_get};
+ghost use Rattle.std.specs.Map.{set_value};
+ghost use Rattle.px_wire.specs.Links.{after_get};
+ghost use Rattle.px_wire.specs.Holds.{Changes, link_at, last_turn};
 ghost use Rattle.px_wire.specs.Hears.{IsPlain, AddsHeard};
 ghost use Rattle.px_wire.specs.Asked.{AnsweredSince};
 ghost use Rattle.px_wire.specs.Calls.{Calls, GotWithin, Tells, got_call};
-ghost use Rattle.px_wire.specs.Found.{IsAt, Missing, HasTurn, Loose, readable_count};
-ghost use Rattle.px_wire.specs.Stands.{StandsFor, EndsFor, Rests, AllCalm, idle, name_of, owed_by};
+ghost use Rattle.px_wire.specs.Found.{IsAt, HasTurn, Loose};
+ghost use Rattle.px_wire.specs.Stands.{StandsFor, EndsFor, Rests, IsCalm, idle, name_of, owed_by};
 
-use crate::find::{find_over, find_readable};
 use crate::flush::shut_at;
 use crate::link::Link;
+use crate::links::{Due, Links};
 use crate::table::Table;
 use crate::{Got, Wire};
-use px_event::{Heard, Step};
+use px_event::{Heard, Side, Step};
 use px_text::{Bytes, NoMemory};
 use std::alloc::Global;
 
@@ -63,17 +65,16 @@ fn heard_in(step: Step) -> Option<(u64, Heard)>
     }
 }
 
-/// Hears the close of the side at this place, and shuts its slot.
+/// Hears the close of this slot's side, and shuts the slot.
 pub fn hear_close<W: Wire>(
     wire: &mut W,
     table: &mut Table,
-    place: usize,
+    slot: u32,
 ) -> Result<Option<(u64, Heard)>, NoMemory>
-    requires place { place < length table.old.links.items }
-    ensures some { result ≢ Ok None }
+    ensures some { (link : LinkState) → link_at table.old.links slot ≡ Some link → result ≢ Ok None }
     ensures steps { IfOk result (λ told. AddsHeard told (W.steps wire.old) (W.steps wire.new)) }
-    ensures stands { (front back : List LinkState) (link : LinkState) → IsAt table.old.links.items place front link back → link.is_over ≡ true →
-        Rests None table.old (W.calls wire.old) → OnOk result (Rests None table.new (W.calls wire.new)) }
+    ensures stands { (front back : List LinkState) (link : LinkState) → IsAt table.old.links slot front link back → link.is_over ≡ true →
+        StandsFor idle None (front ++ link ∷ back) table.old.accepted table.old.moment (W.calls wire.old) → OnOk result (Rests None table.new (W.calls wire.new)) }
     ensures table_err { OnErr result (table.new ≡ table.old) }
     ensures calls_err { OnErr result (W.calls wire.new ≡ W.calls wire.old) }
     ensures steps_err { OnErr result (W.steps wire.new ≡ W.steps wire.old) }
@@ -82,11 +83,13 @@ pub fn hear_close<W: Wire>(
     ensures asks { W.asks wire.new ≡ W.asks wire.old }
     ensures kept { (past : Calls) (times : ℕ) → AnsweredSince past times (W.calls wire.old) → AnsweredSince past times (W.calls wire.new) }
 {
-    let link = &table.links[place];
+    let Some(link) = table.links.get(slot) else {
+        return Ok(None);
+    };
     let conv = link.conv;
     let side = link.side;
     let told = hear(wire, table.moment, Heard::Closed { conv, side })?;
-    shut_at(wire, table, place);
+    shut_at(wire, table, slot);
     Ok(told)
 }
 
@@ -115,23 +118,47 @@ fn read_link<W: Wire>(wire: &mut W, link: &mut Link, room: &mut [u8]) -> Got
     got
 }
 
-/// Reads the slot at this place once: its bytes or its close are heard, or it has none at present.
+// Reads the slot of this number once.
+fn read_in<W: Wire>(wire: &mut W, links: &mut Links, slot: u32, room: &mut [u8]) -> Got
+    requires some { 0 < length room.old }
+    ensures reads { (link : LinkState) → link_at links.old slot ≡ Some link →
+        Changes links.old links.new slot link (after_get link result) × Tells (got_call link.slot room.new result) (W.calls wire.old) (W.calls wire.new) }
+    ensures entries { (link : LinkState) → link_at links.old slot ≡ Some link → links.new.by_slot.entries ≡ set_value (nat_eq slot) links.old.by_slot.entries (after_get link result) }
+    ensures next { links.new.next_turn ≡ links.old.next_turn }
+    ensures within { GotWithin (length room.old) result }
+    ensures room { length room.new ≡ length room.old }
+    ensures steps { W.steps wire.new ≡ W.steps wire.old }
+    ensures listening { W.listening wire.new ≡ W.listening wire.old }
+    ensures faults { W.faults wire.new ≡ W.faults wire.old }
+    ensures asks { W.asks wire.new ≡ W.asks wire.old }
+    ensures kept { (past : Calls) (times : ℕ) → AnsweredSince past times (W.calls wire.old) → AnsweredSince past times (W.calls wire.new) }
+{
+    let Some(link) = links.by_slot.get_mut(&slot) else {
+        return Got::Blocked;
+    };
+    let conv = link.conv;
+    let got = read_link(wire, link, room);
+    links.mark(conv);
+    got
+}
+
+/// Reads the slot once: its bytes or its close are heard, or it has none at present.
 fn read_at<W: Wire>(
     alloc: Global,
     wire: &mut W,
     table: &mut Table,
     room: &mut [u8],
-    place: usize,
+    slot: u32,
 ) -> Result<Option<(u64, Heard)>, NoMemory>
-    requires place { place < length table.old.links.items }
+    requires turn { table.old.links.next_turn < last_turn }
     requires some { 0 < length room.old }
     ensures steps { IfOk result (λ told. AddsHeard told (W.steps wire.old) (W.steps wire.new)) }
-    ensures stands { (front back : List LinkState) (link : LinkState) → IsAt table.old.links.items place front link back → HasTurn front link back →
-        Rests None table.old (W.calls wire.old) → OnOk result (Rests None table.new (W.calls wire.new)) }
-    ensures err { (front back : List LinkState) (link : LinkState) → IsAt table.old.links.items place front link back → HasTurn front link back →
-        Rests None table.old (W.calls wire.old) → OnErr result (Loose table.new (W.calls wire.new)) }
-    ensures none { (front back : List LinkState) (link : LinkState) → IsAt table.old.links.items place front link back →
-        result ≡ Ok None → table.new.links.items ≡ front ++ record link { is_readable = false } ∷ back }
+    ensures stands { (front back : List LinkState) (link : LinkState) → IsAt table.old.links slot front link back → HasTurn front link back →
+        StandsFor idle None (front ++ link ∷ back) table.old.accepted table.old.moment (W.calls wire.old) → OnOk result (Rests None table.new (W.calls wire.new)) }
+    ensures err { (front back : List LinkState) (link : LinkState) → IsAt table.old.links slot front link back → HasTurn front link back →
+        StandsFor idle None (front ++ link ∷ back) table.old.accepted table.old.moment (W.calls wire.old) → OnErr result (Loose table.new (W.calls wire.new)) }
+    ensures none { (link : LinkState) → link_at table.old.links slot ≡ Some link → result ≡ Ok None →
+        table.new.links.by_slot.entries ≡ set_value (nat_eq slot) table.old.links.by_slot.entries (record link { is_readable = false }) }
     ensures room { length room.new ≡ length room.old }
     ensures steps_err { OnErr result (W.steps wire.new ≡ W.steps wire.old) }
     ensures listening { W.listening wire.new ≡ W.listening wire.old }
@@ -139,29 +166,29 @@ fn read_at<W: Wire>(
     ensures asks { W.asks wire.new ≡ W.asks wire.old }
     ensures kept { (past : Calls) (times : ℕ) → AnsweredSince past times (W.calls wire.old) → AnsweredSince past times (W.calls wire.new) }
 {
-    match read_link(wire, &mut table.links[place], room) {
-        Got::Gave(count) => hear_given(alloc, wire, table, place, &room[..count]),
+    match read_in(wire, &mut table.links, slot, room) {
+        Got::Gave(count) => hear_given(alloc, wire, table, slot, &room[..count]),
         Got::Blocked => Ok(None),
-        Got::Ended => hear_close(wire, table, place),
-        Got::Broken => hear_close(wire, table, place),
+        Got::Ended => hear_close(wire, table, slot),
+        Got::Broken => hear_close(wire, table, slot),
     }
 }
 
-// Hears the bytes, which the slot at this place has just given, and puts the slot behind all others.
+// Hears the bytes, which the slot has just given, and puts the slot behind all others.
 fn hear_given<W: Wire>(
     alloc: Global,
     wire: &mut W,
     table: &mut Table,
-    place: usize,
+    slot: u32,
     bytes: &[u8],
 ) -> Result<Option<(u64, Heard)>, NoMemory>
-    requires place { place < length table.old.links.items }
-    ensures some { result ≢ Ok None }
+    requires turn { table.old.links.next_turn < last_turn }
+    ensures some { (link : LinkState) → link_at table.old.links slot ≡ Some link → result ≢ Ok None }
     ensures steps { IfOk result (λ told. AddsHeard told (W.steps wire.old) (W.steps wire.new)) }
-    ensures stands { (front back : List LinkState) (link : LinkState) → IsAt table.old.links.items place front link back →
+    ensures stands { (front back : List LinkState) (link : LinkState) → IsAt table.old.links slot front link back →
         StandsFor idle (Some (HeardPiece link.conv link.side bytes.now)) ((front ++ back) ++ link ∷ []) table.old.accepted table.old.moment (W.calls wire.old) →
         OnOk result (Rests None table.new (W.calls wire.new)) }
-    ensures err { (front back : List LinkState) (link : LinkState) → IsAt table.old.links.items place front link back →
+    ensures err { (front back : List LinkState) (link : LinkState) → IsAt table.old.links slot front link back →
         StandsFor idle (Some (HeardPiece link.conv link.side bytes.now)) ((front ++ back) ++ link ∷ []) table.old.accepted table.old.moment (W.calls wire.old) →
         OnErr result (Loose table.new (W.calls wire.new)) }
     ensures steps_err { OnErr result (W.steps wire.new ≡ W.steps wire.old) }
@@ -170,10 +197,13 @@ fn hear_given<W: Wire>(
     ensures asks { W.asks wire.new ≡ W.asks wire.old }
     ensures kept { (past : Calls) (times : ℕ) → AnsweredSince past times (W.calls wire.old) → AnsweredSince past times (W.calls wire.new) }
 {
-    let link = table.links.remove(place);
-    let told = hear_piece(alloc, wire, table.moment, &link, bytes);
-    table.links.push_reserved(link);
-    told
+    let Some(link) = table.links.get(slot) else {
+        return Ok(None);
+    };
+    let conv = link.conv;
+    let side = link.side;
+    table.links.to_end(slot);
+    hear_piece(alloc, wire, table.moment, conv, side, bytes)
 }
 
 // Hears the bytes, which the slot gave.
@@ -181,13 +211,15 @@ fn hear_piece<W: Wire>(
     alloc: Global,
     wire: &mut W,
     moment: u64,
-    link: &Link,
+    conv: u32,
+    side: Side,
     bytes: &[u8],
 ) -> Result<Option<(u64, Heard)>, NoMemory>
     ensures some { result ≢ Ok None }
     ensures steps { IfOk result (λ told. AddsHeard told (W.steps wire.old) (W.steps wire.new)) }
-    ensures stands { (front back : List LinkState) (accepted : ℕ) → StandsFor idle (Some (HeardPiece link.now.conv link.now.side bytes.now)) (front ++ link.now ∷ back) accepted moment (W.calls wire.old) →
-        OnOk result (StandsFor idle None (front ++ link.now ∷ back) accepted moment (W.calls wire.new)) }
+    ensures stands { (front back : List LinkState) (link : LinkState) (accepted : ℕ) → link.conv ≡ conv → link.side ≡ side →
+        StandsFor idle (Some (HeardPiece link.conv link.side bytes.now)) (front ++ link ∷ back) accepted moment (W.calls wire.old) →
+        OnOk result (StandsFor idle None (front ++ link ∷ back) accepted moment (W.calls wire.new)) }
     ensures calls_err { OnErr result (W.calls wire.new ≡ W.calls wire.old) }
     ensures steps_err { OnErr result (W.steps wire.new ≡ W.steps wire.old) }
     ensures listening { W.listening wire.new ≡ W.listening wire.old }
@@ -196,8 +228,6 @@ fn hear_piece<W: Wire>(
     ensures kept { (past : Calls) (times : ℕ) → AnsweredSince past times (W.calls wire.old) → AnsweredSince past times (W.calls wire.new) }
 {
     let bytes = Bytes::copied(alloc, bytes)?;
-    let conv = link.conv;
-    let side = link.side;
     hear(wire, moment, Heard::Piece { conv, side, bytes })
 }
 
@@ -212,7 +242,7 @@ pub fn hear_waiting<W: Wire>(
     ensures steps { IfOk result (λ told. AddsHeard told (W.steps wire.old) (W.steps wire.new)) }
     ensures stands { Rests None table.old (W.calls wire.old) → OnOk result (Rests None table.new (W.calls wire.new)) }
     ensures err { Rests None table.old (W.calls wire.old) → OnErr result (Loose table.new (W.calls wire.new)) }
-    ensures calm { result ≡ Ok None → AllCalm table.new.links.items table.new.links.items }
+    ensures calm { result ≡ Ok None → IsCalm table.new.links }
     ensures room { length room.new ≡ length room.old }
     ensures steps_err { OnErr result (W.steps wire.new ≡ W.steps wire.old) }
     ensures listening { W.listening wire.new ≡ W.listening wire.old }
@@ -220,36 +250,15 @@ pub fn hear_waiting<W: Wire>(
     ensures asks { W.asks wire.new ≡ W.asks wire.old }
     ensures kept { (past : Calls) (times : ℕ) → AnsweredSince past times (W.calls wire.old) → AnsweredSince past times (W.calls wire.new) }
 {
-    match find_over(&table.links) {
-        Some(place) => hear_close(wire, table, place),
-        None => read_on(alloc, wire, table, room),
-    }
-}
-
-// Reads the slots that may be read, until one gives something to be heard.
-fn read_on<W: Wire>(
-    alloc: Global,
-    wire: &mut W,
-    table: &mut Table,
-    room: &mut [u8],
-) -> Result<Option<(u64, Heard)>, NoMemory>
-    requires some { 0 < length room.old }
-    requires alive { Missing is_over table.old.links.items }
-    ensures steps { IfOk result (λ told. AddsHeard told (W.steps wire.old) (W.steps wire.new)) }
-    ensures stands { Rests None table.old (W.calls wire.old) → OnOk result (Rests None table.new (W.calls wire.new)) }
-    ensures err { Rests None table.old (W.calls wire.old) → OnErr result (Loose table.new (W.calls wire.new)) }
-    ensures calm { result ≡ Ok None → AllCalm table.new.links.items table.new.links.items }
-    ensures room { length room.new ≡ length room.old }
-    ensures steps_err { OnErr result (W.steps wire.new ≡ W.steps wire.old) }
-    ensures listening { W.listening wire.new ≡ W.listening wire.old }
-    ensures faults { W.faults wire.new ≡ W.faults wire.old }
-    ensures asks { W.asks wire.new ≡ W.asks wire.old }
-    ensures kept { (past : Calls) (times : ℕ) → AnsweredSince past times (W.calls wire.old) → AnsweredSince past times (W.calls wire.new) }
-{
-    while let Some(place) = find_readable(&table.links) {
-        if let Some(told) = read_at(alloc, wire, table, room, place)? {
-            return Ok(Some(told));
+    loop {
+        match table.links.next_due()? {
+            Due::Over(slot) => return hear_close(wire, table, slot),
+            Due::Open(slot) => {
+                if let Some(told) = read_at(alloc, wire, table, room, slot)? {
+                    return Ok(Some(told));
+                }
+            }
+            Due::Nothing => return Ok(None),
         }
     }
-    Ok(None)
 }

@@ -10,11 +10,11 @@
 #![tactic(auto)]
 
 mod call;
-mod find;
 mod flush;
 mod hear;
 mod lines;
 mod link;
+mod links;
 mod mem_wire;
 mod queue;
 mod ready;

@@ -9,10 +9,10 @@ ghost use Rattle.px_wire.specs.Lines.{Keeps};
 ghost use Rattle.px_wire.specs.Puts.{FlushedSo, queue_of};
 ghost use Rattle.px_wire.specs.Found.{Loose};
 ghost use Rattle.px_wire.specs.Hears.{AddsHeard};
-ghost use Rattle.px_wire.specs.Stands.{Rests, AllCalm};
+ghost use Rattle.px_wire.specs.Stands.{Rests, IsCalm};
+ghost use Rattle.px_wire.specs.Holds.{Holds};
 
 use crate::Wire;
-use crate::find::find_slot;
 use crate::flush::flush_at;
 use crate::hear::hear_waiting;
 use crate::link::Flushed;
@@ -45,8 +45,12 @@ pub struct Lines<W: Wire> {
 impl<W: Wire> Model for Lines<W> {
     ghost use Rattle.px_wire.specs.Asked.{FailedSo};
     ghost use Rattle.px_wire.specs.Lines.{LinesState, Keeps};
+    ghost use Rattle.std.specs.Coded.{codes};
+    ghost use Rattle.px_wire.specs.contracts.table.Table as table_type;
 
     ghost Value = { LinesState W };
+
+    ghost coded = { Prim.hlevel (codes, table_type.the_row.coded) };
 
     ghost view = { λ l. record { wire = l.wire; table = l.table; faults = l.faults; is_spent = l.is_spent } };
 
@@ -58,7 +62,7 @@ impl<W: Wire> Lines<W> {
     pub fn new(alloc: Global, wire: W) -> Lines<W>
         requires fresh { NoneTold (W.calls wire) }
         ensures wire { result.wire ≡ wire }
-        ensures links { result.table.links.items ≡ [] }
+        ensures links { Holds result.table.links [] }
         ensures spent { result.is_spent ≡ false }
         ensures own_faults { result.faults ≡ 0 }
     {
@@ -93,12 +97,12 @@ impl<W: Wire> Lines<W> {
         ensures asks { W.asks self.new.wire ≡ W.asks self.old.wire }
         ensures blocked { result ≡ Flushed.Blocked → Rose (W.blocks self.old.wire) (W.blocks self.new.wire) }
         ensures broken { result ≡ Flushed.Broken → Rose (W.breaks self.old.wire) (W.breaks self.new.wire) }
-        ensures does { FlushedSo result slot (queue_of slot self.old.table.links.items) (W.calls self.old.wire) (W.calls self.new.wire) }
+        ensures does { FlushedSo result slot (queue_of slot self.old.table.links) (W.calls self.old.wire) (W.calls self.new.wire) }
         ensures own_faults { self.new.faults ≡ self.old.faults }
         ensures spent { self.new.is_spent ≡ self.old.is_spent }
     {
-        match find_slot(&self.table.links, slot) {
-            Some(place) => flush_at(&mut self.wire, &mut self.table, place),
+        match self.table.links.get(slot) {
+            Some(_) => flush_at(&mut self.wire, &mut self.table, slot),
             None => Flushed::Empty,
         }
     }
@@ -219,7 +223,7 @@ fn hear_next<W: Wire>(
     ensures fault { result ≡ Err NetError.Fault → Rose (W.faults wire.old) (W.faults wire.new) }
     ensures kept { (past : Calls) (times : ℕ) → AnsweredSince past times (W.calls wire.old) → AnsweredSince past times (W.calls wire.new) }
     ensures answered { (past : Calls) → AnsweredSince past 0 (W.calls wire.old) → result ≡ Ok None → AnsweredSince past most_asks (W.calls wire.new) }
-    ensures calm { result ≡ Ok None → AllCalm table.new.links.items table.new.links.items }
+    ensures calm { result ≡ Ok None → IsCalm table.new.links }
 {
     let heard = hear_waiting(alloc, wire, table, room)?;
     match heard {
@@ -236,7 +240,7 @@ fn wait<W: Wire>(
     room: &mut [u8],
 ) -> Result<Option<(u64, Heard)>, NetError>
     requires some { 0 < length room.old }
-    requires calm { AllCalm table.old.links.items table.old.links.items }
+    requires calm { IsCalm table.old.links }
     ensures steps { IfOk result (λ told. AddsHeard told (W.steps wire.old) (W.steps wire.new)) }
     ensures stands { Rests None table.old (W.calls wire.old) → OnOk result (Rests None table.new (W.calls wire.new)) }
     ensures err { Rests None table.old (W.calls wire.old) → OnErr result (Loose table.new (W.calls wire.new)) }
@@ -249,7 +253,7 @@ fn wait<W: Wire>(
     ensures fault { result ≡ Err NetError.Fault → Rose (W.faults wire.old) (W.faults wire.new) }
     ensures kept { (past : Calls) (times : ℕ) → AnsweredSince past times (W.calls wire.old) → AnsweredSince past times (W.calls wire.new) }
     ensures answered { (past : Calls) → AnsweredSince past 0 (W.calls wire.old) → result ≡ Ok None → AnsweredSince past most_asks (W.calls wire.new) }
-    ensures calm { result ≡ Ok None → AllCalm table.new.links.items table.new.links.items }
+    ensures calm { result ≡ Ok None → IsCalm table.new.links }
 {
     let mut left = u64::MAX;
     while left > 0 {
@@ -271,12 +275,12 @@ fn hear_once<W: Wire>(
     room: &mut [u8],
 ) -> Result<Option<(u64, Heard)>, NetError>
     requires some { 0 < length room.old }
-    requires calm { AllCalm table.old.links.items table.old.links.items }
+    requires calm { IsCalm table.old.links }
     ensures steps { IfOk result (λ told. AddsHeard told (W.steps wire.old) (W.steps wire.new)) }
     ensures stands { Rests None table.old (W.calls wire.old) → OnOk result (Rests None table.new (W.calls wire.new)) }
     ensures err { Rests None table.old (W.calls wire.old) → OnErr result (Loose table.new (W.calls wire.new)) }
     ensures fault_stands { Rests None table.old (W.calls wire.old) → result ≡ Err NetError.Fault → Rests None table.new (W.calls wire.new) }
-    ensures calm { result ≡ Ok None → AllCalm table.new.links.items table.new.links.items }
+    ensures calm { result ≡ Ok None → IsCalm table.new.links }
     ensures room { length room.new ≡ length room.old }
     ensures steps_err { OnErr result (W.steps wire.new ≡ W.steps wire.old) }
     ensures listening { W.listening wire.new ≡ W.listening wire.old }

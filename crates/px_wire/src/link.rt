@@ -34,10 +34,12 @@ pub struct Link {
     pub is_over: bool,
     /// The wire told that it is readable, and it has not yet given all.
     pub is_readable: bool,
+    /// The number of the turn at which it was given or last gave bytes.
+    pub turn: u64,
 }
 
 impl Link {
-    /// A slot that was just given.
+    /// A slot that was just given; its turn is still to be set.
     pub fn new(alloc: Global, slot: u32, conv: u32, side: Side) -> Link
         ensures { result ≡ new_link slot conv side }
     {
@@ -49,6 +51,7 @@ impl Link {
             is_closing: false,
             is_over: false,
             is_readable: false,
+            turn: 0,
         }
     }
 }

@@ -1,5 +1,5 @@
 //! Waiting for the wire, and what it tells.
-ghost use Rattle.std.specs.Prelude.{◌≡◌, ◌+◌, ◌<◌, ◌≤◌, ℕ, List, ◌∷◌, ◌++◌, length, Option, None, Some, Err, IfOk, OnOk, OnErr, vec_len, vec_capacity};
+ghost use Rattle.std.specs.Prelude.{◌≡◌, ◌+◌, ◌<◌, ◌≤◌, ℕ, List, ◌∷◌, ◌++◌, length, Option, None, Some, Err, IfOk, OnOk, OnErr, true};
 ghost use Rattle.px_outside.specs.Count.{Rose};
 ghost use Rattle.px_wire.specs.declared.wire.Ready.TheVariants as told;
 ghost use Rattle.px_wire.specs.declared.call.WireCall.TheVariants.{Told as WasTold};
@@ -10,12 +10,13 @@ ghost use Rattle.px_event.specs.declared.side.Side.TheVariants.{Server as Server
 ghost use Rattle.px_wire.specs.declared.link.Link.{Link as LinkState};
 ghost use Rattle.px_wire.specs.Found.{IsAt, Loose};
 ghost use Rattle.px_wire.specs.Hears.{AddsHeard};
-ghost use Rattle.px_wire.specs.Stands.{StandsFor, Rests, AllCalm, idle};
+ghost use Rattle.px_wire.specs.Stands.{StandsFor, Rests, IsCalm, idle};
+ghost use Rattle.px_wire.specs.Holds.{Alike, Changes, HasRoom, link_at};
 
-use crate::find::find_slot;
 use crate::flush::{flush_at, shut_at};
 use crate::hear::hear;
 use crate::link::Link;
+use crate::links::Links;
 use crate::table::Table;
 use crate::{Ready, Wire};
 use px_event::{Door, Heard, Side};
@@ -34,9 +35,9 @@ pub fn hear_ready<W: Wire>(
     table: &mut Table,
 ) -> Result<Option<(u64, Heard)>, NetError>
     ensures steps { IfOk result (λ heard. AddsHeard heard (W.steps wire.old) (W.steps wire.new)) }
-    ensures stands { AllCalm table.old.links.items table.old.links.items → Rests None table.old (W.calls wire.old) → OnOk result (Rests None table.new (W.calls wire.new)) }
-    ensures err { AllCalm table.old.links.items table.old.links.items → Rests None table.old (W.calls wire.old) → OnErr result (Loose table.new (W.calls wire.new)) }
-    ensures fault_stands { AllCalm table.old.links.items table.old.links.items → Rests None table.old (W.calls wire.old) → result ≡ Err NetError.Fault → Rests None table.new (W.calls wire.new) }
+    ensures stands { IsCalm table.old.links → Rests None table.old (W.calls wire.old) → OnOk result (Rests None table.new (W.calls wire.new)) }
+    ensures err { IsCalm table.old.links → Rests None table.old (W.calls wire.old) → OnErr result (Loose table.new (W.calls wire.new)) }
+    ensures fault_stands { IsCalm table.old.links → Rests None table.old (W.calls wire.old) → result ≡ Err NetError.Fault → Rests None table.new (W.calls wire.new) }
     ensures steps_err { OnErr result (W.steps wire.new ≡ W.steps wire.old) }
     ensures listening { W.listening wire.new ≡ W.listening wire.old }
     ensures asks { OnOk result (AsksMore 1 (W.asks wire.old) (W.asks wire.new)) }
@@ -46,20 +47,11 @@ pub fn hear_ready<W: Wire>(
     ensures kept { (past : Calls) (times : ℕ) → AnsweredSince past times (W.calls wire.old) → AnsweredSince past times (W.calls wire.new) }
     ensures answered { (past : Calls) (times : ℕ) → AnsweredSince past times (W.calls wire.old) → OnOk result (AnsweredSince past (times + 1) (W.calls wire.new)) }
 {
-    reserve(&mut table.links)?;
+    table.links.reserve(alloc, table.accepted)?;
     let told = wire.ready()?;
     let (moment, ready) = told;
     let heard = take_ready(alloc, wire, table, moment, ready)?;
     Ok(heard)
-}
-
-/// Room for one slot more.
-pub fn reserve(links: &mut Vec<Link>) -> Result<(), NoMemory>
-    ensures items { links.new.items ≡ links.old.items }
-    ensures room { OnOk result (vec_len links.new < vec_capacity links.new) }
-{
-    links.try_reserve(1)?;
-    Ok(())
 }
 
 // Takes what the wire has just told, at this moment.
@@ -70,11 +62,11 @@ fn take_ready<W: Wire>(
     moment: u64,
     ready: Ready,
 ) -> Result<Option<(u64, Heard)>, NoMemory>
-    requires room { vec_len table.old.links < vec_capacity table.old.links }
+    requires room { HasRoom table.old.links table.old.accepted }
     ensures steps { IfOk result (λ heard. AddsHeard heard (W.steps wire.old) (W.steps wire.new)) }
-    ensures stands { (before : Option Calls) → AllCalm table.old.links.items table.old.links.items → Rests None table.old before → IfTold (GivesFree ready) before →
+    ensures stands { (before : Option Calls) → IsCalm table.old.links → Rests None table.old before → IfTold (GivesFree ready) before →
         Tells (WasTold moment ready) before (W.calls wire.old) → OnOk result (Rests None table.new (W.calls wire.new)) }
-    ensures err { (before : Option Calls) → AllCalm table.old.links.items table.old.links.items → Rests None table.old before → IfTold (GivesFree ready) before →
+    ensures err { (before : Option Calls) → IsCalm table.old.links → Rests None table.old before → IfTold (GivesFree ready) before →
         Tells (WasTold moment ready) before (W.calls wire.old) → OnErr result (Loose table.new (W.calls wire.new)) }
     ensures steps_err { OnErr result (W.steps wire.new ≡ W.steps wire.old) }
     ensures listening { W.listening wire.new ≡ W.listening wire.old }
@@ -108,11 +100,11 @@ fn accept<W: Wire>(
     door: Door,
     peer: Address,
 ) -> Result<Option<(u64, Heard)>, NoMemory>
-    requires room { vec_len table.old.links < vec_capacity table.old.links }
+    requires room { HasRoom table.old.links table.old.accepted }
     ensures steps { IfOk result (λ heard. AddsHeard heard (W.steps wire.old) (W.steps wire.new)) }
-    ensures stands { (before : Option Calls) → AllCalm table.old.links.items table.old.links.items → Rests None table.old before → IfTold (IsFree slot) before →
+    ensures stands { (before : Option Calls) → IsCalm table.old.links → Rests None table.old before → IfTold (IsFree slot) before →
         Tells (WasTold moment (told.Accepted slot door peer)) before (W.calls wire.old) → OnOk result (Rests None table.new (W.calls wire.new)) }
-    ensures err { (before : Option Calls) → AllCalm table.old.links.items table.old.links.items → Rests None table.old before → IfTold (IsFree slot) before →
+    ensures err { (before : Option Calls) → IsCalm table.old.links → Rests None table.old before → IfTold (IsFree slot) before →
         Tells (WasTold moment (told.Accepted slot door peer)) before (W.calls wire.old) → OnErr result (Loose table.new (W.calls wire.new)) }
     ensures steps_err { OnErr result (W.steps wire.new ≡ W.steps wire.old) }
     ensures listening { W.listening wire.new ≡ W.listening wire.old }
@@ -127,26 +119,35 @@ fn accept<W: Wire>(
     }
     let conv = table.accepted;
     table.accepted += 1;
-    table
-        .links
-        .push_reserved(Link::new(alloc, slot, conv, Side::Client));
+    table.links.push(Link::new(alloc, slot, conv, Side::Client));
     hear(wire, moment, Heard::Accepted { conv, door, peer })
 }
 
 // The slot may be read.
 fn set_readable(table: &mut Table, moment: u64, slot: u32)
-    ensures stands { (before now : Option Calls) → AllCalm table.old.links.items table.old.links.items → Rests None table.old before →
+    ensures stands { (before now : Option Calls) → IsCalm table.old.links → Rests None table.old before →
         Tells (WasTold moment (told.Readable slot)) before now → Rests None table.new now }
 {
     table.moment = moment;
-    if let Some(place) = find_slot(&table.links, slot) {
-        table.links[place].is_readable = true;
-    }
+    set_readable_in(&mut table.links, slot);
+}
+
+// The slot of this number may be read.
+fn set_readable_in(links: &mut Links, slot: u32)
+    ensures changes { (link : LinkState) → link_at links.old slot ≡ Some link → Changes links.old links.new slot link (record link { is_readable = true }) }
+    ensures none { link_at links.old slot ≡ None → Alike links.old links.new }
+{
+    let Some(link) = links.by_slot.get_mut(&slot) else {
+        return;
+    };
+    let conv = link.conv;
+    link.is_readable = true;
+    links.mark(conv);
 }
 
 // The slot may be put to.
 fn flush_slot<W: Wire>(wire: &mut W, table: &mut Table, moment: u64, slot: u32)
-    ensures stands { (before : Option Calls) → AllCalm table.old.links.items table.old.links.items → Rests None table.old before →
+    ensures stands { (before : Option Calls) → IsCalm table.old.links → Rests None table.old before →
         Tells (WasTold moment (told.Writable slot)) before (W.calls wire.old) → Rests None table.new (W.calls wire.new) }
     ensures steps { W.steps wire.new ≡ W.steps wire.old }
     ensures listening { W.listening wire.new ≡ W.listening wire.old }
@@ -155,8 +156,8 @@ fn flush_slot<W: Wire>(wire: &mut W, table: &mut Table, moment: u64, slot: u32)
     ensures kept { (past : Calls) (times : ℕ) → AnsweredSince past times (W.calls wire.old) → AnsweredSince past times (W.calls wire.new) }
 {
     table.moment = moment;
-    if let Some(place) = find_slot(&table.links, slot) {
-        let _ = flush_at(wire, table, place);
+    if table.links.get(slot).is_some() {
+        let _ = flush_at(wire, table, slot);
     }
 }
 
@@ -169,9 +170,9 @@ fn hear_dialled<W: Wire>(
     ok: bool,
 ) -> Result<Option<(u64, Heard)>, NoMemory>
     ensures steps { IfOk result (λ heard. AddsHeard heard (W.steps wire.old) (W.steps wire.new)) }
-    ensures stands { (before : Option Calls) → AllCalm table.old.links.items table.old.links.items → Rests None table.old before →
+    ensures stands { (before : Option Calls) → IsCalm table.old.links → Rests None table.old before →
         Tells (WasTold moment (told.Dialled slot ok)) before (W.calls wire.old) → OnOk result (Rests None table.new (W.calls wire.new)) }
-    ensures err { (before : Option Calls) → AllCalm table.old.links.items table.old.links.items → Rests None table.old before →
+    ensures err { (before : Option Calls) → IsCalm table.old.links → Rests None table.old before →
         Tells (WasTold moment (told.Dialled slot ok)) before (W.calls wire.old) → OnErr result (Loose table.new (W.calls wire.new)) }
     ensures steps_err { OnErr result (W.steps wire.new ≡ W.steps wire.old) }
     ensures listening { W.listening wire.new ≡ W.listening wire.old }
@@ -180,26 +181,27 @@ fn hear_dialled<W: Wire>(
     ensures kept { (past : Calls) (times : ℕ) → AnsweredSince past times (W.calls wire.old) → AnsweredSince past times (W.calls wire.new) }
 {
     table.moment = moment;
-    match find_slot(&table.links, slot) {
-        Some(place) => match table.links[place].side {
-            Side::Client => Ok(None),
-            Side::Server(server) => hear_server(wire, table, place, server, ok),
-        },
-        None => Ok(None),
+    let Some(link) = table.links.get(slot) else {
+        return Ok(None);
+    };
+    let conv = link.conv;
+    match link.side {
+        Side::Client => Ok(None),
+        Side::Server(server) => hear_server(wire, table, slot, conv, server, ok),
     }
 }
 
-// Hears how the dial of the server at this place ended.
+// Hears how the dial of the server of this slot ended.
 fn hear_server<W: Wire>(
     wire: &mut W,
     table: &mut Table,
-    place: usize,
+    slot: u32,
+    conv: u32,
     server: u32,
     ok: bool,
 ) -> Result<Option<(u64, Heard)>, NoMemory>
-    requires place { place < length table.old.links.items }
     ensures steps { IfOk result (λ told. AddsHeard told (W.steps wire.old) (W.steps wire.new)) }
-    ensures stands { (front back : List LinkState) (link : LinkState) → IsAt table.old.links.items place front link back → link.side ≡ ServerSide server →
+    ensures stands { (front back : List LinkState) (link : LinkState) → IsAt table.old.links slot front link back → link.conv ≡ conv → link.side ≡ ServerSide server →
         StandsFor idle (Some (HeardDialled link.conv server ok)) (front ++ link ∷ back) table.old.accepted table.old.moment (W.calls wire.old) →
         OnOk result (Rests None table.new (W.calls wire.new)) }
     ensures table_err { OnErr result (table.new ≡ table.old) }
@@ -210,12 +212,10 @@ fn hear_server<W: Wire>(
     ensures asks { W.asks wire.new ≡ W.asks wire.old }
     ensures kept { (past : Calls) (times : ℕ) → AnsweredSince past times (W.calls wire.old) → AnsweredSince past times (W.calls wire.new) }
 {
-    let link = &table.links[place];
-    let conv = link.conv;
     let told = hear(wire, table.moment, Heard::Dialled { conv, server, ok })?;
     if ok {
         return Ok(told);
     }
-    shut_at(wire, table, place);
+    shut_at(wire, table, slot);
     Ok(told)
 }

@@ -1,21 +1,21 @@
 //! What is said, handed to the wire.
-ghost use Rattle.std.specs.Prelude.{◌≡◌, ◌<◌, ℕ, List, [], get_or, ◌∷◌, ◌++◌, length, Option, None, OnOk, OnErr, vec_len, vec_capacity, false};
+ghost use Rattle.std.specs.Prelude.{◌≡◌, ℕ, List, ◌∷◌, ◌++◌, Option, None, Some, OnOk, OnErr, true};
 ghost use Rattle.px_event.specs.declared.said.Said.TheVariants.{Send, Close, Dial};
 ghost use Rattle.px_event.specs.declared.step.Step.TheVariants.{Said as WasSaid};
 ghost use Rattle.px_outside.specs.Net.{Adds};
 ghost use Rattle.px_wire.specs.declared.link.Link.{Link as LinkState};
-ghost use Rattle.px_wire.specs.declared.call.WireCall.TheVariants.{Noted, Shut as WasShut};
+ghost use Rattle.px_wire.specs.declared.call.WireCall.TheVariants.{Noted};
 ghost use Rattle.px_wire.specs.Asked.{AnsweredSince};
 ghost use Rattle.px_wire.specs.Calls.{Calls, Tells};
-ghost use Rattle.std.specs.List.{remove};
 ghost use Rattle.px_wire.specs.Found.{IsAt};
-ghost use Rattle.px_wire.specs.Stands.{StandsFor, Rests, idle, putting, name_of};
+ghost use Rattle.px_wire.specs.Stands.{StandsFor, Rests, idle};
+ghost use Rattle.px_wire.specs.Links.{is_over};
+ghost use Rattle.px_wire.specs.Holds.{Alike, Changes, link_at, passes};
 
 use crate::Wire;
-use crate::find::find_side;
-use crate::flush::{flush_at, is_done, shut_at};
+use crate::flush::{flush_at, is_done_at, shut_at};
 use crate::link::Link;
-use crate::ready::reserve;
+use crate::links::Links;
 use crate::table::Table;
 use px_event::{Said, Side, Step};
 use px_message::Address;
@@ -95,33 +95,16 @@ fn say_dial<W: Wire>(
     ensures asks { W.asks wire.new ≡ W.asks wire.old }
     ensures kept { (past : Calls) (times : ℕ) → AnsweredSince past times (W.calls wire.old) → AnsweredSince past times (W.calls wire.new) }
 {
-    reserve(&mut table.links)?;
-    let slot = wire.dial(address, step)?;
     let side = Side::Server(server);
-    let new = Link::new(alloc, slot, conv, side);
-    match find_side(&table.links, conv, side) {
-        Some(place) => replace_at(wire, table, place, new),
-        None => table.links.push_reserved(new),
+    table.links.reserve(alloc, conv)?;
+    let old = table.links.find_side(conv, side);
+    let slot = wire.dial(address, step)?;
+    table.links.push(Link::new(alloc, slot, conv, side));
+    if let Some(old) = old {
+        wire.shut(old);
+        table.links.remove(old);
     }
     Ok(())
-}
-
-// Shuts the slot at this place, and puts another at the end.
-fn replace_at<W: Wire>(wire: &mut W, table: &mut Table, place: usize, new: Link)
-    requires place { place < length table.old.links.items }
-    requires room { vec_len table.old.links < vec_capacity table.old.links }
-    ensures links { table.new.links.items ≡ remove table.old.links.items place ++ new ∷ [] }
-    ensures accepted { table.new.accepted ≡ table.old.accepted }
-    ensures moment { table.new.moment ≡ table.old.moment }
-    ensures told { Tells (WasShut (get_or table.old.links.items place new).slot) (W.calls wire.old) (W.calls wire.new) }
-    ensures steps { W.steps wire.new ≡ W.steps wire.old }
-    ensures listening { W.listening wire.new ≡ W.listening wire.old }
-    ensures faults { W.faults wire.new ≡ W.faults wire.old }
-    ensures asks { W.asks wire.new ≡ W.asks wire.old }
-{
-    let link = table.links.remove(place);
-    wire.shut(link.slot);
-    table.links.push_reserved(new);
 }
 
 // Sends the bytes to the side; the step says it. A side that has no slot, or whose socket failed, gets none.
@@ -143,24 +126,23 @@ fn say_send<W: Wire>(
     ensures asks { W.asks wire.new ≡ W.asks wire.old }
     ensures kept { (past : Calls) (times : ℕ) → AnsweredSince past times (W.calls wire.old) → AnsweredSince past times (W.calls wire.new) }
 {
-    match find_side(&table.links, conv, side) {
-        Some(place) => send_at(wire, table, place, bytes, step),
+    match table.links.find_side(conv, side) {
+        Some(slot) => send_at(wire, table, slot, bytes, step),
         None => wire.note(step),
     }
 }
 
-// Sends the bytes to the side at this place.
+// Sends the bytes to the side of this slot.
 fn send_at<W: Wire>(
     wire: &mut W,
     table: &mut Table,
-    place: usize,
+    slot: u32,
     bytes: &Bytes,
     step: &Step,
 ) -> Result<(), NoMemory>
-    requires place { place < length table.old.links.items }
     ensures steps { OnOk result (Adds (W.steps wire.old) (W.steps wire.new) step.now) }
-    ensures stands { (front back : List LinkState) (link : LinkState) → IsAt table.old.links.items place front link back → step.now ≡ WasSaid link.conv (Send link.side bytes.now) →
-        Rests None table.old (W.calls wire.old) → OnOk result (Rests None table.new (W.calls wire.new)) }
+    ensures stands { (front back : List LinkState) (link : LinkState) → IsAt table.old.links slot front link back → step.now ≡ WasSaid link.conv (Send link.side bytes.now) →
+        StandsFor idle None (front ++ link ∷ back) table.old.accepted table.old.moment (W.calls wire.old) → OnOk result (Rests None table.new (W.calls wire.new)) }
     ensures err { Rests None table.old (W.calls wire.old) → OnErr result (Rests None table.new (W.calls wire.new)) }
     ensures calls_err { OnErr result (W.calls wire.new ≡ W.calls wire.old) }
     ensures steps_err { OnErr result (W.steps wire.new ≡ W.steps wire.old) }
@@ -169,12 +151,47 @@ fn send_at<W: Wire>(
     ensures asks { W.asks wire.new ≡ W.asks wire.old }
     ensures kept { (past : Calls) (times : ℕ) → AnsweredSince past times (W.calls wire.old) → AnsweredSince past times (W.calls wire.new) }
 {
-    let is_over = table.links[place].is_over;
-    if is_over {
+    if is_over_at(&table.links, slot) {
         return wire.note(step);
     }
-    queue_and_note(wire, &mut table.links[place], bytes, step)?;
-    let _ = flush_at(wire, table, place);
+    queue_in(wire, &mut table.links, slot, bytes, step)?;
+    let _ = flush_at(wire, table, slot);
+    Ok(())
+}
+
+fn is_over_at(links: &Links, slot: u32) -> bool
+    ensures is { result ≡ passes is_over (link_at links.now slot) }
+{
+    match links.get(slot) {
+        Some(link) => link.is_over,
+        None => false,
+    }
+}
+
+// The bytes wait for the slot of this number, and the step is noted: both or neither.
+fn queue_in<W: Wire>(
+    wire: &mut W,
+    links: &mut Links,
+    slot: u32,
+    bytes: &Bytes,
+    step: &Step,
+) -> Result<(), NoMemory>
+    ensures steps { OnOk result (Adds (W.steps wire.old) (W.steps wire.new) step.now) }
+    ensures told { OnOk result (Tells (Noted step.now) (W.calls wire.old) (W.calls wire.new)) }
+    ensures changes { (link : LinkState) → link_at links.old slot ≡ Some link → OnOk result (Changes links.old links.new slot link (record link { queue = link.queue ++ bytes.now })) }
+    ensures err { OnErr result (Alike links.old links.new) }
+    ensures calls_err { OnErr result (W.calls wire.new ≡ W.calls wire.old) }
+    ensures steps_err { OnErr result (W.steps wire.new ≡ W.steps wire.old) }
+    ensures listening { W.listening wire.new ≡ W.listening wire.old }
+    ensures faults { W.faults wire.new ≡ W.faults wire.old }
+    ensures asks { W.asks wire.new ≡ W.asks wire.old }
+{
+    let Some(link) = links.by_slot.get_mut(&slot) else {
+        return wire.note(step);
+    };
+    let conv = link.conv;
+    queue_and_note(wire, link, bytes, step)?;
+    links.mark(conv);
     Ok(())
 }
 
@@ -217,25 +234,36 @@ fn say_close<W: Wire>(
     ensures kept { (past : Calls) (times : ℕ) → AnsweredSince past times (W.calls wire.old) → AnsweredSince past times (W.calls wire.new) }
 {
     wire.note(step)?;
-    if let Some(place) = find_side(&table.links, conv, side) {
-        close_at(wire, table, place);
+    if let Some(slot) = table.links.find_side(conv, side) {
+        close_at(wire, table, slot);
     }
     Ok(())
 }
 
-// A Close was said to the side at this place, and its step noted.
-fn close_at<W: Wire>(wire: &mut W, table: &mut Table, place: usize)
-    requires place { place < length table.old.links.items }
-    ensures stands { (before : Option Calls) (front back : List LinkState) (link : LinkState) → IsAt table.old.links.items place front link back →
-        Tells (Noted (WasSaid link.conv (Close link.side))) before (W.calls wire.old) → Rests None table.old before → Rests None table.new (W.calls wire.new) }
+// A Close was said to the side of this slot, and its step noted.
+fn close_at<W: Wire>(wire: &mut W, table: &mut Table, slot: u32)
+    ensures stands { (before : Option Calls) (front back : List LinkState) (link : LinkState) → IsAt table.old.links slot front link back →
+        Tells (Noted (WasSaid link.conv (Close link.side))) before (W.calls wire.old) → StandsFor idle None (front ++ link ∷ back) table.old.accepted table.old.moment before →
+        Rests None table.new (W.calls wire.new) }
     ensures steps { W.steps wire.new ≡ W.steps wire.old }
     ensures listening { W.listening wire.new ≡ W.listening wire.old }
     ensures faults { W.faults wire.new ≡ W.faults wire.old }
     ensures asks { W.asks wire.new ≡ W.asks wire.old }
     ensures kept { (past : Calls) (times : ℕ) → AnsweredSince past times (W.calls wire.old) → AnsweredSince past times (W.calls wire.new) }
 {
-    table.links[place].is_closing = true;
-    if is_done(&table.links[place]) {
-        shut_at(wire, table, place);
+    set_closing_in(&mut table.links, slot);
+    if is_done_at(&table.links, slot) {
+        shut_at(wire, table, slot);
     }
+}
+
+fn set_closing_in(links: &mut Links, slot: u32)
+    ensures changes { (link : LinkState) → link_at links.old slot ≡ Some link → Changes links.old links.new slot link (record link { is_closing = true }) }
+{
+    let Some(link) = links.by_slot.get_mut(&slot) else {
+        return;
+    };
+    let conv = link.conv;
+    link.is_closing = true;
+    links.mark(conv);
 }

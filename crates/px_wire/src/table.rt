@@ -1,14 +1,14 @@
 //! The slots in use, how many connections were accepted, and the moment of the last `ready`.
 ghost use Rattle.std.specs.Prelude.{◌≡◌, []};
+ghost use Rattle.px_wire.specs.Holds.{Holds};
 
-use crate::link::Link;
+use crate::links::Links;
 use std::alloc::Global;
 
 /// What lines know of their wire.
 #[derive(Debug, Drop)]
 pub struct Table {
-    /// The first gave bytes longest ago, or was given longest ago.
-    pub links: Vec<Link>,
+    pub links: Links,
     /// How many connections were accepted and have a number.
     pub accepted: u32,
     /// The moment of the last `ready`, and 0 before.
@@ -18,12 +18,12 @@ pub struct Table {
 impl Table {
     /// No slot is in use.
     pub fn new(alloc: Global) -> Table
-        ensures links { result.links.items ≡ [] }
+        ensures links { Holds result.links [] }
         ensures accepted { result.accepted ≡ 0 }
         ensures moment { result.moment ≡ 0 }
     {
         Table {
-            links: Vec::new(alloc),
+            links: Links::new(alloc),
             accepted: 0,
             moment: 0,
         }

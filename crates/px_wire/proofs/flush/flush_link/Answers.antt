@@ -9,6 +9,7 @@ pub loop-wire-init : goal.loop-wire-init
 loop-wire-init g c = record {
   stands = λ owed front back accepted moment stands. stands;
   name = refl;
+  turn = refl;
   steps = refl;
   listening = refl;
   faults = refl;
@@ -28,6 +29,7 @@ loop-wire-preserved g c =
           put_took owed front back c.loop-wire.link c.put_once.new.link accepted moment c.args.link.now.slot c.in-Took.field-0 c.put_once.result _ _ (c.in-Took.is)
           (omega arith) at c.put_once.ensures.link c.put_once.ensures.told (before.stands owed front back accepted moment stands);
       name = (let e : name_of c.put_once.new.link ≡ name_of c.loop-wire.link = rw (c.put_once.ensures.link, c.in-Took.is) refl in e ∙ before.name);
+      turn = (let e : c.put_once.new.link.turn ≡ c.loop-wire.link.turn = rw (c.put_once.ensures.link, c.in-Took.is) refl in e ∙ before.turn);
       steps = c.put_once.ensures.steps ∙ before.steps;
       listening = c.put_once.ensures.listening ∙ before.listening;
       faults = c.put_once.ensures.faults ∙ before.faults;

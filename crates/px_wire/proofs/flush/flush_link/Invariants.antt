@@ -14,6 +14,7 @@ invariant-loop-wire g l = record {
       → StandsFor (putting l.initial.link.slot) owed (front ++ l.initial.link ∷ back) accepted moment (g.W.Wire.calls l.initial.wire)
       → StandsFor (putting l.initial.link.slot) owed (front ++ l.link ∷ back) accepted moment (g.W.Wire.calls l.wire);
   name : name_of l.link ≡ name_of l.initial.link;
+  turn : l.link.turn ≡ l.initial.link.turn;
   steps : g.W.Wire.steps l.wire ≡ g.W.Wire.steps l.initial.wire;
   listening : g.W.Wire.listening l.wire ≡ g.W.Wire.listening l.initial.wire;
   faults : g.W.Wire.faults l.wire ≡ g.W.Wire.faults l.initial.wire;

@@ -1,16 +1,23 @@
+use Rattle.std.proofs.Common.{◌++◌, ◌∷◌, ℕ, List, ap, sym, subst, ◌∙◌}
+use Rattle.px_wire.specs.declared.link.Link.{Link}
+use Rattle.px_wire.specs.declared.call.WireCall.TheVariants as calls
+use Rattle.px_wire.specs.Calls.{Tells}
+use Rattle.px_wire.specs.Holds.{Holds, without}
 use Rattle.px_wire.proofs.AskedLemmas.{told_kept}
-use Rattle.px_wire.proofs.TableLemmas.{shut_place}
-use Rattle.px_wire.proofs.StepLemmas.{shut_told}
+use Rattle.px_wire.proofs.CallLemmas.{shut_one}
+use Rattle.px_wire.proofs.HoldsLemmas.{without_around}
 use Rattle.px_wire.proofs.flush.shut_at.Goals as goal
 
 pub returns-clause-stands : goal.returns-clause-stands
 returns-clause-stands g c = λ owed front back link at ends.
-    shut_place owed c.args.table.now.links.items c.remove-link.new.self.items c.args.place front back link c.remove-link.result
-    c.args.table.now.accepted c.args.table.now.moment _ _ at c.remove-link.ensures.value c.remove-link.ensures.items c.shut.ensures.told ends
-
-pub returns-clause-told : goal.returns-clause-told
-returns-clause-told g c = λ front back link at.
-    shut_told c.args.table.now.links.items c.args.place front link back c.remove-link.result _ _ at c.remove-link.ensures.value c.shut.ensures.told
+    let P : List Link → Type 0 = λ ls. Holds c.remove.new.self ls in
+    let T : ℕ → Type 0 = λ s. Tells (calls.Shut s) (g.W.Wire.calls c.args.wire.now) (g.W.Wire.calls c.shut.new.self) in
+    record {
+      links = front ++ back;
+      held = subst P (ap (λ (n : ℕ). without n (front ++ link ∷ back)) (sym at.slot_is) ∙ without_around c.args.table.now.links front back link at.held)
+          (c.remove.ensures.holds (front ++ link ∷ back) at.held);
+      stands = shut_one owed front back link c.args.table.now.accepted c.args.table.now.moment _ _ (subst T (sym at.slot_is) c.shut.ensures.told) ends;
+    }
 
 pub returns-clause-kept : goal.returns-clause-kept
 returns-clause-kept g c = told_kept _ _ _ c.shut.ensures.told

@@ -1,21 +1,68 @@
-use Rattle.px_wire.specs.Links.{is_over}
-use Rattle.px_wire.proofs.FindLemmas.{found_in, below_in, missing_in}
-use Rattle.px_wire.proofs.StepLemmas.{close_lost}
+use Rattle.std.proofs.Common.{◌∙◌, ap, Ok, None}
+use Rattle.px_wire.proofs.FindLemmas.{here, rests_due, calm_due, turn_due, fewer_due}
+use Rattle.px_wire.proofs.StepLemmas.{none_added, on_any_err}
 use Rattle.px_wire.proofs.hear.hear_waiting.Goals as goal
 
-pub hear_close-requires : goal.hear_close-requires
-hear_close-requires g c = record { place = below_in is_over c.args.table.now.links.items _ c.in-Some.place c.deref.ensures.value c.in-Some.ensures.position }
+pub returns-in-Over-clause-stands : goal.returns-in-Over-clause-stands
+returns-in-Over-clause-stands g c = λ rests.
+    let old = c.loop-slot.table in
+    let over = c.in_ok-slot.ensures.over c.in-Over.slot (ap Ok c.in-Over.is) in
+    let h = here None (record old { links = c.next_due.new.self }) c.in-Over.slot over.link _ (rests_due None old c.next_due.new.self _ c.next_due.ensures.holds (c.loop-slot.invariant.stands rests)) over.at_is in
+    c.hear_close.ensures.stands h.front h.back over.link h.is_at over.over h.stands
 
-pub read_on-requires-clause-alive : goal.read_on-requires-clause-alive
-read_on-requires-clause-alive g c = missing_in is_over c.args.table.now.links.items _ c.deref.ensures.value c.in-None.ensures.position
+pub returns-in-Over-clause-calm : goal.returns-in-Over-clause-calm
+returns-in-Over-clause-calm g c = λ is.
+    let over = c.in_ok-slot.ensures.over c.in-Over.slot (ap Ok c.in-Over.is) in
+    absurd (c.hear_close.ensures.some over.link over.at_is is)
+
+pub returns-in-Over-clause-kept : goal.returns-in-Over-clause-kept
+returns-in-Over-clause-kept g c = λ past times since. c.hear_close.ensures.kept past times (c.loop-slot.invariant.kept past times since)
+
+pub returns-in_err-told-in-Open-clause-err : goal.returns-in_err-told-in-Open-clause-err
+returns-in_err-told-in-Open-clause-err g c = λ rests.
+    let old = c.loop-slot.table in
+    let f = c.in_ok-slot.ensures.opens c.in-Open.slot (ap Ok c.in-Open.is) in
+    let h = here None (record old { links = c.next_due.new.self }) c.in-Open.slot f.0.link _ (rests_due None old c.next_due.new.self _ c.next_due.ensures.holds (c.loop-slot.invariant.stands rests)) f.0.at in
+    on_any_err c.from_residual-in_err-told-in-Open.result _
+    (c.in_err-told-in-Open.ensures.err h.front h.back f.0.link h.is_at (turn_due c.next_due.new.self c.in-Open.slot f.0 f.1 h.front h.back h.is_at) h.stands)
+
+pub returns-in_err-told-in-Open-clause-kept : goal.returns-in_err-told-in-Open-clause-kept
+returns-in_err-told-in-Open-clause-kept g c = λ past times since. c.in_err-told-in-Open.ensures.kept past times (c.loop-slot.invariant.kept past times since)
 
 pub returns-in-Some-clause-stands : goal.returns-in-Some-clause-stands
 returns-in-Some-clause-stands g c = λ rests.
-    let f = found_in is_over c.args.table.now.links.items _ c.in-Some.place c.deref.ensures.value c.in-Some.ensures.position in
-    c.hear_close.ensures.stands f.front f.back f.link f.is_at f.passes rests
+    let old = c.loop-slot.table in
+    let f = c.in_ok-slot.ensures.opens c.in-Open.slot (ap Ok c.in-Open.is) in
+    let h = here None (record old { links = c.next_due.new.self }) c.in-Open.slot f.0.link _ (rests_due None old c.next_due.new.self _ c.next_due.ensures.holds (c.loop-slot.invariant.stands rests)) f.0.at in
+    c.in_ok-told-in-Open.ensures.stands h.front h.back f.0.link h.is_at (turn_due c.next_due.new.self c.in-Open.slot f.0 f.1 h.front h.back h.is_at) h.stands
 
-pub returns-in-Some-clause-err : goal.returns-in-Some-clause-err
-returns-in-Some-clause-err g c = λ rests. close_lost c.hear_close.result _ _ _ _ c.hear_close.ensures.table_err c.hear_close.ensures.calls_err rests
+pub returns-in-Some-clause-kept : goal.returns-in-Some-clause-kept
+returns-in-Some-clause-kept g c = λ past times since. c.in_ok-told-in-Open.ensures.kept past times (c.loop-slot.invariant.kept past times since)
 
-pub returns-in-Some-clause-calm : goal.returns-in-Some-clause-calm
-returns-in-Some-clause-calm g c = λ is. absurd (c.hear_close.ensures.some is)
+pub loop-slot-smaller : goal.loop-slot-smaller
+loop-slot-smaller g c =
+    let f = c.in_ok-slot.ensures.opens c.in-Open.slot (ap Ok c.in-Open.is) in
+    fewer_due c.loop-slot.table.links c.next_due.new.self c.read_at.new.table.links c.in-Open.slot f.0 c.next_due.ensures.slots
+    (c.in_ok-told-in-Open.ensures.none f.0.link f.0.at (ap Ok c.in_default.is))
+
+pub loop-slot-preserved : goal.loop-slot-preserved
+loop-slot-preserved g c =
+    let before = c.loop-slot.invariant in
+    let old = c.loop-slot.table in
+    let f = c.in_ok-slot.ensures.opens c.in-Open.slot (ap Ok c.in-Open.is) in
+    record {
+      stands = λ rests.
+          let h = here None (record old { links = c.next_due.new.self }) c.in-Open.slot f.0.link _ (rests_due None old c.next_due.new.self _ c.next_due.ensures.holds (before.stands rests)) f.0.at in
+          c.in_ok-told-in-Open.ensures.stands h.front h.back f.0.link h.is_at (turn_due c.next_due.new.self c.in-Open.slot f.0 f.1 h.front h.back h.is_at) h.stands;
+      room = c.read_at.ensures.room ∙ before.room;
+      steps = none_added c.in_ok-told-in-Open.field-0 _ _ c.in_default.is c.in_ok-told-in-Open.ensures.steps ∙ before.steps;
+      listening = c.read_at.ensures.listening ∙ before.listening;
+      faults = c.read_at.ensures.faults ∙ before.faults;
+      kept = λ past times since. c.read_at.ensures.kept past times (before.kept past times since);
+      asks = c.read_at.ensures.asks ∙ before.asks;
+    }
+
+pub returns-in-Nothing-clause-calm : goal.returns-in-Nothing-clause-calm
+returns-in-Nothing-clause-calm g c = λ is.
+    let s = c.in_ok-slot.ensures.calm (ap Ok c.in-Nothing.is) in
+    calm_due c.next_due.new.self s.0 s.1

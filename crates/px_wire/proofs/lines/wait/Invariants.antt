@@ -1,14 +1,14 @@
 use Rattle.std.proofs.Common.{◌≡◌, ℕ, ◌≤◌, ◌<◌, ◌-◌, ◌^◌, None, length}
 use Rattle.px_wire.specs.Asked.{AnsweredSince}
 use Rattle.px_wire.specs.Calls.{Calls, AsksMore}
-use Rattle.px_wire.specs.Stands.{Rests, AllCalm}
+use Rattle.px_wire.specs.Stands.{Rests, IsCalm}
 use Rattle.px_wire.proofs.lines.wait.Given as goal
 
 -- nothing was heard, and the wire was asked once for each time that is no longer left
 abbrev pub invariant-loop-left : goal.invariant-loop-left
 invariant-loop-left g l = record {
   stands : Rests None l.initial.table (g.W.Wire.calls l.initial.wire) → Rests None l.table (g.W.Wire.calls l.wire);
-  calm : AllCalm l.table.links.items l.table.links.items;
+  calm : IsCalm l.table.links;
   room : 0 < length l.room;
   steps : g.W.Wire.steps l.wire ≡ g.W.Wire.steps l.initial.wire;
   listening : g.W.Wire.listening l.wire ≡ g.W.Wire.listening l.initial.wire;

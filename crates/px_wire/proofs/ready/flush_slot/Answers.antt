@@ -1,21 +1,24 @@
-use Rattle.std.proofs.Common.{None}
-use Rattle.px_wire.specs.Links.{has_slot}
-use Rattle.px_wire.proofs.FindLemmas.{found_in, below_in, missing_in}
+use Rattle.std.proofs.Common.{◌∙◌, ◌++◌, ◌∷◌, sym, None}
+use Rattle.px_wire.specs.Holds.{link_at}
+use Rattle.px_wire.proofs.FindLemmas.{here, there_is, gone_is}
+use Rattle.px_wire.proofs.HoldsLemmas.{no_slot}
 use Rattle.px_wire.proofs.StepLemmas.{tells_none_writable, tells_writable}
 use Rattle.px_wire.proofs.ready.flush_slot.Goals as goal
 
-pub flush_at-requires : goal.flush_at-requires
-flush_at-requires g c = record { place = below_in (has_slot c.args.slot) c.args.table.now.links.items _ c.in-Some.place c.deref.ensures.value c.in-Some.ensures.position }
+pub returns-then-is_some-clause-stands : goal.returns-then-is_some-clause-stands
+returns-then-is_some-clause-stands g c = λ before calm rests tells.
+    let old = c.args.table.now in
+    let l = there_is c.get.result (link_at old.links c.args.slot) c.get.ensures.is (sym c.is_some.ensures ∙ c.if-is_some.true) in
+    let h = here None old c.args.slot l.0 before rests l.1 in
+    c.flush_at.ensures.stands None h.front h.back l.0 h.is_at
+    (tells_writable h.front l.0 h.back old.accepted old.moment c.args.moment c.args.slot before _ (calm (h.front ++ l.0 ∷ h.back) h.is_at.held) h.stands (sym h.is_at.slot_is) tells)
 
-pub returns-in-Some-clause-stands : goal.returns-in-Some-clause-stands
-returns-in-Some-clause-stands g c = λ before calm rests tells.
-    let links = c.args.table.now.links.items in
-    let f = found_in (has_slot c.args.slot) links _ c.in-Some.place c.deref.ensures.value c.in-Some.ensures.position in
-    c.flush_at.ensures.stands None f.front f.back f.link f.is_at
-    (tells_writable links c.args.table.now.accepted c.args.table.now.moment c.args.moment c.args.slot before _ calm rests c.in-Some.place f.front f.link f.back f.is_at f.passes tells)
-
-pub returns-in_default-clause-stands : goal.returns-in_default-clause-stands
-returns-in_default-clause-stands g c = λ before calm rests tells.
-    let links = c.args.table.now.links.items in
-    tells_none_writable links c.args.table.now.accepted c.args.table.now.moment c.args.moment c.args.slot before _ calm rests
-    (missing_in (has_slot c.args.slot) links _ c.deref.ensures.value c.in_default.ensures.position) tells
+pub returns-else-is_some-clause-stands : goal.returns-else-is_some-clause-stands
+returns-else-is_some-clause-stands g c = λ before calm rests tells.
+    let old = c.args.table.now in
+    let none = gone_is c.get.result (link_at old.links c.args.slot) c.get.ensures.is (sym c.is_some.ensures ∙ c.if-is_some.false) in
+    record {
+      links = rests.links;
+      held = rests.held;
+      stands = tells_none_writable rests.links old.accepted old.moment c.args.moment c.args.slot before _ (calm rests.links rests.held) rests.stands (no_slot old.links rests.links c.args.slot rests.held none) tells;
+    }

@@ -1,25 +1,22 @@
-use Rattle.std.proofs.Common.{◌++◌, ◌∷◌, None}
-use Rattle.px_wire.proofs.StepLemmas.{dialled_is, dialled_not, whole_at}
-use Rattle.px_wire.specs.Stands.{idle}
+use Rattle.std.proofs.Common.{◌∙◌, ◌++◌, ◌∷◌, ℕ, ap, sym, subst, None, Some}
+use Rattle.px_event.specs.declared.heard.Heard.TheVariants as heard
+use Rattle.px_wire.specs.Stands.{StandsFor, idle}
+use Rattle.px_wire.proofs.FindLemmas.{whole}
 use Rattle.px_wire.proofs.ready.hear_server.Goals as goal
 
 pub returns-then-ok-clause-stands : goal.returns-then-ok-clause-stands
-returns-then-ok-clause-stands g c = λ front back link at side stands.
-    let links = c.args.table.now.links.items in
-    let moment = c.args.table.now.moment in
-    let accepted = c.args.table.now.accepted in
-    let d = dialled_is links c.args.place front link back c.index-link.result.now c.args.server c.args.ok accepted moment _ at c.index-link.ensures stands in
-    whole_at idle None links c.args.place front link back accepted moment _ at (c.in_ok-told.ensures.plain (front ++ link ∷ back) accepted c.if-ok.true d)
+returns-then-ok-clause-stands g c = λ front back link at conv side stands.
+    let old = c.args.table.now in
+    let P : ℕ → Type 0 = λ n. StandsFor idle (Some (heard.Dialled n c.args.server c.args.ok)) (front ++ link ∷ back) old.accepted old.moment (g.W.Wire.calls c.args.wire.now) in
+    whole None old c.args.slot front link back _ at (c.in_ok-told.ensures.plain (front ++ link ∷ back) old.accepted c.if-ok.true (subst P conv stands))
 
 pub returns-clause-stands : goal.returns-clause-stands
-returns-clause-stands g c = λ front back link at side stands.
-    let links = c.args.table.now.links.items in
-    let moment = c.args.table.now.moment in
-    let accepted = c.args.table.now.accepted in
-    let seen = c.index-link.result.now in
-    let d = dialled_is links c.args.place front link back seen c.args.server c.args.ok accepted moment _ at c.index-link.ensures stands in
+returns-clause-stands g c = λ front back link at conv side stands.
+    let old = c.args.table.now in
+    let P : ℕ → Type 0 = λ n. StandsFor idle (Some (heard.Dialled n c.args.server c.args.ok)) (front ++ link ∷ back) old.accepted old.moment (g.W.Wire.calls c.args.wire.now) in
     c.shut_at.ensures.stands None front back link at
-    (c.in_ok-told.ensures.dialled front back link accepted c.args.server (dialled_not links c.args.place front link back seen c.args.server c.args.ok at c.index-link.ensures c.if-ok.false) side d)
+    (c.in_ok-told.ensures.dialled front back link old.accepted c.args.server
+    (ap (λ n. heard.Dialled n c.args.server c.args.ok) (sym conv) ∙ ap (heard.Dialled link.conv c.args.server) c.if-ok.false) side (subst P conv stands))
 
 pub returns-clause-kept : goal.returns-clause-kept
 returns-clause-kept g c = λ past times since. c.shut_at.ensures.kept past times (c.in_ok-told.ensures.kept past times since)

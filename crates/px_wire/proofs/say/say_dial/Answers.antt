@@ -1,38 +1,63 @@
-use Rattle.std.proofs.Common.{None}
+use Rattle.std.proofs.Common.{◌++◌, ◌∷◌, [], subst, refl, None}
 use Rattle.px_event.specs.declared.side.Side.TheVariants.{Server}
-use Rattle.px_wire.specs.Links.{is_link_of, new_link}
-use Rattle.px_wire.specs.Stands.{idle}
-use Rattle.px_wire.proofs.FindLemmas.{found_in, below_in, missing_in}
+use Rattle.px_wire.specs.declared.link.Link.{Link}
+use Rattle.px_wire.specs.declared.call.WireCall.TheVariants as calls
+use Rattle.px_wire.specs.Holds.{Holds, without}
+use Rattle.px_wire.specs.Links.{new_link}
 use Rattle.px_wire.proofs.AskedLemmas.{told_kept, same_kept}
-use Rattle.px_wire.proofs.StepLemmas.{dials_new, dials_again, kept_links, pushed, replaced}
+use Rattle.px_wire.proofs.FindLemmas.{here, rests_alike}
+use Rattle.px_wire.proofs.StepLemmas.{dials_new, pushed, redials, on_any_err, rests_same}
+use Rattle.px_wire.proofs.HoldsLemmas.{alike_held}
 use Rattle.px_wire.proofs.say.say_dial.Goals as goal
 
-pub replace_at-requires-clause-place : goal.replace_at-requires-clause-place
-replace_at-requires-clause-place g c =
-    below_in (is_link_of c.args.conv (Server c.args.server)) c.reserve.new.links.items _ c.in-Some.place c.deref.ensures.value c.in-Some.ensures.position
+pub returns-in_default-clause-stands : goal.returns-in_default-clause-stands
+returns-in_default-clause-stands g c = λ is rests.
+    let old = c.args.table.now in
+    let held = alike_held old.links c.reserve.new.self rests.links c.reserve.ensures.same rests.held in
+    let made = new_link c.in_ok-slot.slot c.args.conv (Server c.args.server) in
+    let turn = c.reserve.new.self.next_turn in
+    let P : Link → Type 0 = λ l. Holds c.push.new.self (without l.slot rests.links ++ record l { turn = turn } ∷ []) in
+    record {
+      links = without c.in_ok-slot.slot rests.links ++ record made { turn = turn } ∷ [];
+      held = subst P c.new.ensures (c.push.ensures.holds rests.links held);
+      stands = pushed c.in_ok-slot.slot turn made rests.links (calls.Dialled c.args.address.now c.args.step.now c.in_ok-slot.slot) old.accepted old.moment old.accepted old.moment None _ _ c.in_ok-slot.ensures.told rests.stands c.in_ok-slot.ensures.free
+          (dials_new rests.links old.accepted old.moment c.in_ok-slot.slot c.args.conv c.args.server c.args.address.now c.args.step.now _ _ is c.in_ok-slot.ensures.free c.in_ok-slot.ensures.told rests.stands
+          (c.find_side-old.ensures.missing rests.links held c.in_default.is));
+    }
 
 pub returns-in-Some-clause-stands : goal.returns-in-Some-clause-stands
 returns-in-Some-clause-stands g c = λ is rests.
-    let links = c.reserve.new.links.items in
-    let stands = kept_links idle None c.args.table.now.links.items links c.args.table.now.accepted c.args.table.now.moment _ c.in_ok-reserve.ensures.items rests in
-    let f = found_in (is_link_of c.args.conv (Server c.args.server)) links _ c.in-Some.place c.deref.ensures.value c.in-Some.ensures.position in
-    replaced idle None c.args.table.now.accepted c.args.table.now.moment _ _ c.replace_at.new.table c.replace_at.ensures.links c.replace_at.ensures.accepted c.replace_at.ensures.moment
-    (dials_again links c.args.table.now.accepted c.args.table.now.moment c.in_ok-slot.slot c.args.conv c.args.server c.args.address.now c.args.step.now _ _ is c.in_ok-slot.ensures.free c.in_ok-slot.ensures.told stands
-    c.in-Some.place f.front f.link f.back _ f.is_at f.passes c.new-new.result c.new-new.ensures c.replace_at.ensures.told)
+    let old = c.args.table.now in
+    let f = c.in-Some.ensures.found in
+    let reserved = rests_alike None old (record old { links = c.reserve.new.self }) _ c.reserve.ensures.same refl refl rests in
+    let h = here None (record old { links = c.reserve.new.self }) c.in-Some.old f.link _ reserved f.at in
+    let made = new_link c.in_ok-slot.slot c.args.conv (Server c.args.server) in
+    let turn = c.reserve.new.self.next_turn in
+    let links = h.front ++ f.link ∷ h.back in
+    let P : Link → Type 0 = λ l. Holds c.push.new.self (without l.slot links ++ record l { turn = turn } ∷ []) in
+    let held = subst P c.new.ensures (c.push.ensures.holds links h.is_at.held) in
+    record {
+      links = without c.in-Some.old (without c.in_ok-slot.slot links ++ record made { turn = turn } ∷ []);
+      held = c.remove.ensures.holds _ held;
+      stands = redials c.reserve.new.self c.push.new.self h.front f.link h.back c.in-Some.old h.is_at old.accepted old.moment c.in_ok-slot.slot c.args.conv c.args.server turn c.args.address.now c.args.step.now _ _ _ held is
+          c.in_ok-slot.ensures.free c.in_ok-slot.ensures.told c.shut.ensures.told f.passes_side h.stands;
+    }
 
-pub returns-in-None-clause-stands : goal.returns-in-None-clause-stands
-returns-in-None-clause-stands g c = λ is rests.
-    let links = c.reserve.new.links.items in
-    let stands = kept_links idle None c.args.table.now.links.items links c.args.table.now.accepted c.args.table.now.moment _ c.in_ok-reserve.ensures.items rests in
-    pushed idle None links _ _ (new_link c.in_ok-slot.slot c.args.conv (Server c.args.server)) c.args.table.now.accepted c.args.table.now.moment _ c.push_reserved.ensures.items c.new-new.ensures
-    (dials_new links c.args.table.now.accepted c.args.table.now.moment c.in_ok-slot.slot c.args.conv c.args.server c.args.address.now c.args.step.now _ _ is c.in_ok-slot.ensures.free c.in_ok-slot.ensures.told stands
-    (missing_in (is_link_of c.args.conv (Server c.args.server)) links _ c.deref.ensures.value c.in-None.ensures.position))
+pub returns-in_err-slot-clause-err : goal.returns-in_err-slot-clause-err
+returns-in_err-slot-clause-err g c = λ rests.
+    let old = c.args.table.now in
+    on_any_err c.from_residual-in_err-slot.result _ (rests_alike None old (record old { links = c.reserve.new.self }) _ c.reserve.ensures.same refl refl (rests_same None old _ _ c.in_err-slot.ensures.calls_err rests))
+
+pub returns-in_err-reserve-clause-err : goal.returns-in_err-reserve-clause-err
+returns-in_err-reserve-clause-err g c = λ rests.
+    let old = c.args.table.now in
+    on_any_err c.from_residual.result _ (rests_alike None old (record old { links = c.reserve.new.self }) _ c.reserve.ensures.same refl refl rests)
 
 pub returns-in-Some-clause-kept : goal.returns-in-Some-clause-kept
-returns-in-Some-clause-kept g c = λ past times since. told_kept _ _ _ c.replace_at.ensures.told past times (told_kept _ _ _ c.in_ok-slot.ensures.told past times since)
+returns-in-Some-clause-kept g c = λ past times since. told_kept _ _ _ c.shut.ensures.told past times (told_kept _ _ _ c.in_ok-slot.ensures.told past times since)
 
-pub returns-in-None-clause-kept : goal.returns-in-None-clause-kept
-returns-in-None-clause-kept g c = told_kept _ _ _ c.in_ok-slot.ensures.told
+pub returns-in_default-clause-kept : goal.returns-in_default-clause-kept
+returns-in_default-clause-kept g c = told_kept _ _ _ c.in_ok-slot.ensures.told
 
 pub returns-in_err-slot-clause-kept : goal.returns-in_err-slot-clause-kept
 returns-in_err-slot-clause-kept g c = same_kept _ _ c.in_err-slot.ensures.calls_err

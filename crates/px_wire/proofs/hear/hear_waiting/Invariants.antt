@@ -1,16 +1,14 @@
 use Rattle.std.proofs.Common.{◌≡◌, ℕ, None, length}
 use Rattle.px_wire.specs.Asked.{AnsweredSince}
 use Rattle.px_wire.specs.Calls.{Calls}
-use Rattle.px_wire.specs.Found.{Missing, readable_count}
-use Rattle.px_wire.specs.Links.{is_over}
+use Rattle.px_wire.specs.Found.{readable_count}
 use Rattle.px_wire.specs.Stands.{Rests}
-use Rattle.px_wire.proofs.hear.read_on.Given as goal
+use Rattle.px_wire.proofs.hear.hear_waiting.Given as goal
 
 -- what is kept stands still
-abbrev pub invariant-loop-place : goal.invariant-loop-place
-invariant-loop-place g l = record {
+abbrev pub invariant-loop-slot : goal.invariant-loop-slot
+invariant-loop-slot g l = record {
   stands : Rests None l.initial.table (g.W.Wire.calls l.initial.wire) → Rests None l.table (g.W.Wire.calls l.wire);
-  alive : Missing is_over l.table.links.items;
   room : length l.room ≡ length l.initial.room;
   steps : g.W.Wire.steps l.wire ≡ g.W.Wire.steps l.initial.wire;
   listening : g.W.Wire.listening l.wire ≡ g.W.Wire.listening l.initial.wire;
@@ -19,5 +17,5 @@ invariant-loop-place g l = record {
   asks : g.W.Wire.asks l.wire ≡ g.W.Wire.asks l.initial.wire;
 }
 
-abbrev pub decreases-loop-place : goal.decreases-loop-place
-decreases-loop-place g l = readable_count l.table.links.items
+abbrev pub decreases-loop-slot : goal.decreases-loop-slot
+decreases-loop-slot g l = readable_count l.table.links.by_slot.entries
