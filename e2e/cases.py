@@ -11,12 +11,13 @@ import sys
 import threading
 import time
 
+from busy_cases import BUSY_CASES
 from example_cases import examples
 from option_cases import OPTION_CASES
 from page_cases import PAGE_CASES
 from saving_cases import SAVING_CASES
 from tools import (
-    ORIGIN, PROXY, TOP, Mitm, Origin, Tally, curl, get, line, raise_loopback, read_all, read_answers, same, talk, url, wait_for,
+    ORIGIN, PROXY, TOP, Mitm, Origin, Tally, curl, get, line, raise_limit, raise_loopback, read_all, read_answers, same, talk, url, wait_for,
 )
 
 BIG = 10 * 1024 * 1024
@@ -272,10 +273,11 @@ def main():
         signal.signal(number, lambda number, _: sys.exit(f"e2e: ended by signal {number}"))
     signal.alarm(MOST_SECONDS)
     raise_loopback()
+    raise_limit()
     tally = Tally(sys.argv[1:])
     with Origin() as origin:
         try_with_one_run(tally, origin)
-        for case in OPTION_CASES + PAGE_CASES + SAVING_CASES:
+        for case in BUSY_CASES + OPTION_CASES + PAGE_CASES + SAVING_CASES:
             tally.try_case(name_of(case), case)
     for name, case in examples():
         tally.try_case(name, case)

@@ -21,6 +21,14 @@ def case_listens_where_the_options_say():
         same(mitm.notes(), [f"listening at 127.0.0.1:8081, for http://127.0.0.1:{ORIGIN}"])
 
 
+def case_server_by_name():
+    """The addresses of the name are tried in turn."""
+    with Mitm(mode=f'mode = "reverse:http://localhost:{ORIGIN}"\n') as mitm:
+        for number in range(3):
+            same(curl(url(f"/{number}")), f"/{number}\n".encode())
+        same(mitm.new_lines(3), [f".0 GET http://localhost:{ORIGIN}/{number} 200 3" for number in range(3)])
+
+
 def case_header_rules():
     rules = 'modify_headers = ["/~q/X-Debug/1", "/~s/X-Server/", "/~s/X-Through/mitm"]\n'
     with Mitm(rules):
@@ -228,7 +236,7 @@ def case_port_that_is_not_permitted():
 
 
 OPTION_CASES = [
-    case_notes_where_it_listens, case_listens_where_the_options_say, case_header_rules,
+    case_notes_where_it_listens, case_listens_where_the_options_say, case_server_by_name, case_header_rules,
     case_header_rules_by_the_requests_body, case_body_rules, case_map_remote, case_map_remote_elsewhere_than_http, case_blocked,
     case_blocked_by_a_close, case_local_files, case_rules_change_what_rules_answer, case_local_files_come_before_another_server,
     case_local_file_absent, case_local_file_that_is_a_directory, case_local_file_that_may_not_be_read, case_anticache_and_anticomp, case_events_spent,

@@ -4,6 +4,7 @@ The program is crates/mitm/out/mitm, or MITM where that is set."""
 import fcntl
 import os
 import re
+import resource
 import shutil
 import socket
 import struct
@@ -34,6 +35,12 @@ def raise_loopback():
             fcntl.ioctl(any_socket, 0x8914, struct.pack("16sh14x", b"lo", flags | 1))
         except OSError:
             pass
+
+
+def raise_limit():
+    """Allows as many descriptors as the system lets this user have, here and in what is started."""
+    _, most = resource.getrlimit(resource.RLIMIT_NOFILE)
+    resource.setrlimit(resource.RLIMIT_NOFILE, (most, most))
 
 
 def listens(port):
@@ -80,10 +87,12 @@ class Origin(Started):
 
 
 class Mitm(Started):
-    """`mitm serve FILE`, in a folder of its own in which FILE has these options. Words in front of the program's name run it."""
+    """`mitm serve FILE`, in a folder of its own in which FILE has these options. Words in front of the program's name run it. Its
+    standard output is a file, or the descriptor that is given."""
 
-    def __init__(self, options="", port=PROXY[1], files=(), user=None, in_front=()):
-        self.options, self.port, self.files, self.user, self.in_front = MODE + options, port, dict(files), user, in_front
+    def __init__(self, options="", port=PROXY[1], files=(), user=None, in_front=(), mode=MODE, out=None):
+        self.options, self.port, self.files, self.user, self.in_front = mode + options, port, dict(files), user, in_front
+        self.out = out
 
     def start(self):
         self.folder = tempfile.TemporaryDirectory()
@@ -94,7 +103,7 @@ class Mitm(Started):
             with open(os.path.join(home, name), "wb") as file:
                 file.write(content)
         self.printed, self.noted = tempfile.TemporaryFile(), tempfile.TemporaryFile()
-        self.process = start_program(["serve", "options"], home, self.user, self.printed, self.noted, self.in_front)
+        self.process = start_program(["serve", "options"], home, self.user, self.out or self.printed, self.noted, self.in_front)
         self.seen = 0
         wait_for(lambda: listens(self.port) or self.process.poll() is not None, "mitm")
         if self.process.poll() is not None:

@@ -2,22 +2,54 @@
 ghost use Rattle.std.specs.Prelude.{◌≡◌, length};
 ghost use Rattle.px_wire.specs.Calls.{GotWithin, PutWithin};
 
+use crate::news::Way;
+use crate::share::Share;
 use mio::net::TcpStream;
-use px_wire::{Got, Put};
+use px_wire::{Got, Put, Ready};
 use std::io::{ErrorKind, Read, Write};
 use std::net::Shutdown;
 
-// What a socket that was shut is read by, and how often at a time.
+// How often a socket is read between two polls, a room at a time.
+const READS: u32 = 4;
+
+// What a socket that was shut is read by, and how often between two polls.
 const SCRAP: usize = 4096;
 
 const TURNS: usize = 16;
+
+/// Who began a connection.
+#[derive(Clone, Copy, Debug, PartialEq, Eq)]
+pub(crate) enum Begun {
+    /// The peer, which was accepted.
+    ByPeer,
+    /// This wire, which dialled.
+    Here,
+}
+
+/// Whether a connection has bytes.
+#[derive(Clone, Copy, Debug, PartialEq, Eq)]
+enum Reading {
+    /// It may have some.
+    Open,
+    /// It has none, until something else is told.
+    Drained,
+    /// It used up its share, which is told after the next poll.
+    Held,
+}
 
 /// A socket that carries bytes.
 #[derive(Drop)]
 pub(crate) struct Connection {
     stream: TcpStream,
-    // A put took nothing, and that it may go on was not told since.
+    begun: Begun,
+    reading: Reading,
+    share: Share,
+    // A read that does not fill its room is no sign that nothing is left.
+    reads_on: bool,
+    // A put was not taken whole, and that it may go on was not told since.
     is_blocked: bool,
+    // Bytes were put, and none of the peer's were read since.
+    is_put_last: bool,
     // Its bytes have ended, or it failed.
     is_over: bool,
 }
@@ -33,56 +65,132 @@ pub(crate) enum Drained {
     Over,
 }
 
+/// What is left of a connection that is shut.
+#[derive(Drop)]
+pub(crate) enum Finished {
+    /// It may be closed: its peer has ended, or has what was put, or it failed.
+    Closed,
+    /// The socket, after the last byte for its peer, with what its bytes are so far. To close it now would take what the
+    /// peer has not got yet from it, if the peer sent what was not read, or sends more.
+    Parting(TcpStream, Drained),
+}
+
 impl Connection {
-    /// A socket that is connected. Whether a put was blocked before.
-    pub(crate) fn new(stream: TcpStream, is_blocked: bool) -> Connection {
+    /// A socket that is connected. Whether a put waits to be told that it may go on.
+    pub(crate) fn new(stream: TcpStream, begun: Begun, is_blocked: bool) -> Connection {
         Connection {
             stream,
+            begun,
+            reading: Reading::Open,
+            share: Share::new(),
+            reads_on: false,
             is_blocked,
+            is_put_last: false,
             is_over: false,
         }
     }
 
-    /// Hands bytes to the socket.
+    /// Hands bytes to the socket, unless it has not told that it takes more since it took less than it was handed.
     pub(crate) fn put(&mut self, bytes: &[u8]) -> Put
         ensures within { PutWithin (length bytes.now) result }
     {
+        if self.is_blocked {
+            return Put::Blocked;
+        }
         let put = put_to(&self.stream, bytes);
-        if put == Put::Blocked {
-            self.is_blocked = true;
+        match put {
+            Put::Took(count) => {
+                self.is_put_last = true;
+                self.is_blocked = count < bytes.len();
+            }
+            Put::Blocked => self.is_blocked = true,
+            Put::Broken => {}
         }
         put
     }
 
-    /// Takes bytes of the socket.
+    /// Takes bytes of the socket, unless it has none as far as was told, or is held.
     pub(crate) fn get(&mut self, room: &mut [u8]) -> Got
         ensures within { GotWithin (length room.old) result }
         ensures room { length room.new ≡ length room.old }
     {
-        let got = get_from(&self.stream, room);
-        match got {
-            Got::Ended | Got::Broken => self.is_over = true,
-            Got::Gave(_) | Got::Blocked => {}
+        if self.reading != Reading::Open {
+            return Got::Blocked;
         }
+        let got = get_from(&self.stream, room);
+        self.after_get(got, room.len());
         got
     }
 
-    /// Whether a put waits to be told that it may go on; it is told now.
-    pub(crate) fn take_blocked(&mut self) -> bool {
-        let was_blocked = self.is_blocked;
-        self.is_blocked = false;
-        was_blocked
+    // What a read of a room of so many bytes gave says of the next.
+    fn after_get(&mut self, got: Got, room: usize) {
+        match got {
+            Got::Gave(count) => {
+                self.is_put_last = false;
+                if count < room && !self.reads_on {
+                    self.reading = Reading::Drained;
+                }
+            }
+            Got::Blocked => {
+                self.reads_on = false;
+                self.reading = Reading::Drained;
+            }
+            Got::Ended | Got::Broken => self.is_over = true,
+        }
     }
 
-    /// The socket, after the last byte for its peer; none where its bytes have ended or it failed. To close it now would
-    /// take what the peer has not got yet from it, if the peer sent what was not read, or sends more.
-    pub(crate) fn finish(self) -> Option<TcpStream> {
-        if self.is_over {
-            return None;
+    /// Whether it may be read once more in this turn; this counts.
+    pub(crate) fn may_get(&mut self, turn: u64) -> bool {
+        self.reading != Reading::Open || self.share.take(turn, READS)
+    }
+
+    /// It gives nothing until it is told again that it may be read.
+    pub(crate) fn hold(&mut self) {
+        self.reading = Reading::Held;
+    }
+
+    /// It may go on in this way: what the slot is ready for. That it may be written is told only where a put waits for it.
+    pub(crate) fn go_on(&mut self, slot: u32, way: Way) -> Option<Ready> {
+        match way {
+            Way::Read => self.open(slot),
+            Way::ReadOn => {
+                self.reads_on = true;
+                self.open(slot)
+            }
+            Way::ReadMore if self.reading == Reading::Held => self.open(slot),
+            Way::ReadMore => None,
+            Way::Write | Way::Settle => self.unblock(slot),
         }
+    }
+
+    fn open(&mut self, slot: u32) -> Option<Ready> {
+        self.reading = Reading::Open;
+        Some(Ready::Readable(slot))
+    }
+
+    fn unblock(&mut self, slot: u32) -> Option<Ready> {
+        let was_blocked = self.is_blocked;
+        self.is_blocked = false;
+        was_blocked.then_some(Ready::Writable(slot))
+    }
+
+    // Whether the peer has what was put, or needs it no more: it ended, or it is a server that sent what it was dialled for.
+    fn is_settled(&self) -> bool {
+        self.is_over || self.begun == Begun::Here && !self.is_put_last
+    }
+
+    /// Ends what is sent to the peer.
+    pub(crate) fn finish(self) -> Finished {
+        if self.is_settled() {
+            return Finished::Closed;
+        }
+        let left = match self.reading {
+            Reading::Drained => Drained::Blocked,
+            Reading::Open | Reading::Held => Drained::More,
+        };
         match self.stream.shutdown(Shutdown::Write) {
-            Ok(()) => Some(self.stream),
-            Err(_) => None,
+            Ok(()) => Finished::Parting(self.stream, left),
+            Err(_) => Finished::Closed,
         }
     }
 }

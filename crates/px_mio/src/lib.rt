@@ -1,7 +1,9 @@
 //! Real sockets, as a `Wire`.
 //!
 //! Each slot is a socket that never waits, registered with the system's readiness (epoll, by `mio`). Readiness is told
-//! once, when it begins, so that whoever is told it goes on until `Blocked`. What a socket carried, and what readiness the
+//! once, when it begins, so that whoever is told it goes on until `Blocked`. A slot gives four rooms and a door accepts 64
+//! connections before the system is asked again what else may go on: `get` answers `Blocked` then, and `Readable` is told
+//! again. So nobody waits for one that sends without a pause. What a socket carried, and what readiness the
 //! system tells, no contract knows: this wire tells no calls. The rules of a wire hold of it all the same, so that a
 //! network over it is that over the wire in memory.
 //!
@@ -10,10 +12,12 @@
 #![tactic(auto)]
 
 mod connection;
+mod doors;
 mod listen_fault;
 mod listening;
 mod name;
 mod news;
+mod share;
 mod socket;
 mod sockets;
 #[cfg(test)]

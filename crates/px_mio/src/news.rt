@@ -12,8 +12,17 @@ pub(crate) const CONTROL: Token = Token(usize::MAX - 1);
 /// In which way a socket may go on.
 #[derive(Clone, Copy, Debug, PartialEq, Eq)]
 pub(crate) enum Way {
+    /// It may have bytes.
     Read,
+    /// It may have bytes, and behind them its end, its failure or urgent bytes: a read that does not fill its room is no
+    /// sign that nothing is left.
+    ReadOn,
+    /// It had used up its share when the system was polled, and may have bytes.
+    ReadMore,
+    /// It may take bytes; it is connected.
     Write,
+    /// It may take bytes, or has failed.
+    Settle,
 }
 
 /// Something that may go on.
@@ -21,8 +30,8 @@ pub(crate) enum Way {
 pub(crate) enum News {
     /// A connection may wait at the door.
     Door(Door),
-    /// The slot's socket may be read or written.
-    Slot { slot: u32, way: Way },
+    /// The socket that has this stamp in the slot may go on.
+    Slot { slot: u32, stamp: u64, way: Way },
 }
 
 /// The door that an event is of; none for a slot.
@@ -42,22 +51,25 @@ pub(crate) fn slot_of(event: &Event) -> Option<u32> {
     u32::try_from(event.token().0).ok()
 }
 
-/// Whether the socket may have bytes, or its end, or an error.
-pub(crate) fn may_read(event: &Event) -> bool {
-    event.is_readable() || event.is_read_closed() || event.is_error()
+/// How the event's socket may be read; none where it has nothing, nor its end, nor an error.
+pub(crate) fn reading_of(event: &Event) -> Option<Way> {
+    if event.is_read_closed() || event.is_error() || event.is_priority() {
+        Some(Way::ReadOn)
+    } else if event.is_readable() {
+        Some(Way::Read)
+    } else {
+        None
+    }
 }
 
-/// Whether the socket may take bytes, or has failed.
-pub(crate) fn may_write(event: &Event) -> bool {
-    event.is_writable() || event.is_write_closed() || event.is_error()
-}
-
-impl News {
-    /// Whether it is of this slot.
-    pub(crate) fn is_of(&self, slot: u32) -> bool {
-        match self {
-            News::Slot { slot: other, .. } => *other == slot,
-            News::Door(_) => false,
-        }
+/// How the event's socket may be written; none where it takes nothing and has not failed. A socket that may be written and
+/// has not failed is connected: while it connects the system does not tell that it may be written.
+pub(crate) fn writing_of(event: &Event) -> Option<Way> {
+    if event.is_write_closed() || event.is_error() {
+        Some(Way::Settle)
+    } else if event.is_writable() {
+        Some(Way::Write)
+    } else {
+        None
     }
 }

@@ -1,13 +1,19 @@
 //! The sockets of a wire, and what the system tells of them.
+//!
+//! What is told is worked off in turns. A turn begins with a poll, and in it a slot gives and a door accepts only so much; what is
+//! left is noted for the next turn, whose poll does not wait then. So nobody is kept waiting by one who sends without a pause,
+//! or by many who connect at once.
 ghost use Rattle.std.specs.Prelude.{◌≡◌, ◌⊎◌, IfOk, IfSome, Some, length, option_copied};
 ghost use Rattle.px_wire.specs.Calls.{GotWithin, PutWithin};
 
 use crate::ListenFault;
-use crate::connection::{Connection, Drained, drain};
+use crate::connection::{Begun, Connection, Drained, Finished, drain};
+use crate::doors::{Came, Doors};
 use crate::listening::{Refused, refusal_at};
-use crate::name::{look_up, peer_address};
-use crate::news::{CONTROL, News, PROXY, Way, door_of, may_read, may_write, slot_of};
+use crate::name::{Names, look_up, peer_address};
+use crate::news::{CONTROL, News, PROXY, Way, door_of, reading_of, slot_of, writing_of};
 use crate::socket::{Attempt, Attempted, Socket, connect, look_at, register};
+use mio::event::Event;
 use mio::net::{TcpListener, TcpStream};
 use mio::{Events, Interest, Poll, Token};
 use px_event::Door;
@@ -18,19 +24,18 @@ use px_wire::{Got, Put, Ready};
 use slab::Slab;
 use std::alloc::Global;
 use std::collections::VecDeque;
-use std::io::{self, ErrorKind};
 use std::mem;
-use std::net::Net;
-use std::time::{Clock, Duration, SystemTime, UNIX_EPOCH};
+use std::net::{Net, SocketAddr};
+use std::time::{Clock, Duration, Instant, SystemTime, UNIX_EPOCH};
 
 // How many events one poll tells at most.
 const EVENTS: usize = 1024;
 
-// So many microseconds a socket that was shut is kept for a peer that does not end.
-const PARTING: u64 = 10_000_000;
+// So many seconds a socket that was shut is kept for a peer that does not end.
+const PARTING: u64 = 10;
 
-// While sockets are kept so, the system is asked again after so many milliseconds.
-const LOOK_AGAIN: u64 = 1_000;
+// While sockets are kept so, the system is asked again after so many seconds.
+const LOOK_AGAIN: u64 = 1;
 
 /// Sockets by their slots, and the doors.
 #[derive(Drop)]
@@ -39,16 +44,38 @@ pub(crate) struct Sockets<R> {
     alloc: Global,
     poll: Poll,
     events: Events<Global>,
-    proxy: Option<TcpListener>,
-    control: Option<TcpListener>,
-    slots: Slab<Socket>,
+    doors: Doors,
+    slots: Slab<Slot>,
+    names: Names,
+    // What is to be told on before the next poll, and what is left to be done behind it.
     news: VecDeque<News>,
-    // The slots that were shut and are kept, each until its moment, in the order of the moments.
-    parting: VecDeque<(u64, u32)>,
-    // A door could not accept a connection that may wait.
+    later: VecDeque<News>,
+    // How often the system was polled, as far as turns are told apart by it.
+    turn: u64,
+    // The stamp of the last socket that was given a slot.
+    stamp: u64,
+    // The sockets that were shut and are kept, in the order of their moments.
+    parting: VecDeque<Kept>,
+    // A door could not accept a connection that may wait; and a slot's socket was closed since.
     is_refused: bool,
+    is_closed_since: bool,
     // The last moment that was told, and 0 before.
     moment: u64,
+}
+
+// A socket in its slot. The stamp tells apart those that had the slot one behind the other.
+#[derive(Drop)]
+struct Slot {
+    stamp: u64,
+    socket: Socket,
+}
+
+// A socket that was shut, and until when it is kept.
+#[derive(Clone, Copy)]
+struct Kept {
+    until: Instant,
+    slot: u32,
+    stamp: u64,
 }
 
 impl<R: Net + Clock + Alloc<A = Global> + Drop> Sockets<R> {
@@ -66,12 +93,16 @@ impl<R: Net + Clock + Alloc<A = Global> + Drop> Sockets<R> {
             alloc,
             poll,
             events,
-            proxy: None,
-            control: None,
+            doors: Doors::new(),
             slots: Slab::new(alloc),
+            names: Names::new(alloc),
             news: VecDeque::new(alloc),
+            later: VecDeque::new(alloc),
+            turn: 0,
+            stamp: 0,
             parting: VecDeque::new(alloc),
             is_refused: false,
+            is_closed_since: false,
             moment: 0,
         })
     }
@@ -85,14 +116,14 @@ impl<R: Net + Clock + Alloc<A = Global> + Drop> Sockets<R> {
         ensures asked { IfOk result (λ found. IfSome found (λ r. (r.address ≡ proxy.now) ⊎ (Some r.address ≡ option_copied control.entry))) }
     {
         match self.bind(proxy, PROXY)? {
-            Ok(listener) => self.proxy = Some(listener),
+            Ok(listener) => self.doors.set(Door::Proxy, listener),
             Err(why) => return refusal_at(proxy, why),
         }
         let Some(control) = control else {
             return Ok(None);
         };
         match self.bind(control, CONTROL)? {
-            Ok(listener) => self.control = Some(listener),
+            Ok(listener) => self.doors.set(Door::Control, listener),
             Err(why) => return refusal_at(control, why),
         }
         Ok(None)
@@ -141,45 +172,55 @@ impl<R: Net + Clock + Alloc<A = Global> + Drop> Sockets<R> {
         Err(NetError::Fault)
     }
 
-    // What the system told, as it is told on; none where it was nothing.
+    // What the system told, as it is told on; none where it was nothing, or of a socket that has the slot no more.
     fn take_news(&mut self, news: News) -> Result<Option<Ready>, NoMemory> {
         match news {
             News::Door(door) => self.accept(door),
-            News::Slot { slot, way } => self.go_on(slot, way),
+            News::Slot { slot, stamp, way } if self.has_stamp(slot, stamp) => {
+                self.go_on(slot, way)
+            }
+            News::Slot { .. } => Ok(None),
         }
     }
 
     // Asks the system, which may wait, and takes down what it tells.
     fn wait(&mut self) -> Result<(), NetError> {
-        let most = match self.parting.is_empty() {
-            true => None,
-            false => Some(Duration::from_millis(LOOK_AGAIN)),
-        };
+        let most = self.patience();
         if self.poll.poll(&mut self.events, most).is_err() {
             return Err(NetError::Fault);
         }
-        if most.is_some() {
-            self.read_clock()?;
-            self.part_with_late();
-        }
+        self.turn = self.turn.wrapping_add(1);
         self.gather()?;
+        self.part_with_late();
         Ok(())
     }
 
-    // Takes down what the last poll told. Where a door could not accept, both are tried again.
+    // How long the system may wait: not at all while something is left to do, and without an end where nothing is.
+    fn patience(&self) -> Option<Duration> {
+        if !self.later.is_empty() || self.may_accept_again() {
+            Some(Duration::ZERO)
+        } else if self.parting.is_empty() {
+            None
+        } else {
+            Some(Duration::from_secs(LOOK_AGAIN))
+        }
+    }
+
+    // Whether a door that could not accept may be able to now, since there is a descriptor more.
+    fn may_accept_again(&self) -> bool {
+        self.is_refused && self.is_closed_since
+    }
+
+    // Takes down what was left to do, and what the last poll told. Where a door could not accept, both are tried again.
     fn gather(&mut self) -> Result<(), NoMemory> {
+        mem::swap(&mut self.news, &mut self.later);
         for event in &self.events {
             if let Some(door) = door_of(event) {
                 self.news.push_back(News::Door(door))?;
             }
             if let Some(slot) = slot_of(event) {
-                if may_read(event) {
-                    let way = Way::Read;
-                    self.news.push_back(News::Slot { slot, way })?;
-                }
-                if may_write(event) {
-                    let way = Way::Write;
-                    self.news.push_back(News::Slot { slot, way })?;
+                if let Some(place) = self.slots.get(slot as usize) {
+                    note(&mut self.news, slot, place.stamp, event)?;
                 }
             }
         }
@@ -205,36 +246,40 @@ impl<R: Net + Clock + Alloc<A = Global> + Drop> Sockets<R> {
     }
 
     // Accepts a connection at the door. Where the door can't accept for another cause than that none waits, as where no
-    // descriptor is left, it is tried again when the system tells something.
+    // descriptor is left, it is tried again when the system tells something or a socket was closed.
     fn accept(&mut self, door: Door) -> Result<Option<Ready>, NoMemory> {
-        let Some(accepted) = self.door(door).map(|listener| listener.accept()) else {
-            return Ok(None);
-        };
-        let (stream, peer) = match accepted {
-            Ok(accepted) => accepted,
-            Err(error) => {
-                match error.kind() {
-                    ErrorKind::WouldBlock => {}
-                    ErrorKind::ConnectionAborted => self.news.push_back(News::Door(door))?,
-                    _ => self.is_refused = true,
-                }
-                return Ok(None);
+        match self.doors.accept(door, self.turn) {
+            Came::Peer(stream, peer) => self.take_in(door, stream, peer),
+            Came::Aborted => {
+                self.news.push_back(News::Door(door))?;
+                Ok(None)
             }
-        };
-        // More may wait.
+            Came::Enough => {
+                self.later.push_back(News::Door(door))?;
+                Ok(None)
+            }
+            Came::Refused => {
+                self.is_refused = true;
+                self.is_closed_since = false;
+                Ok(None)
+            }
+            Came::Nobody => Ok(None),
+        }
+    }
+
+    // Gives a connection that was accepted at the door a slot. More may wait there.
+    fn take_in(
+        &mut self,
+        door: Door,
+        stream: TcpStream,
+        peer: SocketAddr,
+    ) -> Result<Option<Ready>, NoMemory> {
         self.news.push_back(News::Door(door))?;
         let Some(peer) = peer_address(self.alloc, peer)? else {
             return Ok(None);
         };
         let slot = self.hold(stream)?;
         Ok(slot.map(|slot| Ready::Accepted { slot, door, peer }))
-    }
-
-    fn door(&self, door: Door) -> Option<&TcpListener> {
-        match door {
-            Door::Proxy => self.proxy.as_ref(),
-            Door::Control => self.control.as_ref(),
-        }
     }
 
     // Gives a connected socket a slot; none where the system doesn't register it, which drops it.
@@ -247,13 +292,16 @@ impl<R: Net + Clock + Alloc<A = Global> + Drop> Sockets<R> {
             self.free(slot);
             return Ok(None);
         }
-        self.put_back(slot, Socket::Connected(Connection::new(stream, false)));
+        let connection = Connection::new(stream, Begun::ByPeer, false);
+        self.put_back(slot, Socket::Connected(connection));
         Ok(Some(slot))
     }
 
     // A slot without a socket; none where all numbers are in use.
     fn new_slot(&mut self) -> Result<Option<u32>, NoMemory> {
-        let key = self.slots.insert(Socket::Failed)?;
+        let stamp = self.next_stamp();
+        let socket = Socket::Failed;
+        let key = self.slots.insert(Slot { stamp, socket })?;
         match u32::try_from(key) {
             Ok(slot) => Ok(Some(slot)),
             Err(_) => {
@@ -263,14 +311,19 @@ impl<R: Net + Clock + Alloc<A = Global> + Drop> Sockets<R> {
         }
     }
 
+    fn next_stamp(&mut self) -> u64 {
+        self.stamp = self.stamp.wrapping_add(1);
+        self.stamp
+    }
+
     /// Begins to connect to the address, and gives the slot. How that ends is told.
     pub(crate) fn dial(&mut self, address: &Address) -> Result<u32, NoMemory> {
-        let addresses = look_up(&self.rt, self.alloc, address)?;
+        let addresses = self.names.find(&self.rt, self.alloc, address)?;
         let Some(slot) = self.new_slot()? else {
             return Err(NoMemory);
         };
-        let socket = connect(&self.rt, self.poll.registry(), slot, addresses);
-        if socket.is_failed() && !self.tell_again(slot, Way::Write) {
+        let socket = connect(&self.rt, self.poll.registry(), slot, addresses, false);
+        if socket.is_failed() && self.tell(slot, Way::Settle).is_err() {
             self.free(slot);
             return Err(NoMemory);
         }
@@ -278,62 +331,61 @@ impl<R: Net + Clock + Alloc<A = Global> + Drop> Sockets<R> {
         Ok(slot)
     }
 
-    // Has the slot looked at again; whether there is memory for that.
-    fn tell_again(&mut self, slot: u32, way: Way) -> bool {
-        self.news.push_back(News::Slot { slot, way }).is_ok()
+    // Has the slot looked at, before the next poll.
+    fn tell(&mut self, slot: u32, way: Way) -> Result<(), NoMemory> {
+        let stamp = self.stamp_of(slot);
+        self.news.push_front(News::Slot { slot, stamp, way })?;
+        Ok(())
+    }
+
+    // Has the slot looked at behind the next poll.
+    fn tell_later(&mut self, slot: u32) -> Result<(), NoMemory> {
+        let way = Way::ReadMore;
+        let stamp = self.stamp_of(slot);
+        self.later.push_back(News::Slot { slot, stamp, way })?;
+        Ok(())
     }
 
     // What a slot's socket is ready for.
     fn go_on(&mut self, slot: u32, way: Way) -> Result<Option<Ready>, NoMemory> {
         match self.take_out(slot) {
-            Some(Socket::Connected(connection)) => Ok(self.go_on_connected(slot, connection, way)),
+            Some(Socket::Connected(mut connection)) => {
+                let told = connection.go_on(slot, way);
+                self.put_back(slot, Socket::Connected(connection));
+                Ok(told)
+            }
             Some(Socket::Connecting(attempt)) => self.go_on_connecting(slot, attempt, way),
             Some(Socket::Failed) => Ok(Some(Ready::Dialled(slot, false))),
-            Some(Socket::Parting { stream, until }) => {
-                self.go_on_parting(slot, stream, until);
+            Some(Socket::Parting(stream)) => {
+                self.go_on_parting(slot, stream, way);
                 Ok(None)
             }
             None => Ok(None),
         }
     }
 
-    // That a socket may be written is told only where a put waits for it.
-    fn go_on_connected(
-        &mut self,
-        slot: u32,
-        mut connection: Connection,
-        way: Way,
-    ) -> Option<Ready> {
-        let told = match way {
-            Way::Read => Some(Ready::Readable(slot)),
-            Way::Write if connection.take_blocked() => Some(Ready::Writable(slot)),
-            Way::Write => None,
-        };
-        self.put_back(slot, Socket::Connected(connection));
-        told
-    }
-
-    // What became of a slot's attempt to connect. Where it failed the further addresses of its name are tried.
+    // What became of a slot's attempt to connect. Where it failed the further addresses of its name are tried, and what was
+    // told of its socket is no longer of the one that has the slot.
     fn go_on_connecting(
         &mut self,
         slot: u32,
         attempt: Attempt,
         way: Way,
     ) -> Result<Option<Ready>, NoMemory> {
-        match look_at(attempt) {
-            Attempted::Connected(stream) => {
-                self.put_back(slot, Socket::Connected(Connection::new(stream, true)));
-                // It told that the socket is connected, and may tell more.
-                self.news.push_front(News::Slot { slot, way })?;
+        match look_at(attempt, way) {
+            Attempted::Connected(connection) => {
+                self.put_back(slot, Socket::Connected(connection));
+                // A put may wait for it.
+                self.tell(slot, Way::Write)?;
                 Ok(Some(Ready::Dialled(slot, true)))
             }
             Attempted::Connecting(attempt) => {
                 self.put_back(slot, Socket::Connecting(attempt));
                 Ok(None)
             }
-            Attempted::Failed(left) => {
-                self.forget_news(slot);
-                let next = connect(&self.rt, self.poll.registry(), slot, left);
+            Attempted::Failed(left, is_awaited) => {
+                self.set_stamp(slot);
+                let next = connect(&self.rt, self.poll.registry(), slot, left, is_awaited);
                 let failed = next.is_failed();
                 self.put_back(slot, next);
                 Ok(failed.then(|| Ready::Dialled(slot, false)))
@@ -342,14 +394,17 @@ impl<R: Net + Clock + Alloc<A = Global> + Drop> Sockets<R> {
     }
 
     // Reads what the peer still sends to a slot that was shut.
-    fn go_on_parting(&mut self, slot: u32, stream: TcpStream, until: u64) {
-        let keeps = match drain(&stream) {
-            Drained::Blocked => true,
-            Drained::More => self.tell_again(slot, Way::Read),
-            Drained::Over => false,
+    fn go_on_parting(&mut self, slot: u32, stream: TcpStream, way: Way) {
+        let keeps = match way {
+            Way::Write => true,
+            Way::Read | Way::ReadOn | Way::ReadMore | Way::Settle => match drain(&stream) {
+                Drained::Blocked => true,
+                Drained::More => self.tell_later(slot).is_ok(),
+                Drained::Over => false,
+            },
         };
         if keeps {
-            self.put_back(slot, Socket::Parting { stream, until });
+            self.put_back(slot, Socket::Parting(stream));
         } else {
             self.free(slot);
         }
@@ -360,68 +415,106 @@ impl<R: Net + Clock + Alloc<A = Global> + Drop> Sockets<R> {
         ensures within { PutWithin (length bytes.now) result }
     {
         match self.slots.get_mut(slot as usize) {
-            Some(Socket::Connected(connection)) => connection.put(bytes),
-            Some(Socket::Connecting(_) | Socket::Failed) => Put::Blocked,
-            Some(Socket::Parting { .. }) | None => Put::Broken,
+            Some(place) => place.socket.put(bytes),
+            None => Put::Broken,
         }
     }
 
-    /// Takes bytes of the slot's socket.
+    /// Takes bytes of the slot's socket. One that has used up its share of this turn gives none, and is told again in the next.
     pub(crate) fn get(&mut self, slot: u32, room: &mut [u8]) -> Got
         ensures within { GotWithin (length room.old) result }
         ensures room { length room.new ≡ length room.old }
     {
+        if self.holds_back(slot) {
+            return Got::Blocked;
+        }
         match self.slots.get_mut(slot as usize) {
-            Some(Socket::Connected(connection)) => connection.get(room),
-            Some(Socket::Connecting(_) | Socket::Failed) => Got::Blocked,
-            Some(Socket::Parting { .. }) | None => Got::Broken,
+            Some(place) => place.socket.get(room),
+            None => Got::Broken,
         }
     }
 
-    /// Closes the slot's socket. A connected one is kept for a while: were it closed before its peer ends, what the peer
-    /// sent and nobody read would have the system drop what the peer has not got yet.
+    // Whether the slot has used up its share of this turn, which is noted for the next. Without memory for the note it has not.
+    fn holds_back(&mut self, slot: u32) -> bool {
+        let turn = self.turn;
+        let Some(place) = self.slots.get_mut(slot as usize) else {
+            return false;
+        };
+        if !place.socket.is_spent(turn) {
+            return false;
+        }
+        let stamp = place.stamp;
+        let way = Way::ReadMore;
+        if self
+            .later
+            .push_back(News::Slot { slot, stamp, way })
+            .is_err()
+        {
+            return false;
+        }
+        place.socket.hold();
+        true
+    }
+
+    /// Closes the slot's socket. A connected one is kept for a while where its peer may not have got all yet: were it closed
+    /// before its peer ends, what the peer sent and nobody read would have the system drop that.
     pub(crate) fn shut(&mut self, slot: u32) {
-        self.forget_news(slot);
         let Some(socket) = self.take_out(slot) else {
             return;
         };
-        let Some(stream) = socket.finish() else {
-            self.free(slot);
-            return;
-        };
-        let until = self.moment.saturating_add(PARTING);
-        if self.parting.push_back((until, slot)).is_ok() {
-            self.go_on_parting(slot, stream, until);
-        } else {
-            self.free(slot);
+        match socket.finish() {
+            Finished::Parting(stream, left) if self.keep(slot) => match left {
+                Drained::Blocked => self.put_back(slot, Socket::Parting(stream)),
+                Drained::More | Drained::Over => {
+                    self.go_on_parting(slot, stream, Way::ReadMore);
+                }
+            },
+            Finished::Parting(..) | Finished::Closed => self.free(slot),
         }
+    }
+
+    // Notes that the slot's socket is kept for a while; whether that can be had.
+    fn keep(&mut self, slot: u32) -> bool {
+        let Ok(now) = Instant::now(&self.rt) else {
+            return false;
+        };
+        let Some(until) = now.checked_add(Duration::from_secs(PARTING)) else {
+            return false;
+        };
+        let stamp = self.stamp_of(slot);
+        self.parting.push_back(Kept { until, slot, stamp }).is_ok()
     }
 
     // Closes the sockets that were kept long enough.
     fn part_with_late(&mut self) {
+        if self.parting.is_empty() {
+            return;
+        }
+        let Ok(now) = Instant::now(&self.rt) else {
+            return;
+        };
         for _ in 0..self.parting.len() {
-            let Some((until, slot)) = self.pop_late() else {
+            let Some(kept) = self.pop_late(now) else {
                 return;
             };
-            if self.parts_at(slot, until) {
-                self.forget_news(slot);
-                self.free(slot);
+            if self.is_kept(kept) {
+                self.free(kept.slot);
             }
         }
     }
 
-    // The first slot that was kept long enough.
-    fn pop_late(&mut self) -> Option<(u64, u32)> {
-        let (until, _) = *self.parting.front()?;
-        if until > self.moment {
+    // The first socket of those that are kept, where it was kept long enough or is closed.
+    fn pop_late(&mut self, now: Instant) -> Option<Kept> {
+        let kept = *self.parting.front()?;
+        if kept.until > now && self.is_kept(kept) {
             return None;
         }
         self.parting.pop_front()
     }
 
-    fn parts_at(&self, slot: u32, moment: u64) -> bool {
-        match self.slots.get(slot as usize) {
-            Some(socket) => socket.parts_at(moment),
+    fn is_kept(&self, kept: Kept) -> bool {
+        match self.slots.get(kept.slot as usize) {
+            Some(place) => place.stamp == kept.stamp && place.socket.is_parting(),
             None => false,
         }
     }
@@ -429,21 +522,51 @@ impl<R: Net + Clock + Alloc<A = Global> + Drop> Sockets<R> {
     // The slot's socket, which is put back or whose slot is freed.
     fn take_out(&mut self, slot: u32) -> Option<Socket> {
         let place = self.slots.get_mut(slot as usize)?;
-        Some(mem::replace(place, Socket::Failed))
+        Some(mem::replace(&mut place.socket, Socket::Failed))
     }
 
     fn put_back(&mut self, slot: u32, socket: Socket) {
         if let Some(place) = self.slots.get_mut(slot as usize) {
-            *place = socket;
+            place.socket = socket;
         }
     }
 
     fn free(&mut self, slot: u32) {
         let _ = self.slots.try_remove(slot as usize);
+        self.is_closed_since = true;
     }
 
-    // What the system told of this slot is no longer of its socket.
-    fn forget_news(&mut self, slot: u32) {
-        self.news.retain(|news| !news.is_of(slot));
+    // The stamp of the slot's socket; 0, which none has, where there is none.
+    fn stamp_of(&self, slot: u32) -> u64 {
+        match self.slots.get(slot as usize) {
+            Some(place) => place.stamp,
+            None => 0,
+        }
     }
+
+    fn has_stamp(&self, slot: u32, stamp: u64) -> bool {
+        match self.slots.get(slot as usize) {
+            Some(place) => place.stamp == stamp,
+            None => false,
+        }
+    }
+
+    // Gives the slot's next socket a stamp of its own.
+    fn set_stamp(&mut self, slot: u32) {
+        let stamp = self.next_stamp();
+        if let Some(place) = self.slots.get_mut(slot as usize) {
+            place.stamp = stamp;
+        }
+    }
+}
+
+// Takes down what is told of a slot's socket: first that it may be written, which tells whether it is connected.
+fn note(news: &mut VecDeque<News>, slot: u32, stamp: u64, event: &Event) -> Result<(), NoMemory> {
+    if let Some(way) = writing_of(event) {
+        news.push_back(News::Slot { slot, stamp, way })?;
+    }
+    if let Some(way) = reading_of(event) {
+        news.push_back(News::Slot { slot, stamp, way })?;
+    }
+    Ok(())
 }
