@@ -40,7 +40,7 @@ module _ {S E R A V : Type 0} (chain : Chain S E R A) (view : List A → List V)
   module _ (grows : SoFarGrows chain view) where
     -- what is owed where a search stopped
     abbrev owed_there : Reached S E A → List A
-    owed_there here = here.before ++ owed_here chain here.stage here.front
+    owed_there here = here.before ++ owed_here chain here.stage here.prefix
 
     reach_by_grows : (l : Look A) (further here : Reached S E A) (owed : List A) →
         (l ≡ NotYet → Begins owed (owed_there further)) → owed ≡ owed_there here → Begins owed (owed_there (reach_by l further here))
@@ -76,9 +76,9 @@ module _ {S E R A V : Type 0} (chain : Chain S E R A) (view : List A → List V)
     walk_grows [] last before s f es = reach_grows last before s f es
     walk_grows (r ∷ rs) last before s f es =
         let here = reach chain last before s f es in
-        let on = chain.turn here.stage here.front (at_its_step r) in
-        let so_far = chain.so_far here.stage here.front in
-        walk_by_grows (chain.look here.stage here.front) _ _ (before ++ owed_over chain s f)
+        let on = chain.turn here.stage here.prefix (at_its_step r) in
+        let so_far = chain.so_far here.stage here.prefix in
+        walk_by_grows (chain.look here.stage here.prefix) _ _ (before ++ owed_over chain s f)
         (λ ask is.
         let further : List A = here.before ++ (so_far ++ ask ∷ on.owed) in
         let asked : further ≡ owed_there here ++ on.owed =
@@ -86,11 +86,11 @@ module _ {S E R A V : Type 0} (chain : Chain S E R A) (view : List A → List V)
         begins_trans _ _ _ (reach_grows last before s f es)
         (begins_trans _ _ _ (begins_append (owed_there here) on.owed)
         (begins_trans _ _ _ (begins_self _ _ (sym asked))
-        (begins_trans _ _ _ (begins_append further (owed_over chain on.stage here.front))
-        (walk_grows rs r.stamp further on.stage here.front here.rest)))))
+        (begins_trans _ _ _ (begins_append further (owed_over chain on.stage here.prefix))
+        (walk_grows rs r.stamp further on.stage here.prefix here.rest)))))
         (reach_grows last before s f es)
 
-    settled_owes : (w : Stop S E R A) → IsSettled chain w.stage w.front → owed_at chain w ≡ w.before ++ owed_over chain w.stage w.front
+    settled_owes : (w : Stop S E R A) → IsSettled chain w.stage w.prefix → owed_at chain w ≡ w.before ++ owed_over chain w.stage w.prefix
     settled_owes w settled = rw (settled.stays, settled.owes_nothing) refl
 
     pub grows_by_events : Settles chain → (rs : List (Stamped R)) (last : Stamp) (before : List A) (s : S) (f : List (Timed E)) (es xs : List (Stamped E)) →
@@ -99,7 +99,7 @@ module _ {S E R A V : Type 0} (chain : Chain S E R A) (view : List A → List V)
         let w = walk chain rs last before s f es in
         rw (more_events chain law rs last before s f es xs)
         (begins_trans _ _ _ (begins_self _ _ (settled_owes w (stopped chain law rs last before s f es).settled))
-        (walk_grows w.unused w.last w.before w.stage w.front (w.rest ++ xs)))
+        (walk_grows w.unused w.last w.before w.stage w.prefix (w.rest ++ xs)))
 
     pub grows_by_replies : Settles chain → (rs qs : List (Stamped R)) (last : Stamp) (before : List A) (s : S) (f : List (Timed E)) (es : List (Stamped E)) →
         IsPrefixOf (view (owed_at chain (walk chain rs last before s f es))) (view (owed_at chain (walk chain (rs ++ qs) last before s f es)))
@@ -107,4 +107,4 @@ module _ {S E R A V : Type 0} (chain : Chain S E R A) (view : List A → List V)
         let w = walk chain rs last before s f es in
         rw (more_replies chain law rs qs last before s f es)
         (begins_trans _ _ _ (begins_self _ _ (settled_owes w (stopped chain law rs last before s f es).settled))
-        (walk_grows (w.unused ++ qs) w.last w.before w.stage w.front w.rest))
+        (walk_grows (w.unused ++ qs) w.last w.before w.stage w.prefix w.rest))

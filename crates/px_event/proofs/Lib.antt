@@ -8,5 +8,6 @@ pub mod Seen
 pub mod StampLemmas
 pub mod Steps
 pub mod Stops
+pub mod SumLemmas
 pub mod TraceLemmas
 pub mod Walk

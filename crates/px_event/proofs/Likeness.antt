@@ -21,10 +21,10 @@ pub walk_next : {S E R A : Type 0} (chain : Chain S E R A) (rs : List (Stamped R
     chain.look (chain.pass s f).stage f ≡ NotYet →
     walk chain rs last before s f (e ∷ es) ≡ walk chain rs last (before ++ (chain.pass s f).owed) (chain.pass s f).stage (f ++ worked_off last e ∷ []) es
 walk_next chain rs last before s f e es is =
-    let front = f ++ worked_off last e ∷ [] in
+    let prefix = f ++ worked_off last e ∷ [] in
     walk_is chain rs last before s f (e ∷ es)
-    ∙ (ap (λ l. walk_on chain rs last (reach_by l (reach chain last (before ++ (chain.pass s f).owed) (chain.pass s f).stage front es) (stopped_here chain before s f (e ∷ es)))) is
-    ∙ sym (walk_is chain rs last (before ++ (chain.pass s f).owed) (chain.pass s f).stage front es))
+    ∙ (ap (λ l. walk_on chain rs last (reach_by l (reach chain last (before ++ (chain.pass s f).owed) (chain.pass s f).stage prefix es) (stopped_here chain before s f (e ∷ es)))) is
+    ∙ sym (walk_is chain rs last (before ++ (chain.pass s f).owed) (chain.pass s f).stage prefix es))
 
 -- where something is found, the walk begins there
 walk_found : {S E R A : Type 0} (chain : Chain S E R A) → Settles chain → (rs : List (Stamped R)) (last : Stamp) (before : List A) (s : S) (f : List (Timed E)) (es : List (Stamped E)) →
@@ -58,7 +58,7 @@ module _ {S E R A : Type 0} (chain : Chain S E R A) (like : List A → List A �
 
   -- all that is owed where a search stopped
   abbrev owed_there : Reached S E A → List A
-  owed_there here = here.before ++ (chain.so_far here.stage here.front ++ found (chain.look here.stage here.front))
+  owed_there here = here.before ++ (chain.so_far here.stage here.prefix ++ found (chain.look here.stage here.prefix))
 
   owed_alike : (before other : List A) (s : S) (f : List (Timed E)) (t : S) (g : List (Timed E)) → like before other → OwesAlike chain like s f t g →
       like (before ++ (chain.so_far s f ++ found (chain.look s f))) (other ++ (chain.so_far t g ++ found (chain.look t g)))
@@ -97,7 +97,7 @@ module _ {S E R A : Type 0} (chain : Chain S E R A) (like : List A → List A �
     -- searches that stopped at places that look alike
     pub record ReachedAlike (here there : Reached S E A) : Type 0 where
       pub before : like here.before there.before
-      pub place : same here.stage here.front there.stage there.front
+      pub place : same here.stage here.prefix there.stage there.prefix
       pub rest : here.rest ≡ there.rest
 
     passed_alike : (before other : List A) (s : S) (f : List (Timed E)) (t : S) (g : List (Timed E)) → like before other → same s f t g → (es : List (Stamped E)) →
@@ -160,13 +160,13 @@ module _ {S E R A : Type 0} (chain : Chain S E R A) (like : List A → List A �
         let at = reach_alike last before other s f t g es befores place in
         let settled = reach_settled chain law last before s f es in
         let settled' = reach_settled chain law last other t g es in
-        let owes = alike.owes here.stage here.front there.stage there.front at.place settled settled' in
-        stops_by_alike (chain.look here.stage here.front) (chain.look there.stage there.front) _ _ _ _ owes.look
+        let owes = alike.owes here.stage here.prefix there.stage there.prefix at.place settled settled' in
+        stops_by_alike (chain.look here.stage here.prefix) (chain.look there.stage there.prefix) _ _ _ _ owes.look
         (λ ask ask' is is'.
-        let turned = alike.turns here.stage here.front there.stage there.front at.place settled settled' ask is (at_its_step r) in
-        let asks = asks_alike (chain.look here.stage here.front) (chain.look there.stage there.front) ask ask' owes.look is is' in
+        let turned = alike.turns here.stage here.prefix there.stage there.prefix at.place settled settled' ask is (at_its_step r) in
+        let asks = asks_alike (chain.look here.stage here.prefix) (chain.look there.stage there.prefix) ask ask' owes.look is is' in
         rw at.rest
-        (same_stops rs r.stamp _ _ (chain.turn here.stage here.front (at_its_step r)).stage here.front (chain.turn there.stage there.front (at_its_step r)).stage there.front there.rest
+        (same_stops rs r.stamp _ _ (chain.turn here.stage here.prefix (at_its_step r)).stage here.prefix (chain.turn there.stage there.prefix (at_its_step r)).stage there.prefix there.rest
         (answered_alike here.before there.before _ _ ask ask' _ _ at.before owes.so_far asks turned.owed) turned.stage))
         (stop_alike last here there (r ∷ rs) at)
 
@@ -178,8 +178,8 @@ module _ {S E R A : Type 0} (chain : Chain S E R A) (like : List A → List A �
         let w = walk chain rs last before s f es in
         let v = walk chain rs last other t g es in
         let at = same_stops rs last before other s f t g es befores place in
-        owed_alike w.before v.before w.stage w.front v.stage v.front at.before
-        (alike.owes w.stage w.front v.stage v.front at.place (stopped chain law rs last before s f es).settled (stopped chain law rs last other t g es).settled)
+        owed_alike w.before v.before w.stage w.prefix v.stage v.prefix at.before
+        (alike.owes w.stage w.prefix v.stage v.prefix at.place (stopped chain law rs last before s f es).settled (stopped chain law rs last other t g es).settled)
 
     module _ (may_come : Stamped R → Type 0) (event : Stamped E) (early : Stamp → S → List (Timed E) → S → List (Timed E) → Type 0)
         (unhurried : Unhurried chain like same may_come event early) where
@@ -189,12 +189,12 @@ module _ {S E R A : Type 0} (chain : Chain S E R A) (like : List A → List A �
           like (owed_at chain (walk chain rs last before s f (event ∷ es))) (owed_at chain (walk chain rs last other t g es))
       early_not_yet rs last before other s f t g es befores place is =
           let on = chain.pass s f in
-          let front = f ++ worked_off last event ∷ [] in
+          let prefix = f ++ worked_off last event ∷ [] in
           let off = unhurried.works_off last s f t g place is in
           let joined = is_like.joins before other _ _ befores off.owed in
-          let whole : List A = (before ++ on.owed) ++ (chain.pass on.stage front).owed in
-          rw (walk_next chain rs last before s f event es is, walk_pass chain law rs last (before ++ on.owed) on.stage front es, walk_pass chain law rs last other t g es, append_assoc before on.owed (chain.pass on.stage front).owed)
-          (same_owed rs last _ _ _ front _ g es joined off.stage)
+          let whole : List A = (before ++ on.owed) ++ (chain.pass on.stage prefix).owed in
+          rw (walk_next chain rs last before s f event es is, walk_pass chain law rs last (before ++ on.owed) on.stage prefix es, walk_pass chain law rs last other t g es, append_assoc before on.owed (chain.pass on.stage prefix).owed)
+          (same_owed rs last _ _ _ prefix _ g es joined off.stage)
 
       -- what both places owe, and that something is found with the event too
       found_with : (last : Stamp) (s : S) (f : List (Timed E)) (t : S) (g : List (Timed E)) → early last s f t g →
@@ -255,17 +255,17 @@ module _ {S E R A : Type 0} (chain : Chain S E R A) (like : List A → List A �
           (owed_alike (before ++ on.owed) (other ++ on'.owed) on.stage f on'.stage g joined owes))
 
 -- where nothing was found, the walk goes on with the next event worked off
-pub on_over_next : {S E R A : Type 0} (chain : Chain S E R A) (w : Stop S E R A) (e : Stamped E) (es : List (Stamped E)) → IsSettled chain w.stage w.front →
-    chain.look w.stage w.front ≡ NotYet →
+pub on_over_next : {S E R A : Type 0} (chain : Chain S E R A) (w : Stop S E R A) (e : Stamped E) (es : List (Stamped E)) → IsSettled chain w.stage w.prefix →
+    chain.look w.stage w.prefix ≡ NotYet →
     goes_on_over chain w (e ∷ es) ≡ walk chain w.unused w.last w.before w.stage (front_with w e) es
 on_over_next chain w e es settled is =
-    let P : _ → Type 0 = λ t. chain.look t w.front ≡ NotYet in
-    walk_next chain w.unused w.last w.before w.stage w.front e es (subst P (sym settled.stays) is)
+    let P : _ → Type 0 = λ t. chain.look t w.prefix ≡ NotYet in
+    walk_next chain w.unused w.last w.before w.stage w.prefix e es (subst P (sym settled.stays) is)
     ∙ rw (settled.stays, settled.owes_nothing, append-nil) refl
 
 module _ {S E R A : Type 0} (chain : Chain S E R A) (like : List A → List A → Type 0) (is_like : IsLikeness like) (law : Settles chain) where
   anywhere_by : (l : Look A) (start : S) (pre xs ys : List (Stamped E)) (rs : List (Stamped R)) →
-      chain.look (walk_from chain start pre rs).stage (walk_from chain start pre rs).front ≡ l →
+      chain.look (walk_from chain start pre rs).stage (walk_from chain start pre rs).prefix ≡ l →
       OwesAlikeFrom chain like (walk_from chain start pre rs) xs ys →
       like (due chain start (pre ++ xs) rs) (due chain start (pre ++ ys) rs)
   anywhere_by NotYet start pre xs ys rs is from =
@@ -286,13 +286,13 @@ module _ {S E R A : Type 0} (chain : Chain S E R A) (like : List A → List A �
       OwesAlikeFrom chain like (walk_from chain start pre rs) xs ys →
       like (due chain start (pre ++ xs) rs) (due chain start (pre ++ ys) rs)
   anywhere start pre xs ys rs from =
-      anywhere_by (chain.look (walk_from chain start pre rs).stage (walk_from chain start pre rs).front) start pre xs ys rs refl from
+      anywhere_by (chain.look (walk_from chain start pre rs).stage (walk_from chain start pre rs).prefix) start pre xs ys rs refl from
 
   module _ (same : S → List (Timed E) → S → List (Timed E) → Type 0) (alike : Alike chain like same) where
     -- with one event worked off, the other owes as where it was taken early
     second_early : (may_come : Stamped R → Type 0) (second : Stamped E) (early : Stamp → S → List (Timed E) → S → List (Timed E) → Type 0) →
         Unhurried chain like same may_come second early → (w : Stop S E R A) (first : Stamped E) (t : S) (g : List (Timed E)) (es : List (Stamped E)) →
-        IsSettled chain w.stage w.front → chain.look w.stage w.front ≡ NotYet → MayBeEarly w first may_come early t g →
+        IsSettled chain w.stage w.prefix → chain.look w.stage w.prefix ≡ NotYet → MayBeEarly w first may_come early t g →
         like (owed_at chain (goes_on_over chain w (first ∷ second ∷ es))) (owed_at chain (walk chain w.unused w.last w.before t g es))
     second_early may_come second early unhurried w first t g es settled is may =
         rw (on_over_next chain w first (second ∷ es) settled is)
@@ -301,7 +301,7 @@ module _ {S E R A : Type 0} (chain : Chain S E R A) (like : List A → List A �
     pub two_for_one : (may_come : Stamped R → Type 0) (second : Stamped E) (early : Stamp → S → List (Timed E) → S → List (Timed E) → Type 0) →
         Unhurried chain like same may_come second early → (start : S) (pre es : List (Stamped E)) (first one : Stamped E) (rs : List (Stamped R)) →
         let w = walk_from chain start pre rs in
-        (chain.look w.stage w.front ≡ NotYet → MayBeEarly w first may_come early w.stage (front_with w one)) →
+        (chain.look w.stage w.prefix ≡ NotYet → MayBeEarly w first may_come early w.stage (front_with w one)) →
         like (due chain start (pre ++ first ∷ second ∷ es) rs) (due chain start (pre ++ one ∷ es) rs)
     two_for_one may_come second early unhurried start pre es first one rs may =
         let w = walk_from chain start pre rs in
@@ -315,7 +315,7 @@ module _ {S E R A : Type 0} (chain : Chain S E R A) (like : List A → List A �
         Unhurried chain like same may_come second early → Unhurried chain like same other_may_come first other_early →
         (start : S) (pre es : List (Stamped E)) (rs : List (Stamped R)) (t : S) (g : List (Timed E)) →
         let w = walk_from chain start pre rs in
-        (chain.look w.stage w.front ≡ NotYet → MayBeEarly w first may_come early t g × MayBeEarly w second other_may_come other_early t g) →
+        (chain.look w.stage w.prefix ≡ NotYet → MayBeEarly w first may_come early t g × MayBeEarly w second other_may_come other_early t g) →
         like (due chain start (pre ++ first ∷ second ∷ es) rs) (due chain start (pre ++ second ∷ first ∷ es) rs)
     swapped meets may_come other_may_come second first early other_early unhurried other_unhurried start pre es rs t g may =
         let w = walk_from chain start pre rs in

@@ -69,10 +69,10 @@ pub rest_below : {S E R A : Type 0} (chain : Chain S E R A) (step : ℕ) (rs : L
 rest_below chain step [] last before s f es all = reach_rest chain step last before s f es all
 rest_below chain step (r ∷ rs) last before s f es all =
     let at = reach chain last before s f es in
-    let on = chain.turn at.stage at.front (at_its_step r) in
+    let on = chain.turn at.stage at.prefix (at_its_step r) in
     let rest = reach_rest chain step last before s f es all in
-    rest_by step (chain.look at.stage at.front) _ _
-    (λ ask. rest_below chain step rs r.stamp (at.before ++ (chain.so_far at.stage at.front ++ ask ∷ on.owed)) on.stage at.front at.rest rest)
+    rest_by step (chain.look at.stage at.prefix) _ _
+    (λ ask. rest_below chain step rs r.stamp (at.before ++ (chain.so_far at.stage at.prefix ++ ask ∷ on.owed)) on.stage at.prefix at.rest rest)
     rest
 
 last_by : {S E R A : Type 0} (step : ℕ) (l : Look A) (onward : A → Stop S E R A) (stop : Stop S E R A) →
@@ -87,9 +87,9 @@ pub last_below : {S E R A : Type 0} (chain : Chain S E R A) (step : ℕ) (rs : L
 last_below chain step [] last before s f es below all = below
 last_below chain step (r ∷ rs) last before s f es below (here, all) =
     let at = reach chain last before s f es in
-    let on = chain.turn at.stage at.front (at_its_step r) in
-    last_by step (chain.look at.stage at.front) _ _
-    (λ ask. last_below chain step rs r.stamp (at.before ++ (chain.so_far at.stage at.front ++ ask ∷ on.owed)) on.stage at.front at.rest here all)
+    let on = chain.turn at.stage at.prefix (at_its_step r) in
+    last_by step (chain.look at.stage at.prefix) _ _
+    (λ ask. last_below chain step rs r.stamp (at.before ++ (chain.so_far at.stage at.prefix ++ ask ∷ on.owed)) on.stage at.prefix at.rest here all)
     below
 
 -- an event behind the last reply is worked off in its own step

@@ -14,10 +14,10 @@ module _ {A : Type 0} (P : A → Type 0) where
 
   -- each part of the chain owes only such
   pub record OwesOnly {S E R : Type 0} (chain : Chain S E R A) : Type 0 where
-    pub pass : (stage : S) (front : List (Timed E)) → AllHave (chain.pass stage front).owed
-    pub look : (stage : S) (front : List (Timed E)) → AllHave (found (chain.look stage front))
-    pub so_far : (stage : S) (front : List (Timed E)) → AllHave (chain.so_far stage front)
-    pub turn : (stage : S) (front : List (Timed E)) (reply : Timed R) → AllHave (chain.turn stage front reply).owed
+    pub pass : (stage : S) (prefix : List (Timed E)) → AllHave (chain.pass stage prefix).owed
+    pub look : (stage : S) (prefix : List (Timed E)) → AllHave (found (chain.look stage prefix))
+    pub so_far : (stage : S) (prefix : List (Timed E)) → AllHave (chain.so_far stage prefix)
+    pub turn : (stage : S) (prefix : List (Timed E)) (reply : Timed R) → AllHave (chain.turn stage prefix reply).owed
 
   module _ {S E R : Type 0} (chain : Chain S E R A) (only : OwesOnly chain) where
     reach_by_only : (l : Look A) (further here : Reached S E A) → AllHave further.before → AllHave here.before → AllHave (reach_by l further here).before
@@ -33,7 +33,7 @@ module _ {A : Type 0} (P : A → Type 0) where
         reach_by_only (chain.look on.stage f) _ _ (reach_only last (before ++ on.owed) on.stage (f ++ worked_off last e ∷ []) es here) here
 
     there : (w : Stop S E R A) → AllHave w.before → AllHave (owed_at chain w)
-    there w all = all_append w.before _ all (all_append (chain.so_far w.stage w.front) _ (only.so_far w.stage w.front) (only.look w.stage w.front))
+    there w all = all_append w.before _ all (all_append (chain.so_far w.stage w.prefix) _ (only.so_far w.stage w.prefix) (only.look w.stage w.prefix))
 
     asked_only : (l : Look A) (ask : A) → l ≡ Asks ask → AllHave (found l) → P ask
     asked_only l ask is all = let Q : Look A → Type 0 = λ k. AllHave (found k) in let one : AllHave (found (Asks ask)) = subst Q is all in one.0
@@ -49,13 +49,13 @@ module _ {A : Type 0} (P : A → Type 0) where
     walk_only [] last before s f es all = there (stop_at last (reach chain last before s f es) []) (reach_only last before s f es all)
     walk_only (r ∷ rs) last before s f es all =
         let here = reach chain last before s f es in
-        let on = chain.turn here.stage here.front (at_its_step r) in
-        let so_far = chain.so_far here.stage here.front in
+        let on = chain.turn here.stage here.prefix (at_its_step r) in
+        let so_far = chain.so_far here.stage here.prefix in
         let before_here = reach_only last before s f es all in
-        walk_by_only (chain.look here.stage here.front) _ _
-        (λ ask is. walk_only rs r.stamp (here.before ++ (so_far ++ ask ∷ on.owed)) on.stage here.front here.rest
-        (all_append here.before _ before_here (all_append so_far (ask ∷ on.owed) (only.so_far here.stage here.front)
-        (asked_only (chain.look here.stage here.front) ask is (only.look here.stage here.front), only.turn here.stage here.front (at_its_step r)))))
+        walk_by_only (chain.look here.stage here.prefix) _ _
+        (λ ask is. walk_only rs r.stamp (here.before ++ (so_far ++ ask ∷ on.owed)) on.stage here.prefix here.rest
+        (all_append here.before _ before_here (all_append so_far (ask ∷ on.owed) (only.so_far here.stage here.prefix)
+        (asked_only (chain.look here.stage here.prefix) ask is (only.look here.stage here.prefix), only.turn here.stage here.prefix (at_its_step r)))))
         (there (stop_at last here (r ∷ rs)) before_here)
 
     pub due_only : (start : S) (events : List (Stamped E)) (replies : List (Stamped R)) → AllHave (due chain start events replies)

@@ -1,4 +1,4 @@
--- The shortest front over which a stage finds something: found over more events it is the same, and it may be resumed.
+-- The shortest prefix over which a stage finds something: found over more events it is the same, and it may be resumed.
 use Rattle.std.proofs.Common.{◌≡◌, List, [], ◌∷◌, ◌++◌, refl, ap, sym, ◌∙◌, subst, append_assoc}
 use Rattle.std.proofs.lemmas.List.{append-nil, map-append}
 use Rattle.px_event.specs.Chain.{Stamp, Stamped, Timed, worked_off, Chain, Look, NotYet, Asks, Ends, Reached, reach, reach_by}
@@ -7,15 +7,15 @@ use Rattle.px_event.specs.Laws.{IsSettled, Settles, IsFound, seen_values, waitin
 -- the search stopped here
 abbrev pub stopped_here : {S E R A : Type 0} → Chain S E R A → List A → S → List (Timed E) → List (Stamped E) → Reached S E A
 stopped_here chain before s f es =
-    record { before = before ++ (chain.pass s f).owed; stage = (chain.pass s f).stage; front = f; rest = es }
+    record { before = before ++ (chain.pass s f).owed; stage = (chain.pass s f).stage; prefix = f; rest = es }
 
 -- the search goes on from where it stopped, with these events behind it
 abbrev pub reach_on : {S E R A : Type 0} → Chain S E R A → Stamp → Reached S E A → List (Stamped E) → Reached S E A
-reach_on chain last here xs = reach chain last here.before here.stage here.front (here.rest ++ xs)
+reach_on chain last here xs = reach chain last here.before here.stage here.prefix (here.rest ++ xs)
 
 -- where a stage does not pass, the search stops before what was owed
 pub settled_stop : {S E R A : Type 0} (chain : Chain S E R A) (before : List A) (s : S) (f : List (Timed E)) (es : List (Stamped E)) →
-    IsSettled chain s f → stopped_here chain before s f es ≡ record { before = before; stage = s; front = f; rest = es }
+    IsSettled chain s f → stopped_here chain before s f es ≡ record { before = before; stage = s; prefix = f; rest = es }
 settled_stop chain before s f es settled = rw (settled.stays, settled.owes_nothing, append-nil) refl
 
 -- something found is found at once
@@ -30,7 +30,7 @@ here_stopped chain last before s f [] is = refl
 here_stopped chain last before s f (e ∷ es) is = by_found (chain.look (chain.pass s f).stage f) _ _ is
 
 pub reach_found : {S E R A : Type 0} (chain : Chain S E R A) (last : Stamp) (before : List A) (s : S) (f : List (Timed E)) (es : List (Stamped E)) →
-    IsSettled chain s f → IsFound (chain.look s f) → reach chain last before s f es ≡ record { before = before; stage = s; front = f; rest = es }
+    IsSettled chain s f → IsFound (chain.look s f) → reach chain last before s f es ≡ record { before = before; stage = s; prefix = f; rest = es }
 reach_found {S} chain last before s f es settled is =
     let P : S → Type 0 = λ t. IsFound (chain.look t f) in
     here_stopped chain last before s f es (subst P (sym settled.stays) is) ∙ settled_stop chain before s f es settled
@@ -59,47 +59,47 @@ reach_more chain law last before s f (e ∷ es) xs =
     (reach_pass chain law last before s f (e ∷ es ++ xs))
 
 pub reach_again : {S E R A : Type 0} (chain : Chain S E R A) → Settles chain → (last : Stamp) (before : List A) (s : S) (f : List (Timed E)) (es : List (Stamped E)) →
-    let here = reach chain last before s f es in reach chain last here.before here.stage here.front here.rest ≡ here
+    let here = reach chain last before s f es in reach chain last here.before here.stage here.prefix here.rest ≡ here
 reach_again chain law last before s f es =
     let here = reach chain last before s f es in
     let on = reach_more chain law last before s f es [] in
-    ap (λ ys. reach chain last here.before here.stage here.front ys) (sym (append-nil here.rest))
+    ap (λ ys. reach chain last here.before here.stage here.prefix ys) (sym (append-nil here.rest))
     ∙ (sym on ∙ ap (λ ys. reach chain last before s f ys) (append-nil es))
 
 settled_by : {S E R A : Type 0} (chain : Chain S E R A) (l : Look A) (further here : Reached S E A) →
-    IsSettled chain further.stage further.front → IsSettled chain here.stage here.front →
-    IsSettled chain (reach_by l further here).stage (reach_by l further here).front
+    IsSettled chain further.stage further.prefix → IsSettled chain here.stage here.prefix →
+    IsSettled chain (reach_by l further here).stage (reach_by l further here).prefix
 settled_by chain NotYet further here a b = a
 settled_by chain (Asks ask) further here a b = b
 settled_by chain (Ends owed) further here a b = b
 
 -- the search stops at a stage that does not pass
 pub reach_settled : {S E R A : Type 0} (chain : Chain S E R A) → Settles chain → (last : Stamp) (before : List A) (s : S) (f : List (Timed E)) (es : List (Stamped E)) →
-    IsSettled chain (reach chain last before s f es).stage (reach chain last before s f es).front
+    IsSettled chain (reach chain last before s f es).stage (reach chain last before s f es).prefix
 reach_settled chain law last before s f [] = law.at s f
 reach_settled chain law last before s f (e ∷ es) =
     settled_by chain (chain.look (chain.pass s f).stage f) _ _
     (reach_settled chain law last (before ++ (chain.pass s f).owed) (chain.pass s f).stage (f ++ worked_off last e ∷ []) es)
     (law.at s f)
 
-whole_by : {S E R A : Type 0} (chain : Chain S E R A) (l : Look A) (further here : Reached S E A) → chain.look here.stage here.front ≡ l →
-    (chain.look further.stage further.front ≡ NotYet → further.rest ≡ []) →
-    chain.look (reach_by l further here).stage (reach_by l further here).front ≡ NotYet → (reach_by l further here).rest ≡ []
+whole_by : {S E R A : Type 0} (chain : Chain S E R A) (l : Look A) (further here : Reached S E A) → chain.look here.stage here.prefix ≡ l →
+    (chain.look further.stage further.prefix ≡ NotYet → further.rest ≡ []) →
+    chain.look (reach_by l further here).stage (reach_by l further here).prefix ≡ NotYet → (reach_by l further here).rest ≡ []
 whole_by chain NotYet further here is on not_yet = on not_yet
 whole_by chain (Asks ask) further here is on not_yet = cc
 whole_by chain (Ends owed) further here is on not_yet = cc
 
 -- where nothing is found, all events were looked at
 pub reach_all : {S E R A : Type 0} (chain : Chain S E R A) (last : Stamp) (before : List A) (s : S) (f : List (Timed E)) (es : List (Stamped E)) →
-    chain.look (reach chain last before s f es).stage (reach chain last before s f es).front ≡ NotYet → (reach chain last before s f es).rest ≡ []
+    chain.look (reach chain last before s f es).stage (reach chain last before s f es).prefix ≡ NotYet → (reach chain last before s f es).rest ≡ []
 reach_all chain last before s f [] is = refl
 reach_all chain last before s f (e ∷ es) is =
     whole_by chain (chain.look (chain.pass s f).stage f) _ _ refl
     (reach_all chain last (before ++ (chain.pass s f).owed) (chain.pass s f).stage (f ++ worked_off last e ∷ []) es) is
 
 values_by : {S E A : Type 0} (l : Look A) (further here : Reached S E A) (all : List E) →
-    seen_values further.front ++ waiting_values further.rest ≡ all → seen_values here.front ++ waiting_values here.rest ≡ all →
-    seen_values (reach_by l further here).front ++ waiting_values (reach_by l further here).rest ≡ all
+    seen_values further.prefix ++ waiting_values further.rest ≡ all → seen_values here.prefix ++ waiting_values here.rest ≡ all →
+    seen_values (reach_by l further here).prefix ++ waiting_values (reach_by l further here).rest ≡ all
 values_by NotYet further here all a b = a
 values_by (Asks ask) further here all a b = b
 values_by (Ends owed) further here all a b = b
@@ -112,7 +112,7 @@ worked_off_value f last e es =
 
 -- no event is lost or told twice
 pub reach_values : {S E R A : Type 0} (chain : Chain S E R A) (last : Stamp) (before : List A) (s : S) (f : List (Timed E)) (es : List (Stamped E)) →
-    seen_values (reach chain last before s f es).front ++ waiting_values (reach chain last before s f es).rest
+    seen_values (reach chain last before s f es).prefix ++ waiting_values (reach chain last before s f es).rest
     ≡ seen_values f ++ waiting_values es
 reach_values chain last before s f [] = refl
 reach_values chain last before s f (e ∷ es) =

@@ -8,7 +8,7 @@ use Rattle.px_event.specs.Stamps.{WorkedOffAlike, StampedAlike, renumbered}
 pub record ReachedAlike {S E A : Type 0} (es xs : List (Stamped E)) (here there : Reached S E A) : Type 0 where
   pub before : here.before ≡ there.before
   pub stage : here.stage ≡ there.stage
-  pub front : here.front ≡ there.front
+  pub prefix : here.prefix ≡ there.prefix
   pub rest : (last other : Stamp) → WorkedOffAlike last other es xs → WorkedOffAlike last other here.rest there.rest
 
 -- one event less of both
@@ -16,7 +16,7 @@ fewer : {S E A : Type 0} (e x : Stamped E) (es xs : List (Stamped E)) (here ther
 fewer e x es xs here there at = record {
   before = at.before;
   stage = at.stage;
-  front = at.front;
+  prefix = at.prefix;
   rest = λ last other alike. at.rest last other alike.1;
 }
 
@@ -28,7 +28,7 @@ by_alike es xs (Ends owed) further here further' here' on at = at
 
 reach_alike : {S E R A : Type 0} (chain : Chain S E R A) (last other : Stamp) (before : List A) (s : S) (f : List (Timed E)) (es xs : List (Stamped E)) →
     WorkedOffAlike last other es xs → ReachedAlike es xs (reach chain last before s f es) (reach chain other before s f xs)
-reach_alike chain last other before s f [] [] alike = record { before = refl; stage = refl; front = refl; rest = λ a b is. is }
+reach_alike chain last other before s f [] [] alike = record { before = refl; stage = refl; prefix = refl; rest = λ a b is. is }
 reach_alike chain last other before s f [] (x ∷ xs) alike = absurd alike
 reach_alike chain last other before s f (e ∷ es) [] alike = absurd alike
 reach_alike {S} {E} {R} {A} chain last other before s f (e ∷ es) (x ∷ xs) alike =
@@ -36,7 +36,7 @@ reach_alike {S} {E} {R} {A} chain last other before s f (e ∷ es) (x ∷ xs) al
     let P : Timed E → Type 0 = λ t. ReachedAlike es xs (reach chain last (before ++ on.owed) on.stage (f ++ worked_off last e ∷ []) es) (reach chain other (before ++ on.owed) on.stage (f ++ t ∷ []) xs) in
     by_alike (e ∷ es) (x ∷ xs) (chain.look on.stage f) _ _ _ _
     (fewer e x es xs _ _ (subst P alike.0 (reach_alike chain last other (before ++ on.owed) on.stage (f ++ worked_off last e ∷ []) es xs alike.1)))
-    (record { before = refl; stage = refl; front = refl; rest = λ a b is. is })
+    (record { before = refl; stage = refl; prefix = refl; rest = λ a b is. is })
 
 walk_by_alike : {S E R A : Type 0} (chain : Chain S E R A) (l m : Look A) (onward other : A → Stop S E R A) (stop stop' : Stop S E R A) → l ≡ m →
     ((ask : A) → owed_at chain (onward ask) ≡ owed_at chain (other ask)) → owed_at chain stop ≡ owed_at chain stop' →
@@ -67,19 +67,19 @@ events_alike last other es xs (r ∷ rs) (q ∷ qs) alike = alike.0
 pub restamped : {S E R A : Type 0} (chain : Chain S E R A) (rs qs : List (Stamped R)) (last other : Stamp) (before : List A) (s : S) (f : List (Timed E)) (es xs : List (Stamped E)) →
     StampedAlike last other es xs rs qs → owed_at chain (walk chain rs last before s f es) ≡ owed_at chain (walk chain qs other before s f xs)
 restamped chain [] [] last other before s f es xs alike =
-    let at = reach_alike chain last other before s f es xs alike in rw (at.before, at.stage, at.front) refl
+    let at = reach_alike chain last other before s f es xs alike in rw (at.before, at.stage, at.prefix) refl
 restamped chain [] (q ∷ qs) last other before s f es xs alike = absurd alike
 restamped chain (r ∷ rs) [] last other before s f es xs alike = absurd alike
 restamped chain (r ∷ rs) (q ∷ qs) last other before s f es xs alike =
     let at = reach_alike chain last other before s f es xs alike.0 in
     let here = reach chain last before s f es in
     let there = reach chain other before s f xs in
-    let look : chain.look here.stage here.front ≡ chain.look there.stage there.front = rw (at.stage, at.front) refl in
-    walk_by_alike chain (chain.look here.stage here.front) (chain.look there.stage there.front) _ _ _ _ look
-    (λ ask. rw (at.before, at.stage, at.front, alike.1)
-    (restamped chain rs qs r.stamp q.stamp _ _ there.front here.rest there.rest
+    let look : chain.look here.stage here.prefix ≡ chain.look there.stage there.prefix = rw (at.stage, at.prefix) refl in
+    walk_by_alike chain (chain.look here.stage here.prefix) (chain.look there.stage there.prefix) _ _ _ _ look
+    (λ ask. rw (at.before, at.stage, at.prefix, alike.1)
+    (restamped chain rs qs r.stamp q.stamp _ _ there.prefix here.rest there.rest
     (behind_alike r.stamp q.stamp es xs here.rest there.rest rs qs at.rest alike.2)))
-    (rw (at.before, at.stage, at.front) refl)
+    (rw (at.before, at.stage, at.prefix) refl)
 
 module _ (number : ℕ → ℕ) (keeps : (a b : ℕ) → nat_lt (number a) (number b) ≡ nat_lt a b) where
   -- the step with its other number

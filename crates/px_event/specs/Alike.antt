@@ -1,5 +1,5 @@
--- Walks that owe alike. Two fronts may differ and all that comes of them be alike: a piece in two halves, or pieces of two
--- sides the other way round. So places are compared, a place being a stage over a front, by any relation that the chain
+-- Walks that owe alike. Two prefixes may differ and all that comes of them be alike: a piece in two halves, or pieces of two
+-- sides the other way round. So places are compared, a place being a stage over a prefix, by any relation that the chain
 -- keeps, and what is owed by any likeness of lists.
 use Rattle.std.specs.Prelude.{◌≡◌, List, [], ◌∷◌, ◌++◌}
 use Rattle.px_event.specs.Chain.{Stamp, Stamped, Timed, worked_off, at_its_step, Chain, Look, NotYet, Asks, Ends, Turn, Stop, walk, owed_at}
@@ -17,7 +17,7 @@ FoundAlike like (Asks ask) (Asks other) = like (ask ∷ []) (other ∷ [])
 FoundAlike like (Ends owed) (Ends other) = like owed other
 FoundAlike like _ _ = ⊥
 
--- stages that find and owe alike, each over its front
+-- stages that find and owe alike, each over its prefix
 pub record OwesAlike {S E R A : Type 0} (chain : Chain S E R A) (like : List A → List A → Type 0) (s : S) (f : List (Timed E)) (t : S) (g : List (Timed E)) : Type 0 where
   pub look : FoundAlike like (chain.look s f) (chain.look t g)
   pub so_far : like (chain.so_far s f) (chain.so_far t g)
@@ -43,7 +43,7 @@ pub record Alike {S E R A : Type 0} (chain : Chain S E R A) (like : List A → L
 
 -- where the event is worked off that waits, what was owed while the stage passed before it and behind it
 abbrev pub passes_over : {S E R A : Type 0} → Chain S E R A → Turn S A → List (Timed E) → Turn S A
-passes_over chain on front = record { owed = on.owed ++ (chain.pass on.stage front).owed; stage = (chain.pass on.stage front).stage }
+passes_over chain on prefix = record { owed = on.owed ++ (chain.pass on.stage prefix).owed; stage = (chain.pass on.stage prefix).stage }
 
 -- A relation of places by which an event may be taken early: it waits behind the one, and is worked off in the other. What
 -- is found without it is found with it, and so on behind each reply that may come; where nothing is found without it, it is
@@ -60,8 +60,8 @@ pub record Unhurried {S E R A : Type 0} (chain : Chain S E R A) (like : List A �
       TurnsAlike like (λ a b. early reply.stamp a f b g) (chain.turn s f (at_its_step reply)) (chain.turn t g (at_its_step reply))
   pub works_off : (last : Stamp) (s : S) (f : List (Timed E)) (t : S) (g : List (Timed E)) → early last s f t g →
       chain.look (chain.pass s f).stage f ≡ NotYet →
-      let front = f ++ worked_off last event ∷ [] in
-      TurnsAlike like (λ a b. same a front b g) (passes_over chain (chain.pass s f) front) (chain.pass t g)
+      let prefix = f ++ worked_off last event ∷ [] in
+      TurnsAlike like (λ a b. same a prefix b g) (passes_over chain (chain.pass s f) prefix) (chain.pass t g)
 
 -- each of the replies may come
 abbrev pub MayCome : {R : Type 0} → (Stamped R → Type 0) → List (Stamped R) → Type 0
@@ -70,16 +70,16 @@ MayCome may_come (r ∷ rs) = may_come r × MayCome may_come rs
 
 -- the walk goes on over these events from where it stopped, and all before them are worked off
 abbrev pub goes_on_over : {S E R A : Type 0} → Chain S E R A → Stop S E R A → List (Stamped E) → Stop S E R A
-goes_on_over chain w xs = walk chain w.unused w.last w.before w.stage w.front xs
+goes_on_over chain w xs = walk chain w.unused w.last w.before w.stage w.prefix xs
 
 -- where nothing was found, these and those events owe alike
 abbrev pub OwesAlikeFrom : {S E R A : Type 0} → Chain S E R A → (List A → List A → Type 0) → Stop S E R A → List (Stamped E) → List (Stamped E) → Type 0
-OwesAlikeFrom chain like w xs ys = chain.look w.stage w.front ≡ NotYet →
+OwesAlikeFrom chain like w xs ys = chain.look w.stage w.prefix ≡ NotYet →
     like (owed_at chain (goes_on_over chain w xs)) (owed_at chain (goes_on_over chain w ys))
 
--- the front of a walk with this event more
+-- the prefix of a walk with this event more
 abbrev pub front_with : {S E R A : Type 0} → Stop S E R A → Stamped E → List (Timed E)
-front_with w e = w.front ++ worked_off w.last e ∷ []
+front_with w e = w.prefix ++ worked_off w.last e ∷ []
 
 -- A relation of places by which this event may be taken early, where nothing was found and one event more was worked off:
 -- this place is so related to that, and each reply that was not used may come.
@@ -92,6 +92,6 @@ pub record MayBeEarly {S E R A : Type 0} (w : Stop S E R A) (one : Stamped E) (m
 pub record StopsAlike {S E R A : Type 0} (like : List A → List A → Type 0) (same : S → List (Timed E) → S → List (Timed E) → Type 0) (w v : Stop S E R A) : Type 0 where
   pub last : w.last ≡ v.last
   pub before : like w.before v.before
-  pub place : same w.stage w.front v.stage v.front
+  pub place : same w.stage w.prefix v.stage v.prefix
   pub rest : w.rest ≡ v.rest
   pub unused : w.unused ≡ v.unused

@@ -29,7 +29,7 @@ worked_off last event = record { moment = (later last event.stamp).moment; value
 abbrev pub at_its_step : {R : Type 0} → Stamped R → Timed R
 at_its_step reply = record { moment = reply.stamp.moment; value = reply.value }
 
--- what a stage finds over a front: nothing yet, an ask, or the end with what is owed there
+-- what a stage finds over a prefix: nothing yet, an ask, or the end with what is owed there
 pub data Look (A : Type 0) : Type 0 where
   NotYet : Look A
   Asks : (ask : A) → Look A
@@ -47,7 +47,7 @@ pub record Turn (S A : Type 0) : Type 0 where
 
 -- stages S over events E, replies R and what is owed A
 pub record Chain (S E R A : Type 0) : Type 0 where
-  -- where it goes on without a reply, over this front
+  -- where it goes on without a reply, over this prefix
   pub pass : S → List (Timed E) → Turn S A
   -- what it finds
   pub look : S → List (Timed E) → Look A
@@ -56,12 +56,12 @@ pub record Chain (S E R A : Type 0) : Type 0 where
   -- what a reply to its ask brings
   pub turn : S → List (Timed E) → Timed R → Turn S A
 
--- the shortest front, from this one on, over which something is found: what was owed up to there beside what the stage
--- there owes, the stage, the front, and the events behind it
+-- the shortest prefix, from this one on, over which something is found: what was owed up to there beside what the stage
+-- there owes, the stage, the prefix, and the events behind it
 pub record Reached (S E A : Type 0) : Type 0 where
   pub before : List A
   pub stage : S
-  pub front : List (Timed E)
+  pub prefix : List (Timed E)
   pub rest : List (Stamped E)
 
 abbrev pub reach_by : {S E A : Type 0} → Look A → Reached S E A → Reached S E A → Reached S E A
@@ -70,13 +70,13 @@ reach_by (Asks ask) further here = here
 reach_by (Ends owed) further here = here
 
 abbrev pub reach : {S E R A : Type 0} → Chain S E R A → Stamp → List A → S → List (Timed E) → List (Stamped E) → Reached S E A
-reach chain last before s front [] =
-    let on = chain.pass s front in record { before = before ++ on.owed; stage = on.stage; front = front; rest = [] }
-reach chain last before s front (e ∷ es) =
-    let on = chain.pass s front in
-    reach_by (chain.look on.stage front)
-    (reach chain last (before ++ on.owed) on.stage (front ++ worked_off last e ∷ []) es)
-    (record { before = before ++ on.owed; stage = on.stage; front = front; rest = e ∷ es })
+reach chain last before s prefix [] =
+    let on = chain.pass s prefix in record { before = before ++ on.owed; stage = on.stage; prefix = prefix; rest = [] }
+reach chain last before s prefix (e ∷ es) =
+    let on = chain.pass s prefix in
+    reach_by (chain.look on.stage prefix)
+    (reach chain last (before ++ on.owed) on.stage (prefix ++ worked_off last e ∷ []) es)
+    (record { before = before ++ on.owed; stage = on.stage; prefix = prefix; rest = e ∷ es })
 
 -- where a walk stops: at its end, at an ask without a reply, or where all events are worked off
 pub record Stop (S E R A : Type 0) : Type 0 where
@@ -86,27 +86,27 @@ pub record Stop (S E R A : Type 0) : Type 0 where
   pub before : List A
   pub stage : S
   -- the events worked off: what was seen
-  pub front : List (Timed E)
+  pub prefix : List (Timed E)
   pub rest : List (Stamped E)
   pub unused : List (Stamped R)
 
 abbrev pub stop_at : {S E R A : Type 0} → Stamp → Reached S E A → List (Stamped R) → Stop S E R A
 stop_at last here unused =
-    record { last = last; before = here.before; stage = here.stage; front = here.front; rest = here.rest; unused = unused }
+    record { last = last; before = here.before; stage = here.stage; prefix = here.prefix; rest = here.rest; unused = unused }
 
 abbrev pub walk_by : {A W : Type 0} → Look A → (A → W) → W → W
 walk_by NotYet onward stop = stop
 walk_by (Asks ask) onward stop = onward ask
 walk_by (Ends owed) onward stop = stop
 
--- Each ask takes the next reply, at the shortest front over which it is found.
+-- Each ask takes the next reply, at the shortest prefix over which it is found.
 abbrev pub walk : {S E R A : Type 0} → Chain S E R A → List (Stamped R) → Stamp → List A → S → List (Timed E) → List (Stamped E) → Stop S E R A
-walk chain [] last before s front es = stop_at last (reach chain last before s front es) []
-walk chain (r ∷ rs) last before s front es =
-    let here = reach chain last before s front es in
-    let on = chain.turn here.stage here.front (at_its_step r) in
-    walk_by (chain.look here.stage here.front)
-    (λ ask. walk chain rs r.stamp (here.before ++ (chain.so_far here.stage here.front ++ ask ∷ on.owed)) on.stage here.front here.rest)
+walk chain [] last before s prefix es = stop_at last (reach chain last before s prefix es) []
+walk chain (r ∷ rs) last before s prefix es =
+    let here = reach chain last before s prefix es in
+    let on = chain.turn here.stage here.prefix (at_its_step r) in
+    walk_by (chain.look here.stage here.prefix)
+    (λ ask. walk chain rs r.stamp (here.before ++ (chain.so_far here.stage here.prefix ++ ask ∷ on.owed)) on.stage here.prefix here.rest)
     (stop_at last here (r ∷ rs))
 
 -- what is owed where something is found
@@ -117,7 +117,7 @@ found (Ends owed) = owed
 
 -- all that is owed at the place where the walk stopped
 abbrev pub owed_at : {S E R A : Type 0} → Chain S E R A → Stop S E R A → List A
-owed_at chain stop = stop.before ++ (chain.so_far stop.stage stop.front ++ found (chain.look stop.stage stop.front))
+owed_at chain stop = stop.before ++ (chain.so_far stop.stage stop.prefix ++ found (chain.look stop.stage stop.prefix))
 
 -- before the first step
 abbrev pub never : Stamp

@@ -4,5 +4,6 @@ pub mod Laws
 pub mod Layer
 pub mod Stamps
 pub mod Stands
+pub mod Sum
 pub mod Trace
 pub mod View

@@ -28,7 +28,7 @@ stop_of chain start moves = walk_from chain start (events_in 1 moves) (replies_i
 
 -- the walk over the moves has ended
 abbrev pub has_ended : {S : Type 0} → Chain S Event Reply Command → S → List Move → Bool
-has_ended chain start moves = is_end (chain.look (stop_of chain start moves).stage (stop_of chain start moves).front)
+has_ended chain start moves = is_end (chain.look (stop_of chain start moves).stage (stop_of chain start moves).prefix)
 
 -- what is due by the moves
 abbrev pub due_by : {S : Type 0} → Chain S Event Reply Command → S → List Move → List Command
@@ -38,20 +38,20 @@ due_by chain start moves = due chain start (events_in 1 moves) (replies_in 1 mov
 -- that view of what is due. It used each reply, and no event waits behind its ask.
 pub record StandsAt {M S : Type 0} (chain : Chain S Event Reply Command) (start : S) (is_at : M → S → List (Timed Event) → Type 0)
     (state : M) (moves : List Move) (given : List Command) : Type 0 where
-  pub place : is_at state (stop_of chain start moves).stage (stop_of chain start moves).front
+  pub place : is_at state (stop_of chain start moves).stage (stop_of chain start moves).prefix
   pub used : (stop_of chain start moves).unused ≡ []
-  pub seen : (ask : Command) → chain.look (stop_of chain start moves).stage (stop_of chain start moves).front ≡ Asks ask →
+  pub seen : (ask : Command) → chain.look (stop_of chain start moves).stage (stop_of chain start moves).prefix ≡ Asks ask →
       (stop_of chain start moves).rest ≡ []
   pub gave : (view : View) → seen_of view given ≡ seen_of view (due_by chain start moves)
 
 -- Something is awaited exactly where the stage asks.
 pub record AwaitsWhatItAsks {M S : Type 0} (chain : Chain S Event Reply Command) (is_at : M → S → List (Timed Event) → Type 0) (awaited : M → Option Ask) : Type 0 where
-  pub free : (state : M) (stage : S) (front : List (Timed Event)) (ask : Command) → is_at state stage front → awaited state ≡ None → chain.look stage front ≡ Asks ask → ⊥
-  pub asks : (state : M) (stage : S) (front : List (Timed Event)) (ask : Ask) → is_at state stage front → awaited state ≡ Some ask →
-      (command : Command) × (chain.look stage front ≡ Asks command)
+  pub free : (state : M) (stage : S) (prefix : List (Timed Event)) (ask : Command) → is_at state stage prefix → awaited state ≡ None → chain.look stage prefix ≡ Asks ask → ⊥
+  pub asks : (state : M) (stage : S) (prefix : List (Timed Event)) (ask : Ask) → is_at state stage prefix → awaited state ≡ Some ask →
+      (command : Command) × (chain.look stage prefix ≡ Asks command)
 
 -- It has ended exactly where the stage ends.
 pub record EndsWhereItEnds {M S : Type 0} (chain : Chain S Event Reply Command) (is_at : M → S → List (Timed Event) → Type 0) (ended : M → Bool) : Type 0 where
-  pub ends : (state : M) (stage : S) (front : List (Timed Event)) → is_at state stage front → ended state ≡ true →
-      (owed : List Command) × (chain.look stage front ≡ Ends owed)
-  pub there : (state : M) (stage : S) (front : List (Timed Event)) (owed : List Command) → is_at state stage front → chain.look stage front ≡ Ends owed → ended state ≡ true
+  pub ends : (state : M) (stage : S) (prefix : List (Timed Event)) → is_at state stage prefix → ended state ≡ true →
+      (owed : List Command) × (chain.look stage prefix ≡ Ends owed)
+  pub there : (state : M) (stage : S) (prefix : List (Timed Event)) (owed : List Command) → is_at state stage prefix → chain.look stage prefix ≡ Ends owed → ended state ≡ true

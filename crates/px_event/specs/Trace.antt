@@ -41,15 +41,15 @@ bytes_to side list = flat_map (bytes_for side) list
 abbrev pub sent : Trace → ℕ → Side → List ℕ
 sent trace conv side = bytes_to side (said trace conv)
 
--- at every moment: it holds of each front of the trace
+-- at every moment: it holds of each prefix of the trace
 pub record Always (P : Trace → Type 0) (trace : Trace) : Type 0 where
-  pub at : (front rest : Trace) → trace ≡ front ++ rest → P front
+  pub at : (prefix rest : Trace) → trace ≡ prefix ++ rest → P prefix
 
--- it holds of each front that stands directly before something heard
+-- it holds of each prefix that stands directly before something heard
 pub record BeforeEachHeard (P : Trace → Type 0) (trace : Trace) : Type 0 where
-  pub at : (front rest : Trace) (moment : ℕ) (heard : Heard) → trace ≡ front ++ steps.Heard moment heard ∷ rest → P front
+  pub at : (prefix rest : Trace) (moment : ℕ) (heard : Heard) → trace ≡ prefix ++ steps.Heard moment heard ∷ rest → P prefix
 
--- at each step's end: it holds of each front directly before something heard, and of the whole
+-- at each step's end: it holds of each prefix directly before something heard, and of the whole
 pub record AtStepEnds (P : Trace → Type 0) (trace : Trace) : Type 0 where
   pub within : BeforeEachHeard P trace
   pub whole : P trace

@@ -46,7 +46,7 @@ pub fn alike_behind_any_events<C: Compared>()
 pub fn two_events_for_one_owe_alike<C: Compared>()
     ensures { (given : C.Given) (start : C.Stage) (before after : List (Stamped TakenEvent)) (first second one : Stamped TakenEvent)
         (replies : List (Stamped GivenReply)) →
-        ((C.chain given).look (walk_from (C.chain given) start before replies).stage (walk_from (C.chain given) start before replies).front ≡ NotYet →
+        ((C.chain given).look (walk_from (C.chain given) start before replies).stage (walk_from (C.chain given) start before replies).prefix ≡ NotYet →
         MayBeEarly (walk_from (C.chain given) start before replies) first (C.may_come second) (C.early given second)
         (walk_from (C.chain given) start before replies).stage (front_with (walk_from (C.chain given) start before replies) one)) →
         C.like (due (C.chain given) start (before ++ first ∷ second ∷ after) replies) (due (C.chain given) start (before ++ one ∷ after) replies) }
@@ -58,7 +58,7 @@ pub fn swapped_events_owe_alike<C: Compared>()
     ensures { ((a b c : List GivenCommand) → C.like a c → C.like b c → C.like a b) →
         (given : C.Given) (start : C.Stage) (before after : List (Stamped TakenEvent)) (first second : Stamped TakenEvent)
         (replies : List (Stamped GivenReply)) (t : C.Stage) (g : List (Timed TakenEvent)) →
-        ((C.chain given).look (walk_from (C.chain given) start before replies).stage (walk_from (C.chain given) start before replies).front ≡ NotYet →
+        ((C.chain given).look (walk_from (C.chain given) start before replies).stage (walk_from (C.chain given) start before replies).prefix ≡ NotYet →
         MayBeEarly (walk_from (C.chain given) start before replies) first (C.may_come second) (C.early given second) t g
         × MayBeEarly (walk_from (C.chain given) start before replies) second (C.may_come first) (C.early given first) t g) →
         C.like (due (C.chain given) start (before ++ first ∷ second ∷ after) replies) (due (C.chain given) start (before ++ second ∷ first ∷ after) replies) }

@@ -24,14 +24,14 @@ pub trait Chained: Layer {
     ghost start: { Self → Stage };
 
     /// What the fields are of a state that was made as the first, where the walk stopped at this stage and over this
-    /// front.
+    /// prefix.
     ghost is_at: { Self → Self → Stage → List (Timed TakenEvent) → Type 0 };
 
     /// What a state stands for: it is where the walk over its moves stops, and gave what is due.
     ghost stands_at: { (made state : Self) (moves : List Move) (given : List GivenCommand) → Self.stands made state moves given →
         StandsAt (chain made) (start made) (is_at made) state moves given };
 
-    /// At one front passing settles at once.
+    /// At one prefix passing settles at once.
     ghost settles: { (made : Self) → Settles (chain made) };
 
     /// In each view what a stage owes while it waits only grows.

@@ -7,7 +7,7 @@ ghost use Rattle.px_event.specs.declared.event.Event.{Event as TakenEvent};
 ghost use Rattle.px_event.specs.declared.reply.Reply.{Reply as GivenReply};
 ghost use Rattle.px_event.specs.declared.command.Command.{Command as GivenCommand};
 
-/// A chain, a likeness of what is owed, and two relations of its places, each a stage over a front: of those that look
+/// A chain, a likeness of what is owed, and two relations of its places, each a stage over a prefix: of those that look
 /// alike, and of those between which an event may be taken early. It is all ghost: a type implements it to have the laws
 /// of its relations, and no value of the type is needed.
 pub trait Compared {
@@ -20,7 +20,7 @@ pub trait Compared {
     /// The stages by what is given.
     ghost chain: { Given → Chain Stage TakenEvent GivenReply GivenCommand };
 
-    /// At one front passing settles at once.
+    /// At one prefix passing settles at once.
     ghost settles: { (given : Given) → Settles (chain given) };
 
     /// Whether two lists of commands are alike: equal, say, or equal in each view.

@@ -2,10 +2,11 @@
 //!
 //! They need one thing of a chain, that passing settles at once (`Settles`), and growth one thing more (`SoFarGrows`).
 //! Neither speaks of bytes or of a protocol, so a chain of any protocol gets the laws for these two premises.
-ghost use Rattle.std.specs.Prelude.{◌≡◌, ◌≢◌, ℕ, List, [], ◌∷◌, ◌++◌};
+ghost use Rattle.std.specs.Prelude.{◌≡◌, ◌≢◌, ℕ, List, [], ◌∷◌, ◌++◌, Option};
 ghost use Rattle.px_text.specs.Prefix.{IsPrefixOf};
 ghost use Rattle.px_event.specs.Chain.{Chain, Stamped, Asks, Ends, walk_from, due};
 ghost use Rattle.px_event.specs.Laws.{Settles, SoFarGrows, with_events, with_replies, Stopped, waiting_values};
+ghost use Rattle.px_event.specs.Sum.{HandsOver, sum_of};
 ghost use Rattle.px_event.specs.View.{Atom, View, bytes_in, line, seen_of};
 ghost use Rattle.px_event.specs.declared.event.Event.{Event as TakenEvent};
 ghost use Rattle.px_event.specs.declared.reply.Reply.{Reply as GivenReply};
@@ -45,7 +46,7 @@ pub fn due_only_grows<Stage>()
 /// side begins with what its line so far has of bytes. A close that comes before bytes makes another line than one behind them.
 pub fn lines_have_bytes()
     ensures joins { (first second : List Atom) → bytes_in (first ++ second) ≡ bytes_in first ++ bytes_in second }
-    ensures begins { (front whole : List Atom) → IsPrefixOf front whole → IsPrefixOf (bytes_in front) (bytes_in whole) }
+    ensures begins { (prefix whole : List Atom) → IsPrefixOf prefix whole → IsPrefixOf (bytes_in prefix) (bytes_in whole) }
     ensures ordered { (side : OfSide) (value : ℕ) (text : List ℕ) →
         seen_of (line side) (Closes side ∷ Sends side (value ∷ text) ∷ []) ≢ seen_of (line side) (Sends side (value ∷ text) ∷ Closes side ∷ []) }
 {}
@@ -54,7 +55,7 @@ pub fn lines_have_bytes()
 pub fn waiting_events_owe_nothing<Stage>()
     ensures { (chain : Chain Stage TakenEvent GivenReply GivenCommand) → Settles chain → (start : Stage) →
         (events more : List (Stamped TakenEvent)) (replies : List (Stamped GivenReply)) (ask : GivenCommand) →
-        chain.look (walk_from chain start events replies).stage (walk_from chain start events replies).front ≡ Asks ask →
+        chain.look (walk_from chain start events replies).stage (walk_from chain start events replies).prefix ≡ Asks ask →
         due chain start (events ++ more) replies ≡ due chain start events replies }
 {}
 
@@ -62,6 +63,14 @@ pub fn waiting_events_owe_nothing<Stage>()
 pub fn nothing_is_due_past_the_end<Stage>()
     ensures { (chain : Chain Stage TakenEvent GivenReply GivenCommand) → Settles chain → (start : Stage) →
         (events more : List (Stamped TakenEvent)) (replies further : List (Stamped GivenReply)) (owed : List GivenCommand) →
-        chain.look (walk_from chain start events replies).stage (walk_from chain start events replies).front ≡ Ends owed →
+        chain.look (walk_from chain start events replies).stage (walk_from chain start events replies).prefix ≡ Ends owed →
         due chain start (events ++ more) (replies ++ further) ≡ due chain start events replies }
+{}
+
+/// A sum of two chains, where the one hands over to the other, keeps the laws that both keep: so all of these laws hold of it.
+pub fn sums_keep_the_laws<Stage, Next>()
+    ensures settles { (chain : Chain Stage TakenEvent GivenReply GivenCommand) (other : Chain Next TakenEvent GivenReply GivenCommand) (hands : Stage → Option Next) →
+        Settles chain → Settles other → Settles (sum_of chain other hands) }
+    ensures grows { (chain : Chain Stage TakenEvent GivenReply GivenCommand) (other : Chain Next TakenEvent GivenReply GivenCommand) (hands : Stage → Option Next) (view : View) →
+        HandsOver chain hands → SoFarGrows chain (seen_of view) → SoFarGrows other (seen_of view) → SoFarGrows (sum_of chain other hands) (seen_of view) }
 {}

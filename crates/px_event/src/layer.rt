@@ -3,7 +3,7 @@
 //! A layer takes events and replies, and gives commands. Its state stands for how it was made, for a list of moves, each
 //! an event that it took or a reply that it was given at a moment, and for the list of the commands that it gave. Each
 //! call asks that the state stands for something, and says after Ok that the new one stands for the same with one move
-//! more and with the commands that the call added. So after want of memory, which says nothing of the state, a layer can
+//! more and with the commands that the call added. So once out of memory, which says nothing of the state, a layer can
 //! only be dropped. What is due of a layer may hang on how it was made (its mode, its flow), and no call changes that.
 //!
 //! A layer that asked is paused: until the ask is answered no event may be handed to it. Two numbers bound its asks: a

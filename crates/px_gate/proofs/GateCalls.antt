@@ -30,12 +30,12 @@ what_ends (Ends owed) over = (owed, refl)
 
 -- where a walk stops, with more events and replies behind
 abbrev pub with_rest : {S E R A : Type 0} → Stop S E R A → List (Stamped E) → List (Stamped R) → Stop S E R A
-with_rest w events replies = record { last = w.last; before = w.before; stage = w.stage; front = w.front; rest = w.rest ++ events; unused = w.unused ++ replies }
+with_rest w events replies = record { last = w.last; before = w.before; stage = w.stage; prefix = w.prefix; rest = w.rest ++ events; unused = w.unused ++ replies }
 
 -- a walk from an end stops there
 stays_there : {S E R A : Type 0} (chain : Chain S E R A) (unused : List (Stamped R)) (last : Stamp) (before : List A) (s : S) (f : List (Timed E)) (rest : List (Stamped E)) (owed : List A) →
     IsSettled chain s f → chain.look s f ≡ Ends owed →
-    walk chain unused last before s f rest ≡ record { last = last; before = before; stage = s; front = f; rest = rest; unused = unused }
+    walk chain unused last before s f rest ≡ record { last = last; before = before; stage = s; prefix = f; rest = rest; unused = unused }
 stays_there {A = A} chain [] last before s f rest owed settled looks =
     let P : Look A → Type 0 = IsFound in ap (λ here. stop_at last here []) (reach_found chain last before s f rest settled (subst P (sym looks) tt))
 stays_there {A = A} chain (r ∷ rs) last before s f rest owed settled looks =
@@ -73,7 +73,7 @@ module _ {S : Type 0} (chain : Chain S Event Reply Command) (law : Settles chain
       (events_in-append 1 moves (Replied moment reply ∷ []) ∙ append-nil (events_in 1 moves)) (replies_in-append 1 moves (Replied moment reply ∷ []))
 
   -- where the walk over the calls has ended it stops at the same place, whatever is called behind
-  ends_at : (calls : List Move) (owed : List Command) → chain.look (stop_of chain start calls).stage (stop_of chain start calls).front ≡ Ends owed → (more : List Move) →
+  ends_at : (calls : List Move) (owed : List Command) → chain.look (stop_of chain start calls).stage (stop_of chain start calls).prefix ≡ Ends owed → (more : List Move) →
       stop_of chain start (calls ++ more) ≡ with_rest (stop_of chain start calls) (events_in (1 + length calls) more) (replies_in (1 + length calls) more)
   ends_at calls owed looks more =
       let events = events_in (1 + length calls) more in
@@ -84,20 +84,20 @@ module _ {S : Type 0} (chain : Chain S Event Reply Command) (law : Settles chain
       ∙ (ap (λ rs. walk_from chain start (events_in 1 calls ++ events) rs) (replies_in-append 1 calls more)
       ∙ (more_replies chain law (replies_in 1 calls) replies never [] start [] (events_in 1 calls ++ events)
       ∙ (ap (λ v. with_replies chain v replies) (behind_found chain law (replies_in 1 calls) never [] start [] (events_in 1 calls) events (subst P (sym looks) tt))
-      ∙ stays_there chain (w.unused ++ replies) w.last w.before w.stage w.front (w.rest ++ events) owed (stopped chain law (replies_in 1 calls) never [] start [] (events_in 1 calls)).settled looks)))
+      ∙ stays_there chain (w.unused ++ replies) w.last w.before w.stage w.prefix (w.rest ++ events) owed (stopped chain law (replies_in 1 calls) never [] start [] (events_in 1 calls)).settled looks)))
 
   -- there no call changes what is due
   pub calls_over : (calls : List Move) → has_ended chain start calls ≡ true → (more : List Move) (view : View) →
       seen_of view (due_by chain start (calls ++ more)) ≡ seen_of view (due_by chain start calls)
   calls_over calls over more view =
-      let end = what_ends (chain.look (stop_of chain start calls).stage (stop_of chain start calls).front) over in
+      let end = what_ends (chain.look (stop_of chain start calls).stage (stop_of chain start calls).prefix) over in
       ap (λ w. seen_of view (owed_at chain w)) (ends_at calls end.0 end.1 more)
 
   -- and the walk over more calls has ended too
   pub calls_last : (calls : List Move) → has_ended chain start calls ≡ true → (more : List Move) → has_ended chain start (calls ++ more) ≡ true
   calls_last calls over more =
-      let end = what_ends (chain.look (stop_of chain start calls).stage (stop_of chain start calls).front) over in
-      ap (λ w. is_end (chain.look w.stage w.front)) (ends_at calls end.0 end.1 more) ∙ over
+      let end = what_ends (chain.look (stop_of chain start calls).stage (stop_of chain start calls).prefix) over in
+      ap (λ w. is_end (chain.look w.stage w.prefix)) (ends_at calls end.0 end.1 more) ∙ over
 
   module _ {M : Type 0} (is_at : M → S → List (Timed Event) → Type 0) (awaited : M → Option Ask) (ties : AwaitsWhatItAsks chain is_at awaited)
       (standing : Standing M) (made : M) (stands_at : (state : M) (moves : List Move) (given : List Command) → standing made state moves given → StandsAt chain start is_at state moves given) where
@@ -115,10 +115,10 @@ module _ {S : Type 0} (chain : Chain S Event Reply Command) (law : Settles chain
         let Q : M → Type 0 = λ m. standing m gate.layer stands.moves given in
         let like = (calls_as chain law start is_at awaited ties standing made stands_at calls stands.moves gate.queue.items (subst P is stands.serves)).as_moves in
         let place = (stands_at gate.layer stands.moves given (subst Q is stands.stands)).place in
-        let same : chain.look (stop_of chain start calls).stage (stop_of chain start calls).front
-        ≡ chain.look (stop_of chain start stands.moves).stage (stop_of chain start stands.moves).front =
-        ap (λ s. chain.look s (stop_of chain start calls).front) like.stage ∙ ap (λ f. chain.look (stop_of chain start stands.moves).stage f) like.front in
-        exact (ended gate.layer) (chain.look (stop_of chain start calls).stage (stop_of chain start calls).front)
+        let same : chain.look (stop_of chain start calls).stage (stop_of chain start calls).prefix
+        ≡ chain.look (stop_of chain start stands.moves).stage (stop_of chain start stands.moves).prefix =
+        ap (λ s. chain.look s (stop_of chain start calls).prefix) like.stage ∙ ap (λ f. chain.look (stop_of chain start stands.moves).stage f) like.prefix in
+        exact (ended gate.layer) (chain.look (stop_of chain start calls).stage (stop_of chain start calls).prefix)
         (λ over. let end = ends.ends gate.layer _ _ place over in (end.0, same ∙ end.1))
         (λ owed looks. ends.there gate.layer _ _ owed place (sym same ∙ looks))
       where
@@ -134,11 +134,11 @@ module _ {S : Type 0} (chain : Chain S Event Reply Command) (law : Settles chain
     calls_rest ended ends first gate calls given is stands over =
         let Q : M → Type 0 = λ m. standing m gate.layer stands.moves given in
         let place = (stands_at gate.layer stands.moves given (subst Q is stands.stands)).place in
-        rests (awaited gate.layer) (stop_of chain start stands.moves).stage (stop_of chain start stands.moves).front refl place
+        rests (awaited gate.layer) (stop_of chain start stands.moves).stage (stop_of chain start stands.moves).prefix refl place
       where
-        rests : (awaits : Option Ask) (stage : S) (front : List (Timed Event)) → awaited gate.layer ≡ awaits → is_at gate.layer stage front → awaits ≡ None
-        rests None stage front same place = refl
-        rests (Some ask) stage front same place =
-            let asked = ties.asks gate.layer stage front ask place same in
-            let end = ends.ends gate.layer stage front place over in
+        rests : (awaits : Option Ask) (stage : S) (prefix : List (Timed Event)) → awaited gate.layer ≡ awaits → is_at gate.layer stage prefix → awaits ≡ None
+        rests None stage prefix same place = refl
+        rests (Some ask) stage prefix same place =
+            let asked = ties.asks gate.layer stage prefix ask place same in
+            let end = ends.ends gate.layer stage prefix place over in
             absurd (let no : Asks asked.0 ≡ Ends end.0 = sym asked.1 ∙ end.1 in cc)

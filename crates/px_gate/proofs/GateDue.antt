@@ -45,9 +45,9 @@ module _ {M S : Type 0} (chain : Chain S Event Reply Command) (law : Settles cha
   stop moves = stop_of chain start moves
 
   abbrev looks : List Move → Look Command
-  looks moves = chain.look (stop moves).stage (stop moves).front
+  looks moves = chain.look (stop moves).stage (stop moves).prefix
 
-  settled_at : (moves : List Move) → IsSettled chain (stop moves).stage (stop moves).front
+  settled_at : (moves : List Move) → IsSettled chain (stop moves).stage (stop moves).prefix
   settled_at moves = (stopped chain law (replies_in 1 moves) never [] start [] (events_in 1 moves)).settled
 
   free_at : (moves : List Move) → IsFree standing awaited made moves → ((ask : Command) → looks moves ≡ Asks ask → ⊥) × ((stop moves).unused ≡ [])
@@ -58,16 +58,16 @@ module _ {M S : Type 0} (chain : Chain S Event Reply Command) (law : Settles cha
   pub record AsMoves (here : Reached S Event Command) (moves : List Move) (waiting : List Event) : Type 0 where
     pub before : here.before ≡ (stop moves).before
     pub stage : here.stage ≡ (stop moves).stage
-    pub front : here.front ≡ (stop moves).front
+    pub prefix : here.prefix ≡ (stop moves).prefix
     pub waits : (ask : Command) → looks moves ≡ Asks ask → waiting_values here.rest ≡ waiting
     pub free : ((ask : Command) → looks moves ≡ Asks ask → ⊥) → waiting ≡ []
 
   -- the search from where the walk over the moves is
   abbrev search_from : Stamp → List Move → List (Stamped Event) → Reached S Event Command
-  search_from last moves rest = reach chain last (stop moves).before (stop moves).stage (stop moves).front rest
+  search_from last moves rest = reach chain last (stop moves).before (stop moves).stage (stop moves).prefix rest
 
   still : (moves : List Move) (rest : List (Stamped Event)) → Reached S Event Command
-  still moves rest = record { before = (stop moves).before; stage = (stop moves).stage; front = (stop moves).front; rest = rest }
+  still moves rest = record { before = (stop moves).before; stage = (stop moves).stage; prefix = (stop moves).prefix; rest = rest }
 
   -- events behind an end change nothing
   one_behind : (moment : ℕ) (last : Stamp) (moves after : List Move) (event : Event) (e : Stamped Event) (rest : List (Stamped Event)) (waiting : List Event) (owed : List Command) →
@@ -78,17 +78,17 @@ module _ {M S : Type 0} (chain : Chain S Event Reply Command) (law : Settles cha
       let found = subst P (sym is) tt in
       let w = stop moves in
       let w' = next_behind chain law start is_at moves moment event found in
-      let far = reach_found chain last w.before w.stage w.front (e ∷ rest) (settled_at moves) found in
-      let near = reach_found chain last w.before w.stage w.front rest (settled_at moves) found in
-      let same : search_from last (moves ++ Took moment event ∷ []) rest ≡ record { before = w.before; stage = w.stage; front = w.front; rest = rest } =
-      ap (λ (v : Stop S Event Reply Command). reach chain last v.before v.stage v.front rest) w' ∙ near in
+      let far = reach_found chain last w.before w.stage w.prefix (e ∷ rest) (settled_at moves) found in
+      let near = reach_found chain last w.before w.stage w.prefix rest (settled_at moves) found in
+      let same : search_from last (moves ++ Took moment event ∷ []) rest ≡ record { before = w.before; stage = w.stage; prefix = w.prefix; rest = rest } =
+      ap (λ (v : Stop S Event Reply Command). reach chain last v.before v.stage v.prefix rest) w' ∙ near in
       let stage : w.stage ≡ (stop after).stage = sym (ap (λ h. h.stage) same) ∙ there.stage in
-      let front : w.front ≡ (stop after).front = sym (ap (λ h. h.front) same) ∙ there.front in
-      let ended : looks after ≡ Ends owed = ap (λ s. chain.look s (stop after).front) (sym stage) ∙ (ap (λ f. chain.look w.stage f) (sym front) ∙ is) in
+      let prefix : w.prefix ≡ (stop after).prefix = sym (ap (λ h. h.prefix) same) ∙ there.prefix in
+      let ended : looks after ≡ Ends owed = ap (λ s. chain.look s (stop after).prefix) (sym stage) ∙ (ap (λ f. chain.look w.stage f) (sym prefix) ∙ is) in
       record {
         before = ap (λ h. h.before) far ∙ (sym (ap (λ h. h.before) same) ∙ there.before);
         stage = ap (λ h. h.stage) far ∙ stage;
-        front = ap (λ h. h.front) far ∙ front;
+        prefix = ap (λ h. h.prefix) far ∙ prefix;
         waits = λ ask asks. absurd (let no : Ends owed ≡ Asks ask = sym ended ∙ asks in cc);
         free = there.free;
       }
@@ -100,13 +100,13 @@ module _ {M S : Type 0} (chain : Chain S Event Reply Command) (law : Settles cha
   one_onward moment last moves after event e rest waiting at is_event below used is there =
       let w = stop moves in
       let settled = settled_at moves in
-      let front = w.front ++ record { moment = moment; value = event } ∷ [] in
+      let prefix = w.prefix ++ record { moment = moment; value = event } ∷ [] in
       let now : worked_off last e ≡ record { moment = moment; value = event } = worked_off_then last e below ∙ rw (at, is_event) refl in
-      let on : search_from last moves (e ∷ rest) ≡ reach chain last w.before w.stage front rest =
-      rw (settled.stays, settled.owes_nothing, append-nil, is) (ap (λ t. reach chain last w.before w.stage (w.front ++ t ∷ []) rest) now) in
-      let same : search_from last (moves ++ Took moment event ∷ []) rest ≡ reach chain last w.before w.stage front rest =
-      ap (λ (v : Stop S Event Reply Command). reach chain last v.before v.stage v.front rest) (next_event chain law start is_at moves moment event used is)
-      ∙ sym (reach_pass chain law last w.before w.stage front rest) in
+      let on : search_from last moves (e ∷ rest) ≡ reach chain last w.before w.stage prefix rest =
+      rw (settled.stays, settled.owes_nothing, append-nil, is) (ap (λ t. reach chain last w.before w.stage (w.prefix ++ t ∷ []) rest) now) in
+      let same : search_from last (moves ++ Took moment event ∷ []) rest ≡ reach chain last w.before w.stage prefix rest =
+      ap (λ (v : Stop S Event Reply Command). reach chain last v.before v.stage v.prefix rest) (next_event chain law start is_at moves moment event used is)
+      ∙ sym (reach_pass chain law last w.before w.stage prefix rest) in
       let P : Reached S Event Command → Type 0 = λ h. AsMoves h after waiting in
       subst P (same ∙ sym on) there
 
@@ -125,22 +125,22 @@ module _ {M S : Type 0} (chain : Chain S Event Reply Command) (law : Settles cha
       let none_left = no_values rest values in
       let w = stop there in
       let P : List (Stamped Event) → Type 0 = λ es. AsMoves (search_from last there es) there [] in
-      let here : search_from last there [] ≡ record { before = w.before; stage = w.stage; front = w.front; rest = [] } = settled_stop chain w.before w.stage w.front [] (settled_at there) in
+      let here : search_from last there [] ≡ record { before = w.before; stage = w.stage; prefix = w.prefix; rest = [] } = settled_stop chain w.before w.stage w.prefix [] (settled_at there) in
       subst P (sym none_left) (record {
         before = ap (λ h. h.before) here;
         stage = ap (λ h. h.stage) here;
-        front = refl;
+        prefix = refl;
         waits = λ ask asks. refl;
         free = λ no. refl;
       })
   works_as moment moves queue after waiting (halted there events (state, given, ask, stands, is)) last rest at values below =
       let w = stop there in
       let asks = ties.asks state _ _ ask (stands_at state there given stands).place is in
-      let here = reach_found chain last w.before w.stage w.front rest (settled_at there) (found_asks (looks there) asks.0 asks.1) in
+      let here = reach_found chain last w.before w.stage w.prefix rest (settled_at there) (found_asks (looks there) asks.0 asks.1) in
       record {
         before = ap (λ h. h.before) here;
         stage = ap (λ h. h.stage) here;
-        front = ap (λ h. h.front) here;
+        prefix = ap (λ h. h.prefix) here;
         waits = λ _ _. ap (λ (h : Reached S Event Command). waiting_values h.rest) here ∙ values;
         free = λ no. absurd (no asks.0 asks.1);
       }
@@ -157,14 +157,14 @@ module _ {M S : Type 0} (chain : Chain S Event Reply Command) (law : Settles cha
 
   -- where the walk over the calls stops
   abbrev there : List Move → Reached S Event Command
-  there calls = record { before = (stop calls).before; stage = (stop calls).stage; front = (stop calls).front; rest = (stop calls).rest }
+  there calls = record { before = (stop calls).before; stage = (stop calls).stage; prefix = (stop calls).prefix; rest = (stop calls).rest }
 
   pub record CallsAs (calls moves : List Move) (queue : List Event) : Type 0 where
     pub used : (stop calls).unused ≡ []
     pub as_moves : AsMoves (there calls) moves queue
 
   same_looks : (calls moves : List Move) (queue : List Event) → AsMoves (there calls) moves queue → looks calls ≡ looks moves
-  same_looks calls moves queue like = ap (λ s. chain.look s (stop calls).front) like.stage ∙ ap (λ f. chain.look (stop moves).stage f) like.front
+  same_looks calls moves queue like = ap (λ s. chain.look s (stop calls).prefix) like.stage ∙ ap (λ f. chain.look (stop moves).stage f) like.prefix
 
   -- an event that both take
   both_onward : (calls moves : List Move) (moment : ℕ) (event : Event) → CallsAs calls moves [] → (stop moves).unused ≡ [] → looks moves ≡ NotYet →
@@ -178,13 +178,13 @@ module _ {M S : Type 0} (chain : Chain S Event Reply Command) (law : Settles cha
         used = ap (λ w. w.unused) c;
         as_moves = record {
           before = ap (λ w. w.before) c
-              ∙ (ap (λ b. b ++ (chain.pass (stop calls).stage (longer (stop calls).front)).owed) like.before
-              ∙ (ap (λ s. (stop moves).before ++ (chain.pass s (longer (stop calls).front)).owed) like.stage
-              ∙ (ap (λ f. (stop moves).before ++ (chain.pass (stop moves).stage (longer f)).owed) like.front ∙ sym (ap (λ w. w.before) m))));
+              ∙ (ap (λ b. b ++ (chain.pass (stop calls).stage (longer (stop calls).prefix)).owed) like.before
+              ∙ (ap (λ s. (stop moves).before ++ (chain.pass s (longer (stop calls).prefix)).owed) like.stage
+              ∙ (ap (λ f. (stop moves).before ++ (chain.pass (stop moves).stage (longer f)).owed) like.prefix ∙ sym (ap (λ w. w.before) m))));
           stage = ap (λ w. w.stage) c
-              ∙ (ap (λ s. (chain.pass s (longer (stop calls).front)).stage) like.stage
-              ∙ (ap (λ f. (chain.pass (stop moves).stage (longer f)).stage) like.front ∙ sym (ap (λ w. w.stage) m)));
-          front = ap (λ w. w.front) c ∙ (ap longer like.front ∙ sym (ap (λ w. w.front) m));
+              ∙ (ap (λ s. (chain.pass s (longer (stop calls).prefix)).stage) like.stage
+              ∙ (ap (λ f. (chain.pass (stop moves).stage (longer f)).stage) like.prefix ∙ sym (ap (λ w. w.stage) m)));
+          prefix = ap (λ w. w.prefix) c ∙ (ap longer like.prefix ∙ sym (ap (λ w. w.prefix) m));
           waits = λ ask asks. ap (λ (w : Stop S Event Reply Command). waiting_values w.rest) c;
           free = λ no. refl;
         };
@@ -197,13 +197,13 @@ module _ {M S : Type 0} (chain : Chain S Event Reply Command) (law : Settles cha
       let P : Look Command → Type 0 = IsFound in
       let c = next_behind chain law start is_at calls moment event (subst P (sym (same_looks calls moves [] like ∙ ends)) tt) in
       let m = next_behind chain law start is_at moves moment event (subst P (sym ends) tt) in
-      let same : looks (moves ++ Took moment event ∷ []) ≡ looks moves = ap (λ (w : Stop S Event Reply Command). chain.look w.stage w.front) m in
+      let same : looks (moves ++ Took moment event ∷ []) ≡ looks moves = ap (λ (w : Stop S Event Reply Command). chain.look w.stage w.prefix) m in
       record {
         used = ap (λ w. w.unused) c ∙ is.used;
         as_moves = record {
           before = ap (λ w. w.before) c ∙ (like.before ∙ sym (ap (λ w. w.before) m));
           stage = ap (λ w. w.stage) c ∙ (like.stage ∙ sym (ap (λ w. w.stage) m));
-          front = ap (λ w. w.front) c ∙ (like.front ∙ sym (ap (λ w. w.front) m));
+          prefix = ap (λ w. w.prefix) c ∙ (like.prefix ∙ sym (ap (λ w. w.prefix) m));
           waits = λ ask asks. absurd (let no : Ends owed ≡ Asks ask = sym ends ∙ (sym same ∙ asks) in cc);
           free = λ no. refl;
         };
@@ -227,7 +227,7 @@ module _ {M S : Type 0} (chain : Chain S Event Reply Command) (law : Settles cha
         as_moves = record {
           before = ap (λ w. w.before) c ∙ like.before;
           stage = ap (λ w. w.stage) c ∙ like.stage;
-          front = ap (λ w. w.front) c ∙ like.front;
+          prefix = ap (λ w. w.prefix) c ∙ like.prefix;
           waits = λ other is_other. ap (λ (w : Stop S Event Reply Command). waiting_values w.rest) c
               ∙ (map-append (λ (s : Stamped Event). s.value) (stop calls).rest (e ∷ []) ∙ ap (λ l. l ++ event ∷ []) (like.waits other is_other));
           free = λ no. absurd (no ask asks);
@@ -246,31 +246,31 @@ module _ {M S : Type 0} (chain : Chain S Event Reply Command) (law : Settles cha
       let r : Timed Reply = record { moment = moment; value = reply } in
       let last : Stamp = record { step = 1 + length calls; moment = moment } in
       let owed : S → List (Timed Event) → List Command → List Command = λ s f b. b ++ (chain.so_far s f ++ ask ∷ (chain.turn s f r).owed) in
-      let turn : S = (chain.turn wm.stage wm.front r).stage in
+      let turn : S = (chain.turn wm.stage wm.prefix r).stage in
       let c = next_reply chain law start is_at calls moment reply ask (same_looks calls moves queue like ∙ asks) in
       let m = next_reply chain law start is_at moves moment reply ask asks in
-      let c' : reach chain last (owed wc.stage wc.front wc.before) (chain.turn wc.stage wc.front r).stage wc.front wc.rest ≡ reach chain last (owed wm.stage wm.front wm.before) turn wm.front wc.rest =
-      ap (λ s. reach chain last (owed s wc.front wc.before) (chain.turn s wc.front r).stage wc.front wc.rest) like.stage
-      ∙ (ap (λ f. reach chain last (owed wm.stage f wc.before) (chain.turn wm.stage f r).stage f wc.rest) like.front
-      ∙ ap (λ b. reach chain last (owed wm.stage wm.front b) turn wm.front wc.rest) like.before) in
+      let c' : reach chain last (owed wc.stage wc.prefix wc.before) (chain.turn wc.stage wc.prefix r).stage wc.prefix wc.rest ≡ reach chain last (owed wm.stage wm.prefix wm.before) turn wm.prefix wc.rest =
+      ap (λ s. reach chain last (owed s wc.prefix wc.before) (chain.turn s wc.prefix r).stage wc.prefix wc.rest) like.stage
+      ∙ (ap (λ f. reach chain last (owed wm.stage f wc.before) (chain.turn wm.stage f r).stage f wc.rest) like.prefix
+      ∙ ap (λ b. reach chain last (owed wm.stage wm.prefix b) turn wm.prefix wc.rest) like.before) in
       let m' : stop (moves ++ Replied moment reply ∷ [])
-      ≡ record { last = record { step = 1 + length moves; moment = moment }; before = owed wm.stage wm.front wm.before ++ (chain.pass turn wm.front).owed; stage = (chain.pass turn wm.front).stage; front = wm.front; rest = []; unused = [] } =
-      m ∙ ap (λ (es : List (Stamped Event)). walk chain [] (record { step = 1 + length moves; moment = moment }) (owed wm.stage wm.front wm.before) turn wm.front es) none_left in
-      let from : search_from last (moves ++ Replied moment reply ∷ []) wc.rest ≡ reach chain last (owed wm.stage wm.front wm.before) turn wm.front wc.rest =
-      ap (λ (w : Stop S Event Reply Command). reach chain last w.before w.stage w.front wc.rest) m' ∙ sym (reach_pass chain law last (owed wm.stage wm.front wm.before) turn wm.front wc.rest) in
+      ≡ record { last = record { step = 1 + length moves; moment = moment }; before = owed wm.stage wm.prefix wm.before ++ (chain.pass turn wm.prefix).owed; stage = (chain.pass turn wm.prefix).stage; prefix = wm.prefix; rest = []; unused = [] } =
+      m ∙ ap (λ (es : List (Stamped Event)). walk chain [] (record { step = 1 + length moves; moment = moment }) (owed wm.stage wm.prefix wm.before) turn wm.prefix es) none_left in
+      let from : search_from last (moves ++ Replied moment reply ∷ []) wc.rest ≡ reach chain last (owed wm.stage wm.prefix wm.before) turn wm.prefix wc.rest =
+      ap (λ (w : Stop S Event Reply Command). reach chain last w.before w.stage w.prefix wc.rest) m' ∙ sym (reach_pass chain law last (owed wm.stage wm.prefix wm.before) turn wm.prefix wc.rest) in
       let below = rest_below chain (1 + length calls) (replies_in 1 calls) never [] start [] (events_in 1 calls) (events_below 1 calls) in
       let found = works_as moment (moves ++ Replied moment reply ∷ []) queue after waiting works last wc.rest refl (like.waits ask asks) below in
       let P : Reached S Event Command → Type 0 = λ h. AsMoves h after waiting in
-      let at : AsMoves (reach chain last (owed wc.stage wc.front wc.before) (chain.turn wc.stage wc.front r).stage wc.front wc.rest) after waiting = subst P (from ∙ sym c') found in
+      let at : AsMoves (reach chain last (owed wc.stage wc.prefix wc.before) (chain.turn wc.stage wc.prefix r).stage wc.prefix wc.rest) after waiting = subst P (from ∙ sym c') found in
       record {
         used = ap (λ w. w.unused) c;
-        as_moves = let Q : Stop S Event Reply Command → Type 0 = λ w. AsMoves (record { before = w.before; stage = w.stage; front = w.front; rest = w.rest }) after waiting in subst Q (sym c) at;
+        as_moves = let Q : Stop S Event Reply Command → Type 0 = λ w. AsMoves (record { before = w.before; stage = w.stage; prefix = w.prefix; rest = w.rest }) after waiting in subst Q (sym c) at;
       }
 
   pub calls_as : (calls moves : List Move) (queue : List Event) → Serves standing awaited made calls moves queue → CallsAs calls moves queue
   calls_as calls moves queue none = record {
     used = refl;
-    as_moves = record { before = refl; stage = refl; front = refl; waits = λ ask asks. refl; free = λ no. refl };
+    as_moves = record { before = refl; stage = refl; prefix = refl; waits = λ ask asks. refl; free = λ no. refl };
   }
   calls_as calls moves queue (at_once earlier made_moves moment event serves free) =
       let at = free_at made_moves free in
@@ -290,11 +290,11 @@ module _ {M S : Type 0} (chain : Chain S Event Reply Command) (law : Settles cha
   gate_gave first gate calls given is stands view =
       let P : M → Type 0 = λ m. Serves standing awaited m calls stands.moves gate.queue.items in
       let like = (calls_as calls stands.moves gate.queue.items (subst P is stands.serves)).as_moves in
-      let owed : List Command → S → List (Timed Event) → Stop S Event Reply Command = λ b s f. record { last = never; before = b; stage = s; front = f; rest = []; unused = [] } in
+      let owed : List Command → S → List (Timed Event) → Stop S Event Reply Command = λ b s f. record { last = never; before = b; stage = s; prefix = f; rest = []; unused = [] } in
       let same : due_by chain start stands.moves ≡ due_by chain start calls =
-      ap (λ b. owed_at chain (owed b (stop stands.moves).stage (stop stands.moves).front)) (sym like.before)
-      ∙ (ap (λ s. owed_at chain (owed (stop calls).before s (stop stands.moves).front)) (sym like.stage)
-      ∙ ap (λ f. owed_at chain (owed (stop calls).before (stop calls).stage f)) (sym like.front)) in
+      ap (λ b. owed_at chain (owed b (stop stands.moves).stage (stop stands.moves).prefix)) (sym like.before)
+      ∙ (ap (λ s. owed_at chain (owed (stop calls).before s (stop stands.moves).prefix)) (sym like.stage)
+      ∙ ap (λ f. owed_at chain (owed (stop calls).before (stop calls).stage f)) (sym like.prefix)) in
       let Q : M → Type 0 = λ m. standing m gate.layer stands.moves given in
       (stands_at gate.layer stands.moves given (subst Q is stands.stands)).gave view ∙ ap (λ l. seen_of view l) same
 

@@ -22,6 +22,6 @@ pub fn gates_add_nothing<L: Chained>()
         (view : View) → seen_of view given ≡ seen_of view (due_by (L.chain made.layer) (L.start made.layer) calls) }
     ensures waits { (made gate : GateState L) (calls : List Move) (given : List Command) → GateStands L.stands L.awaited made gate calls given →
         (ask : Command) →
-        (L.chain made.layer).look (stop_of (L.chain made.layer) (L.start made.layer) calls).stage (stop_of (L.chain made.layer) (L.start made.layer) calls).front ≡ Asks ask →
+        (L.chain made.layer).look (stop_of (L.chain made.layer) (L.start made.layer) calls).stage (stop_of (L.chain made.layer) (L.start made.layer) calls).prefix ≡ Asks ask →
         waiting_values (stop_of (L.chain made.layer) (L.start made.layer) calls).rest ≡ gate.queue.items }
 {}

@@ -17,27 +17,27 @@ use Rattle.px_event.proofs.Steps.{Takes, Resumes, take_goes, resume_goes}
 use Rattle.px_toy.specs.declared.echo.LineEcho.{LineEcho}
 use Rattle.px_toy.specs.declared.echo.Phase.{Phase}
 use Rattle.px_toy.specs.declared.echo.Phase.TheVariants as phases
-use Rattle.px_toy.specs.Echo.{piece_in, closes_client, first_line, is_kill, Stage, Reading, echoed, echo_chain}
+use Rattle.px_toy.specs.Echo.{piece_in, closes_client, first_line, is_kill, EchoStage, Reading, echoed, echo_chain}
 use Rattle.px_toy.specs.Stands.{phase_at, asks_at, awaited_in, IsAt, EchoStands}
 use Rattle.px_toy.specs.Laws.{settles}
 use Rattle.px_toy.proofs.EchoSteps.{asked_within, over_takes, piece_takes, close_takes, kill_resumes, line_resumes}
 
-abbrev echo_of : LineEcho → Chain Stage Event Reply Command
+abbrev echo_of : LineEcho → Chain EchoStage Event Reply Command
 echo_of made = echo_chain made.flow
 
 pub take_law : (before after : LineEcho) (moment : ℕ) (event : Event) (more out new_out : List Command) → new_out ≡ out ++ more →
-    ((flow : Flow) (stage : Stage) (front : List (Timed Event)) → IsAt flow before stage front → Takes (echo_chain flow) (IsAt flow) after moment event more stage front) →
+    ((flow : Flow) (stage : EchoStage) (prefix : List (Timed Event)) → IsAt flow before stage prefix → Takes (echo_chain flow) (IsAt flow) after moment event more stage prefix) →
     Goes EchoStands before after (Took moment event) out new_out
 take_law before after moment event more out new_out grown takes =
     take_goes echo_of (λ made. settles made.flow) (λ made. Reading 0) (λ made. IsAt made.flow) before after moment event more out new_out grown
-    (λ made stage front _ at. takes made.flow stage front at)
+    (λ made stage prefix _ at. takes made.flow stage prefix at)
 
 pub resume_law : (before after : LineEcho) (moment : ℕ) (reply : Reply) (more out new_out : List Command) → new_out ≡ out ++ more →
-    ((flow : Flow) (stage : Stage) (front : List (Timed Event)) → IsAt flow before stage front → Resumes (echo_chain flow) (IsAt flow) after moment reply more stage front) →
+    ((flow : Flow) (stage : EchoStage) (prefix : List (Timed Event)) → IsAt flow before stage prefix → Resumes (echo_chain flow) (IsAt flow) after moment reply more stage prefix) →
     Goes EchoStands before after (Replied moment reply) out new_out
 resume_law before after moment reply more out new_out grown resumes =
     resume_goes echo_of (λ made. settles made.flow) (λ made. Reading 0) (λ made. IsAt made.flow) before after moment reply more out new_out grown
-    (λ made stage front _ at. resumes made.flow stage front at)
+    (λ made stage prefix _ at. resumes made.flow stage prefix at)
 
 -- what is asked about is within what is kept
 pub sound_within : (state : LineEcho) (size : ℕ) → IsSound EchoStands state → state.phase ≡ phases.Asked size → (0 < size) × (size ≤ length state.unread.items)

@@ -21,7 +21,7 @@ piece_in (events.Piece Client bytes) = bytes
 piece_in _ = []
 
 abbrev pub client_bytes : List (Timed Event) → List ℕ
-client_bytes front = flat_map (λ e. piece_in e.value) front
+client_bytes prefix = flat_map (λ e. piece_in e.value) prefix
 
 -- the client closed
 abbrev pub closes_client : Event → Bool
@@ -37,23 +37,23 @@ abbrev pub first_line : List ℕ → Option ℕ
 first_line bytes = option_map (λ at. at + 1) (position (λ byte. byte == 10) bytes)
 
 -- the stages: so many bytes are used, or it is over
-pub data Stage : Type 0 where
-  Reading : (used : ℕ) → Stage
-  Over : Stage
+pub data EchoStage : Type 0 where
+  Reading : (used : ℕ) → EchoStage
+  Over : EchoStage
 
 -- the bytes that are not used
 abbrev pub unread : ℕ → List (Timed Event) → List ℕ
-unread used front = drop used (client_bytes front)
+unread used prefix = drop used (client_bytes prefix)
 
 -- when the client closed and no line is left, it is closed
-abbrev pub pass_by : Bool → Option ℕ → ℕ → Turn Stage Command
+abbrev pub pass_by : Bool → Option ℕ → ℕ → Turn EchoStage Command
 pass_by false line used = record { owed = []; stage = Reading used }
 pass_by true (Some length) used = record { owed = []; stage = Reading used }
 pass_by true None used = record { owed = commands.Close Client ∷ []; stage = Over }
 
-abbrev pub pass : Stage → List (Timed Event) → Turn Stage Command
-pass (Reading used) front = pass_by (is_closed front) (first_line (unread used front)) used
-pass Over front = record { owed = []; stage = Over }
+abbrev pub pass : EchoStage → List (Timed Event) → Turn EchoStage Command
+pass (Reading used) prefix = pass_by (is_closed prefix) (first_line (unread used prefix)) used
+pass Over prefix = record { owed = []; stage = Over }
 
 -- what is asked
 abbrev pub ask_about : Flow → Ask
@@ -63,9 +63,9 @@ abbrev pub look_by : Flow → Option ℕ → Look Command
 look_by flow None = NotYet
 look_by flow (Some length) = Asks (commands.Ask (ask_about flow) flow)
 
-abbrev pub look : Flow → Stage → List (Timed Event) → Look Command
-look flow (Reading used) front = look_by flow (first_line (unread used front))
-look flow Over front = Ends []
+abbrev pub look : Flow → EchoStage → List (Timed Event) → Look Command
+look flow (Reading used) prefix = look_by flow (first_line (unread used prefix))
+look flow Over prefix = Ends []
 
 -- what a reply says of a line: `Go` echoes it, and any other drops it
 abbrev pub echoed : Reply → List ℕ → List Command
@@ -77,18 +77,18 @@ is_kill replies.Kill = true
 is_kill _ = false
 
 -- what a reply does with a line of this length, at the front of these bytes
-abbrev pub turn_by : Bool → Reply → ℕ → List ℕ → ℕ → Turn Stage Command
+abbrev pub turn_by : Bool → Reply → ℕ → List ℕ → ℕ → Turn EchoStage Command
 turn_by true reply length bytes used = record { owed = commands.Close Client ∷ []; stage = Over }
 turn_by false reply length bytes used = record { owed = echoed reply (take length bytes); stage = Reading (used + length) }
 
-abbrev pub turn_line : Option ℕ → Reply → List ℕ → ℕ → Turn Stage Command
+abbrev pub turn_line : Option ℕ → Reply → List ℕ → ℕ → Turn EchoStage Command
 turn_line None reply bytes used = record { owed = []; stage = Reading used }
 turn_line (Some length) reply bytes used = turn_by (is_kill reply) reply length bytes used
 
-abbrev pub turn : Stage → List (Timed Event) → Timed Reply → Turn Stage Command
-turn (Reading used) front reply = turn_line (first_line (unread used front)) reply.value (unread used front) used
-turn Over front reply = record { owed = []; stage = Over }
+abbrev pub turn : EchoStage → List (Timed Event) → Timed Reply → Turn EchoStage Command
+turn (Reading used) prefix reply = turn_line (first_line (unread used prefix)) reply.value (unread used prefix) used
+turn Over prefix reply = record { owed = []; stage = Over }
 
 -- the chain
-abbrev pub echo_chain : Flow → Chain Stage Event Reply Command
-echo_chain flow = record { pass = pass; look = look flow; so_far = λ stage front. []; turn = turn }
+abbrev pub echo_chain : Flow → Chain EchoStage Event Reply Command
+echo_chain flow = record { pass = pass; look = look flow; so_far = λ stage prefix. []; turn = turn }

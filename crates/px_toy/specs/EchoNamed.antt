@@ -10,7 +10,7 @@ use Rattle.px_event.specs.Chain.{Timed, found}
 use Rattle.px_event.specs.Layer.{Move}
 use Rattle.px_event.specs.Stands.{due_by}
 use Rattle.px_toy.specs.declared.echo.LineEcho.{LineEcho}
-use Rattle.px_toy.specs.Echo.{Stage, Reading, Over, unread, first_line, is_closed, pass, pass_by, look, look_by, turn, turn_by, turn_line, is_kill, echoed, echo_chain}
+use Rattle.px_toy.specs.Echo.{EchoStage, Reading, Over, unread, first_line, is_closed, pass, pass_by, look, look_by, turn, turn_by, turn_line, is_kill, echoed, echo_chain}
 use Rattle.px_toy.specs.Stands.{IsAt, EchoStands}
 use Rattle.px_core.specs.Conversation.{AllNamed}
 use Rattle.px_core.proofs.ChainNamedLemmas.{all_named}
@@ -19,9 +19,9 @@ use Rattle.px_core.proofs.ChainNamedLemmas.{all_named}
 abbrev pub flow_of : Flow → ℕ → Address → Flow
 flow_of flow conv peer = record flow { id = record flow.id { conv = conv }; client = Some peer }
 
-same_flow : (flow : Flow) (state : LineEcho) (stage : Stage) (front : List (Timed Event)) → IsAt flow state stage front → state.flow ≡ flow
-same_flow flow state (Reading used) front at = at.same_flow
-same_flow flow state Over front at = at.same_flow
+same_flow : (flow : Flow) (state : LineEcho) (stage : EchoStage) (prefix : List (Timed Event)) → IsAt flow state stage prefix → state.flow ≡ flow
+same_flow flow state (Reading used) prefix at = at.same_flow
+same_flow flow state Over prefix at = at.same_flow
 
 pub echo_keeps_number : (made state : LineEcho) (moves : List Move) (given : List Command) → EchoStands made state moves given → state.flow.id.conv ≡ made.flow.id.conv
 echo_keeps_number made state moves given stands = ap (λ f. f.id.conv) (same_flow made.flow state _ _ stands.place)
@@ -31,17 +31,17 @@ pass_named conv false line used = tt
 pass_named conv true (Some length) used = tt
 pass_named conv true None used = (tt, tt)
 
-passes : (conv : ℕ) (stage : Stage) (front : List (Timed Event)) → AllNamed conv (pass stage front).owed
-passes conv (Reading used) front = pass_named conv (is_closed front) (first_line (unread used front)) used
-passes conv Over front = tt
+passes : (conv : ℕ) (stage : EchoStage) (prefix : List (Timed Event)) → AllNamed conv (pass stage prefix).owed
+passes conv (Reading used) prefix = pass_named conv (is_closed prefix) (first_line (unread used prefix)) used
+passes conv Over prefix = tt
 
 look_named : (flow : Flow) (line : Option ℕ) → AllNamed flow.id.conv (found (look_by flow line))
 look_named flow None = tt
 look_named flow (Some length) = ((refl, refl), tt)
 
-looks : (flow : Flow) (stage : Stage) (front : List (Timed Event)) → AllNamed flow.id.conv (found (look flow stage front))
-looks flow (Reading used) front = look_named flow (first_line (unread used front))
-looks flow Over front = tt
+looks : (flow : Flow) (stage : EchoStage) (prefix : List (Timed Event)) → AllNamed flow.id.conv (found (look flow stage prefix))
+looks flow (Reading used) prefix = look_named flow (first_line (unread used prefix))
+looks flow Over prefix = tt
 
 echoes : (conv : ℕ) (reply : Reply) (line : List ℕ) → AllNamed conv (echoed reply line)
 echoes conv (replies.Go flow stream) line = (tt, tt)
@@ -59,9 +59,9 @@ turn_line_named : (conv : ℕ) (line : Option ℕ) (reply : Reply) (bytes : List
 turn_line_named conv None reply bytes used = tt
 turn_line_named conv (Some length) reply bytes used = turn_named conv (is_kill reply) reply length bytes used
 
-turns : (conv : ℕ) (stage : Stage) (front : List (Timed Event)) (reply : Timed Reply) → AllNamed conv (turn stage front reply).owed
-turns conv (Reading used) front reply = turn_line_named conv (first_line (unread used front)) reply.value (unread used front) used
-turns conv Over front reply = tt
+turns : (conv : ℕ) (stage : EchoStage) (prefix : List (Timed Event)) (reply : Timed Reply) → AllNamed conv (turn stage prefix reply).owed
+turns conv (Reading used) prefix reply = turn_line_named conv (first_line (unread used prefix)) reply.value (unread used prefix) used
+turns conv Over prefix reply = tt
 
 pub echo_names : (made : LineEcho) (moves : List Move) → AllNamed made.flow.id.conv (due_by (echo_chain made.flow) (Reading 0) moves)
-echo_names made = all_named made.flow.id.conv (echo_chain made.flow) (Reading 0) (record { pass = passes made.flow.id.conv; look = looks made.flow; so_far = λ stage front. tt; turn = turns made.flow.id.conv })
+echo_names made = all_named made.flow.id.conv (echo_chain made.flow) (Reading 0) (record { pass = passes made.flow.id.conv; look = looks made.flow; so_far = λ stage prefix. tt; turn = turns made.flow.id.conv })

@@ -11,7 +11,7 @@ use Rattle.px_event.specs.Stands.{StandsAt}
 use Rattle.px_toy.specs.declared.echo.LineEcho.{LineEcho}
 use Rattle.px_toy.specs.declared.echo.Phase.{Phase}
 use Rattle.px_toy.specs.declared.echo.Phase.TheVariants as phases
-use Rattle.px_toy.specs.Echo.{Stage, Reading, Over, client_bytes, is_closed, unread, first_line, ask_about, echo_chain}
+use Rattle.px_toy.specs.Echo.{EchoStage, Reading, Over, client_bytes, is_closed, unread, first_line, ask_about, echo_chain}
 
 -- the phase in which it is where this is the first line
 abbrev pub phase_at : Option ℕ → Phase
@@ -36,21 +36,21 @@ is_over phases.Over = Bool.true
 is_over _ = false
 
 -- It keeps the bytes that are not used, and is asked or reads as the first line of them says; no close was worked off.
-pub record IsReading (flow : Flow) (state : LineEcho) (used : ℕ) (front : List (Timed Event)) : Type 0 where
+pub record IsReading (flow : Flow) (state : LineEcho) (used : ℕ) (prefix : List (Timed Event)) : Type 0 where
   pub same_flow : state.flow ≡ flow
-  pub keeps : state.unread.items ≡ unread used front
-  pub phase : state.phase ≡ phase_at (first_line (unread used front))
-  pub open_still : is_closed front ≡ false
-  pub within : used ≤ length (client_bytes front)
+  pub keeps : state.unread.items ≡ unread used prefix
+  pub phase : state.phase ≡ phase_at (first_line (unread used prefix))
+  pub open_still : is_closed prefix ≡ false
+  pub within : used ≤ length (client_bytes prefix)
 
 pub record IsOver (flow : Flow) (state : LineEcho) : Type 0 where
   pub same_flow : state.flow ≡ flow
   pub keeps : state.unread.items ≡ []
   pub phase : state.phase ≡ phases.Over
 
-abbrev pub IsAt : Flow → LineEcho → Stage → List (Timed Event) → Type 0
-IsAt flow state (Reading used) front = IsReading flow state used front
-IsAt flow state Over front = IsOver flow state
+abbrev pub IsAt : Flow → LineEcho → EchoStage → List (Timed Event) → Type 0
+IsAt flow state (Reading used) prefix = IsReading flow state used prefix
+IsAt flow state Over prefix = IsOver flow state
 
 -- what a state stands for: its chain is that of the flow with which it was made
 abbrev pub EchoStands : LineEcho → LineEcho → List Move → List Command → Type 0

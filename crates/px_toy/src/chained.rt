@@ -1,5 +1,5 @@
 //! What is due of the server is a chain of stages; so the laws of every chain hold of it.
-ghost use Rattle.px_toy.specs.Echo.{Stage, Reading, echo_chain};
+ghost use Rattle.px_toy.specs.Echo.{EchoStage, Reading, echo_chain};
 ghost use Rattle.px_toy.specs.Stands.{IsAt};
 ghost use Rattle.px_toy.specs.Laws.{settles, so_far_grows, awaits_what_it_asks, ends_where_it_ends};
 
@@ -7,7 +7,7 @@ use crate::LineEcho;
 use px_event::Chained;
 
 impl Chained for LineEcho {
-    ghost Stage = { Stage };
+    ghost Stage = { EchoStage };
 
     ghost chain = { λ made. echo_chain made.flow };
 

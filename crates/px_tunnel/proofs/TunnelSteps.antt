@@ -73,48 +73,48 @@ seen_given view server rests event =
 
 module _ (server : ℕ) (rests : Rests) (before after : RawTunnel) (moment : ℕ) (event : Event) (more : List Command) where
   -- where it is over nothing follows
-  over_takes : after ≡ before → more ≡ [] → before.closed ≡ true → (stage : Stage) (front : List (Timed Event)) → IsAt server rests before stage front →
-      Takes (tunnel_chain server rests) (IsAt server rests) after moment event more stage front
-  over_takes same none closed going front at = absurd (let no : false ≡ true = sym at.goes_on ∙ closed in cc)
-  over_takes same none closed over front at =
-      let P : RawTunnel → Type 0 = λ s. IsAt server rests s over front in
+  over_takes : after ≡ before → more ≡ [] → before.closed ≡ true → (stage : Stage) (prefix : List (Timed Event)) → IsAt server rests before stage prefix →
+      Takes (tunnel_chain server rests) (IsAt server rests) after moment event more stage prefix
+  over_takes same none closed going prefix at = absurd (let no : false ≡ true = sym at.goes_on ∙ closed in cc)
+  over_takes same none closed over prefix at =
+      let P : RawTunnel → Type 0 = λ s. IsAt server rests s over prefix in
       past_end [] refl (subst P (sym same) at) (λ view. ap (seen_of view) none)
 
   -- where it goes on it is one event further
-  placed_by : (front : List (Timed Event)) (texts : List Command) (side : Option Side) → alone server front ≡ side → after.server ≡ server → after.rests ≡ left_over rests front →
-      after.closed ≡ is_alone side → IsAt server rests after (pass_by side texts).stage front
-  placed_by front texts None is same keeps closed = record { same_server = same; keeps = keeps; goes_on = closed; none_alone = is }
-  placed_by front texts (Some side) is same keeps closed = record { same_server = same; keeps = keeps; ended = closed }
+  placed_by : (prefix : List (Timed Event)) (texts : List Command) (side : Option Side) → alone server prefix ≡ side → after.server ≡ server → after.rests ≡ left_over rests prefix →
+      after.closed ≡ is_alone side → IsAt server rests after (pass_by side texts).stage prefix
+  placed_by prefix texts None is same keeps closed = record { same_server = same; keeps = keeps; goes_on = closed; none_alone = is }
+  placed_by prefix texts (Some side) is same keeps closed = record { same_server = same; keeps = keeps; ended = closed }
 
   going_takes : before.closed ≡ false → after.server ≡ before.server → after.rests ≡ left_behind before.rests event → after.closed ≡ is_alone (left_alone before.server event) →
-      more ≡ given_for before.server before.rests event → (stage : Stage) (front : List (Timed Event)) → IsAt server rests before stage front →
-      Takes (tunnel_chain server rests) (IsAt server rests) after moment event more stage front
-  going_takes live same keeps closed gives over front at = absurd (let no : true ≡ false = sym at.ended ∙ live in cc)
-  going_takes live same keeps closed gives going front at =
+      more ≡ given_for before.server before.rests event → (stage : Stage) (prefix : List (Timed Event)) → IsAt server rests before stage prefix →
+      Takes (tunnel_chain server rests) (IsAt server rests) after moment event more stage prefix
+  going_takes live same keeps closed gives over prefix at = absurd (let no : true ≡ false = sym at.ended ∙ live in cc)
+  going_takes live same keeps closed gives going prefix at =
       let e : Timed Event = record { moment = moment; value = event } in
-      let longer : List (Timed Event) = front ++ e ∷ [] in
-      let here : alone server longer ≡ left_alone server event = alone_append server front e at.none_alone in
-      let kept : after.rests ≡ left_over rests longer = keeps ∙ (ap (λ r. left_behind r event) at.keeps ∙ sym (left_append rests front e)) in
+      let longer : List (Timed Event) = prefix ++ e ∷ [] in
+      let here : alone server longer ≡ left_alone server event = alone_append server prefix e at.none_alone in
+      let kept : after.rests ≡ left_over rests longer = keeps ∙ (ap (λ r. left_behind r event) at.keeps ∙ sym (left_append rests prefix e)) in
       let ends : after.closed ≡ is_alone (alone server longer) = closed ∙ (ap (λ s. is_alone (left_alone s event)) at.same_server ∙ ap is_alone (sym here)) in
-      let given : more ≡ given_for server (left_over rests front) event =
+      let given : more ≡ given_for server (left_over rests prefix) event =
       gives ∙ (ap (λ s. given_for s before.rests event) at.same_server ∙ ap (λ r. given_for server r event) at.keeps) in
       onward refl (placed_by longer (sent_over server rests longer) (alone server longer) refl (same ∙ at.same_server) kept ends)
       (λ view.
-      ap (λ l. seen_of view (sent_over server rests front) ++ l)
+      ap (λ l. seen_of view (sent_over server rests prefix) ++ l)
       (ap (seen_of view) given
-      ∙ (seen_given view server (left_over rests front) event
-      ∙ ap (λ o. seen_of view (both_ways server (brought Client (left_over rests front) event) (brought (Server server) (left_over rests front) event)) ++ seen_of view (closing o)) (sym here)))
-      ∙ sym (owed_more view server rests front e))
+      ∙ (seen_given view server (left_over rests prefix) event
+      ∙ ap (λ o. seen_of view (both_ways server (brought Client (left_over rests prefix) event) (brought (Server server) (left_over rests prefix) event)) ++ seen_of view (closing o)) (sym here)))
+      ∙ sym (owed_more view server rests prefix e))
 
 -- ---- the law of the layer's call
 
 take_law : (before after : RawTunnel) (moment : ℕ) (event : Event) (more out new_out : List Command) → new_out ≡ out ++ more →
-    ((server : ℕ) (rests : Rests) (stage : Stage) (front : List (Timed Event)) → IsAt server rests before stage front →
-    Takes (tunnel_chain server rests) (IsAt server rests) after moment event more stage front) →
+    ((server : ℕ) (rests : Rests) (stage : Stage) (prefix : List (Timed Event)) → IsAt server rests before stage prefix →
+    Takes (tunnel_chain server rests) (IsAt server rests) after moment event more stage prefix) →
     Goes TunnelStands before after (Took moment event) out new_out
 take_law before after moment event more out new_out grown takes =
     take_goes (λ made. tunnel_chain made.server made.rests) (λ made. settles made.server made.rests) (λ made. going) (λ made. IsAt made.server made.rests)
-    before after moment event more out new_out grown (λ made stage front _ at. takes made.server made.rests stage front at)
+    before after moment event more out new_out grown (λ made stage prefix _ at. takes made.server made.rests stage prefix at)
 
 pub heard_over : (state : RawTunnel) (moment : ℕ) (event : Event) (out : List Command) → state.closed ≡ true → Goes TunnelStands state state (Took moment event) out out
 heard_over state moment event out closed =

@@ -64,25 +64,25 @@ has_ended state = state.closed
 abbrev pub kept_in : RawTunnel → ℕ
 kept_in state = length state.rests.client + length state.rests.server
 
--- what is left of both sides behind a front
+-- what is left of both sides behind a prefix
 abbrev pub left_over : Rests → List (Timed Event) → Rests
 left_over rests [] = rests
 left_over rests (e ∷ es) = left_over (left_behind rests e.value) es
 
-pub record IsGoing (server : ℕ) (rests : Rests) (state : RawTunnel) (front : List (Timed Event)) : Type 0 where
+pub record IsGoing (server : ℕ) (rests : Rests) (state : RawTunnel) (prefix : List (Timed Event)) : Type 0 where
   pub same_server : state.server ≡ server
-  pub keeps : state.rests ≡ left_over rests front
+  pub keeps : state.rests ≡ left_over rests prefix
   pub goes_on : state.closed ≡ false
-  pub none_alone : alone server front ≡ None
+  pub none_alone : alone server prefix ≡ None
 
-pub record IsOver (server : ℕ) (rests : Rests) (state : RawTunnel) (front : List (Timed Event)) : Type 0 where
+pub record IsOver (server : ℕ) (rests : Rests) (state : RawTunnel) (prefix : List (Timed Event)) : Type 0 where
   pub same_server : state.server ≡ server
-  pub keeps : state.rests ≡ left_over rests front
+  pub keeps : state.rests ≡ left_over rests prefix
   pub ended : state.closed ≡ true
 
 abbrev pub IsAt : ℕ → Rests → RawTunnel → Stage → List (Timed Event) → Type 0
-IsAt server rests state going front = IsGoing server rests state front
-IsAt server rests state over front = IsOver server rests state front
+IsAt server rests state going prefix = IsGoing server rests state prefix
+IsAt server rests state over prefix = IsOver server rests state prefix
 
 -- what a state stands for: its chain is that of the server and the rests with which it was made
 abbrev pub chain_of : RawTunnel → Chain Stage Event Reply Command

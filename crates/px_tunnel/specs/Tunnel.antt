@@ -43,7 +43,7 @@ abbrev pub has_begun : List (Timed Event) → Bool
 has_begun [] = false
 has_begun (e ∷ es) = if is_begun e.value then true else has_begun es
 
--- the joined bytes of a side over a front
+-- the joined bytes of a side over a prefix
 abbrev pub text_of : Side → Rests → List (Timed Event) → List ℕ
 text_of side rests [] = []
 text_of side rests (e ∷ es) = brought side rests e.value ++ text_of side (left_behind rests e.value) es
@@ -64,7 +64,7 @@ abbrev pub first_of : Option Side → Option Side → Option Side
 first_of (Some side) later = Some side
 first_of None later = later
 
--- the side that the first close over a front leaves alone, if there is a close
+-- the side that the first close over a prefix leaves alone, if there is a close
 abbrev pub alone : ℕ → List (Timed Event) → Option Side
 alone server [] = None
 alone server (e ∷ es) = first_of (left_alone server e.value) (alone server es)
@@ -75,9 +75,9 @@ alone server (e ∷ es) = first_of (left_alone server e.value) (alone server es)
 abbrev pub both_ways : ℕ → List ℕ → List ℕ → List Command
 both_ways server to_server to_client = commands.Send (Server server) to_server ∷ commands.Send Client to_client ∷ []
 
--- each side's bytes over a front, to the other side
+-- each side's bytes over a prefix, to the other side
 abbrev pub sent_over : ℕ → Rests → List (Timed Event) → List Command
-sent_over server rests front = both_ways server (text_of Client rests front) (text_of (Server server) rests front)
+sent_over server rests prefix = both_ways server (text_of Client rests prefix) (text_of (Server server) rests prefix)
 
 -- the stages: no side has closed, or it is over
 pub data Stage : Type 0 where
@@ -90,17 +90,17 @@ pass_by None sent = record { owed = []; stage = going }
 pass_by (Some side) sent = record { owed = sent ++ commands.Close side ∷ []; stage = over }
 
 abbrev pub pass : ℕ → Rests → Stage → List (Timed Event) → Turn Stage Command
-pass server rests going front = pass_by (alone server front) (sent_over server rests front)
-pass server rests over front = record { owed = []; stage = over }
+pass server rests going prefix = pass_by (alone server prefix) (sent_over server rests prefix)
+pass server rests over prefix = record { owed = []; stage = over }
 
 -- it asks nothing
 abbrev pub look : Stage → List (Timed Event) → Look Command
-look going front = NotYet
-look over front = Ends []
+look going prefix = NotYet
+look over prefix = Ends []
 
 abbrev pub so_far : ℕ → Rests → Stage → List (Timed Event) → List Command
-so_far server rests going front = sent_over server rests front
-so_far server rests over front = []
+so_far server rests going prefix = sent_over server rests prefix
+so_far server rests over prefix = []
 
 -- a tunnel to the server of this number, which begins with what was left of both sides
 abbrev pub tunnel_chain : ℕ → Rests → Chain Stage Event Reply Command
@@ -108,5 +108,5 @@ tunnel_chain server rests = record {
   pass = pass server rests;
   look = look;
   so_far = so_far server rests;
-  turn = λ stage front reply. record { owed = []; stage = stage };
+  turn = λ stage prefix reply. record { owed = []; stage = stage };
 }

@@ -11,7 +11,7 @@ ghost use Rattle.px_tunnel.specs.declared.tunnel.RawTunnel.{RawTunnel as Tunnel}
 ghost use Rattle.px_tunnel.specs.Tunnel.{going, has_begun, tunnel_chain};
 ghost use Rattle.px_tunnel.specs.Stands.{IsAt, TunnelStands, awaits_nothing, chain_of, has_ended, kept_in};
 
-/// At one front passing settles at once, so the walk over more events is the walk resumed.
+/// At one prefix passing settles at once, so the walk over more events is the walk resumed.
 pub fn passing_settles()
     ensures { (server : ℕ) (rests : LeftBytes) → Settles (tunnel_chain server rests) }
 {}
@@ -34,5 +34,5 @@ pub fn ends_with_its_chain()
 /// A tunnel that has begun keeps no bytes.
 pub fn keeps_nothing_once_begun()
     ensures { (made state : Tunnel) (moves : List Move) (given : List GivenCommand) → TunnelStands made state moves given →
-        has_begun (stop_of (chain_of made) going moves).front ≡ true → kept_in state ≡ 0 }
+        has_begun (stop_of (chain_of made) going moves).prefix ≡ true → kept_in state ≡ 0 }
 {}

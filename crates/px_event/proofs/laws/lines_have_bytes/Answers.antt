@@ -5,7 +5,7 @@ pub returns-clause-joins : goal.returns-clause-joins
 returns-clause-joins c = λ first second. bytes_join first second
 
 pub returns-clause-begins : goal.returns-clause-begins
-returns-clause-begins c = λ front whole before. bytes_begin front whole before
+returns-clause-begins c = λ prefix whole before. bytes_begin prefix whole before
 
 pub returns-clause-ordered : goal.returns-clause-ordered
 returns-clause-ordered c = λ side value text same. close_first side value text same
