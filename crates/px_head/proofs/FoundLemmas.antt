@@ -14,7 +14,7 @@ use Rattle.px_text.proofs.LinesLemmas.{HasNoBlank, HasNoBlank_start, IsInLine, I
 use Rattle.px_head.specs.declared.raw.RawHead.{RawHead}
 use Rattle.px_head.specs.declared.front.Front.TheVariants.{Stands}
 use Rattle.px_head.specs.declared.front.Kind.TheVariants.{Request, Response, Trailers}
-use Rattle.px_head.specs.declared.place.Place.TheVariants.{Block}
+use Rattle.px_head.specs.declared.place.BlockPlace.TheVariants.{Block}
 use Rattle.px_head.specs.Front.{blank_lines, line_end, place_at, head_place, trailers_place, trailers_end_by, front}
 use Rattle.px_head.specs.Heads.{IsRequest, IsResponse, IsTrailers, raw_request, raw_response, raw_trailers, request_in, response_in, trailers_in}
 use Rattle.px_head.proofs.BlockLemmas.{request_in-Some, response_in-Some, trailers_in-Some}

@@ -18,8 +18,8 @@ use Rattle.px_head.specs.declared.raw.RawHead.{RawHead}
 use Rattle.px_head.specs.declared.front.Front.TheVariants.{Nothing, TooLong, Stands}
 use Rattle.px_head.specs.declared.front.Kind.{Kind}
 use Rattle.px_head.specs.declared.front.Kind.TheVariants.{Request, Response, Trailers}
-use Rattle.px_head.specs.declared.place.Place.{Place}
-use Rattle.px_head.specs.declared.place.Place.TheVariants.{Missing, Exceeded, Block}
+use Rattle.px_head.specs.declared.place.BlockPlace.{BlockPlace}
+use Rattle.px_head.specs.declared.place.BlockPlace.TheVariants.{Missing, Exceeded, Block}
 use Rattle.px_text.specs.Blank.{blank_end}
 use Rattle.px_head.specs.Front.{blank_lines, place_at, place, trailers_end, front, front_in, front_of, read_as}
 use Rattle.px_head.specs.Heads.{raw_request, raw_response, raw_trailers}
@@ -34,7 +34,7 @@ use Rattle.px_head.proofs.TrimLemmas.{trim_twice}
 pub front-Block : (kind : Kind) (bytes : List ℕ) (start end : ℕ) (o : Option RawHead) → place kind bytes ≡ Block start end
     → read_as kind (slice_range bytes start end) ≡ o → front kind bytes ≡ front_of o end
 front-Block kind bytes start end o at reads =
-    ap (λ (p : Place). front_in (read_as kind) bytes p) at ∙ ap (λ (r : Option RawHead). front_of r end) reads
+    ap (λ (p : BlockPlace). front_in (read_as kind) bytes p) at ∙ ap (λ (r : Option RawHead). front_of r end) reads
 
 -- a head that stands is a block that is read so
 pub record IsStanding (kind : Kind) (bytes : List ℕ) (raw : RawHead) (used : ℕ) : Type 0 where
@@ -55,7 +55,7 @@ standing_in kind bytes raw used start end (Some r) at reads is =
       reads = subst (λ (n : ℕ). read_as kind (slice_range bytes start n) ≡ Some raw) same_end (reads ∙ ap Some same_raw);
     }
 
-standing_by : (kind : Kind) (bytes : List ℕ) (raw : RawHead) (used : ℕ) (p : Place) → place kind bytes ≡ p
+standing_by : (kind : Kind) (bytes : List ℕ) (raw : RawHead) (used : ℕ) (p : BlockPlace) → place kind bytes ≡ p
     → front_in (read_as kind) bytes p ≡ Stands raw used → IsStanding kind bytes raw used
 standing_by kind bytes raw used Missing at is = absurd (let e = is in cc)
 standing_by kind bytes raw used Exceeded at is = absurd (let e = is in cc)
@@ -72,25 +72,25 @@ slice_range-append : (bytes more : List ℕ) (start end : ℕ) → start ≤ end
     → slice_range (bytes ++ more) start end ≡ slice_range bytes start end
 slice_range-append bytes more start end ordered fits = grind (arith, common_steps)
 
-stays_by : (kind : Kind) (bytes more : List ℕ) (p : Place) → place kind bytes ≡ p → place kind (bytes ++ more) ≡ p
+stays_by : (kind : Kind) (bytes more : List ℕ) (p : BlockPlace) → place kind bytes ≡ p → place kind (bytes ++ more) ≡ p
     → front kind (bytes ++ more) ≡ front kind bytes
 stays_by kind bytes more Missing at later =
-    ap (λ (p : Place). front_in (read_as kind) (bytes ++ more) p) later ∙ sym (ap (λ (p : Place). front_in (read_as kind) bytes p) at)
+    ap (λ (p : BlockPlace). front_in (read_as kind) (bytes ++ more) p) later ∙ sym (ap (λ (p : BlockPlace). front_in (read_as kind) bytes p) at)
 stays_by kind bytes more Exceeded at later =
-    ap (λ (p : Place). front_in (read_as kind) (bytes ++ more) p) later ∙ sym (ap (λ (p : Place). front_in (read_as kind) bytes p) at)
+    ap (λ (p : BlockPlace). front_in (read_as kind) (bytes ++ more) p) later ∙ sym (ap (λ (p : BlockPlace). front_in (read_as kind) bytes p) at)
 stays_by kind bytes more (Block start end) at later =
-    let within = subst (λ (p : Place). IsPlaceWithin (length bytes) p) at (place_within kind bytes) in
+    let within = subst (λ (p : BlockPlace). IsPlaceWithin (length bytes) p) at (place_within kind bytes) in
     let a = within.0 in
     let slice = slice_range-append bytes more start end (omega arith) within.1 in
-    ap (λ (p : Place). front_in (read_as kind) (bytes ++ more) p) later
+    ap (λ (p : BlockPlace). front_in (read_as kind) (bytes ++ more) p) later
     ∙ ap (λ (block : List ℕ). front_of (read_as kind block) end) slice
-    ∙ sym (ap (λ (p : Place). front_in (read_as kind) bytes p) at)
+    ∙ sym (ap (λ (p : BlockPlace). front_in (read_as kind) bytes p) at)
 
 pub front-stays : (kind : Kind) (bytes more : List ℕ) → front kind bytes ≢ Nothing
     → front kind (bytes ++ more) ≡ front kind bytes
 front-stays kind bytes more decided =
     let found : place kind bytes ≢ Missing = λ missing.
-    decided (ap (λ (p : Place). front_in (read_as kind) bytes p) missing) in
+    decided (ap (λ (p : BlockPlace). front_in (read_as kind) bytes p) missing) in
     stays_by kind bytes more (place kind bytes) refl (place-stays kind bytes more found)
 
 -- ---- sizes
@@ -99,7 +99,7 @@ pub used-within : (kind : Kind) (bytes : List ℕ) (raw : RawHead) (used : ℕ) 
     → (1 ≤ used) × (used ≤ length bytes) × (used ≤ 65536)
 used-within kind bytes raw used is =
     let s = standing kind bytes raw used is in
-    let within = subst (λ (p : Place). IsPlaceWithin (length bytes) p) s.at (place_within kind bytes) in
+    let within = subst (λ (p : BlockPlace). IsPlaceWithin (length bytes) p) s.at (place_within kind bytes) in
     let a = within.0 in
     (omega arith, within.1, within.2)
 
@@ -122,13 +122,13 @@ front_of-decided : (o : Option RawHead) (end : ℕ) → (front_of o end ≢ Noth
 front_of-decided None end = (λ e. cc, λ e. cc)
 front_of-decided (Some raw) end = (λ e. cc, λ e. cc)
 
-pub nothing_by : (kind : Kind) (bytes : List ℕ) (p : Place) → front_in (read_as kind) bytes p ≡ Nothing → p ≡ Missing
+pub nothing_by : (kind : Kind) (bytes : List ℕ) (p : BlockPlace) → front_in (read_as kind) bytes p ≡ Nothing → p ≡ Missing
 nothing_by kind bytes Missing is = refl
 nothing_by kind bytes Exceeded is = absurd (let e = is in cc)
 nothing_by kind bytes (Block start end) is =
     absurd ((front_of-decided (read_as kind (slice_range bytes start end)) end).0 is)
 
-pub too_long_by : (kind : Kind) (bytes : List ℕ) (p : Place) → front_in (read_as kind) bytes p ≡ TooLong → p ≡ Exceeded
+pub too_long_by : (kind : Kind) (bytes : List ℕ) (p : BlockPlace) → front_in (read_as kind) bytes p ≡ TooLong → p ≡ Exceeded
 too_long_by kind bytes Missing is = absurd (let e = is in cc)
 too_long_by kind bytes Exceeded is = refl
 too_long_by kind bytes (Block start end) is =

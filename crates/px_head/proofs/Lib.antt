@@ -5,5 +5,6 @@ pub mod EndLemmas
 pub mod LineLemmas
 pub mod PlaceLemmas
 pub mod ReadLemmas
+pub mod SearchLemmas
 pub mod SizeLemmas
 pub mod TrimLemmas

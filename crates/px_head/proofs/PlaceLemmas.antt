@@ -8,7 +8,7 @@ use Rattle.px_text.proofs.BlankLemmas.{blank_end-Some, blank_end-None, blank_end
 use Rattle.px_head.specs.declared.front.Kind.{Kind}
 use Rattle.px_head.specs.declared.front.Kind.TheVariants.{Request, Response, Trailers}
 use Rattle.px_head.specs.declared.place.Marks.{Marks}
-use Rattle.px_head.specs.declared.place.Place.TheVariants.{Missing, Exceeded, Block}
+use Rattle.px_head.specs.declared.place.BlockPlace.TheVariants.{Missing, Exceeded, Block}
 use Rattle.px_head.specs.Front.{blank_lines, line_end, trailers_end, trailers_end_by, place_at, head_place, place}
 use Rattle.px_head.specs.Marks.{AreMarks}
 use Rattle.px_head.specs.Within.{IsPlaceWithin}
@@ -59,15 +59,12 @@ pub AreMarks-append : (bytes more : List ℕ) (m : Marks) → AreMarks bytes m �
 AreMarks-append bytes more m a =
     let size = length-append bytes more in
     let sw = a.skipped_within in
-    let hw = a.head_within in
-    let tw = a.trailers_within in
+    let near = a.reached_within in
     record {
       skipped_within = omega arith;
       skipped = rw (take-append-le m.skipped bytes more sw) a.skipped;
-      head_within = omega arith;
-      head = λ end low. ends_blank-append bytes more m.skipped end (omega arith) ∙ a.head end low;
-      trailers_within = omega arith;
-      trailers = λ end low. ends_blank-append bytes more 0 end (omega arith) ∙ a.trailers end low;
+      reached_within = omega arith;
+      reached = λ end low. ends_blank-append bytes more m.skipped end (omega arith) ∙ a.reached end low;
     }
 
 -- ---- a decided place stays

@@ -8,8 +8,8 @@ use Rattle.px_text.specs.Blank.{blank_end}
 use Rattle.px_head.specs.declared.raw.RawHead.{RawHead}
 use Rattle.px_head.specs.declared.front.Front.TheVariants.{Stands}
 use Rattle.px_head.specs.declared.front.Kind.TheVariants.{Request, Response, Trailers}
-use Rattle.px_head.specs.declared.place.Place.{Place}
-use Rattle.px_head.specs.declared.place.Place.TheVariants.{Missing, Exceeded, Block}
+use Rattle.px_head.specs.declared.place.BlockPlace.{BlockPlace}
+use Rattle.px_head.specs.declared.place.BlockPlace.TheVariants.{Missing, Exceeded, Block}
 use Rattle.px_head.specs.Front.{blank_lines, trailers_end, place_at, head_place, front}
 use Rattle.px_head.specs.Heads.{IsRequest, IsResponse, IsTrailers, raw_request, raw_response, raw_trailers}
 use Rattle.px_head.specs.Within.{IsPlaceWithin}
@@ -51,7 +51,7 @@ take_slice bytes start end ordered fits =
 used_bytes : (bytes : List ℕ) (start used : ℕ) → head_place bytes ≡ Block start used → IsPlaceWithin (length bytes) (head_place bytes)
     → take used bytes ≡ print_blank (skipped_lines bytes).0 ++ slice_range bytes start used
 used_bytes bytes start used at fits =
-    let within = subst (λ (p : Place). IsPlaceWithin (length bytes) p) at fits in
+    let within = subst (λ (p : BlockPlace). IsPlaceWithin (length bytes) p) at fits in
     let ordered = within.0 in
     let same = block_start bytes (blank_lines bytes) (blank_end bytes (blank_lines bytes)) start used at in
     let blank : print_blank (skipped_lines bytes).0 ≡ take start bytes =
@@ -128,7 +128,7 @@ pub trailers_read : (bytes : List ℕ) (raw : RawHead) (used : ℕ) → front Tr
 trailers_read bytes raw used is =
     let s = standing Trailers bytes raw used is in
     let same = block_start bytes 0 (trailers_end bytes) s.start used s.at in
-    let fits = subst (λ (p : Place). IsPlaceWithin (length bytes) p) s.at (place_within Trailers bytes) in
+    let fits = subst (λ (p : BlockPlace). IsPlaceWithin (length bytes) p) s.at (place_within Trailers bytes) in
     let text : slice_range bytes s.start used ≡ take used bytes =
     ap (λ (n : ℕ). slice_range bytes n used) (sym same) ∙ sym (take_slice bytes 0 used (omega arith) fits.1) in
     let w = trailers_in-source (slice_range bytes s.start used) raw s.reads in

@@ -7,8 +7,8 @@ use Rattle.px_text.proofs.BlankLemmas.{blank_end-Some, blank_end-None}
 use Rattle.px_head.specs.declared.front.Front.TheVariants.{Nothing, TooLong}
 use Rattle.px_head.specs.declared.front.Kind.{Kind}
 use Rattle.px_head.specs.declared.front.Kind.TheVariants.{Request, Response, Trailers}
-use Rattle.px_head.specs.declared.place.Place.{Place}
-use Rattle.px_head.specs.declared.place.Place.TheVariants.{Missing, Exceeded, Block}
+use Rattle.px_head.specs.declared.place.BlockPlace.{BlockPlace}
+use Rattle.px_head.specs.declared.place.BlockPlace.TheVariants.{Missing, Exceeded, Block}
 use Rattle.px_head.specs.Front.{blank_lines, line_end, trailers_end_by, place_at, place, front, front_in, read_as}
 use Rattle.px_head.specs.Laws.{HasNoBlock}
 use Rattle.px_head.specs.Marks.{HasNoEnd}
@@ -37,7 +37,7 @@ trailers_none : (bytes : List ℕ) (width : ℕ) → line_end bytes ≡ width �
 trailers_none bytes zero is missing = (is, no_end_Missing bytes 0 (omega arith) (blank_end bytes 0) refl missing)
 trailers_none bytes (suc n) is missing = absurd (some_not_Missing bytes 0 (suc n) missing)
 
-none_missing : (kind : Kind) (bytes : List ℕ) → place kind bytes ≡ Missing → HasNoBlock kind bytes (length bytes)
+pub none_missing : (kind : Kind) (bytes : List ℕ) → place kind bytes ≡ Missing → HasNoBlock kind bytes (length bytes)
 none_missing Request bytes = no_end_Missing bytes (blank_lines bytes) (blank_lines_within bytes) (blank_end bytes (blank_lines bytes)) refl
 none_missing Response bytes = no_end_Missing bytes (blank_lines bytes) (blank_lines_within bytes) (blank_end bytes (blank_lines bytes)) refl
 none_missing Trailers bytes = trailers_none bytes (line_end bytes) refl
@@ -66,7 +66,7 @@ pub waiting-exact : (kind : Kind) (bytes : List ℕ)
     → (front kind bytes ≡ Nothing) ↔ ((length bytes < 65536) × HasNoBlock kind bytes (length bytes))
 waiting-exact kind bytes = (
   λ is. (let missing = nothing_by kind bytes (place kind bytes) is in (place-Missing kind bytes missing, none_missing kind bytes missing)),
-  λ x. ap (λ (p : Place). front_in (read_as kind) bytes p) (missing_none kind bytes x.0 x.1),
+  λ x. ap (λ (p : BlockPlace). front_in (read_as kind) bytes p) (missing_none kind bytes x.0 x.1),
 )
 
 -- ---- no block within the limit
@@ -119,5 +119,5 @@ pub too_long-exact : (kind : Kind) (bytes : List ℕ)
 too_long-exact kind bytes = (
   λ is. (let exceeded = too_long_by kind bytes (place kind bytes) is in
       let long = place-long kind bytes exceeded in (long, none_exceeded kind bytes long exceeded)),
-  λ x. ap (λ (p : Place). front_in (read_as kind) bytes p) (exceeded_none kind bytes x.0 x.1),
+  λ x. ap (λ (p : BlockPlace). front_in (read_as kind) bytes p) (exceeded_none kind bytes x.0 x.1),
 )

@@ -6,8 +6,8 @@ use Rattle.px_head.specs.declared.front.Front.{Front}
 use Rattle.px_head.specs.declared.front.Front.TheVariants.{Nothing, TooLong, BadHead, Stands}
 use Rattle.px_head.specs.declared.front.Kind.{Kind}
 use Rattle.px_head.specs.declared.front.Kind.TheVariants.{Request, Response, Trailers}
-use Rattle.px_head.specs.declared.place.Place.{Place}
-use Rattle.px_head.specs.declared.place.Place.TheVariants.{Missing, Exceeded, Block}
+use Rattle.px_head.specs.declared.place.BlockPlace.{BlockPlace}
+use Rattle.px_head.specs.declared.place.BlockPlace.TheVariants.{Missing, Exceeded, Block}
 use Rattle.px_head.specs.Heads.{request_in, response_in, trailers_in}
 
 -- how many bytes the empty lines at the front have (RFC 9112 section 2.2)
@@ -32,19 +32,19 @@ abbrev pub trailers_end : List ℕ → Option ℕ
 trailers_end bytes = trailers_end_by bytes (line_end bytes)
 
 -- the block that begins at `start`: it and what was skipped before it have at most 65,536 bytes
-abbrev pub place_at : List ℕ → ℕ → Option ℕ → Place
+abbrev pub place_at : List ℕ → ℕ → Option ℕ → BlockPlace
 place_at bytes start None = if nat_le 65536 (length bytes) then Exceeded else Missing
 place_at bytes start (Some end) = if nat_lt 65536 end then Exceeded else Block start end
 
 -- behind the empty lines
-abbrev pub head_place : List ℕ → Place
+abbrev pub head_place : List ℕ → BlockPlace
 head_place bytes = place_at bytes (blank_lines bytes) (blank_end bytes (blank_lines bytes))
 
 -- at once
-abbrev pub trailers_place : List ℕ → Place
+abbrev pub trailers_place : List ℕ → BlockPlace
 trailers_place bytes = place_at bytes 0 (trailers_end bytes)
 
-abbrev pub place : Kind → List ℕ → Place
+abbrev pub place : Kind → List ℕ → BlockPlace
 place Request bytes = head_place bytes
 place Response bytes = head_place bytes
 place Trailers bytes = trailers_place bytes
@@ -59,7 +59,7 @@ abbrev pub front_of : Option RawHead → ℕ → Front
 front_of None end = BadHead
 front_of (Some raw) end = Stands raw end
 
-abbrev pub front_in : (List ℕ → Option RawHead) → List ℕ → Place → Front
+abbrev pub front_in : (List ℕ → Option RawHead) → List ℕ → BlockPlace → Front
 front_in reads bytes Missing = Nothing
 front_in reads bytes Exceeded = TooLong
 front_in reads bytes (Block start end) = front_of (reads (slice_range bytes start end)) end

@@ -1,5 +1,5 @@
 -- Laws of what stands at the front of bytes.
-use Rattle.std.specs.Prelude.{◌≡◌, ◌≢◌, ℕ, ◌<◌, ◌≤◌, ◌⊎◌, ◌↔◌, true, List, [], ◌++◌, length, take, All, Some, codes, IsUtf8}
+use Rattle.std.specs.Prelude.{◌≡◌, ◌≢◌, ℕ, ◌+◌, ◌<◌, ◌≤◌, ◌⊎◌, ◌↔◌, true, List, [], ◌++◌, length, take, All, Some, codes, IsUtf8}
 use Rattle.httparse.specs.Grammar.{AllPass, is_token, is_uri_byte, is_value_byte, trim_ows, Field, LineEnd, RequestHead, ResponseHead}
 use Rattle.px_text.specs.Number.{decimal_value}
 use Rattle.px_head.specs.declared.raw.RawHead.{RawHead}
@@ -8,7 +8,8 @@ use Rattle.px_head.specs.declared.front.Kind.{Kind}
 use Rattle.px_head.specs.declared.front.Kind.TheVariants.{Request, Response, Trailers}
 use Rattle.px_head.specs.Front.{blank_lines, line_end, front, request_front, response_front, trailer_front}
 use Rattle.px_head.specs.Heads.{IsRequest, IsResponse, IsTrailers, raw_request, raw_response, raw_trailers}
-use Rattle.px_head.specs.Marks.{HasNoEnd}
+use Rattle.px_head.specs.declared.place.Marks.{Marks}
+use Rattle.px_head.specs.Marks.{HasNoEnd, no_marks, searched}
 
 -- ---- the front is what the grammar says of the block
 
@@ -52,6 +53,12 @@ FrontStays = (kind : Kind) (bytes more : List ℕ) → front kind bytes ≢ Noth
 abbrev pub UsedIsWithin : Type 0
 UsedIsWithin = (kind : Kind) (bytes : List ℕ) (raw : RawHead) (used : ℕ) → front kind bytes ≡ Stands raw used
     → (1 ≤ used) × (used ≤ length bytes) × (used ≤ 65536)
+
+-- the first search looks at no more bytes than there are; one that goes on looks at the bytes that came since, and at two before them
+abbrev pub SearchGoesOn : Type 0
+SearchGoesOn =
+    ((bytes : List ℕ) → (searched bytes no_marks).looked ≤ length bytes)
+    × ((bytes more : List ℕ) (m : Marks) → (searched (bytes ++ more) (searched bytes m)).looked ≤ length more + 2)
 
 -- no block ends within the first so many bytes: behind the empty lines for a start line, and at once for trailers
 abbrev pub HasNoBlock : Kind → List ℕ → ℕ → Type 0

@@ -1,6 +1,7 @@
 pub mod Bound
 pub mod Front
 pub mod Heads
+pub mod Held
 pub mod Laws
 pub mod Marks
 pub mod Reader

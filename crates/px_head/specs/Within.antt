@@ -2,11 +2,11 @@
 use Rattle.std.specs.Prelude.{ℕ, ◌<◌, ◌≤◌, ⊤}
 use Rattle.px_head.specs.declared.front.Front.{Front}
 use Rattle.px_head.specs.declared.front.Front.TheVariants.{Nothing, TooLong, BadHead, Stands}
-use Rattle.px_head.specs.declared.place.Place.{Place}
-use Rattle.px_head.specs.declared.place.Place.TheVariants.{Missing, Exceeded, Block}
+use Rattle.px_head.specs.declared.place.BlockPlace.{BlockPlace}
+use Rattle.px_head.specs.declared.place.BlockPlace.TheVariants.{Missing, Exceeded, Block}
 
 -- a block has at least one byte, lies in the first n bytes and within the limit
-abbrev pub IsPlaceWithin : ℕ → Place → Type 0
+abbrev pub IsPlaceWithin : ℕ → BlockPlace → Type 0
 IsPlaceWithin n Missing = ⊤
 IsPlaceWithin n Exceeded = ⊤
 IsPlaceWithin n (Block start end) = (start < end) × (end ≤ n) × (end ≤ 65536)

@@ -2,13 +2,13 @@
 //!
 //! First the place of the block, then the grammar on the block: the definition's own two steps. The marks only save
 //! work, so no answer depends on them, nor on how the bytes were cut.
-ghost use Rattle.std.specs.Prelude.{◌≡◌, IfOk, length};
+ghost use Rattle.std.specs.Prelude.{◌≡◌, IfOk, OnErr, length};
 ghost use Rattle.px_head.specs.Front as spec;
-ghost use Rattle.px_head.specs.Marks.{AreMarks};
+ghost use Rattle.px_head.specs.Marks.{AreMarks, left_by, noted, searched};
 ghost use Rattle.px_head.specs.Within.{IsFrontWithin, IsPlaceWithin};
 
 use crate::block::{read_request, read_response, read_trailers};
-use crate::place::{Marks, Place, head_place, trailers_place};
+use crate::place::{BlockPlace, Marks, head_place, trailers_place};
 use crate::raw::RawHead;
 use px_text::NoMemory;
 use std::alloc::Global;
@@ -61,23 +61,24 @@ pub fn read_front(
     requires { AreMarks bytes.now marks.old }
     ensures value { IfOk result (λ front. front ≡ spec.front kind bytes.now) }
     ensures within { IfOk result (λ front. IsFrontWithin (length bytes.now) front) }
-    ensures marks { AreMarks bytes.now marks.new }
+    ensures marks { IfOk result (λ front. marks.new ≡ left_by front (searched bytes.now marks.old) marks.old) }
+    ensures err { OnErr result (marks.new ≡ marks.old) }
 {
     match find_place(bytes, marks, kind) {
-        Place::Missing => Ok(Front::Nothing),
-        Place::Exceeded => Ok(Front::TooLong),
-        Place::Block(start, end) => match read_block(alloc, &bytes[start..end], kind)? {
+        BlockPlace::Missing => Ok(Front::Nothing),
+        BlockPlace::Exceeded => Ok(Front::TooLong),
+        BlockPlace::Block(start, end) => match read_block(alloc, &bytes[start..end], kind)? {
             Some(raw) => Ok(Front::Stands(raw, end)),
             None => Ok(Front::BadHead),
         },
     }
 }
 
-fn find_place(bytes: &[u8], marks: &mut Marks, kind: Kind) -> Place
+fn find_place(bytes: &[u8], marks: &mut Marks, kind: Kind) -> BlockPlace
     requires { AreMarks bytes.now marks.old }
     ensures value { result ≡ spec.place kind bytes.now }
     ensures within { IsPlaceWithin (length bytes.now) result }
-    ensures marks { AreMarks bytes.now marks.new }
+    ensures marks { marks.new ≡ noted result (searched bytes.now marks.old) marks.old }
 {
     match kind {
         Kind::Request => head_place(bytes, marks),

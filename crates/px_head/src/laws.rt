@@ -44,6 +44,12 @@ pub fn used_is_within()
     ensures { law.UsedIsWithin }
 {}
 
+/// A search that goes on looks at the bytes that came since the last one, and at two before them: so a head in pieces costs its
+/// bytes and two for each piece.
+pub fn search_goes_on()
+    ensures { law.SearchGoesOn }
+{}
+
 /// More bytes are waited for exactly where fewer than 65,536 are there, and no block ends in them.
 pub fn waiting_is_exact()
     ensures { law.WaitingIsExact }

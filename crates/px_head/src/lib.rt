@@ -11,7 +11,9 @@
 #![tactic(auto)]
 
 mod block;
+mod buffer;
 mod front;
+mod held;
 pub mod laws;
 mod place;
 mod raw;

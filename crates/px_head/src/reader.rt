@@ -1,52 +1,49 @@
 //! A reader that is fed the bytes of a connection and gives the heads that stand in them, one after the other.
 //!
-//! It keeps the bytes that were fed and not yet used. A head that was taken is not moved out of the buffer at once: the
-//! place behind it is kept, and what is left is moved to the buffer's front as soon as more was used than is left. So the
-//! buffer never holds more than twice what waits in it (`specs/Bound.antt`), and each move is of fewer bytes than were
-//! used since the one before: many heads in one piece cost no more than their bytes.
-ghost use Rattle.std.specs.Prelude.{◌≡◌, ◌≤◌, ◌++◌, [], None, IfOk, OnErr, OnOk, drop, length};
-ghost use Rattle.px_head.specs.Bound.{IsBounded};
+//! It keeps the bytes that were fed and not yet used (`held.rt`). No byte is moved for a head that stands in a piece which came
+//! when nothing waited, nor for what stands behind it: many heads in one piece cost no more than their bytes.
+ghost use Rattle.std.specs.Prelude.{◌≡◌, ◌≤◌, ◌++◌, IfOk, OnErr, OnOk, drop, length};
 
 use crate::front::{Found, Front, Kind, Refusal, read_front};
+use crate::held::Held;
 use crate::place::Marks;
-use px_text::NoMemory;
+use px_text::{Bytes, NoMemory};
 use std::alloc::Global;
 use std::marker::Model;
 
-/// A reader of heads. In a contract it is the bytes that were fed and not used, and what it has failed with, if it has.
+/// A reader of heads. In a contract it is the bytes that were fed and not used, what it has failed with, if it has, and how
+/// far these bytes were searched for the end of a head.
 ///
-/// Its buffer holds at most twice as many bytes as `unused` tells. After `NoMemory` it is as it was before the call.
+/// A search goes on where the last one stopped, so a head costs a small multiple of its bytes, in whatever pieces it comes.
+/// Behind `Partial` it holds no piece that others share, and its buffer has at most twice as many bytes as `unused` tells. After
+/// `NoMemory` it is as it was before the call.
 #[derive(Debug, Drop)]
 pub struct HeadReader {
-    buffer: Vec<u8>,
-    used: usize,
+    held: Held,
     marks: Marks,
     refusal: Option<Refusal>,
 }
 
 impl Model for HeadReader {
-    ghost use Rattle.std.specs.Prelude.{drop};
-    ghost use Rattle.px_head.specs.Bound.{IsBounded};
     ghost use Rattle.px_head.specs.Marks.{AreMarks};
     ghost use Rattle.px_head.specs.Reader.{Reader};
 
     ghost Value = { Reader };
 
-    ghost view = { λ r. record { rest = drop r.used r.buffer.items; failed = r.refusal } };
+    ghost view = { λ r. record { rest = r.held; failed = r.refusal; marks = r.marks } };
 
-    ghost invariant = { λ r. IsBounded r.used r.buffer.items × AreMarks (drop r.used r.buffer.items) r.marks };
+    ghost invariant = { λ r. AreMarks r.held r.marks };
 }
 
 impl HeadReader {
-    ghost use Rattle.px_head.specs.Reader.{after, answer, seen};
+    ghost use Rattle.px_head.specs.Reader.{after, answer, new_reader, seen};
 
     /// A reader of no bytes.
     pub fn new(alloc: Global) -> HeadReader
-        ensures { result ≡ record { rest = []; failed = None } }
+        ensures { result ≡ new_reader }
     {
         HeadReader {
-            buffer: Vec::new(alloc),
-            used: 0,
+            held: Held::new(alloc),
             marks: Marks::NONE,
             refusal: None,
         }
@@ -57,13 +54,20 @@ impl HeadReader {
         ensures ok { OnOk result (self.new ≡ record self.old { rest = self.old.rest ++ bytes.now }) }
         ensures err { OnErr result (self.new ≡ self.old) }
     {
-        self.buffer.extend_from_slice(bytes)?;
-        Ok(())
+        self.held.feed(bytes)
+    }
+
+    /// The same, of bytes that are shared: they are not copied where nothing waits.
+    pub fn feed_shared(&mut self, bytes: &Bytes) -> Result<(), NoMemory>
+        ensures ok { OnOk result (self.new ≡ record self.old { rest = self.old.rest ++ bytes.now }) }
+        ensures err { OnErr result (self.new ≡ self.old) }
+    {
+        self.held.feed_shared(bytes)
     }
 
     /// The head of a request at the front: the empty lines before it are skipped (RFC 9112 section 2.2).
     ///
-    /// After `Head` the reader stands behind the head. `Partial` changes nothing. `TooLong` and `BadHead` are answered
+    /// After `Head` the reader stands behind the head. `Partial` leaves all bytes searched. `TooLong` and `BadHead` are answered
     /// again for ever, to every kind of head.
     pub fn take_request(&mut self) -> Result<Found, NoMemory>
         ensures found { IfOk result (λ found. found ≡ answer (seen Kind.Request self.old)) }
@@ -96,20 +100,14 @@ impl HeadReader {
     pub fn unused(&self) -> usize
         ensures { result ≡ length self.now.rest }
     {
-        self.buffer.len() - self.used
+        self.held.len()
     }
 
-    /// The bytes that were fed and not used, without taking memory.
-    pub fn into_rest(self) -> Vec<u8>
-        ensures { result.items ≡ self.rest }
+    /// The bytes that were fed and not used, which are not moved.
+    pub fn into_rest(self) -> Result<Bytes, NoMemory>
+        ensures { IfOk result (λ rest. rest ≡ self.rest) }
     {
-        let HeadReader {
-            mut buffer,
-            used,
-            ..
-        } = self;
-        move_to_front(&mut buffer, used);
-        buffer
+        self.held.into_bytes()
     }
 
     fn take(&mut self, kind: Kind) -> Result<Found, NoMemory>
@@ -122,9 +120,14 @@ impl HeadReader {
             Some(Refusal::BadHead) => return Ok(Found::BadHead),
             None => {}
         }
-        let alloc = *self.buffer.allocator();
-        match read_front(alloc, &self.buffer[self.used..], &mut self.marks, kind)? {
-            Front::Nothing => Ok(Found::Partial),
+        let alloc = self.held.allocator();
+        let mut marks = self.marks;
+        match read_front(alloc, self.held.as_slice(), &mut marks, kind)? {
+            Front::Nothing => {
+                self.held.own()?;
+                self.marks = marks;
+                Ok(Found::Partial)
+            }
             Front::TooLong => {
                 self.refusal = Some(Refusal::TooLong);
                 Ok(Found::TooLong)
@@ -134,32 +137,10 @@ impl HeadReader {
                 Ok(Found::BadHead)
             }
             Front::Stands(raw, used) => {
-                self.used = compact(&mut self.buffer, self.used + used);
+                self.held.skip(used);
                 self.marks = Marks::NONE;
                 Ok(Found::Head(raw))
             }
         }
     }
-}
-
-// Moves what is left to the front of the buffer where it is shorter than what was used, and says where it begins.
-fn compact(buffer: &mut Vec<u8>, used: usize) -> usize
-    requires { used ≤ length buffer.old.items }
-    ensures rest { drop result buffer.new.items ≡ drop used buffer.old.items }
-    ensures bound { IsBounded result buffer.new.items }
-{
-    if used <= buffer.len() - used {
-        return used;
-    }
-    move_to_front(buffer, used);
-    0
-}
-
-fn move_to_front(buffer: &mut Vec<u8>, used: usize)
-    requires { used ≤ length buffer.old.items }
-    ensures { buffer.new.items ≡ drop used buffer.old.items }
-{
-    let rest = buffer.len() - used;
-    buffer.copy_within(used.., 0);
-    buffer.truncate(rest);
 }

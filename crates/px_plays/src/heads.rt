@@ -24,7 +24,7 @@ pub(crate) fn answer(
     if taken < words.len() {
         push_answer(&mut out, "Partial")?;
     }
-    show_rest(&mut out, reader.into_rest().as_slice())?;
+    show_rest(&mut out, reader.into_rest()?.as_slice())?;
     Ok(out)
 }
 

@@ -10,15 +10,15 @@ use Rattle.px_read.specs.Marks.{BeginsWithNoByte, Mark, byte, marks_of}
 use Rattle.px_read.specs.Chunking.{Chunking}
 use Rattle.px_read.specs.Chunking as chunking
 use Rattle.px_read.specs.ChunkSteps.{feed_marks, Gives, Hears, UsesFor, Steps}
-use Rattle.px_read.specs.Chunks.{Place, Turn, GoesOn, hear_all, chunks_from, Finish, goes_on, whole, fails, Reading}
+use Rattle.px_read.specs.Chunks.{ChunkPlace, ChunkHearing, GoesOn, hear_all, chunks_from, Finish, goes_on, whole, fails, Reading}
 use Rattle.px_read.specs.Readings.{only, behind_bytes, counted_reading, closing_reading}
 use Rattle.px_read.specs.Reader.{MessagePlace, in_counted, in_chunks, up_to_close, behind_end, refused, State, as_sent, has_shut, reading_from, MayFollow, behind_marks, Tells, has_stopped, IsLongest, IsTurn}
 use Rattle.px_read.specs.Stages.{IsStage, StandOnce, chunk_place, state_at, seen_as, cut_off, fault_of}
 use Rattle.px_read.specs.Waits.{waited, given}
 use Rattle.px_read.specs.declared.message_reader.stage.Sender.{Sender}
 use Rattle.px_read.specs.declared.message_reader.stage.Sender.TheVariants.{Client, Server}
-use Rattle.px_read.specs.declared.message_reader.stage.Stage.{Stage}
-use Rattle.px_read.specs.declared.message_reader.stage.Stage.TheVariants as stage
+use Rattle.px_read.specs.declared.message_reader.stage.MessageStage.{MessageStage}
+use Rattle.px_read.specs.declared.message_reader.stage.MessageStage.TheVariants as stage
 use Rattle.px_read.specs.declared.part.Part.{Part}
 use Rattle.px_read.specs.declared.part.Part.TheVariants as part
 use Rattle.px_read.specs.declared.chunk_reader.ChunkError.TheVariants as chunk_error
@@ -210,7 +210,7 @@ cut_tells old mid bytes rest true fault is t reads = record {
 }
 cut_tells old mid bytes rest false fault is t reads = absurd (let e : false ≡ true = is in cc)
 
-wait_by : (old mid : MessagePlace) (bytes rest : List ℕ) (closed cut : Bool) (kept : Stage) → (cut ≡ true → closed ≡ true)
+wait_by : (old mid : MessagePlace) (bytes rest : List ℕ) (closed cut : Bool) (kept : MessageStage) → (cut ≡ true → closed ≡ true)
     → Tells [] (state_at old bytes closed) (state_at mid rest closed) → seen_as kept rest closed ≡ state_at mid rest closed
     → reading_from mid closed rest ≡ cut_off cut → has_stopped old ≡ false
     → IsTurn (state_at old bytes closed) (waited cut kept rest).part (seen_as (waited cut kept rest).stage (waited cut kept rest).rest closed)
@@ -219,7 +219,7 @@ wait_by old mid bytes rest closed false kept shuts t seen reads going =
 wait_by old mid bytes rest closed true kept shuts t seen reads going =
     turn-fails _ _ ServerClosed (cut_tells old mid bytes rest closed ServerClosed (shuts refl) t reads) refl going
 
-pub wait-turn : (from : Sender) (old mid : MessagePlace) (bytes rest : List ℕ) (closed : Bool) (kept : Stage)
+pub wait-turn : (from : Sender) (old mid : MessagePlace) (bytes rest : List ℕ) (closed : Bool) (kept : MessageStage)
     → Tells [] (state_at old bytes closed) (state_at mid rest closed) → seen_as kept rest closed ≡ state_at mid rest closed
     → reading_from mid closed rest ≡ cut_off (has_shut from closed) → has_stopped old ≡ false
     → IsTurn (state_at old bytes closed) (waited (has_shut from closed) kept rest).part
@@ -227,7 +227,7 @@ pub wait-turn : (from : Sender) (old mid : MessagePlace) (bytes rest : List ℕ)
 wait-turn from old mid bytes rest closed kept t seen reads going =
     wait_by old mid bytes rest closed (has_shut from closed) kept (shut_closed from closed) t seen reads going
 
-pub wait-stage : (cut : Bool) (kept : Stage) (rest : List ℕ) → IsStage kept → IsStage (waited cut kept rest).stage
+pub wait-stage : (cut : Bool) (kept : MessageStage) (rest : List ℕ) → IsStage kept → IsStage (waited cut kept rest).stage
 wait-stage false kept rest is = is
 wait-stage true kept rest is = tt
 
@@ -247,7 +247,7 @@ counted-waits from left rest closed some none =
 
 -- ---- chunks
 
-chunk_tells : (from : Sender) (place next : Place) (n : ℕ) (rest : List ℕ) (marks : List Mark) (closed : Bool)
+chunk_tells : (from : Sender) (place next : ChunkPlace) (n : ℕ) (rest : List ℕ) (marks : List Mark) (closed : Bool)
     → hear_all place (take n rest) ≡ record { marks = marks; place = next } → GoesOn next
     → Tells marks (state_at (in_chunks from place) rest closed) (state_at (in_chunks from next) (drop n rest) closed)
 chunk_tells from place next n rest marks closed hears going =
@@ -257,10 +257,10 @@ chunk_tells from place next n rest marks closed hears going =
   where
     resumed : (more : List ℕ) → chunks_from place (take n rest ++ more) ≡ behind_marks marks (length (take n rest)) (chunks_from next more)
     resumed more =
-        subst (λ (first : Turn). GoesOn first.place → chunks_from place (take n rest ++ more) ≡ behind_marks first.marks (length (take n rest)) (chunks_from first.place more))
+        subst (λ (first : ChunkHearing). GoesOn first.place → chunks_from place (take n rest ++ more) ≡ behind_marks first.marks (length (take n rest)) (chunks_from first.place more))
         hears (reading_resumes place (take n rest) more) going
 
-chunk_ends : (from : Sender) (place : Place) (n : ℕ) (rest : List ℕ) (trailers : List (List ℕ × List ℕ)) (closed : Bool)
+chunk_ends : (from : Sender) (place : ChunkPlace) (n : ℕ) (rest : List ℕ) (trailers : List (List ℕ × List ℕ)) (closed : Bool)
     → n ≤ length rest → chunks_from place rest ≡ record { marks = []; finish = whole trailers n }
     → IsTurn (state_at (in_chunks from place) rest closed) (part.End trailers) (state_at (behind_end trailers) (drop n rest) closed)
 chunk_ends from place n rest trailers closed fits is =
@@ -275,7 +275,7 @@ chunk_ends from place n rest trailers closed fits is =
     regroup : (more : List ℕ) → take n rest ++ (drop n rest ++ more) ≡ rest ++ more
     regroup more = sym (append_assoc (take n rest) (drop n rest) more) ∙ ap (λ (bytes : List ℕ). bytes ++ more) (take-append-drop n rest)
 
-chunk_fails : (from : Sender) (place : Place) (rest : List ℕ) (closed : Bool)
+chunk_fails : (from : Sender) (place : ChunkPlace) (rest : List ℕ) (closed : Bool)
     → chunks_from place rest ≡ record { marks = []; finish = fails BadChunk }
     → IsTurn (state_at (in_chunks from place) rest closed) (part.Bad (fault_of from BadChunk)) (state_at (refused (fault_of from BadChunk)) rest closed)
 chunk_fails from place rest closed is =
@@ -285,7 +285,7 @@ chunk_fails from place rest closed is =
     ap (λ (r : Reading). as_sent from later r) (finish_stays place rest more ended ∙ is) ∙ sent_fails from later BadChunk)) refl refl
 
 -- a part that these bytes gave
-chunk_gives : (from : Sender) (place : Place) (n : ℕ) (rest : List ℕ) (closed : Bool) (given : Part) (after : Chunking)
+chunk_gives : (from : Sender) (place : ChunkPlace) (n : ℕ) (rest : List ℕ) (closed : Bool) (given : Part) (after : Chunking)
     → (hears : Hears place (take n rest) (marks_of given) after) → IsGiven given
     → IsLongest given (as_sent from closed (chunks_from hears.0 (drop n rest)))
     → IsTurn (state_at (in_chunks from place) rest closed) given (state_at (chunk_place from after) (drop n rest) closed)
@@ -293,7 +293,7 @@ chunk_gives from place n rest closed given after hears some longest =
     subst (λ (c : Chunking). IsTurn (state_at (in_chunks from place) rest closed) given (state_at (chunk_place from c) (drop n rest) closed)) (sym hears.2)
     (turn-gives _ _ given (chunk_tells from place hears.0 n rest (marks_of given) closed hears.1 hears.3) some refl longest)
 
-chunk_waits : (from : Sender) (place : Place) (n : ℕ) (rest : List ℕ) (closed : Bool) (after : Chunking) → n ≡ length rest
+chunk_waits : (from : Sender) (place : ChunkPlace) (n : ℕ) (rest : List ℕ) (closed : Bool) (after : Chunking) → n ≡ length rest
     → Hears place (take n rest) [] after
     → IsTurn (state_at (in_chunks from place) rest closed) (waited (has_shut from closed) (stage.Chunked from after) (drop n rest)).part
     (seen_as (waited (has_shut from closed) (stage.Chunked from after) (drop n rest)).stage (waited (has_shut from closed) (stage.Chunked from after) (drop n rest)).rest closed)
@@ -305,7 +305,7 @@ chunk_waits from place n rest closed after all hears =
     (ap (λ (bytes : List ℕ). as_sent from closed (chunks_from hears.0 bytes)) none
     ∙ ap (λ (f : Finish). as_sent from closed (make [] f)) hears.3 ∙ sent_waits from closed) refl
 
-chunk_by : (from : Sender) (place : Place) (rest : List ℕ) (closed : Bool) (used : ℕ) (told : Option ChunkPart) (after : Chunking)
+chunk_by : (from : Sender) (place : ChunkPlace) (rest : List ℕ) (closed : Bool) (used : ℕ) (told : Option ChunkPart) (after : Chunking)
     → used ≤ length rest → UsesFor told (length rest) used → Gives place rest used told after
     → IsTurn (state_at (in_chunks from place) rest closed) (given told (stage.Chunked from after) (drop used rest) (has_shut from closed)).part
     (seen_as (given told (stage.Chunked from after) (drop used rest) (has_shut from closed)).stage
@@ -324,7 +324,7 @@ chunk_by from place rest closed used (Some chunk_part.EndOfChunk) after within u
 chunk_by from place rest closed used (Some (chunk_part.Trailers trailers)) after within uses gives =
     chunk_ends from place used rest trailers closed within gives.0
 
-chunk_stage : (from : Sender) (place : Place) (rest left : List ℕ) (cut : Bool) (used : ℕ) (told : Option ChunkPart) (after : Chunking)
+chunk_stage : (from : Sender) (place : ChunkPlace) (rest left : List ℕ) (cut : Bool) (used : ℕ) (told : Option ChunkPart) (after : Chunking)
     → Gives place rest used told after → IsStage (given told (stage.Chunked from after) left cut).stage
 chunk_stage from place rest left cut used None after gives = wait-stage cut (stage.Chunked from after) left (gives.0, gives.2)
 chunk_stage from place rest left cut used (Some (chunk_part.Size size)) after gives = (gives.0.0, gives.0.2)
@@ -334,7 +334,7 @@ chunk_stage from place rest left cut used (Some (chunk_part.Trailers trailers)) 
 
 -- a step of the reader of chunks, which has not stopped
 pub chunk-turn : (from : Sender) (reader : Chunking) (rest : List ℕ) (closed : Bool) (step : ChunkStep) (after : Chunking)
-    → (place : Place) × (reader ≡ chunking.reads place) → Steps reader rest (Ok step) after
+    → (place : ChunkPlace) × (reader ≡ chunking.reads place) → Steps reader rest (Ok step) after
     → IsTurn (state_at (chunk_place from reader) rest closed) (given step.part (stage.Chunked from after) (drop step.used rest) (has_shut from closed)).part
     (seen_as (given step.part (stage.Chunked from after) (drop step.used rest) (has_shut from closed)).stage
     (given step.part (stage.Chunked from after) (drop step.used rest) (has_shut from closed)).rest closed)
@@ -344,7 +344,7 @@ chunk-turn from (chunking.ended trailers) rest closed step after going steps = a
 chunk-turn from chunking.refused rest closed step after going steps = absurd (let e = going.1 in cc)
 
 pub chunk-stage : (from : Sender) (reader : Chunking) (rest left : List ℕ) (cut : Bool) (step : ChunkStep) (after : Chunking)
-    → (place : Place) × (reader ≡ chunking.reads place) → Steps reader rest (Ok step) after
+    → (place : ChunkPlace) × (reader ≡ chunking.reads place) → Steps reader rest (Ok step) after
     → IsStage (given step.part (stage.Chunked from after) left cut).stage
 chunk-stage from (chunking.reads place) rest left cut step after going steps =
     chunk_stage from place rest left cut step.used step.part after steps.gives
@@ -352,7 +352,7 @@ chunk-stage from (chunking.ended trailers) rest left cut step after going steps 
 chunk-stage from chunking.refused rest left cut step after going steps = absurd (let e = going.1 in cc)
 
 pub chunk-refused : (from : Sender) (reader : Chunking) (rest : List ℕ) (closed : Bool) (after : Chunking) (fault : Fault)
-    → (place : Place) × (reader ≡ chunking.reads place) → Steps reader rest (Err chunk_error.BadChunk) after → fault ≡ fault_of from BadChunk
+    → (place : ChunkPlace) × (reader ≡ chunking.reads place) → Steps reader rest (Err chunk_error.BadChunk) after → fault ≡ fault_of from BadChunk
     → IsTurn (state_at (chunk_place from reader) rest closed) (part.Bad fault) (state_at (refused fault) rest closed)
 chunk-refused from (chunking.reads place) rest closed after fault going steps is =
     subst (λ (f : Fault). IsTurn (state_at (in_chunks from place) rest closed) (part.Bad f) (state_at (refused f) rest closed)) (sym is)

@@ -10,7 +10,7 @@ use Rattle.px_head.specs.declared.raw.RawHead.{RawHead}
 use Rattle.px_head.specs.declared.front.Front.{Front}
 use Rattle.px_head.specs.declared.front.Front.TheVariants.{Nothing, TooLong, BadHead, Stands}
 use Rattle.px_head.specs.declared.front.Kind.TheVariants.{Trailers}
-use Rattle.px_head.specs.declared.place.Place.TheVariants.{Missing, Exceeded, Block}
+use Rattle.px_head.specs.declared.place.BlockPlace.TheVariants.{Missing, Exceeded, Block}
 use Rattle.px_head.specs.Front.{place_at, trailer_front, trailers_end}
 use Rattle.px_head.specs.Heads.{IsTrailers, raw_trailers, trailers_in}
 use Rattle.px_head.proofs.BlockLemmas.{trailers_in-source}
@@ -19,7 +19,7 @@ use Rattle.px_head.proofs.FrontLemmas.{standing, used-within}
 use Rattle.px_read.specs.ChunkLine.{IsLine, size_in}
 use Rattle.px_read.specs.Marks.{Mark, begins, byte, ends}
 use Rattle.px_read.specs.Chunked.{IsChunked, last, chunk, crlf, chunk_told, chunks_told}
-use Rattle.px_read.specs.Chunks.{Place, in_line, in_content, at_cr, at_lf, in_trailers, broken, Turn, silent, behind_size, behind_content, hear, hear_all, Finish, goes_on, whole, fails, trailers_finish, place_finish, GoesOn, Reading, chunks_from, chunked_reading}
+use Rattle.px_read.specs.Chunks.{ChunkPlace, in_line, in_content, at_cr, at_lf, in_trailers, broken, ChunkHearing, silent, behind_size, behind_content, hear, hear_all, Finish, goes_on, whole, fails, trailers_finish, place_finish, GoesOn, Reading, chunks_from, chunked_reading}
 use Rattle.px_read.specs.Readings.{behind_bytes}
 use Rattle.px_read.proofs.HearLemmas.{behind, hear_all-append, hear_all-broken, hear_all-trailers, reading_behind, resumes_as, shift_from, waits_on, finish_stays}
 use Rattle.px_read.proofs.SizeLemmas.{line_read, behind_size-some, content_heard, size_in-source}
@@ -27,15 +27,15 @@ use Rattle.px_read.proofs.SizeLemmas.{line_read, behind_size-some, content_heard
 -- ---- a chunked body is read as it is
 
 -- what one list of bytes tells, and the next from there
-pub heard_both : (place : Place) (xs ys : List ℕ) (marks further : List Mark) (next end : Place)
+pub heard_both : (place : ChunkPlace) (xs ys : List ℕ) (marks further : List Mark) (next end : ChunkPlace)
     → hear_all place xs ≡ record { marks = marks; place = next } → hear_all next ys ≡ record { marks = further; place = end }
     → hear_all place (xs ++ ys) ≡ record { marks = marks ++ further; place = end }
 heard_both place xs ys marks further next end first second =
     hear_all-append place xs ys
-    ∙ ap (λ (t : Turn). behind t ys) first
-    ∙ ap (λ (t : Turn). onto t) second
+    ∙ ap (λ (t : ChunkHearing). behind t ys) first
+    ∙ ap (λ (t : ChunkHearing). onto t) second
   where
-    onto : Turn → Turn
+    onto : ChunkHearing → ChunkHearing
     onto t = record { marks = marks ++ t.marks; place = t.place }
 
 crlf_heard : hear_all at_cr crlf ≡ record { marks = ends ∷ []; place = in_line [] }
@@ -46,7 +46,7 @@ content_whole content =
     let none : length content - length content ≡ 0 = omega arith in
     content_heard (length content) content (omega arith) ∙ ap (λ (n : ℕ). at_place (behind_content n)) none
   where
-    at_place : Place → Turn
+    at_place : ChunkPlace → ChunkHearing
     at_place place = record { marks = map byte content; place = place }
 
 chunk_heard : (line content : List ℕ) (states : ChunkLine) → IsLine line states → chunk_size states ≡ length content
@@ -64,7 +64,7 @@ trailers_read : (trailers rest : List ℕ) (section : List Field × LineEnd) →
     → chunks_from (in_trailers []) (trailers ++ rest) ≡ record { marks = []; finish = whole (raw_trailers section).pairs (length trailers) }
 trailers_read trailers rest section is short =
     let all = trailers ++ rest in
-    ap (λ (t : Turn). to_reading t.marks (place_finish (length all) t.place)) (hear_all-trailers [] all)
+    ap (λ (t : ChunkHearing). to_reading t.marks (place_finish (length all) t.place)) (hear_all-trailers [] all)
     ∙ ap (λ (f : Front). to_reading [] (trailers_finish (length all) (length all) f)) (trailers_found trailers rest section is short)
     ∙ ap (λ (n : ℕ). to_reading [] (whole (raw_trailers section).pairs n)) (omega arith)
 
@@ -101,7 +101,7 @@ abbrev Tells : List ℕ → List Mark → List (List ℕ × List ℕ) → Type 0
 Tells text marks trailers = (contents : List (List ℕ)) × IsChunked text contents trailers × (marks ≡ chunks_told contents)
 
 -- the text is the rest of a chunked body from this place on
-abbrev TellsFrom : Place → List ℕ → List Mark → List (List ℕ × List ℕ) → Type 0
+abbrev TellsFrom : ChunkPlace → List ℕ → List Mark → List (List ℕ × List ℕ) → Type 0
 TellsFrom (in_line line) text marks trailers = Tells (line ++ text) marks trailers
 TellsFrom (in_content left) text marks trailers =
     (content : List ℕ) × (rest : List ℕ) × (further : List Mark) × (text ≡ content ++ (crlf ++ rest)) × (length content ≡ suc left)
@@ -115,7 +115,7 @@ TellsFrom (in_trailers block) text marks trailers =
 TellsFrom broken text marks trailers = ⊥
 
 -- of the trailers nothing was heard
-abbrev IsFresh : Place → Type 0
+abbrev IsFresh : ChunkPlace → Type 0
 IsFresh (in_trailers block) = block ≡ []
 IsFresh _ = ⊤
 
@@ -154,7 +154,7 @@ tells_size line text marks trailers None is w = absurd w
 tells_size line text marks trailers (Some zero) is w = tells_last line text marks trailers is w
 tells_size line text marks trailers (Some (suc left)) is w = tells_chunk line text marks trailers left is w
 
-abbrev line_byte : List ℕ → Bool → Bool → Turn
+abbrev line_byte : List ℕ → Bool → Bool → ChunkHearing
 line_byte line ended over = if ended then behind_size (size_in line) else (if over then silent broken else silent (in_line line))
 
 tells_line : (line text : List ℕ) (marks : List Mark) (trailers : List (List ℕ × List ℕ)) (ended over : Bool)
@@ -174,7 +174,7 @@ tells_cr b text marks trailers false is w = absurd w
 tells_cr b text marks trailers true is w =
     (w.0, w.1, ap (λ (n : ℕ). n ∷ text) (is_byte b 13 is) ∙ ap (λ (t : List ℕ). 13 ∷ t) w.2, w.3, w.4)
 
-abbrev lf_turn : Bool → Turn
+abbrev lf_turn : Bool → ChunkHearing
 lf_turn v = if v then record { marks = ends ∷ []; place = in_line [] } else silent broken
 
 tells_lf : (b : ℕ) (text : List ℕ) (marks : List Mark) (trailers : List (List ℕ × List ℕ)) (v : Bool) → (b == 10) ≡ v
@@ -182,7 +182,7 @@ tells_lf : (b : ℕ) (text : List ℕ) (marks : List Mark) (trailers : List (Lis
 tells_lf b text marks trailers false is w = absurd w
 tells_lf b text marks trailers true is w = (text, marks, ap (λ (n : ℕ). n ∷ text) (is_byte b 10 is), refl, w)
 
-tells_more : (place : Place) (b : ℕ) (text : List ℕ) (marks : List Mark) (trailers : List (List ℕ × List ℕ)) → (GoesOn place)
+tells_more : (place : ChunkPlace) (b : ℕ) (text : List ℕ) (marks : List Mark) (trailers : List (List ℕ × List ℕ)) → (GoesOn place)
     → IsFresh place → (in_trailers [] ≡ place → ⊥)
     → TellsFrom (hear place b).place text marks trailers → TellsFrom place (b ∷ text) ((hear place b).marks ++ marks) trailers
 tells_more (in_line line) b text marks trailers on fresh other w =
@@ -214,12 +214,12 @@ fresh_line line true over = by (size_in line)
 fresh_line line false true = tt
 fresh_line line false false = tt
 
-fresh_if : (v : Bool) (marks : List Mark) (place : Place) → IsFresh place
+fresh_if : (v : Bool) (marks : List Mark) (place : ChunkPlace) → IsFresh place
     → IsFresh (if v then record { marks = marks; place = place } else silent broken).place
 fresh_if true marks place fresh = fresh
 fresh_if false marks place fresh = tt
 
-fresh_hear : (place : Place) (b : ℕ) → (in_trailers [] ≡ place → ⊥) → IsFresh place → IsFresh (hear place b).place
+fresh_hear : (place : ChunkPlace) (b : ℕ) → (in_trailers [] ≡ place → ⊥) → IsFresh place → IsFresh (hear place b).place
 fresh_hear (in_line line) b other fresh = fresh_line (line ++ b ∷ []) (b == 10) (nat_le 1024 (length (line ++ b ∷ [])))
 fresh_hear (in_content zero) b other fresh = tt
 fresh_hear (in_content (suc left)) b other fresh = tt
@@ -279,7 +279,7 @@ finish_more (whole other n) trailers used is =
     (n, ap (λ (t : List (List ℕ × List ℕ)). whole t n) same, omega arith)
 finish_more (fails fault) trailers used is = absurd (let e = is in cc)
 
-shift_fresh : (place : Place) (bytes : List ℕ) → IsFresh place
+shift_fresh : (place : ChunkPlace) (bytes : List ℕ) → IsFresh place
     → place_finish (1 + length bytes) (hear_all place bytes).place ≡ behind_bytes 1 (place_finish (length bytes) (hear_all place bytes).place)
 shift_fresh (in_line line) bytes fresh = shift_from 1 (in_line line) bytes refl
 shift_fresh (in_content left) bytes fresh = shift_from 1 (in_content left) bytes refl
@@ -288,9 +288,9 @@ shift_fresh at_lf bytes fresh = shift_from 1 at_lf bytes refl
 shift_fresh (in_trailers block) bytes fresh =
     shift_from 1 (in_trailers block) bytes (subst (λ (l : List ℕ). GoesOn (in_trailers l)) (sym fresh) (waits_on [] refl))
 shift_fresh broken bytes fresh =
-    subst (λ (t : Turn). place_finish (1 + length bytes) t.place ≡ behind_bytes 1 (place_finish (length bytes) t.place)) (sym (hear_all-broken bytes)) refl
+    subst (λ (t : ChunkHearing). place_finish (1 + length bytes) t.place ≡ behind_bytes 1 (place_finish (length bytes) t.place)) (sym (hear_all-broken bytes)) refl
 
-abbrev IsAllTold : Place → List ℕ → Type 0
+abbrev IsAllTold : ChunkPlace → List ℕ → Type 0
 IsAllTold place bytes = (trailers : List (List ℕ × List ℕ)) (used : ℕ) → (chunks_from place bytes).finish ≡ whole trailers used
     → TellsFrom place (take used bytes) (chunks_from place bytes).marks trailers
 
@@ -300,15 +300,15 @@ all_trailers block bytes fresh trailers used is = subst (λ (l : List ℕ). IsAl
     told : IsAllTold (in_trailers []) bytes
     told trailers used is =
         let heard = hear_all-trailers [] bytes in
-        let finish = subst (λ (t : Turn). place_finish (length bytes) t.place ≡ whole trailers used) heard is in
-        subst (λ (t : Turn). TellsFrom (in_trailers []) (take used bytes) t.marks trailers) (sym heard)
+        let finish = subst (λ (t : ChunkHearing). place_finish (length bytes) t.place ≡ whole trailers used) heard is in
+        subst (λ (t : ChunkHearing). TellsFrom (in_trailers []) (take used bytes) t.marks trailers) (sym heard)
         (trailers_told bytes (trailer_front bytes) trailers used refl finish)
 
 all_broken : (bytes : List ℕ) → IsAllTold broken bytes
 all_broken bytes trailers used is =
-    absurd (let e = subst (λ (t : Turn). place_finish (length bytes) t.place ≡ whole trailers used) (hear_all-broken bytes) is in cc)
+    absurd (let e = subst (λ (t : ChunkHearing). place_finish (length bytes) t.place ≡ whole trailers used) (hear_all-broken bytes) is in cc)
 
-all_more : (bytes : List ℕ) → ((place : Place) → IsFresh place → IsAllTold place bytes) → (place : Place) (b : ℕ) → GoesOn place
+all_more : (bytes : List ℕ) → ((place : ChunkPlace) → IsFresh place → IsAllTold place bytes) → (place : ChunkPlace) (b : ℕ) → GoesOn place
     → IsFresh place → (in_trailers [] ≡ place → ⊥) → IsAllTold place (b ∷ bytes)
 all_more bytes rest place b on fresh other trailers used is =
     let next = (hear place b).place in
@@ -320,10 +320,10 @@ all_more bytes rest place b on fresh other trailers used is =
     subst (λ (n : ℕ). TellsFrom place (take n (b ∷ bytes)) (chunks_from place (b ∷ bytes)).marks trailers) (sym f.2)
     (tells_more place b (take f.0 bytes) (hear_all next bytes).marks trailers on fresh other w)
 
-all_none : (place : Place) → GoesOn place → IsAllTold place []
+all_none : (place : ChunkPlace) → GoesOn place → IsAllTold place []
 all_none place on trailers used is = absurd (let e = sym on ∙ is in cc)
 
-all_told : (bytes : List ℕ) (place : Place) → IsFresh place → IsAllTold place bytes
+all_told : (bytes : List ℕ) (place : ChunkPlace) → IsFresh place → IsAllTold place bytes
 all_told bytes (in_trailers block) fresh = all_trailers block bytes fresh
 all_told bytes broken fresh = all_broken bytes
 all_told [] (in_line line) fresh = all_none (in_line line) refl

@@ -13,7 +13,7 @@ use Rattle.px_read.specs.declared.chunk_reader.ChunkStep.{ChunkStep}
 use Rattle.px_read.specs.declared.part.ChunkPart.{ChunkPart}
 use Rattle.px_read.specs.declared.part.ChunkPart.TheVariants as chunk_part
 use Rattle.px_read.specs.Marks.{Mark, chunk_marks_of, all_chunk_marks}
-use Rattle.px_read.specs.Chunks.{Place, in_line, in_content, at_cr, at_lf, in_trailers, broken, Turn, hear_all, Finish, goes_on, whole, fails, trailers_finish, place_finish, GoesOn, Reading, chunks_from}
+use Rattle.px_read.specs.Chunks.{ChunkPlace, in_line, in_content, at_cr, at_lf, in_trailers, broken, ChunkHearing, hear_all, Finish, goes_on, whole, fails, trailers_finish, place_finish, GoesOn, Reading, chunks_from}
 use Rattle.px_read.specs.Chunking.{Chunking, reads, ended, refused}
 use Rattle.px_read.specs.ChunkSteps.{Gives, Hears, IsBodyPart, IsOpen, UsesFor, Steps, Added, AreTold, UnlessNoMemory, after_of, after_feed, answer_of, feed_answer, last_part}
 use Rattle.px_read.specs.ChunkLoops.{Feeds, FeedsFrom}
@@ -29,23 +29,23 @@ pub record Fed (before : Chunking) (bytes : List ℕ) (parts : List ChunkPart) (
   pub state : UnlessNoMemory result (after ≡ after_feed before bytes)
 
 -- a body whose reading is known
-fed_by : (place : Place) (bytes : List ℕ) (parts : List ChunkPart) (body : List ChunkPart) (finish : Finish)
+fed_by : (place : ChunkPlace) (bytes : List ℕ) (parts : List ChunkPart) (body : List ChunkPart) (finish : Finish)
     → chunks_from place bytes ≡ to_reading (all_chunk_marks body) finish → parts ≡ body ++ last_part finish → All IsBodyPart body
     → AreTold (chunks_from place bytes) parts
 fed_by place bytes parts body finish read is all =
     subst (λ (r : Reading). AreTold r parts) (sym read) (body, is, refl, all)
 
-answers_by : (place : Place) (bytes : List ℕ) (marks : List Mark) (finish : Finish) → chunks_from place bytes ≡ to_reading marks finish
+answers_by : (place : ChunkPlace) (bytes : List ℕ) (marks : List Mark) (finish : Finish) → chunks_from place bytes ≡ to_reading marks finish
     → answer_of (length bytes) finish ≡ feed_answer (reads place) bytes
 answers_by place bytes marks finish read = ap (λ (r : Reading). answer_of (length bytes) r.finish) (sym read)
 
-after_by : (place : Place) (bytes : List ℕ) (marks : List Mark) (finish : Finish) → chunks_from place bytes ≡ to_reading marks finish
+after_by : (place : ChunkPlace) (bytes : List ℕ) (marks : List Mark) (finish : Finish) → chunks_from place bytes ≡ to_reading marks finish
     → after_of (hear_all place bytes).place finish ≡ after_feed (reads place) bytes
 after_by place bytes marks finish read = ap (λ (r : Reading). after_of (hear_all place bytes).place r.finish) (sym read)
 
 -- ---- bytes behind those that gave parts
 
-read_behind : (place next : Place) (bytes : List ℕ) (at : ℕ) (marks : List Mark) (finish : Finish) → at ≤ length bytes
+read_behind : (place next : ChunkPlace) (bytes : List ℕ) (at : ℕ) (marks : List Mark) (finish : Finish) → at ≤ length bytes
     → hear_all place (take at bytes) ≡ record { marks = marks; place = next } → GoesOn next
     → chunks_from next (drop at bytes) ≡ to_reading [] finish
     → chunks_from place bytes ≡ reading_behind marks at (to_reading [] finish)
@@ -55,7 +55,7 @@ read_behind place next bytes at marks finish fits first on read =
     ∙ ap (λ (n : ℕ). reading_behind marks n (chunks_from next (drop at bytes))) (length-take-le at bytes fits)
     ∙ ap (λ (r : Reading). reading_behind marks at r) read
 
-heard_more : (place next : Place) (bytes : List ℕ) (at used : ℕ) (marks further : List Mark) (end : Place)
+heard_more : (place next : ChunkPlace) (bytes : List ℕ) (at used : ℕ) (marks further : List Mark) (end : ChunkPlace)
     → hear_all place (take at bytes) ≡ record { marks = marks; place = next }
     → hear_all next (take used (drop at bytes)) ≡ record { marks = further; place = end }
     → hear_all place (take (at + used) bytes) ≡ record { marks = marks ++ further; place = end }
@@ -69,7 +69,7 @@ marks_push parts part =
     ∙ sym (flat_map-append chunk_marks_of parts (part ∷ []))
 
 -- a part before the end
-body_more : (place next : Place) (bytes : List ℕ) (at used : ℕ) (parts : List ChunkPart) (part : ChunkPart) (after : Chunking)
+body_more : (place next : ChunkPlace) (bytes : List ℕ) (at used : ℕ) (parts : List ChunkPart) (part : ChunkPart) (after : Chunking)
     → FeedsFrom place bytes at parts (reads next) → Hears next (take used (drop at bytes)) (chunk_marks_of part) after → IsBodyPart part
     → FeedsFrom place bytes (at + used) (parts ++ part ∷ []) after
 body_more place next bytes at used parts part after w h is =
@@ -79,10 +79,10 @@ body_more place next bytes at used parts part after w h is =
       All-push IsBodyPart parts part w.1 is,
     )
   where
-    to_turn : List Mark → Place → Turn
+    to_turn : List Mark → ChunkPlace → ChunkHearing
     to_turn marks place = record { marks = marks; place = place }
 
-part_more : (place next : Place) (bytes : List ℕ) (at used : ℕ) (parts : List ChunkPart) (part : ChunkPart) (after : Chunking)
+part_more : (place next : ChunkPlace) (bytes : List ℕ) (at used : ℕ) (parts : List ChunkPart) (part : ChunkPart) (after : Chunking)
     → at ≤ length bytes → GoesOn next → FeedsFrom place bytes at parts (reads next) → Gives next (drop at bytes) used (Some part) after
     → FeedsFrom place bytes (at + used) (parts ++ part ∷ []) after
 part_more place next bytes at used parts (chunk_part.Size n) after fits on w g = body_more place next bytes at used parts (chunk_part.Size n) after w g.0 g.1
@@ -110,7 +110,7 @@ to_result step = Ok step
 none_then_some : (step : ChunkStep) (part : ChunkPart) → to_result step ≡ Ok (record { used = 0; part = None }) → step.part ≡ Some part → ⊥
 none_then_some step part is some = let f : step.part ≡ None = (let g = is in cc) in let h = sym some ∙ f in cc
 
-more_from : (place : Place) (bytes : List ℕ) (at : ℕ) (parts : List ChunkPart) (now after : Chunking) (step : ChunkStep) (part : ChunkPart)
+more_from : (place : ChunkPlace) (bytes : List ℕ) (at : ℕ) (parts : List ChunkPart) (now after : Chunking) (step : ChunkStep) (part : ChunkPart)
     → at ≤ length bytes → IsOpen now → FeedsFrom place bytes at parts now → Steps now (drop at bytes) (Ok step) after → step.part ≡ Some part
     → FeedsMore (reads place) bytes at step.used (parts ++ part ∷ []) after
 more_from place bytes at parts (reads next) after step part fits on w s is =
@@ -137,7 +137,7 @@ feed_more refused bytes at parts now after step part fits on w s is =
 
 -- ---- the end of the bytes
 
-goes_on_any : (count : ℕ) (place : Place) → GoesOn place → place_finish count place ≡ goes_on
+goes_on_any : (count : ℕ) (place : ChunkPlace) → GoesOn place → place_finish count place ≡ goes_on
 goes_on_any count (in_line line) on = refl
 goes_on_any count (in_content left) on = refl
 goes_on_any count at_cr on = refl
@@ -145,7 +145,7 @@ goes_on_any count at_lf on = refl
 goes_on_any count (in_trailers block) on = ap (λ (f : Front). trailers_finish count (length block) f) (waited block on)
 goes_on_any count broken on = absurd (let e = on in cc)
 
-none_from : (place : Place) (bytes : List ℕ) (at : ℕ) (parts : List ChunkPart) (now after : Chunking) (step : ChunkStep)
+none_from : (place : ChunkPlace) (bytes : List ℕ) (at : ℕ) (parts : List ChunkPart) (now after : Chunking) (step : ChunkStep)
     → at ≤ length bytes → IsOpen now → FeedsFrom place bytes at parts now → Steps now (drop at bytes) (Ok step) after → step.part ≡ None
     → Fed (reads place) bytes parts (Ok (at + step.used)) after
 none_from place bytes at parts (reads next) after step fits on w s is =
@@ -158,15 +158,15 @@ none_from place bytes at parts (reads next) after step fits on w s is =
     ∙ heard_more place next bytes at step.used (all_chunk_marks parts) [] h.0 w.0 h.1
     ∙ ap (λ (ms : List Mark). to_turn ms h.0) (append-nil (all_chunk_marks parts)) in
     let read : chunks_from place bytes ≡ to_reading (all_chunk_marks parts) goes_on =
-    ap (λ (t : Turn). to_reading t.marks (place_finish (length bytes) t.place)) heard
+    ap (λ (t : ChunkHearing). to_reading t.marks (place_finish (length bytes) t.place)) heard
     ∙ ap (λ (f : Finish). to_reading (all_chunk_marks parts) f) (goes_on_any (length bytes) h.0 h.3) in
     record {
       added = fed_by place bytes parts parts goes_on read (sym (append-nil parts)) w.1;
       answer = ap (λ (n : ℕ). Ok n) count ∙ answers_by place bytes (all_chunk_marks parts) goes_on read;
-      state = h.2 ∙ ap (λ (t : Turn). reads t.place) (sym heard) ∙ after_by place bytes (all_chunk_marks parts) goes_on read;
+      state = h.2 ∙ ap (λ (t : ChunkHearing). reads t.place) (sym heard) ∙ after_by place bytes (all_chunk_marks parts) goes_on read;
     }
   where
-    to_turn : List Mark → Place → Turn
+    to_turn : List Mark → ChunkPlace → ChunkHearing
     to_turn marks place = record { marks = marks; place = place }
 none_from place bytes at parts (ended trailers) after step fits on w s is =
     let none : step.used ≡ 0 = (let g = s.0 in cc) in
@@ -196,7 +196,7 @@ feed_none refused bytes at parts now after step fits on w s is =
 no_memory : (before : Chunking) (bytes : List ℕ) (parts : List ChunkPart) (after : Chunking) → Fed before bytes parts (Err NoMemory) after
 no_memory before bytes parts after = record { added = tt; answer = tt; state = tt }
 
-fails_from : (place : Place) (bytes : List ℕ) (at : ℕ) (parts : List ChunkPart) (now after : Chunking) → at ≤ length bytes
+fails_from : (place : ChunkPlace) (bytes : List ℕ) (at : ℕ) (parts : List ChunkPart) (now after : Chunking) → at ≤ length bytes
     → IsOpen now → FeedsFrom place bytes at parts now → Steps now (drop at bytes) (Err BadChunk) after → Fed (reads place) bytes parts (Err BadChunk) after
 fails_from place bytes at parts (reads next) after fits on w s =
     let bad = fails fault.BadChunk in
@@ -221,7 +221,7 @@ feed_fails refused bytes at parts now after BadChunk fits on w s =
     let t = subst (λ (c : Chunking). Steps c (drop at bytes) (Err BadChunk) after) w.2 s in
     record { added = w.1; answer = refl; state = t.1 }
 
--- the same, where want of memory promises nothing
+-- the same, where out of memory promises nothing
 pub feed_stops : (before : Chunking) (bytes : List ℕ) (at : ℕ) (parts : List ChunkPart) (now after : Chunking) (error : ChunkError)
     → at ≤ length bytes → UnlessNoMemory {A = ChunkStep} (Err error) (IsOpen now) → Feeds before bytes at parts now
     → UnlessNoMemory {A = ChunkStep} (Err error) (Steps now (drop at bytes) (Err error) after) → Fed before bytes parts (Err error) after

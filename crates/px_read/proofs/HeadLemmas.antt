@@ -80,17 +80,19 @@ request-parts old new raw f = request_parts_valid old.rest raw f.used f.at
 pub response-parts : (old new : Reader) (raw : RawHead) → Finds kind.Response old new raw → IsResponseParts raw
 response-parts old new raw f = response_parts_valid old.rest raw f.used f.at
 
--- nothing stands there, and the reader is as it was
+-- nothing stands there, and the reader has the bytes that it had
 pub record Waits (k : Kind) (old new : Reader) : Type 0 where
   pub at : front k old.rest ≡ fronts.Nothing
-  pub same : new ≡ old
+  pub left : new.rest ≡ old.rest
+  pub fresh : new.failed ≡ old.failed
 
 pub waits : (k : Kind) (old new : Reader) → old.failed ≡ None → found.Partial ≡ answer (seen k old)
     → new ≡ after (seen k old) old → Waits k old new
 waits k old new none is goes =
     let same = fresh k old none in
     let w = waiting (front k old.rest) (is ∙ ap answer same) in
-    record { at = w; same = goes ∙ ap (λ (f : Front). after f old) (same ∙ w) }
+    let searched = goes ∙ ap (λ (f : Front). after f old) (same ∙ w) in
+    record { at = w; left = ap (λ (r : Reader). r.rest) searched; fresh = ap (λ (r : Reader). r.failed) searched }
 
 pub is_too_long : (k : Kind) (old new : Reader) → old.failed ≡ None → found.TooLong ≡ answer (seen k old)
     → new ≡ after (seen k old) old → (front k old.rest ≡ fronts.TooLong) × (new.rest ≡ old.rest)
@@ -111,7 +113,7 @@ is_bad k old new none is goes =
 pub request-waits : (old new : Reader) (closed : Bool) → Waits kind.Request old new
     → IsTurn (state_at (at_head request) old.rest closed) part.More (state_at (at_head request) new.rest closed)
 request-waits old new closed w =
-    subst (λ (r : Reader). IsTurn (state_at (at_head request) old.rest closed) part.More (state_at (at_head request) r.rest closed)) (sym w.same)
+    subst (λ (l : List ℕ). IsTurn (state_at (at_head request) old.rest closed) part.More (state_at (at_head request) l closed)) (sym w.left)
     (turn-waits _ _ (tells-nothing _) (ap (λ (f : Front). request_behind f old.rest) w.at) refl)
 
 -- a front that is decided is the same over all that follows
@@ -173,7 +175,7 @@ request-gives old new raw rest closed f left =
 pub response-waits : (old new : Reader) (asked_head closed : Bool) → Waits kind.Response old new → closed ≡ false
     → IsTurn (state_at (at_head (response asked_head)) old.rest closed) part.More (state_at (at_head (response asked_head)) new.rest closed)
 response-waits old new asked_head closed w going =
-    subst (λ (r : Reader). IsTurn (state_at (at_head (response asked_head)) old.rest closed) part.More (state_at (at_head (response asked_head)) r.rest closed)) (sym w.same)
+    subst (λ (l : List ℕ). IsTurn (state_at (at_head (response asked_head)) old.rest closed) part.More (state_at (at_head (response asked_head)) l closed)) (sym w.left)
     (turn-waits _ _ (tells-nothing _)
     (ap (λ (f : Front). as_response closed (response_behind f asked_head closed old.rest)) w.at
     ∙ ap (λ (shut : Bool). as_response shut (only goes_on)) going) refl)
@@ -182,7 +184,7 @@ pub response-cut : (old new : Reader) (rest : List ℕ) (asked_head closed : Boo
     → IsTurn (state_at (at_head (response asked_head)) old.rest closed) (part.Bad ServerClosed) (state_at (refused ServerClosed) rest closed)
 response-cut old new rest asked_head closed w shut left =
     subst (λ (bytes : List ℕ). IsTurn (state_at (at_head (response asked_head)) old.rest closed) (part.Bad ServerClosed) (state_at (refused ServerClosed) bytes closed))
-    (sym (left ∙ ap (λ (r : Reader). r.rest) w.same))
+    (sym (left ∙ w.left))
     (turn-fails _ _ ServerClosed
     (cut_tells (at_head (response asked_head)) (at_head (response asked_head)) old.rest old.rest closed ServerClosed shut (tells-nothing _)
     (ap (λ (f : Front). as_response closed (response_behind f asked_head closed old.rest)) w.at

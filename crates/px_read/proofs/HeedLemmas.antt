@@ -7,14 +7,14 @@ use Rattle.px_read.specs.Reader.{request, response, MessagePlace, at_head, in_co
 use Rattle.px_read.proofs.ReaderLemmas.{reads-fed, reads-told}
 use Rattle.px_read.specs.Stages.{IsStage, chunk_place, heeded, state_at, seen_as}
 use Rattle.px_read.specs.declared.message_reader.stage.Sender.TheVariants.{Client, Server}
-use Rattle.px_read.specs.declared.message_reader.stage.Stage.{Stage}
-use Rattle.px_read.specs.declared.message_reader.stage.Stage.TheVariants as stage
-use Rattle.px_read.specs.declared.message_reader.stage.Turn.{Turn}
+use Rattle.px_read.specs.declared.message_reader.stage.MessageStage.{MessageStage}
+use Rattle.px_read.specs.declared.message_reader.stage.MessageStage.TheVariants as stage
+use Rattle.px_read.specs.declared.message_reader.stage.MessageTurn.{MessageTurn}
 use Rattle.px_read.specs.declared.part.Part.{Part}
 use Rattle.px_read.specs.declared.part.Part.TheVariants as part
 
 -- the place and the bytes of a stage, whether its sender has closed or not
-pub seen_at : (kept : Stage) (bytes : List ℕ) (closed : Bool)
+pub seen_at : (kept : MessageStage) (bytes : List ℕ) (closed : Bool)
     → seen_as kept bytes closed ≡ state_at (seen_as kept bytes false).place (seen_as kept bytes false).rest closed
 seen_at (stage.Request reader) bytes closed = refl
 seen_at (stage.Response asked_head reader) bytes closed = refl
@@ -24,7 +24,7 @@ seen_at (stage.ToClose side) bytes closed = refl
 seen_at (stage.Ended trailers) bytes closed = refl
 seen_at (stage.Refused fault) bytes closed = refl
 
-clients_heed : (kept : Stage) (bytes : List ℕ) (closed : Bool) → IsStage kept → is_clients (seen_as kept bytes false).place ≡ true
+clients_heed : (kept : MessageStage) (bytes : List ℕ) (closed : Bool) → IsStage kept → is_clients (seen_as kept bytes false).place ≡ true
     → heeded kept closed ≡ false
 clients_heed (stage.Request reader) bytes closed stands is = refl
 clients_heed (stage.Response asked_head reader) bytes closed stands is = absurd (let e = is in cc)
@@ -38,7 +38,7 @@ clients_heed (stage.ToClose Server) bytes closed stands is = absurd (let e = is 
 clients_heed (stage.Ended trailers) bytes closed stands is = refl
 clients_heed (stage.Refused fault) bytes closed stands is = refl
 
-others_heed : (kept : Stage) (bytes : List ℕ) (closed : Bool) → is_clients (seen_as kept bytes false).place ≡ false
+others_heed : (kept : MessageStage) (bytes : List ℕ) (closed : Bool) → is_clients (seen_as kept bytes false).place ≡ false
     → heeded kept closed ≡ closed
 others_heed (stage.Request reader) bytes closed is = absurd (let e = is in cc)
 others_heed (stage.Response asked_head reader) bytes closed is = refl
@@ -104,40 +104,40 @@ turn_by place rest given new left true shut true is free counts stays t =
 turn_by place rest given new left false shut true is free counts stays t = subst (TurnAt place rest given new left) (free is) t
 turn_by place rest given new left closed shut false is free counts stays t = subst (TurnAt place rest given new left) (counts is) t
 
-at_place : (kept : Stage) (bytes : List ℕ) (closed : Bool)
+at_place : (kept : MessageStage) (bytes : List ℕ) (closed : Bool)
     → is_clients (seen_as kept bytes closed).place ≡ is_clients (seen_as kept bytes false).place
 at_place kept bytes closed = ap (λ (s : State). is_clients s.place) (seen_at kept bytes closed)
 
-to_places : (kept new : Stage) (bytes left : List ℕ) (given : Part) (closed : Bool) → IsTurn (seen_as kept bytes closed) given (seen_as new left closed)
+to_places : (kept new : MessageStage) (bytes left : List ℕ) (given : Part) (closed : Bool) → IsTurn (seen_as kept bytes closed) given (seen_as new left closed)
     → TurnAt (seen_as kept bytes false).place (seen_as kept bytes false).rest given (seen_as new left false).place (seen_as new left false).rest closed
 to_places kept new bytes left given closed t =
     subst (λ (s : State). IsTurn s given (state_at (seen_as new left false).place (seen_as new left false).rest closed)) (seen_at kept bytes closed)
     (subst (λ (s : State). IsTurn (seen_as kept bytes closed) given s) (seen_at new left closed) t)
 
-from_places : (kept new : Stage) (bytes left : List ℕ) (given : Part) (closed : Bool)
+from_places : (kept new : MessageStage) (bytes left : List ℕ) (given : Part) (closed : Bool)
     → TurnAt (seen_as kept bytes false).place (seen_as kept bytes false).rest given (seen_as new left false).place (seen_as new left false).rest closed
     → IsTurn (seen_as kept bytes closed) given (seen_as new left closed)
 from_places kept new bytes left given closed t =
     subst (λ (s : State). IsTurn s given (seen_as new left closed)) (sym (seen_at kept bytes closed))
     (subst (λ (s : State). IsTurn (state_at (seen_as kept bytes false).place (seen_as kept bytes false).rest closed) given s) (sym (seen_at new left closed)) t)
 
-both : {E : Type 0} (r : Result Turn E) (P Q R : Turn → Type 0) → IfOk r P → IfOk r Q → ((t : Turn) → P t → Q t → R t) → IfOk r R
+both : {E : Type 0} (r : Result MessageTurn E) (P Q R : MessageTurn → Type 0) → IfOk r P → IfOk r Q → ((t : MessageTurn) → P t → Q t → R t) → IfOk r R
 both (Ok t) P Q R p q makes = makes t p q
 both (Err e) P Q R p q makes = tt
 
-weaker : {E : Type 0} (r : Result Turn E) (P R : Turn → Type 0) → IfOk r P → ((t : Turn) → P t → R t) → IfOk r R
+weaker : {E : Type 0} (r : Result MessageTurn E) (P R : MessageTurn → Type 0) → IfOk r P → ((t : MessageTurn) → P t → R t) → IfOk r R
 weaker (Ok t) P R p makes = makes t p
 weaker (Err e) P R p makes = tt
 
 -- what a turn with the close as it counts says of the answer
-pub record Heeds {E : Type 0} (kept : Stage) (bytes : List ℕ) (closed : Bool) (result : Result Turn E) : Type 0 where
+pub record Heeds {E : Type 0} (kept : MessageStage) (bytes : List ℕ) (closed : Bool) (result : Result MessageTurn E) : Type 0 where
   pub turn : IfOk result (λ turn. IsTurn (seen_as kept bytes closed) turn.part (seen_as turn.stage turn.rest closed))
   pub unclosed : is_clients (seen_as kept bytes closed).place ≡ true
       → IfOk result (λ turn. IsTurn (seen_as kept bytes false) turn.part (seen_as turn.stage turn.rest false))
   pub client : is_clients (seen_as kept bytes closed).place ≡ true
       → IfOk result (λ turn. is_clients (seen_as turn.stage turn.rest closed).place ≡ true)
 
-heeds_by : {E : Type 0} (kept : Stage) (bytes : List ℕ) (closed shut : Bool) (result : Result Turn E) (clients : Bool)
+heeds_by : {E : Type 0} (kept : MessageStage) (bytes : List ℕ) (closed shut : Bool) (result : Result MessageTurn E) (clients : Bool)
     → is_clients (seen_as kept bytes false).place ≡ clients → IsStage kept → shut ≡ heeded kept closed
     → IfOk result (λ turn. IsTurn (seen_as kept bytes shut) turn.part (seen_as turn.stage turn.rest shut))
     → (is_clients (seen_as kept bytes shut).place ≡ true → IfOk result (λ turn. is_clients (seen_as turn.stage turn.rest shut).place ≡ true))
@@ -162,7 +162,7 @@ heeds_by kept bytes closed shut result false is stands counts turns stays =
       client = λ e. absurd (let f : false ≡ true = sym is ∙ sym (at_place kept bytes closed) ∙ e in cc);
     }
 
-pub heeds_turn : {E : Type 0} (kept : Stage) (bytes : List ℕ) (closed shut : Bool) (result : Result Turn E) → IsStage kept → shut ≡ heeded kept closed
+pub heeds_turn : {E : Type 0} (kept : MessageStage) (bytes : List ℕ) (closed shut : Bool) (result : Result MessageTurn E) → IsStage kept → shut ≡ heeded kept closed
     → IfOk result (λ turn. IsTurn (seen_as kept bytes shut) turn.part (seen_as turn.stage turn.rest shut))
     → (is_clients (seen_as kept bytes shut).place ≡ true → IfOk result (λ turn. is_clients (seen_as turn.stage turn.rest shut).place ≡ true))
     → Heeds kept bytes closed result
@@ -175,7 +175,7 @@ unclosed-fed told fed bytes state r =
     reads-fed request told fed bytes (opened state) (opened (record state { rest = state.rest ++ bytes })) refl refl r
 
 -- a part of them is told
-pub unclosed-told : (told : List Mark) (fed : List ℕ) (kept new : Stage) (bytes left : List ℕ) (closed : Bool) (given : Part)
+pub unclosed-told : (told : List Mark) (fed : List ℕ) (kept new : MessageStage) (bytes left : List ℕ) (closed : Bool) (given : Part)
     → IsTurn (seen_as kept bytes false) given (seen_as new left false)
     → Reads request told fed false (opened (seen_as kept bytes closed))
     → Reads request (told ++ marks_of given) fed false (opened (seen_as new left closed))
@@ -184,5 +184,5 @@ unclosed-told told fed kept new bytes left closed given t r =
     (reads-told request told (marks_of given) fed false (seen_as kept bytes false) (seen_as new left false) t.tells
     (subst (Reads request told fed false) (to_opened kept bytes closed) r))
   where
-    to_opened : (s : Stage) (bytes : List ℕ) (closed : Bool) → opened (seen_as s bytes closed) ≡ seen_as s bytes false
+    to_opened : (s : MessageStage) (bytes : List ℕ) (closed : Bool) → opened (seen_as s bytes closed) ≡ seen_as s bytes false
     to_opened s bytes closed = ap opened (seen_at s bytes closed) ∙ sym (seen_at s bytes false)

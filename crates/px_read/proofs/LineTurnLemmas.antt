@@ -17,10 +17,10 @@ use Rattle.px_read.specs.ChunkLine.{size_in}
 use Rattle.px_read.specs.Chunks.{in_line, in_content, in_trailers, silent, behind_size, hear_all}
 use Rattle.px_read.specs.ChunkSteps.{IsRefusal}
 use Rattle.px_read.specs.ChunkTurns.{IsTurn, Turns, line_turn}
-use Rattle.px_head.specs.Reader.{Reader}
+use Rattle.px_head.specs.Reader.{Reader, new_reader}
 use Rattle.px_read.specs.declared.chunk_reader.ChunkError.{ChunkError}
-use Rattle.px_read.specs.declared.chunk_reader.stage.Stage.TheVariants as stage
-use Rattle.px_read.specs.declared.chunk_reader.stage.Turn.{Turn as StageTurn}
+use Rattle.px_read.specs.declared.chunk_reader.stage.ChunkStage.TheVariants as stage
+use Rattle.px_read.specs.declared.chunk_reader.stage.ChunkTurn.{ChunkTurn}
 use Rattle.px_read.specs.declared.part.ChunkPart.TheVariants as chunk_part
 use Rattle.px_read.proofs.HearLemmas.{waits_on}
 use Rattle.px_read.proofs.SizeLemmas.{IsUnbroken, size_in-Some, size_in-None, line_heard, line_over, line_ended}
@@ -53,12 +53,12 @@ size_invalid line never = sym (size_in-None line (λ k x.
 
 -- ---- the stage behind a line
 
-pub turn_zero : (used : ℕ) (size : Option ℕ) (reader : Reader) → size ≡ Some 0 → reader ≡ record { rest = []; failed = None }
+pub turn_zero : (used : ℕ) (size : Option ℕ) (reader : Reader) → size ≡ Some 0 → reader ≡ new_reader
     → Ok (record { used = used; part = None; stage = stage.Trailers reader }) ≡ line_turn used size
 turn_zero used size reader is new =
     ap (λ (r : Reader). trailers_turn r) new ∙ sym (ap (λ (o : Option ℕ). line_turn used o) is)
   where
-    trailers_turn : Reader → Result StageTurn ChunkError
+    trailers_turn : Reader → Result ChunkTurn ChunkError
     trailers_turn r = Ok (record { used = used; part = None; stage = stage.Trailers r })
 
 pub turn_some : (used : ℕ) (size : Option ℕ) (n : ℕ) → size ≡ Some n → n ≢ 0
@@ -114,7 +114,7 @@ up_to near end inside is =
 nearer : (n m : ℕ) (bytes : List ℕ) → m ≤ n → take m (take n bytes) ≡ take m bytes
 nearer n m bytes fits = grind (arith, common_steps)
 
-pub line_taken : (line bytes : List ℕ) (n end : ℕ) (all new : List ℕ) (result : Result StageTurn ChunkError) → n ≤ length bytes
+pub line_taken : (line bytes : List ℕ) (n end : ℕ) (all new : List ℕ) (result : Result ChunkTurn ChunkError) → n ≤ length bytes
     → length line + n ≤ 1024 → position (λ b. b == 10) (take n bytes) ≡ Some end → all ≡ line ++ take (end + 1) (take n bytes)
     → result ≡ line_turn (end + 1) (size_in all) → new ≡ [] → Turns (in_line line) bytes new result
 line_taken line bytes n end all new result within room found is turn empty =
@@ -133,7 +133,7 @@ line_taken line bytes n end all new result within room found is turn empty =
     ∙ line_ended line text unbroken (omega arith)
     ∙ ap (λ (t : List ℕ). behind_size (size_in t)) (sym whole) in
     subst (λ (l : List ℕ). Turns (in_line line) bytes l result) (sym empty)
-    (subst (λ (r : Result StageTurn ChunkError). Turns (in_line line) bytes [] r) (sym turn)
+    (subst (λ (r : Result ChunkTurn ChunkError). Turns (in_line line) bytes [] r) (sym turn)
     (line_turns line bytes (end + 1) (size_in all) heard (omega arith) (omega arith)))
 
 -- a line without an LF that is full

@@ -2,7 +2,7 @@
 use Rattle.std.proofs.Common.{ℕ, ◌+◌, ◌-◌, ◌<◌, ◌≡◌, Bool, true, false, List, [], ◌++◌, length, drop, refl, sym, ap, ap₂, ◌∙◌, subst, arith, append-nil, append_assoc, length-append, zero-add, add-zero, add_assoc}
 use Rattle.std.specs.Prelude.{Result, IfOk}
 use Rattle.std.proofs.lemmas.Result.{IfOk-weaker}
-use Rattle.px_read.specs.declared.message_reader.stage.Turn.{Turn}
+use Rattle.px_read.specs.declared.message_reader.stage.MessageTurn.{MessageTurn}
 use Rattle.std.proofs.Math.Seq.{drop-append_seam}
 use Rattle.px_text.specs.Prefix.{IsPrefixOf}
 use Rattle.px_message.specs.declared.fault.Fault.{Fault}
@@ -11,8 +11,8 @@ use Rattle.px_read.specs.Chunks.{Finish, goes_on, whole, fails, Reading}
 use Rattle.px_read.specs.Readings.{only, behind_bytes, response_finish}
 use Rattle.px_read.specs.Reader.{Message, MessagePlace, behind_end, refused, State, as_sent, has_shut, reading_of, reading_from, to_come, MayFollow, behind_marks, Tells, IsLongest, before_all, Reads, IsNext, HasStopped, has_stopped, IsTurn}
 use Rattle.px_read.specs.Stages.{state_at, seen_as, cut_off}
-use Rattle.px_read.specs.declared.message_reader.stage.Stage.{Stage}
-use Rattle.px_read.specs.declared.message_reader.stage.Stage.TheVariants as stage
+use Rattle.px_read.specs.declared.message_reader.stage.MessageStage.{MessageStage}
+use Rattle.px_read.specs.declared.message_reader.stage.MessageStage.TheVariants as stage
 use Rattle.px_read.specs.declared.message_reader.stage.Sender.{Sender}
 use Rattle.px_read.specs.declared.message_reader.stage.Sender.TheVariants.{Client, Server}
 use Rattle.px_read.specs.declared.part.Part.{Part}
@@ -252,7 +252,7 @@ pub reads-told : (message : Message) (told marks : List Mark) (fed : List ℕ) (
 reads-told message told marks fed closed s new t r = tells-both told marks _ s new r t
 
 -- the close is no more than itself
-pub seen-closed : (kept : Stage) (rest : List ℕ) (closed : Bool) → seen_as kept rest true ≡ record (seen_as kept rest closed) { closed = true }
+pub seen-closed : (kept : MessageStage) (rest : List ℕ) (closed : Bool) → seen_as kept rest true ≡ record (seen_as kept rest closed) { closed = true }
 seen-closed (stage.Request reader) rest closed = refl
 seen-closed (stage.Response asked_head reader) rest closed = refl
 seen-closed (stage.Counted from left) rest closed = refl
@@ -262,12 +262,12 @@ seen-closed (stage.Ended trailers) rest closed = refl
 seen-closed (stage.Refused fault) rest closed = refl
 
 -- what a call answers is this turn
-pub turn-made : {E : Type 0} (answer : Result Turn E) (made : Turn) (old : State) (closed : Bool)
+pub turn-made : {E : Type 0} (answer : Result MessageTurn E) (made : MessageTurn) (old : State) (closed : Bool)
     → IsTurn old made.part (seen_as made.stage made.rest closed) → IfOk answer (λ turn. turn ≡ made)
     → IfOk answer (λ turn. IsTurn old turn.part (seen_as turn.stage turn.rest closed))
 turn-made answer made old closed is =
-    IfOk-weaker answer (λ (turn : Turn). turn ≡ made) (λ (turn : Turn). IsTurn old turn.part (seen_as turn.stage turn.rest closed))
-    (λ turn same. subst (λ (t : Turn). IsTurn old t.part (seen_as t.stage t.rest closed)) (sym same) is)
+    IfOk-weaker answer (λ (turn : MessageTurn). turn ≡ made) (λ (turn : MessageTurn). IsTurn old turn.part (seen_as turn.stage turn.rest closed))
+    (λ turn same. subst (λ (t : MessageTurn). IsTurn old t.part (seen_as t.stage t.rest closed)) (sym same) is)
 
 -- ---- what was told is read
 

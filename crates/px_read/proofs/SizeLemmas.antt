@@ -8,7 +8,7 @@ use Rattle.httparse.specs.Grammar.{AllPass, ChunkLine, IsExtension, chunk_size, 
 use Rattle.httparse.proofs.ChunkLemmas.{chunk_line_unique, chunk_pieces}
 use Rattle.px_read.specs.ChunkLine.{IsLine, size_in, size_told, tell_line}
 use Rattle.px_read.specs.Marks.{Mark, begins, byte}
-use Rattle.px_read.specs.Chunks.{Place, in_line, broken, Turn, silent, behind_size, behind_line_byte, behind_content, hear, hear_all}
+use Rattle.px_read.specs.Chunks.{ChunkPlace, in_line, broken, ChunkHearing, silent, behind_size, behind_line_byte, behind_content, hear, hear_all}
 use Rattle.px_read.proofs.HearLemmas.{behind, hear_all-append, hear_all-broken}
 
 -- ---- the size that a line states
@@ -92,17 +92,17 @@ pushed : (line : List ℕ) (b : ℕ) (text : List ℕ) → (line ++ b ∷ []) ++
 pushed line b text = append_assoc line (b ∷ []) text
 
 -- one byte
-pub hear_one : (place : Place) (b : ℕ) → hear_all place (b ∷ []) ≡ hear place b
+pub hear_one : (place : ChunkPlace) (b : ℕ) → hear_all place (b ∷ []) ≡ hear place b
 hear_one place b =
     let t = hear place b in ap (λ (ms : List Mark). turn ms t.place) (append-nil t.marks)
   where
-    turn : List Mark → Place → Turn
+    turn : List Mark → ChunkPlace → ChunkHearing
     turn marks place = record { marks = marks; place = place }
 
 -- a silent byte before others
-after_silent : (place : Place) (b : ℕ) (next : Place) (bytes : List ℕ) → hear place b ≡ silent next
+after_silent : (place : ChunkPlace) (b : ℕ) (next : ChunkPlace) (bytes : List ℕ) → hear place b ≡ silent next
     → hear_all place (b ∷ bytes) ≡ hear_all next bytes
-after_silent place b next bytes is = ap (λ (t : Turn). behind t bytes) is
+after_silent place b next bytes is = ap (λ (t : ChunkHearing). behind t bytes) is
 
 pub line_heard : (line text : List ℕ) → IsUnbroken text → length (line ++ text) < 1024
     → hear_all (in_line line) text ≡ silent (in_line (line ++ text))
@@ -136,7 +136,7 @@ pub line_ended : (line text : List ℕ) → IsUnbroken text → length (line ++ 
     → hear_all (in_line line) (text ++ 10 ∷ []) ≡ behind_size (size_in ((line ++ text) ++ 10 ∷ []))
 line_ended line text all short =
     hear_all-append (in_line line) text (10 ∷ [])
-    ∙ ap (λ (t : Turn). behind t (10 ∷ [])) (line_heard line text all short)
+    ∙ ap (λ (t : ChunkHearing). behind t (10 ∷ [])) (line_heard line text all short)
     ∙ hear_one (in_line (line ++ text)) 10
 
 -- the whole line at once
@@ -160,7 +160,7 @@ pub behind_size-some : (size : ℕ) → 0 < size
 behind_size-some zero some = absurd (omega arith)
 behind_size-some (suc left) some = refl
 
-abbrev content_turn : List Mark → ℕ → Turn
+abbrev content_turn : List Mark → ℕ → ChunkHearing
 content_turn marks left = record { marks = marks; place = behind_content left }
 
 pub content_heard : (left : ℕ) (bytes : List ℕ) → length bytes ≤ left
@@ -168,8 +168,8 @@ pub content_heard : (left : ℕ) (bytes : List ℕ) → length bytes ≤ left
 content_heard left [] fits = ap (λ (n : ℕ). content_turn [] n) (omega arith)
 content_heard zero (b ∷ bytes) fits = absurd (omega arith)
 content_heard (suc left) (b ∷ bytes) fits =
-    ap (λ (t : Turn). to_byte t) (content_heard left bytes (omega arith))
+    ap (λ (t : ChunkHearing). to_byte t) (content_heard left bytes (omega arith))
     ∙ ap (λ (n : ℕ). content_turn (byte b ∷ map byte bytes) n) (omega arith)
   where
-    to_byte : Turn → Turn
+    to_byte : ChunkHearing → ChunkHearing
     to_byte t = record { marks = byte b ∷ t.marks; place = t.place }

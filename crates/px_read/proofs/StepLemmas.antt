@@ -7,12 +7,12 @@ use Rattle.px_message.specs.declared.fault.Fault.TheVariants as fault
 use Rattle.px_read.specs.declared.chunk_reader.ChunkError.{ChunkError}
 use Rattle.px_read.specs.declared.chunk_reader.ChunkError.TheVariants.{BadChunk, NoMemory}
 use Rattle.px_read.specs.declared.chunk_reader.ChunkStep.{ChunkStep}
-use Rattle.px_read.specs.declared.chunk_reader.stage.Stage.{Stage}
-use Rattle.px_read.specs.declared.chunk_reader.stage.Stage.TheVariants as stage
+use Rattle.px_read.specs.declared.chunk_reader.stage.ChunkStage.{ChunkStage}
+use Rattle.px_read.specs.declared.chunk_reader.stage.ChunkStage.TheVariants as stage
 use Rattle.px_read.specs.declared.part.ChunkPart.{ChunkPart}
 use Rattle.px_read.specs.declared.part.ChunkPart.TheVariants as chunk_part
 use Rattle.px_read.specs.Marks.{BeginsWithNoByte, Mark}
-use Rattle.px_read.specs.Chunks.{Place, silent, hear_all, Finish, whole, fails, GoesOn, Reading, chunks_from, in_line, at_lf, in_trailers, behind_content}
+use Rattle.px_read.specs.Chunks.{ChunkPlace, silent, hear_all, Finish, whole, fails, GoesOn, Reading, chunks_from, in_line, at_lf, in_trailers, behind_content}
 use Rattle.px_read.specs.Chunking.{Chunking, reads, ended, refused}
 use Rattle.px_read.specs.ChunkStages.{IsStage, seen_as}
 use Rattle.px_read.specs.ChunkSteps.{feed_marks, Gives, Hears, IsOpen, IsRefusal, UsesFor, Steps}
@@ -24,7 +24,7 @@ use Rattle.px_read.proofs.TurnLemmas.{to_reading, content_goes}
 
 -- ---- bytes behind silent ones
 
-hears_behind : (place next : Place) (xs ys : List ℕ) (marks : List Mark) (after : Chunking) → hear_all place xs ≡ silent next
+hears_behind : (place next : ChunkPlace) (xs ys : List ℕ) (marks : List Mark) (after : Chunking) → hear_all place xs ≡ silent next
     → Hears next ys marks after → Hears place (xs ++ ys) marks after
 hears_behind place next xs ys marks after first w = (w.0, heard_both place xs ys [] marks next w.0 first w.1, w.2, w.3)
 
@@ -34,14 +34,14 @@ take_both at used bytes = take-add at used bytes
 drop_both : (at used : ℕ) (bytes : List ℕ) → drop used (drop at bytes) ≡ drop (at + used) bytes
 drop_both at used bytes = drop-drop used at bytes ∙ ap (λ (n : ℕ). drop n bytes) (omega arith)
 
-hears_more : (place next : Place) (bytes : List ℕ) (at used : ℕ) (marks : List Mark) (after : Chunking)
+hears_more : (place next : ChunkPlace) (bytes : List ℕ) (at used : ℕ) (marks : List Mark) (after : Chunking)
     → hear_all place (take at bytes) ≡ silent next → Hears next (take used (drop at bytes)) marks after
     → Hears place (take (at + used) bytes) marks after
 hears_more place next bytes at used marks after first w =
     subst (λ (l : List ℕ). Hears place l marks after) (sym (take_both at used bytes))
     (hears_behind place next (take at bytes) (take used (drop at bytes)) marks after first w)
 
-pub reads_more : (place next : Place) (bytes : List ℕ) (at : ℕ) (finish : Finish) → at ≤ length bytes
+pub reads_more : (place next : ChunkPlace) (bytes : List ℕ) (at : ℕ) (finish : Finish) → at ≤ length bytes
     → hear_all place (take at bytes) ≡ silent next → GoesOn next → chunks_from next (drop at bytes) ≡ to_reading [] finish
     → chunks_from place bytes ≡ reading_behind [] at (to_reading [] finish)
 reads_more place next bytes at finish fits first on read =
@@ -50,7 +50,7 @@ reads_more place next bytes at finish fits first on read =
     ∙ ap (λ (n : ℕ). reading_behind [] n (chunks_from next (drop at bytes))) (length-take-le at bytes fits)
     ∙ ap (λ (r : Reading). reading_behind [] at r) read
 
-pub gives_more : (place next : Place) (bytes : List ℕ) (at used : ℕ) (part : Option ChunkPart) (after : Chunking) → at ≤ length bytes
+pub gives_more : (place next : ChunkPlace) (bytes : List ℕ) (at used : ℕ) (part : Option ChunkPart) (after : Chunking) → at ≤ length bytes
     → hear_all place (take at bytes) ≡ silent next → GoesOn next → Gives next (drop at bytes) used part after
     → Gives place bytes (at + used) part after
 gives_more place next bytes at used None after fits first on w = hears_more place next bytes at used [] after first w
@@ -66,7 +66,7 @@ gives_more place next bytes at used (Some (chunk_part.Trailers trailers)) after 
 
 -- ---- a loop of stages
 
-pub waits_at_first : (line : List ℕ) (now : Stage) (bytes : List ℕ) → IsStage line now → IsGoing (seen_as line now)
+pub waits_at_first : (line : List ℕ) (now : ChunkStage) (bytes : List ℕ) → IsStage line now → IsGoing (seen_as line now)
     → Waits (seen_as line now) bytes 0 (seen_as line now)
 waits_at_first line stage.Line bytes is going = (in_line line, refl, refl, refl)
 waits_at_first line (stage.Content left) bytes is going = (behind_content left, refl, refl, content_goes left)
@@ -80,7 +80,7 @@ waits_is_going (reads place) bytes at now w = subst IsGoing (sym w.2) tt
 waits_is_going (ended trailers) bytes at now w = absurd w
 waits_is_going refused bytes at now w = absurd w
 
-moved : (now after : Chunking) (next : Place) (bytes : List ℕ) (turn : ChunkStep) → now ≡ reads next → Moves now bytes (Ok turn) after
+moved : (now after : Chunking) (next : ChunkPlace) (bytes : List ℕ) (turn : ChunkStep) → now ≡ reads next → Moves now bytes (Ok turn) after
     → IsMove next bytes turn after
 moved now after next bytes turn is m = subst (λ (c : Chunking). Moves c bytes (Ok turn) after) is m
 
@@ -128,7 +128,7 @@ step_none (reads place) bytes at now all w = record { within = omega arith; uses
 step_none (ended trailers) bytes at now all w = absurd w
 step_none refused bytes at now all w = absurd w
 
-fails_more : (place next : Place) (bytes : List ℕ) (at : ℕ) → at ≤ length bytes → hear_all place (take at bytes) ≡ silent next → GoesOn next
+fails_more : (place next : ChunkPlace) (bytes : List ℕ) (at : ℕ) → at ≤ length bytes → hear_all place (take at bytes) ≡ silent next → GoesOn next
     → IsRefusal next (drop at bytes) → IsRefusal place bytes
 fails_more place next bytes at fits first on read = reads_more place next bytes at (fails fault.BadChunk) fits first on read
 
@@ -167,7 +167,7 @@ failed before bytes error result after is s = record {
   step = subst (λ (r : Result ChunkStep ChunkError). Steps before bytes r after) (sym is) s;
 }
 
-pub open_from : (line : List ℕ) (now : Stage) → IsStage line now → IsOpen (seen_as line now)
+pub open_from : (line : List ℕ) (now : ChunkStage) → IsStage line now → IsOpen (seen_as line now)
 open_from line stage.Line is = refl
 open_from line (stage.Content left) is = content_goes left
 open_from line stage.LineFeed is = refl

@@ -7,15 +7,15 @@ use Rattle.px_text.proofs.BlankLemmas.{blank_end-Some, blank_end-None, ends_blan
 use Rattle.px_head.specs.declared.raw.RawHead.{RawHead}
 use Rattle.px_head.specs.declared.front.Front.TheVariants.{Nothing, Stands}
 use Rattle.px_head.specs.declared.front.Kind.TheVariants.{Trailers}
-use Rattle.px_head.specs.declared.place.Place.{Place}
-use Rattle.px_head.specs.declared.place.Place.TheVariants.{Missing, Exceeded, Block}
+use Rattle.px_head.specs.declared.place.BlockPlace.{BlockPlace}
+use Rattle.px_head.specs.declared.place.BlockPlace.TheVariants.{Missing, Exceeded, Block}
 use Rattle.px_head.specs.Front.{front_in, front_of, line_end, place_at, read_as, trailer_front, trailers_end, trailers_end_by, trailers_place}
 use Rattle.px_head.proofs.FrontLemmas.{standing}
 use Rattle.px_head.proofs.LineLemmas.{line_end-stays}
 
 -- ---- where no block has ended
 
-missing_by : (bytes : List ℕ) (p : Place) → front_in (read_as Trailers) bytes p ≡ Nothing → p ≡ Missing
+missing_by : (bytes : List ℕ) (p : BlockPlace) → front_in (read_as Trailers) bytes p ≡ Nothing → p ≡ Missing
 missing_by bytes Missing is = refl
 missing_by bytes Exceeded is = absurd (let e = is in cc)
 missing_by bytes (Block start end) is = absurd (by (read_as Trailers (slice_range bytes start end)) is)

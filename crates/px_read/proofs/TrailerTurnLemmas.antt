@@ -12,9 +12,9 @@ use Rattle.px_head.specs.Front.{trailer_front}
 use Rattle.px_head.specs.Laws.{IsTrailerParts}
 use Rattle.px_head.specs.Reader.{Reader, after, answer, seen, seen_by}
 use Rattle.px_head.proofs.FrontLemmas.{trailer_parts_valid, used-within}
-use Rattle.px_read.specs.declared.chunk_reader.stage.Stage.TheVariants as stage
+use Rattle.px_read.specs.declared.chunk_reader.stage.ChunkStage.TheVariants as stage
 use Rattle.px_read.specs.declared.part.ChunkPart.TheVariants as chunk_part
-use Rattle.px_read.specs.Chunks.{Place, in_trailers, Turn, silent, Finish, goes_on, whole, fails, trailers_finish, place_finish, Reading, chunks_from}
+use Rattle.px_read.specs.Chunks.{ChunkPlace, in_trailers, ChunkHearing, silent, Finish, goes_on, whole, fails, trailers_finish, place_finish, Reading, chunks_from}
 use Rattle.px_read.specs.Chunking.{ended}
 use Rattle.px_read.specs.ChunkSteps.{IsRefusal}
 use Rattle.px_read.specs.ChunkTurns.{IsTurn}
@@ -63,12 +63,12 @@ answered_Head (front.Stands other used) raw is = (used, (let e = is in cc))
 read_trailers : (block bytes : List ℕ) (f : Front) → trailer_front (block ++ bytes) ≡ f
     → chunks_from (in_trailers block) bytes ≡ to_reading [] (trailers_finish (length bytes) (length block + length bytes) f)
 read_trailers block bytes f is =
-    ap (λ (t : Turn). to_reading t.marks (place_finish (length bytes) t.place)) (hear_all-trailers block bytes)
+    ap (λ (t : ChunkHearing). to_reading t.marks (place_finish (length bytes) t.place)) (hear_all-trailers block bytes)
     ∙ ap (λ (n : ℕ). to_reading [] (trailers_finish (length bytes) n (trailer_front (block ++ bytes)))) (length-append block bytes)
     ∙ ap (λ (g : Front). to_reading [] (trailers_finish (length bytes) (length block + length bytes) g)) is
 
 -- a decided front of the bytes decides the bytes
-decided_by : (place : Place) (count : ℕ) (bytes : List ℕ) (finish : Finish) → finish ≢ goes_on
+decided_by : (place : ChunkPlace) (count : ℕ) (bytes : List ℕ) (finish : Finish) → finish ≢ goes_on
     → chunks_from place (take count bytes) ≡ to_reading [] finish → chunks_from place bytes ≡ to_reading [] finish
 decided_by place count bytes finish decided is =
     let stays = finish_stays place (take count bytes) (drop count bytes) (λ e. decided (sym (ap (λ (r : Reading). r.finish) is) ∙ e)) in
@@ -91,13 +91,14 @@ trailers_go reader fed new count bytes none some within is told becomes =
     let near = take count bytes in
     let look = seen_fed reader fed near none is in
     let nothing = answered_Partial (seen Trailers fed) told in
-    let same : new ≡ record reader { rest = block ++ near } = becomes ∙ ap (λ (f : Front). after f fed) nothing ∙ is in
-    let rest : new.rest ≡ block ++ near = ap (λ (r : Reader). r.rest) same in
+    let searched = becomes ∙ ap (λ (f : Front). after f fed) nothing in
+    let rest : new.rest ≡ block ++ near = ap (λ (r : Reader). r.rest) searched ∙ ap (λ (r : Reader). r.rest) is in
+    let fresh = ap (λ (r : Reader). r.failed) searched ∙ ap (λ (r : Reader). r.failed) is in
     let waits : trailer_front new.rest ≡ front.Nothing = ap (λ (l : List ℕ). trailer_front l) rest ∙ sym look ∙ nothing in
     record {
       some = some;
       within = within;
-      stage = (refl, ap (λ (r : Reader). r.failed) same ∙ none, waits);
+      stage = (refl, fresh ∙ none, waits);
       gives = (in_trailers new.rest, hear_all-trailers block near ∙ ap (λ (l : List ℕ). silent (in_trailers l)) (sym rest), refl, waits_on new.rest waits);
     }
 
@@ -136,7 +137,7 @@ trailers_end reader fed new bytes raw behind none waits is told becomes count =
     let within = used-within Trailers (reader.rest ++ bytes) raw w.0 stands in
     let inside = within.1 in
     let size = length-append reader.rest bytes in
-    let same : new ≡ record fed { rest = drop w.0 fed.rest } = becomes ∙ ap (λ (f : Front). after f fed) w.1 in
+    let same = becomes ∙ ap (λ (f : Front). after f fed) w.1 in
     let rest = ap (λ (r : Reader). length r.rest) same in
     let left = length-drop w.0 fed.rest in
     let whole = ap (λ (r : Reader). length r.rest) is in

@@ -6,19 +6,19 @@ use Rattle.std.proofs.lemmas.List.{take-append-drop, length-take-le}
 use Rattle.px_message.specs.declared.fault.Fault.TheVariants as fault
 use Rattle.px_read.specs.declared.chunk_reader.ChunkError.{ChunkError}
 use Rattle.px_read.specs.declared.chunk_reader.ChunkError.TheVariants.{BadChunk, NoMemory}
-use Rattle.px_read.specs.declared.chunk_reader.stage.Stage.TheVariants as stage
-use Rattle.px_read.specs.declared.chunk_reader.stage.Turn.{Turn as StageTurn}
+use Rattle.px_read.specs.declared.chunk_reader.stage.ChunkStage.TheVariants as stage
+use Rattle.px_read.specs.declared.chunk_reader.stage.ChunkTurn.{ChunkTurn}
 use Rattle.px_read.specs.declared.part.ChunkPart.TheVariants as chunk_part
 use Rattle.px_read.specs.Marks.{BeginsWithNoByte, Mark, byte, ends}
-use Rattle.px_read.specs.Chunks.{Place, in_line, at_cr, at_lf, broken, Turn, silent, behind_content, hear_all, Finish, goes_on, fails, place_finish, GoesOn, Reading, chunks_from}
+use Rattle.px_read.specs.Chunks.{ChunkPlace, in_line, at_cr, at_lf, broken, ChunkHearing, silent, behind_content, hear_all, Finish, goes_on, fails, place_finish, GoesOn, Reading, chunks_from}
 use Rattle.px_read.specs.ChunkSteps.{IsRefusal}
 use Rattle.px_read.specs.ChunkTurns.{IsTurn, Turns}
 use Rattle.px_read.proofs.HearLemmas.{finish_stays}
 use Rattle.px_read.proofs.SizeLemmas.{hear_one, content_heard}
 
--- ---- want of memory
+-- ---- out of memory
 
-pub want_of_memory : (place : Place) (bytes line : List ℕ) (result : Result StageTurn ChunkError)
+pub want_of_memory : (place : ChunkPlace) (bytes line : List ℕ) (result : Result ChunkTurn ChunkError)
     → IsErrAnd result (λ e. e ≡ NoMemory) → Turns place bytes line result
 want_of_memory place bytes line (Ok turn) is = absurd is
 want_of_memory place bytes line (Err BadChunk) is = absurd (let e = is in cc)
@@ -30,24 +30,24 @@ abbrev pub to_reading : List Mark → Finish → Reading
 to_reading marks finish = record { marks = marks; finish = finish }
 
 -- a front that leads behind a fault without telling anything
-pub refused_by : (place : Place) (front more : List ℕ) → hear_all place front ≡ silent broken → IsRefusal place (front ++ more)
+pub refused_by : (place : ChunkPlace) (front more : List ℕ) → hear_all place front ≡ silent broken → IsRefusal place (front ++ more)
 refused_by place front more is =
     let read : chunks_from place front ≡ to_reading [] (fails fault.BadChunk) =
-    ap (λ (t : Turn). to_reading t.marks (place_finish (length front) t.place)) is in
+    ap (λ (t : ChunkHearing). to_reading t.marks (place_finish (length front) t.place)) is in
     let decided : (chunks_from place front).finish ≢ goes_on = λ e.
     (let f : fails fault.BadChunk ≡ goes_on = sym (ap (λ (r : Reading). r.finish) read) ∙ e in cc) in
     finish_stays place front more decided ∙ read
 
-pub refused_at : (place : Place) (count : ℕ) (bytes : List ℕ) → hear_all place (take count bytes) ≡ silent broken → IsRefusal place bytes
+pub refused_at : (place : ChunkPlace) (count : ℕ) (bytes : List ℕ) → hear_all place (take count bytes) ≡ silent broken → IsRefusal place bytes
 refused_at place count bytes is =
     subst (λ (l : List ℕ). IsRefusal place l) (take-append-drop count bytes) (refused_by place (take count bytes) (drop count bytes) is)
 
 -- ---- the CRLF behind a content
 
-if_byte : (b n : ℕ) (there other : Turn) → b ≡ n → (if b == n then there else other) ≡ there
+if_byte : (b n : ℕ) (there other : ChunkHearing) → b ≡ n → (if b == n then there else other) ≡ there
 if_byte b n there other is = elim (eqb_tells b n) [ inl t ↦ rw t.0 refl | inr f ↦ absurd (f.1 is) ]
 
-if_not_byte : (b n : ℕ) (there other : Turn) → b ≢ n → (if b == n then there else other) ≡ other
+if_not_byte : (b n : ℕ) (there other : ChunkHearing) → b ≢ n → (if b == n then there else other) ≡ other
 if_not_byte b n there other differs = elim (eqb_tells b n) [ inl t ↦ absurd (differs t.1) | inr f ↦ rw f.0 refl ]
 
 pub cr_refused : (bytes : List ℕ) → 0 < length bytes → get_or bytes 0 0 ≢ 13 → IsRefusal at_cr bytes
@@ -65,7 +65,7 @@ cr_taken (b ∷ bytes) some is = record {
   gives = (at_lf, hear_one at_cr b ∙ if_byte b 13 (silent at_lf) (silent broken) is, refl, refl);
 }
 
-abbrev ended : Turn
+abbrev ended : ChunkHearing
 ended = record { marks = ends ∷ []; place = in_line [] }
 
 pub lf_refused : (bytes : List ℕ) → 0 < length bytes → get_or bytes 0 0 ≢ 10 → IsRefusal at_lf bytes
@@ -104,7 +104,7 @@ lf_no_byte : (bytes : List ℕ) → BeginsWithNoByte (hear_all at_lf bytes).mark
 lf_no_byte [] = λ value rest e. cc
 lf_no_byte (b ∷ bytes) = by_test (b == 10)
   where
-    ended : Turn
+    ended : ChunkHearing
     ended = record { marks = ends ∷ []; place = in_line [] }
 
     by_test : (t : Bool) → BeginsWithNoByte ((if t then ended else silent broken).marks ++ (hear_all (if t then ended else silent broken).place bytes).marks)
@@ -146,5 +146,5 @@ piece_taken left count bytes piece some low within is all =
       gives = ((behind_content (left - count), heard, refl, content_goes (left - count)), omega arith, content_longest left count bytes all);
     }
   where
-    to_turn : List Mark → Place → Turn
+    to_turn : List Mark → ChunkPlace → ChunkHearing
     to_turn marks place = record { marks = marks; place = place }

@@ -15,7 +15,7 @@ use Rattle.px_message.specs.declared.length.Length.{Length}
 use Rattle.px_message.specs.declared.length.Length.TheVariants as lengths
 use Rattle.px_message.specs.declared.fault.Fault.{Fault}
 use Rattle.px_read.specs.Heads.{code_of, request_head, response_head}
-use Rattle.px_read.specs.Chunks.{Place, in_line, in_content, at_cr, at_lf, in_trailers, broken, Finish, goes_on, whole, fails, trailers_finish, place_finish, hear_all}
+use Rattle.px_read.specs.Chunks.{ChunkPlace, in_line, in_content, at_cr, at_lf, in_trailers, broken, Finish, goes_on, whole, fails, trailers_finish, place_finish, hear_all}
 use Rattle.px_read.specs.Readings.{behind_bytes, body_reading, counted_reading, closing_reading, request_body, request_behind, response_finish, response_body, response_behind}
 use Rattle.px_read.specs.Items.{Body, complete, body_of, item_behind, request_told, request_item, response_told, response_item}
 use Rattle.px_read.specs.Whole.{AreReadFields}
@@ -48,7 +48,7 @@ trailers_valid count block (front.Stands raw taken) at trailers used e =
     let parts = trailer_parts_valid block raw taken at in
     subst AreReadFields same (record { pairs = parts.pairs; few = parts.few })
 
-place_valid : (count : ℕ) (place : Place) → ValidWhen (place_finish count place)
+place_valid : (count : ℕ) (place : ChunkPlace) → ValidWhen (place_finish count place)
 place_valid count (in_trailers block) = trailers_valid count block (trailer_front block) refl
 place_valid count broken = λ trailers used e. absurd (let g = e in cc)
 place_valid count (in_line line) = never_whole goes_on refl

@@ -4,7 +4,7 @@ use Rattle.px_message.specs.declared.fault.Fault.{Fault}
 use Rattle.px_text.specs.Prefix.{IsPrefixOf}
 use Rattle.px_read.specs.Marks.{Mark}
 use Rattle.px_read.specs.Chunked.{IsChunked, chunks_told}
-use Rattle.px_read.specs.Chunks.{Place, GoesOn, goes_on, whole, fails, hear_all, chunks_from, chunked_reading}
+use Rattle.px_read.specs.Chunks.{ChunkPlace, GoesOn, goes_on, whole, fails, hear_all, chunks_from, chunked_reading}
 use Rattle.px_read.specs.Chunking.{Chunking}
 use Rattle.px_read.specs.ChunkSteps.{after_feed, feed_marks}
 use Rattle.px_read.specs.Readings.{behind_bytes}
@@ -13,26 +13,26 @@ use Rattle.px_read.specs.Readings.{behind_bytes}
 
 -- bytes behind others are heard from where those led
 abbrev pub HearingResumes : Type 0
-HearingResumes = (place : Place) (bytes more : List ℕ) →
+HearingResumes = (place : ChunkPlace) (bytes more : List ℕ) →
     let first = hear_all place bytes in
     let further = hear_all first.place more in
     hear_all place (bytes ++ more) ≡ record { marks = first.marks ++ further.marks; place = further.place }
 
 -- and so is a body that went on
 abbrev pub ReadingResumes : Type 0
-ReadingResumes = (place : Place) (bytes more : List ℕ) → GoesOn (hear_all place bytes).place →
+ReadingResumes = (place : ChunkPlace) (bytes more : List ℕ) → GoesOn (hear_all place bytes).place →
     let first = hear_all place bytes in
     let further = chunks_from first.place more in
     chunks_from place (bytes ++ more) ≡ record { marks = first.marks ++ further.marks; finish = behind_bytes (length bytes) further.finish }
 
 -- a body that is whole or refused stays as it is, whatever follows
 abbrev pub FinishStays : Type 0
-FinishStays = (place : Place) (bytes more : List ℕ) → (chunks_from place bytes).finish ≢ goes_on
+FinishStays = (place : ChunkPlace) (bytes more : List ℕ) → (chunks_from place bytes).finish ≢ goes_on
     → chunks_from place (bytes ++ more) ≡ chunks_from place bytes
 
 -- what is told only grows
 abbrev pub MarksGrow : Type 0
-MarksGrow = (place : Place) (bytes more : List ℕ)
+MarksGrow = (place : ChunkPlace) (bytes more : List ℕ)
     → IsPrefixOf (chunks_from place bytes).marks (chunks_from place (bytes ++ more)).marks
 
 -- a reader is left by two pieces as by both at once, and they tell the same
@@ -45,7 +45,7 @@ CutsDoNotShow = (before : Chunking) (bytes more : List ℕ) →
 
 -- a body that goes on is ended by at least one byte, and by none that is not there
 abbrev pub ChunksUsedIsWithin : Type 0
-ChunksUsedIsWithin = (place : Place) (bytes : List ℕ) (trailers : List (List ℕ × List ℕ)) (used : ℕ) → GoesOn place
+ChunksUsedIsWithin = (place : ChunkPlace) (bytes : List ℕ) (trailers : List (List ℕ × List ℕ)) (used : ℕ) → GoesOn place
     → (chunks_from place bytes).finish ≡ whole trailers used → (1 ≤ used) × (used ≤ length bytes)
 
 -- ---- the reading and the grammar

@@ -3,7 +3,7 @@ use Rattle.std.specs.Prelude.{◌≡◌, ℕ, List, [], ◌∷◌, ◌++◌, tak
 use Rattle.px_read.specs.declared.part.ChunkPart.{ChunkPart}
 use Rattle.px_read.specs.declared.part.ChunkPart.TheVariants as chunk_part
 use Rattle.px_read.specs.Marks.{all_chunk_marks}
-use Rattle.px_read.specs.Chunks.{Place, whole, hear_all, chunks_from}
+use Rattle.px_read.specs.Chunks.{ChunkPlace, whole, hear_all, chunks_from}
 use Rattle.px_read.specs.Chunking.{Chunking, reads, ended, refused}
 use Rattle.px_read.specs.ChunkSteps.{Hears, IsBodyPart}
 
@@ -14,7 +14,7 @@ Waits (ended trailers) bytes at now = ⊥
 Waits refused bytes at now = ⊥
 
 -- so many bytes from this place gave these parts
-abbrev pub FeedsFrom : Place → List ℕ → ℕ → List ChunkPart → Chunking → Type 0
+abbrev pub FeedsFrom : ChunkPlace → List ℕ → ℕ → List ChunkPart → Chunking → Type 0
 FeedsFrom place bytes at parts (reads next) =
     (hear_all place (take at bytes) ≡ record { marks = all_chunk_marks parts; place = next }) × All IsBodyPart parts
 FeedsFrom place bytes at parts (ended trailers) =

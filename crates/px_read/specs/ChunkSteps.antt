@@ -7,7 +7,7 @@ use Rattle.px_read.specs.declared.chunk_reader.ChunkStep.{ChunkStep}
 use Rattle.px_read.specs.declared.part.ChunkPart.{ChunkPart}
 use Rattle.px_read.specs.declared.part.ChunkPart.TheVariants as chunk_part
 use Rattle.px_read.specs.Marks.{BeginsWithNoByte, Mark, all_chunk_marks, chunk_marks_of}
-use Rattle.px_read.specs.Chunks.{Place, Finish, goes_on, whole, fails, hear_all, GoesOn, Reading, chunks_from}
+use Rattle.px_read.specs.Chunks.{ChunkPlace, Finish, goes_on, whole, fails, hear_all, GoesOn, Reading, chunks_from}
 use Rattle.px_read.specs.Chunking.{Chunking, reads, ended, refused}
 
 -- a body that has not ended goes on
@@ -26,17 +26,17 @@ IsBodyPart chunk_part.EndOfChunk = ⊤
 IsBodyPart (chunk_part.Trailers trailers) = ⊥
 
 -- the bytes tell these marks and nothing more, and the body goes on behind them
-abbrev pub Hears : Place → List ℕ → List Mark → Chunking → Type 0
+abbrev pub Hears : ChunkPlace → List ℕ → List Mark → Chunking → Type 0
 Hears place bytes marks after =
-    (next : Place) × (hear_all place bytes ≡ record { marks = marks; place = next }) × (after ≡ reads next) × GoesOn next
+    (next : ChunkPlace) × (hear_all place bytes ≡ record { marks = marks; place = next }) × (after ≡ reads next) × GoesOn next
 
 -- the bytes end the body with these trailers and tell nothing more; so many of them are used
-abbrev pub Ends : Place → List ℕ → List (List ℕ × List ℕ) → ℕ → Chunking → Type 0
+abbrev pub Ends : ChunkPlace → List ℕ → List (List ℕ × List ℕ) → ℕ → Chunking → Type 0
 Ends place bytes trailers used after =
     (chunks_from place bytes ≡ record { marks = []; finish = whole trailers used }) × (after ≡ ended trailers)
 
 -- the bytes refuse the body and tell nothing
-abbrev pub IsRefusal : Place → List ℕ → Type 0
+abbrev pub IsRefusal : ChunkPlace → List ℕ → Type 0
 IsRefusal place bytes = chunks_from place bytes ≡ record { marks = []; finish = fails fault.BadChunk }
 
 -- what the bytes tell to a reader
@@ -46,7 +46,7 @@ feed_marks (ended trailers) bytes = []
 feed_marks refused bytes = []
 
 -- so many bytes give this part and no other; a piece has all bytes of the content that are there
-abbrev pub Gives : Place → List ℕ → ℕ → Option ChunkPart → Chunking → Type 0
+abbrev pub Gives : ChunkPlace → List ℕ → ℕ → Option ChunkPart → Chunking → Type 0
 Gives place bytes used None after = Hears place (take used bytes) [] after
 Gives place bytes used (Some (chunk_part.Trailers trailers)) after = Ends place bytes trailers used after
 Gives place bytes used (Some (chunk_part.Piece piece)) after =
@@ -60,12 +60,12 @@ abbrev pub UsesFor : Option ChunkPart → ℕ → ℕ → Type 0
 UsesFor None count used = used ≡ count
 UsesFor (Some part) count used = 0 < used
 
-pub record IsStep (place : Place) (bytes : List ℕ) (step : ChunkStep) (after : Chunking) : Type 0 where
+pub record IsStep (place : ChunkPlace) (bytes : List ℕ) (step : ChunkStep) (after : Chunking) : Type 0 where
   pub within : step.used ≤ length bytes
   pub uses : UsesFor step.part (length bytes) step.used
   pub gives : Gives place bytes step.used step.part after
 
--- a step from each reader; want of memory promises nothing
+-- a step from each reader; out of memory promises nothing
 abbrev pub Steps : Chunking → List ℕ → Result ChunkStep ChunkError → Chunking → Type 0
 Steps (reads place) bytes (Ok step) after = IsStep place bytes step after
 Steps (reads place) bytes (Err BadChunk) after = IsRefusal place bytes × (after ≡ refused)
@@ -86,7 +86,7 @@ feed_answer (reads place) bytes = answer_of (length bytes) (chunks_from place by
 feed_answer (ended trailers) bytes = Ok 0
 feed_answer refused bytes = Err BadChunk
 
-abbrev pub after_of : Place → Finish → Chunking
+abbrev pub after_of : ChunkPlace → Finish → Chunking
 after_of place goes_on = reads place
 after_of place (whole trailers used) = ended trailers
 after_of place (fails fault) = refused
@@ -114,7 +114,7 @@ Added (reads place) bytes parts = AreTold (chunks_from place bytes) parts
 Added (ended trailers) bytes parts = parts ≡ []
 Added refused bytes parts = parts ≡ []
 
--- a fact on each answer but want of memory
+-- a fact on each answer but out of memory
 abbrev pub UnlessNoMemory : {A : Type 0} → Result A ChunkError → Type 0 → Type 0
 UnlessNoMemory (Err NoMemory) fact = ⊤
 UnlessNoMemory _ fact = fact

@@ -1,18 +1,18 @@
 -- A reader of a chunked body as its callers see it.
 use Rattle.std.specs.Prelude.{ℕ, List, length}
 use Rattle.px_read.specs.Kept.{fields_keep}
-use Rattle.px_read.specs.Chunks.{Place, in_line, in_content, at_cr, at_lf, in_trailers, broken}
+use Rattle.px_read.specs.Chunks.{ChunkPlace, in_line, in_content, at_cr, at_lf, in_trailers, broken}
 
 pub data Chunking : Type 0 where
   -- the body goes on from this place
-  reads : (place : Place) → Chunking
+  reads : (place : ChunkPlace) → Chunking
   -- it has ended, with these trailers
   ended : (trailers : List (List ℕ × List ℕ)) → Chunking
   -- it was refused
   refused : Chunking
 
 -- how many bytes are kept at a place: those of a chunk line or of trailers that have begun
-abbrev pub place_keeps : Place → ℕ
+abbrev pub place_keeps : ChunkPlace → ℕ
 place_keeps (in_line line) = length line
 place_keeps (in_content left) = 0
 place_keeps at_cr = 0

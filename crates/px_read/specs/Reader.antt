@@ -7,7 +7,7 @@ use Rattle.px_message.specs.declared.fault.Fault.{Fault}
 use Rattle.px_read.specs.Marks.{BeginsWithNoByte, Mark, marks_of}
 use Rattle.px_read.specs.Chunking.{place_keeps}
 use Rattle.px_read.specs.Kept.{fields_keep}
-use Rattle.px_read.specs.Chunks.{Place, goes_on, whole, fails, Reading, chunks_from}
+use Rattle.px_read.specs.Chunks.{ChunkPlace, goes_on, whole, fails, Reading, chunks_from}
 use Rattle.px_read.specs.Readings.{only, behind_bytes, counted_reading, closing_reading, as_response, request_reading, response_reading}
 use Rattle.px_read.specs.declared.message_reader.stage.Sender.{Sender}
 use Rattle.px_read.specs.declared.message_reader.stage.Sender.TheVariants.{Client, Server}
@@ -32,7 +32,7 @@ pub data MessagePlace : Type 0 where
   -- in a body of which so many bytes are to come
   in_counted : (side : Sender) (left : ℕ) → MessagePlace
   -- in a chunked body
-  in_chunks : (side : Sender) (place : Place) → MessagePlace
+  in_chunks : (side : Sender) (place : ChunkPlace) → MessagePlace
   -- in a body up to the close
   up_to_close : (side : Sender) → MessagePlace
   -- behind a whole one, which had these trailers

@@ -15,9 +15,12 @@ pub record Requests : Type 0 where
   -- what stands behind them; none where the last of them is a CONNECT
   pub last : Option (Item RequestHead)
 
+abbrev pub connect_method : List ℕ
+connect_method = codes "CONNECT"
+
 -- the request is a CONNECT
 abbrev pub asks_tunnel : RequestHead → Bool
-asks_tunnel head = bytes_eq head.method (codes "CONNECT")
+asks_tunnel head = bytes_eq head.method connect_method
 
 -- the item is a whole CONNECT
 abbrev pub is_connect : Item RequestHead → Bool

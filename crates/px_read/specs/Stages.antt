@@ -4,7 +4,7 @@ use Rattle.px_message.specs.declared.length.Length.{Length}
 use Rattle.px_message.specs.declared.length.Length.TheVariants as lengths
 use Rattle.px_message.specs.declared.fault.Fault.{Fault}
 use Rattle.px_message.specs.declared.fault.Fault.TheVariants.{BadChunk, BadResponse, ServerClosed}
-use Rattle.px_read.specs.Chunks.{Place, in_line, Reading, goes_on, fails}
+use Rattle.px_read.specs.Chunks.{ChunkPlace, in_line, Reading, goes_on, fails}
 use Rattle.px_read.specs.Chunking.{Chunking, reads, ended}
 use Rattle.px_read.specs.Chunking as chunking
 use Rattle.px_read.specs.Readings.{only}
@@ -12,8 +12,8 @@ use Rattle.px_read.specs.Reader.{State, MessagePlace, has_shut, at_head, in_coun
 use Rattle.px_read.specs.declared.head.ResponseHead.{ResponseHead}
 use Rattle.px_read.specs.declared.message_reader.stage.Sender.{Sender}
 use Rattle.px_read.specs.declared.message_reader.stage.Sender.TheVariants.{Client, Server}
-use Rattle.px_read.specs.declared.message_reader.stage.Stage.{Stage}
-use Rattle.px_read.specs.declared.message_reader.stage.Stage.TheVariants as stage
+use Rattle.px_read.specs.declared.message_reader.stage.MessageStage.{MessageStage}
+use Rattle.px_read.specs.declared.message_reader.stage.MessageStage.TheVariants as stage
 use Rattle.px_read.specs.declared.part.Part.{Part}
 use Rattle.px_read.specs.declared.part.Part.TheVariants as part
 
@@ -31,7 +31,7 @@ abbrev pub state_at : MessagePlace → List ℕ → Bool → State
 state_at place rest closed = record { place = place; rest = rest; closed = closed }
 
 -- the stage, these bytes behind it; a reader of heads has its own
-abbrev pub seen_as : Stage → List ℕ → Bool → State
+abbrev pub seen_as : MessageStage → List ℕ → Bool → State
 seen_as (stage.Request reader) rest closed = state_at (at_head request) reader.rest closed
 seen_as (stage.Response asked_head reader) rest closed = state_at (at_head (response asked_head)) reader.rest closed
 seen_as (stage.Counted side left) rest closed = state_at (in_counted side left) rest closed
@@ -41,7 +41,7 @@ seen_as (stage.Ended trailers) rest closed = state_at (behind_end trailers) rest
 seen_as (stage.Refused fault) rest closed = state_at (refused fault) rest closed
 
 -- the close counts there
-abbrev pub heeded : Stage → Bool → Bool
+abbrev pub heeded : MessageStage → Bool → Bool
 heeded (stage.Request reader) closed = false
 heeded (stage.Response asked_head reader) closed = closed
 heeded (stage.Counted side left) closed = has_shut side closed
@@ -51,14 +51,14 @@ heeded (stage.Ended trailers) closed = false
 heeded (stage.Refused fault) closed = false
 
 -- the readers within have not stopped
-abbrev pub IsStage : Stage → Type 0
+abbrev pub IsStage : MessageStage → Type 0
 IsStage (stage.Request reader) = reader.failed ≡ None
 IsStage (stage.Response asked_head reader) = reader.failed ≡ None
-IsStage (stage.Chunked side reader) = (place : Place) × (reader ≡ reads place)
+IsStage (stage.Chunked side reader) = (place : ChunkPlace) × (reader ≡ reads place)
 IsStage _ = ⊤
 
 -- a reader of heads has all bytes that were fed: none stand beside it
-abbrev pub StandOnce : Stage → List ℕ → Type 0
+abbrev pub StandOnce : MessageStage → List ℕ → Type 0
 StandOnce (stage.Request reader) rest = rest ≡ []
 StandOnce (stage.Response asked_head reader) rest = rest ≡ []
 StandOnce _ rest = ⊤

@@ -15,7 +15,7 @@ mod trailers;
 use crate::ChunkPart;
 use crate::kept::fields_kept;
 use px_text::{Bytes, NoMemory};
-use stage::{Stage, Turn, hear};
+use stage::{ChunkStage, ChunkTurn, hear};
 use std::alloc::{AllocError, AllocFailed, Global};
 use std::marker::Model;
 use std::mem;
@@ -74,7 +74,7 @@ pub struct ChunkStep {
 #[derive(Debug, Drop)]
 pub struct ChunkReader {
     line: Vec<u8>,
-    stage: Stage,
+    stage: ChunkStage,
 }
 
 impl Model for ChunkReader {
@@ -101,7 +101,7 @@ impl ChunkReader {
     {
         ChunkReader {
             line: Vec::new(alloc),
-            stage: Stage::Line,
+            stage: ChunkStage::Line,
         }
     }
 
@@ -111,12 +111,12 @@ impl ChunkReader {
         ensures { result ≡ min (chunking_keeps self.now) (2 ^ 64 - 1) }
     {
         match &self.stage {
-            Stage::Line => self.line.len(),
-            Stage::Content(_) => 0,
-            Stage::LineFeed => 0,
-            Stage::Trailers(reader) => reader.unused(),
-            Stage::Ended(trailers) => fields_kept(trailers),
-            Stage::Refused => 0,
+            ChunkStage::Line => self.line.len(),
+            ChunkStage::Content(_) => 0,
+            ChunkStage::LineFeed => 0,
+            ChunkStage::Trailers(reader) => reader.unused(),
+            ChunkStage::Ended(trailers) => fields_kept(trailers),
+            ChunkStage::Refused => 0,
         }
     }
 
@@ -160,13 +160,13 @@ impl ChunkReader {
         ensures step { Steps self.old bytes.now result self.new }
     {
         match &self.stage {
-            Stage::Ended(_) => {
+            ChunkStage::Ended(_) => {
                 return Ok(ChunkStep {
                     used: 0,
                     part: None,
                 });
             }
-            Stage::Refused => return Err(ChunkError::BadChunk),
+            ChunkStage::Refused => return Err(ChunkError::BadChunk),
             _ => {}
         }
         let mut at = 0;
@@ -193,7 +193,7 @@ impl ChunkReader {
         ensures { Moves self.old (drop at bytes.now) result self.new }
     {
         let rest = bytes_from(bytes, at)?;
-        let stage = mem::replace(&mut self.stage, Stage::Refused);
+        let stage = mem::replace(&mut self.stage, ChunkStage::Refused);
         let turn = match hear(stage, &mut self.line, &rest) {
             Ok(turn) => turn,
             Err(error) => {

@@ -18,7 +18,7 @@ use pending::Pending;
 use px_head::HeadReader;
 use px_message::Fault;
 use px_text::{Bytes, NoMemory};
-use stage::{Stage, take_turn};
+use stage::{MessageStage, take_turn};
 use std::alloc::Global;
 use std::marker::Model;
 use std::mem;
@@ -32,7 +32,7 @@ use std::mem;
 #[derive(Debug, Drop)]
 pub struct MessageReader {
     alloc: Global,
-    stage: Stage,
+    stage: MessageStage,
     rest: Pending,
     closed: bool,
 }
@@ -56,7 +56,7 @@ impl MessageReader {
     {
         MessageReader {
             alloc,
-            stage: Stage::Request(HeadReader::new(alloc)),
+            stage: MessageStage::Request(HeadReader::new(alloc)),
             rest: Pending::new(Bytes::empty()),
             closed: false,
         }
@@ -69,7 +69,7 @@ impl MessageReader {
     {
         MessageReader {
             alloc,
-            stage: Stage::Response {
+            stage: MessageStage::Response {
                 asked_head,
                 reader: HeadReader::new(alloc),
             },
@@ -86,8 +86,8 @@ impl MessageReader {
         ensures reads { (message : Message) (told : List Mark) (fed : List ℕ) → Reads message told fed false self.old → OnOk result (Reads message told (fed ++ bytes.now) false self.new) }
     {
         match &mut self.stage {
-            Stage::Request(reader) => reader.feed(bytes.as_slice()),
-            Stage::Response { reader, .. } => reader.feed(bytes.as_slice()),
+            MessageStage::Request(reader) => reader.feed_shared(bytes),
+            MessageStage::Response { reader, .. } => reader.feed_shared(bytes),
             _ => self.rest.feed(self.alloc, bytes),
         }
     }
@@ -117,7 +117,7 @@ impl MessageReader {
         ensures closed { OnOk result (self.new.closed ≡ self.old.closed) }
         ensures again { has_stopped self.old.place ≡ true → OnOk result (self.new ≡ self.old) }
     {
-        let stage = mem::replace(&mut self.stage, Stage::Refused(Fault::BadResponse));
+        let stage = mem::replace(&mut self.stage, MessageStage::Refused(Fault::BadResponse));
         let rest = mem::replace(&mut self.rest, Pending::new(Bytes::empty()));
         let turn = take_turn(self.alloc, stage, rest, self.closed)?;
         self.stage = turn.stage;
@@ -136,13 +136,13 @@ impl MessageReader {
         ensures { result ≡ min (keeps self.now) (2 ^ 64 - 1) }
     {
         match &self.stage {
-            Stage::Request(reader) => reader.unused(),
-            Stage::Response { reader, .. } => reader.unused(),
-            Stage::Counted { left, .. } => least(*left, self.rest.len()),
-            Stage::Chunked { reader, .. } => reader.kept().saturating_add(self.rest.len()),
-            Stage::ToClose { .. } => self.rest.len(),
-            Stage::Ended(trailers) => fields_kept(trailers),
-            Stage::Refused(_) => self.rest.len(),
+            MessageStage::Request(reader) => reader.unused(),
+            MessageStage::Response { reader, .. } => reader.unused(),
+            MessageStage::Counted { left, .. } => least(*left, self.rest.len()),
+            MessageStage::Chunked { reader, .. } => reader.kept().saturating_add(self.rest.len()),
+            MessageStage::ToClose { .. } => self.rest.len(),
+            MessageStage::Ended(trailers) => fields_kept(trailers),
+            MessageStage::Refused(_) => self.rest.len(),
         }
     }
 
@@ -152,8 +152,8 @@ impl MessageReader {
     {
         let MessageReader { stage, rest, .. } = self;
         match stage {
-            Stage::Request(reader) => Bytes::new(reader.into_rest()),
-            Stage::Response { reader, .. } => Bytes::new(reader.into_rest()),
+            MessageStage::Request(reader) => reader.into_rest(),
+            MessageStage::Response { reader, .. } => reader.into_rest(),
             _ => Ok(rest.into_bytes()),
         }
     }

@@ -16,7 +16,7 @@ use Rattle.px_head.specs.Heads.{trailers_in}
 use Rattle.px_head.specs.declared.raw.RawHead.{RawHead}
 use Rattle.px_head.specs.declared.front.Front.TheVariants.{Stands}
 use Rattle.px_head.specs.declared.front.Kind.TheVariants.{Trailers}
-use Rattle.px_head.specs.declared.place.Place.TheVariants.{Missing, Exceeded, Block}
+use Rattle.px_head.specs.declared.place.BlockPlace.TheVariants.{Missing, Exceeded, Block}
 use Rattle.px_head.proofs.BlockLemmas.{trailers_in-source}
 use Rattle.px_head.proofs.FrontLemmas.{standing, used-within}
 use Rattle.px_read.specs.ChunkLine.{IsLine}

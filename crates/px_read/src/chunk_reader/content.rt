@@ -4,22 +4,22 @@ ghost use Rattle.px_read.specs.Chunks.{at_cr, at_lf, behind_content};
 ghost use Rattle.px_read.specs.ChunkTurns.{Turns};
 
 use super::ChunkError;
-use super::stage::{Stage, Turn};
+use super::stage::{ChunkStage, ChunkTurn};
 use crate::ChunkPart;
 use px_text::Bytes;
 
 /// Hears bytes of a content of which so many are to come.
-pub fn hear_content(left: u64, bytes: &Bytes) -> Result<Turn, ChunkError>
+pub fn hear_content(left: u64, bytes: &Bytes) -> Result<ChunkTurn, ChunkError>
     requires left { 0 < left }
     requires some { 0 < length bytes.now }
     ensures { Turns (behind_content left) bytes.now [] result }
 {
     let count = piece_length(left, bytes.len());
     let piece = bytes.part(0, count)?;
-    Ok(Turn {
+    Ok(ChunkTurn {
         used: count,
         part: Some(ChunkPart::Piece(piece)),
-        stage: Stage::Content(left - count as u64),
+        stage: ChunkStage::Content(left - count as u64),
     })
 }
 
@@ -37,31 +37,31 @@ fn piece_length(left: u64, there: usize) -> usize
 }
 
 /// Hears the CR behind a content.
-pub fn hear_return(bytes: &[u8]) -> Result<Turn, ChunkError>
+pub fn hear_return(bytes: &[u8]) -> Result<ChunkTurn, ChunkError>
     requires { 0 < length bytes.now }
     ensures { Turns at_cr bytes.now [] result }
 {
     if bytes[0] != b'\r' {
         return Err(ChunkError::BadChunk);
     }
-    Ok(Turn {
+    Ok(ChunkTurn {
         used: 1,
         part: None,
-        stage: Stage::LineFeed,
+        stage: ChunkStage::LineFeed,
     })
 }
 
 /// Hears the LF behind a content and its CR.
-pub fn hear_line_feed(bytes: &[u8]) -> Result<Turn, ChunkError>
+pub fn hear_line_feed(bytes: &[u8]) -> Result<ChunkTurn, ChunkError>
     requires { 0 < length bytes.now }
     ensures { Turns at_lf bytes.now [] result }
 {
     if bytes[0] != b'\n' {
         return Err(ChunkError::BadChunk);
     }
-    Ok(Turn {
+    Ok(ChunkTurn {
         used: 1,
         part: Some(ChunkPart::EndOfChunk),
-        stage: Stage::Line,
+        stage: ChunkStage::Line,
     })
 }

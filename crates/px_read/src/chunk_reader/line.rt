@@ -5,7 +5,7 @@ ghost use Rattle.px_read.specs.Chunks.{in_line};
 ghost use Rattle.px_read.specs.ChunkTurns.{Turns, line_turn};
 
 use super::ChunkError;
-use super::stage::{Stage, Turn};
+use super::stage::{ChunkStage, ChunkTurn};
 use crate::ChunkPart;
 use httparse::{Status, parse_chunk_size};
 use px_head::HeadReader;
@@ -14,7 +14,7 @@ use px_head::HeadReader;
 const LIMIT: usize = 1_024;
 
 /// Hears the bytes of a chunk line up to its LF or its limit.
-pub fn hear_line(line: &mut Vec<u8>, bytes: &[u8]) -> Result<Turn, ChunkError>
+pub fn hear_line(line: &mut Vec<u8>, bytes: &[u8]) -> Result<ChunkTurn, ChunkError>
     requires room { length line.old.items < 1024 }
     requires some { 0 < length bytes.now }
     ensures { Turns (in_line line.old.items) bytes.now line.new.items result }
@@ -29,15 +29,15 @@ pub fn hear_line(line: &mut Vec<u8>, bytes: &[u8]) -> Result<Turn, ChunkError>
         return Err(ChunkError::BadChunk);
     }
     line.extend_from_slice(near)?;
-    Ok(Turn {
+    Ok(ChunkTurn {
         used: count,
         part: None,
-        stage: Stage::Line,
+        stage: ChunkStage::Line,
     })
 }
 
 // Judges a line, and leaves room for the next one.
-fn end_line(line: &mut Vec<u8>, used: usize) -> Result<Turn, ChunkError>
+fn end_line(line: &mut Vec<u8>, used: usize) -> Result<ChunkTurn, ChunkError>
     requires { length line.old.items ≤ 1024 }
     ensures turn { result ≡ line_turn used (size_in line.old.items) }
     ensures line { line.new.items ≡ [] }
@@ -48,16 +48,16 @@ fn end_line(line: &mut Vec<u8>, used: usize) -> Result<Turn, ChunkError>
         return Err(ChunkError::BadChunk);
     };
     if size == 0 {
-        return Ok(Turn {
+        return Ok(ChunkTurn {
             used,
             part: None,
-            stage: Stage::Trailers(HeadReader::new(*line.allocator())),
+            stage: ChunkStage::Trailers(HeadReader::new(*line.allocator())),
         });
     }
-    Ok(Turn {
+    Ok(ChunkTurn {
         used,
         part: Some(ChunkPart::Size(size)),
-        stage: Stage::Content(size),
+        stage: ChunkStage::Content(size),
     })
 }
 

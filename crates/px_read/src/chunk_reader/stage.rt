@@ -14,7 +14,7 @@ use px_text::Bytes;
 
 /// What the next byte belongs to.
 #[derive(Debug, Drop)]
-pub enum Stage {
+pub enum ChunkStage {
     /// A chunk line, whose bytes so far the reader keeps.
     Line,
     /// A content of which so many bytes are to come; with none, the CR behind it.
@@ -31,14 +31,14 @@ pub enum Stage {
 
 /// The bytes that a stage took, the part that they gave, and the stage behind them.
 #[derive(Debug, Drop)]
-pub struct Turn {
+pub struct ChunkTurn {
     pub used: usize,
     pub part: Option<ChunkPart>,
-    pub stage: Stage,
+    pub stage: ChunkStage,
 }
 
 /// Hears the bytes of a stage, at least one.
-pub fn hear(stage: Stage, line: &mut Vec<u8>, bytes: &Bytes) -> Result<Turn, ChunkError>
+pub fn hear(stage: ChunkStage, line: &mut Vec<u8>, bytes: &Bytes) -> Result<ChunkTurn, ChunkError>
     requires going { IsGoing (seen_as line.old.items stage) }
     requires stage { IsStage line.old.items stage }
     requires some { 0 < length bytes.now }
@@ -46,11 +46,11 @@ pub fn hear(stage: Stage, line: &mut Vec<u8>, bytes: &Bytes) -> Result<Turn, Chu
 {
     let alloc = *line.allocator();
     match stage {
-        Stage::Line => hear_line(line, bytes.as_slice()),
-        Stage::Content(0) => hear_return(bytes.as_slice()),
-        Stage::Content(left) => hear_content(left, bytes),
-        Stage::LineFeed => hear_line_feed(bytes.as_slice()),
-        Stage::Trailers(reader) => hear_trailers(alloc, reader, bytes.as_slice()),
-        Stage::Ended(_) | Stage::Refused => unreachable!(),
+        ChunkStage::Line => hear_line(line, bytes.as_slice()),
+        ChunkStage::Content(0) => hear_return(bytes.as_slice()),
+        ChunkStage::Content(left) => hear_content(left, bytes),
+        ChunkStage::LineFeed => hear_line_feed(bytes.as_slice()),
+        ChunkStage::Trailers(reader) => hear_trailers(alloc, reader, bytes.as_slice()),
+        ChunkStage::Ended(_) | ChunkStage::Refused => unreachable!(),
     }
 }

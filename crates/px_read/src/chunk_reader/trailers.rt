@@ -7,7 +7,7 @@ ghost use Rattle.px_read.specs.ChunkTurns.{Turns};
 
 use super::ChunkError;
 use super::line::find_line_feed;
-use super::stage::{Stage, Turn};
+use super::stage::{ChunkStage, ChunkTurn};
 use crate::ChunkPart;
 use crate::parts::read_trailers;
 use px_head::{Found, HeadReader};
@@ -18,7 +18,7 @@ pub fn hear_trailers(
     alloc: Global,
     mut reader: HeadReader,
     bytes: &[u8],
-) -> Result<Turn, ChunkError>
+) -> Result<ChunkTurn, ChunkError>
     requires going { (reader.failed ≡ None) × (trailer_front reader.rest ≡ Nothing) }
     requires some { 0 < length bytes.now }
     ensures { Turns (in_trailers reader.rest) bytes.now [] result }
@@ -26,19 +26,19 @@ pub fn hear_trailers(
     let count = line_length(bytes);
     reader.feed(&bytes[..count])?;
     match reader.take_trailers()? {
-        Found::Partial => Ok(Turn {
+        Found::Partial => Ok(ChunkTurn {
             used: count,
             part: None,
-            stage: Stage::Trailers(reader),
+            stage: ChunkStage::Trailers(reader),
         }),
         Found::TooLong | Found::BadHead => Err(ChunkError::BadChunk),
         Found::Head(raw) => {
             let trailers = read_trailers(alloc, raw)?;
             let kept = trailers.try_clone()?;
-            Ok(Turn {
-                used: count - reader.into_rest().len(),
+            Ok(ChunkTurn {
+                used: count - reader.unused(),
                 part: Some(ChunkPart::Trailers(trailers)),
-                stage: Stage::Ended(kept),
+                stage: ChunkStage::Ended(kept),
             })
         }
     }

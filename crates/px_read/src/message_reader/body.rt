@@ -1,14 +1,14 @@
 //! Bodies: counted, in chunks, or up to the close (RFC 9112 section 6.3). Each piece is as long as what is there.
 ghost use Rattle.std.specs.Prelude.{◌≡◌, ◌≤◌, ◌<◌, min, take, drop, length, IfOk, true};
 ghost use Rattle.px_read.specs.Chunking.{reads};
-ghost use Rattle.px_read.specs.Chunks.{Place};
+ghost use Rattle.px_read.specs.Chunks.{ChunkPlace};
 ghost use Rattle.px_read.specs.Reader.{IsTurn, has_shut, is_client, is_clients, in_counted, in_chunks, up_to_close};
 ghost use Rattle.px_read.specs.Stages.{IsStage, StandOnce, chunk_place, fault_of, seen_as, state_at};
 ghost use Rattle.px_read.specs.Waits.{given};
 ghost use Rattle.px_message.specs.declared.fault.Fault.TheVariants.{BadChunk};
 
 use super::pending::Pending;
-use super::stage::{Sender, Stage, Turn, end, refuse, wait};
+use super::stage::{MessageStage, MessageTurn, Sender, end, refuse, wait};
 use crate::chunk_reader::ChunkError;
 use crate::{ChunkPart, ChunkReader, Part};
 use px_message::{Fault, Fields};
@@ -22,7 +22,7 @@ pub fn take_counted(
     left: u64,
     rest: Pending,
     closed: bool,
-) -> Result<Turn, NoMemory>
+) -> Result<MessageTurn, NoMemory>
     ensures turn { IfOk result (λ turn. IsTurn (state_at (in_counted sender left) rest closed) turn.part (seen_as turn.stage turn.rest closed)) }
     ensures client { is_client sender ≡ true → IfOk result (λ turn. is_clients (seen_as turn.stage turn.rest closed).place ≡ true) }
     ensures stage { IfOk result (λ turn. IsStage turn.stage) }
@@ -34,13 +34,13 @@ pub fn take_counted(
     let count = piece_length(left, rest.len());
     if count == 0 {
         return Ok(wait(
-            Stage::Counted { sender, left },
+            MessageStage::Counted { sender, left },
             rest,
             is_shut(sender, closed),
         ));
     }
     let left = left - count as u64;
-    take_piece(count, Stage::Counted { sender, left }, rest)
+    take_piece(count, MessageStage::Counted { sender, left }, rest)
 }
 
 /// A piece of a body up to the close, or its end.
@@ -49,7 +49,7 @@ pub fn take_to_close(
     sender: Sender,
     rest: Pending,
     closed: bool,
-) -> Result<Turn, NoMemory>
+) -> Result<MessageTurn, NoMemory>
     ensures turn { IfOk result (λ turn. IsTurn (state_at (up_to_close sender) rest closed) turn.part (seen_as turn.stage turn.rest closed)) }
     ensures client { is_client sender ≡ true → IfOk result (λ turn. is_clients (seen_as turn.stage turn.rest closed).place ≡ true) }
     ensures stage { IfOk result (λ turn. IsStage turn.stage) }
@@ -57,14 +57,14 @@ pub fn take_to_close(
 {
     let count = rest.len();
     if count > 0 {
-        return take_piece(count, Stage::ToClose { sender }, rest);
+        return take_piece(count, MessageStage::ToClose { sender }, rest);
     }
     if is_shut(sender, closed) {
         return end(Fields::new(alloc), rest);
     }
-    Ok(Turn {
+    Ok(MessageTurn {
         part: Part::More,
-        stage: Stage::ToClose { sender },
+        stage: MessageStage::ToClose { sender },
         rest,
     })
 }
@@ -84,12 +84,12 @@ fn piece_length(left: u64, there: usize) -> usize
 }
 
 // A piece of so many bytes, and this stage behind it.
-fn take_piece(count: usize, stage: Stage, mut rest: Pending) -> Result<Turn, NoMemory>
+fn take_piece(count: usize, stage: MessageStage, mut rest: Pending) -> Result<MessageTurn, NoMemory>
     requires { count ≤ length rest }
     ensures { IfOk result (λ turn. turn ≡ record { part = Part.Piece (take count rest); stage = stage; rest = drop count rest }) }
 {
     let piece = rest.split(count)?;
-    Ok(Turn {
+    Ok(MessageTurn {
         part: Part::Piece(piece),
         stage,
         rest,
@@ -112,8 +112,8 @@ pub fn take_chunk(
     mut reader: ChunkReader,
     mut rest: Pending,
     closed: bool,
-) -> Result<Turn, NoMemory>
-    requires { (place : Place) × (reader ≡ reads place) }
+) -> Result<MessageTurn, NoMemory>
+    requires { (place : ChunkPlace) × (reader ≡ reads place) }
     ensures turn { IfOk result (λ turn. IsTurn (state_at (chunk_place sender reader) rest closed) turn.part (seen_as turn.stage turn.rest closed)) }
     ensures client { is_client sender ≡ true → IfOk result (λ turn. is_clients (seen_as turn.stage turn.rest closed).place ≡ true) }
     ensures stage { IfOk result (λ turn. IsStage turn.stage) }
@@ -122,7 +122,7 @@ pub fn take_chunk(
     match reader.step(rest.bytes()) {
         Ok(step) => {
             rest.skip(step.used);
-            let stage = Stage::Chunked { sender, reader };
+            let stage = MessageStage::Chunked { sender, reader };
             give(step.part, stage, rest, is_shut(sender, closed))
         }
         Err(ChunkError::BadChunk) => Ok(refuse(chunk_fault(sender), rest)),
@@ -133,25 +133,25 @@ pub fn take_chunk(
 // The part of a chunked body as a part of the message, with this stage behind it.
 fn give(
     part: Option<ChunkPart>,
-    stage: Stage,
+    stage: MessageStage,
     rest: Pending,
     is_cut_off: bool,
-) -> Result<Turn, NoMemory>
+) -> Result<MessageTurn, NoMemory>
     ensures { IfOk result (λ turn. turn ≡ given part stage rest is_cut_off) }
 {
     match part {
         None => Ok(wait(stage, rest, is_cut_off)),
-        Some(ChunkPart::Size(size)) => Ok(Turn {
+        Some(ChunkPart::Size(size)) => Ok(MessageTurn {
             part: Part::ChunkStart(size),
             stage,
             rest,
         }),
-        Some(ChunkPart::Piece(bytes)) => Ok(Turn {
+        Some(ChunkPart::Piece(bytes)) => Ok(MessageTurn {
             part: Part::Piece(bytes),
             stage,
             rest,
         }),
-        Some(ChunkPart::EndOfChunk) => Ok(Turn {
+        Some(ChunkPart::EndOfChunk) => Ok(MessageTurn {
             part: Part::ChunkEnd,
             stage,
             rest,

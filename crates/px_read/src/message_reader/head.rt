@@ -5,12 +5,12 @@ ghost use Rattle.px_read.specs.Reader.{IsTurn, is_client, is_clients, at_head, r
 ghost use Rattle.px_read.specs.Stages.{answered, IsStage, StandOnce, body_place, request_place, seen_as, state_at};
 
 use super::pending::Pending;
-use super::stage::{Sender, Stage, Turn, refuse};
+use super::stage::{MessageStage, MessageTurn, Sender, refuse};
 use crate::parts::{read_request_head, read_response_head};
 use crate::{ChunkReader, Part, ResponseHead};
 use px_head::{Found, HeadReader, RawHead};
 use px_message::{Fault, Fields, Length, length_of_request, length_of_response};
-use px_text::{Bytes, NoMemory};
+use px_text::NoMemory;
 use std::alloc::Global;
 
 /// The head of a request. It is given before a fault of its length.
@@ -19,7 +19,7 @@ pub fn take_request(
     mut reader: HeadReader,
     rest: Pending,
     closed: bool,
-) -> Result<Turn, NoMemory>
+) -> Result<MessageTurn, NoMemory>
     requires going { reader.failed ≡ None }
     requires once { rest ≡ [] }
     ensures turn { IfOk result (λ turn. IsTurn (state_at (at_head request) reader.rest closed) turn.part (seen_as turn.stage turn.rest closed)) }
@@ -28,9 +28,9 @@ pub fn take_request(
     ensures once { IfOk result (λ turn. StandOnce turn.stage turn.rest) }
 {
     match reader.take_request()? {
-        Found::Partial => Ok(Turn {
+        Found::Partial => Ok(MessageTurn {
             part: Part::More,
-            stage: Stage::Request(reader),
+            stage: MessageStage::Request(reader),
             rest,
         }),
         Found::TooLong => Ok(refuse(Fault::TooLong, rest_of(reader)?)),
@@ -39,7 +39,7 @@ pub fn take_request(
             let rest = rest_of(reader)?;
             let head = read_request_head(alloc, raw)?;
             let stage = behind_request(alloc, length_of_request(&head.fields));
-            Ok(Turn {
+            Ok(MessageTurn {
                 part: Part::Request(head),
                 stage,
                 rest,
@@ -52,7 +52,7 @@ pub fn take_request(
 fn rest_of(reader: HeadReader) -> Result<Pending, NoMemory>
     ensures { IfOk result (λ rest. rest ≡ reader.rest) }
 {
-    Ok(Pending::new(Bytes::new(reader.into_rest())?))
+    Ok(Pending::new(reader.into_rest()?))
 }
 
 /// The head of a response. Where its length is at fault, it is refused and not given.
@@ -62,7 +62,7 @@ pub fn take_response(
     mut reader: HeadReader,
     rest: Pending,
     closed: bool,
-) -> Result<Turn, NoMemory>
+) -> Result<MessageTurn, NoMemory>
     requires going { reader.failed ≡ None }
     requires once { rest ≡ [] }
     ensures turn { IfOk result (λ turn. IsTurn (state_at (at_head (response asked_head)) reader.rest closed) turn.part (seen_as turn.stage turn.rest closed)) }
@@ -71,9 +71,9 @@ pub fn take_response(
 {
     match reader.take_response()? {
         Found::Partial if closed => Ok(refuse(Fault::ServerClosed, rest_of(reader)?)),
-        Found::Partial => Ok(Turn {
+        Found::Partial => Ok(MessageTurn {
             part: Part::More,
-            stage: Stage::Response { asked_head, reader },
+            stage: MessageStage::Response { asked_head, reader },
             rest,
         }),
         Found::TooLong => refuse_response(reader),
@@ -87,21 +87,21 @@ pub fn take_response(
 }
 
 // A response without a head.
-fn refuse_response(reader: HeadReader) -> Result<Turn, NoMemory>
-    ensures { IfOk result (λ turn. turn ≡ record { part = Part.Bad Fault.BadResponse; stage = Stage.Refused Fault.BadResponse; rest = reader.rest }) }
+fn refuse_response(reader: HeadReader) -> Result<MessageTurn, NoMemory>
+    ensures { IfOk result (λ turn. turn ≡ record { part = Part.Bad Fault.BadResponse; stage = MessageStage.Refused Fault.BadResponse; rest = reader.rest }) }
 {
     Ok(refuse(Fault::BadResponse, rest_of(reader)?))
 }
 
 // The head of a response, or its refusal for a fault of its length.
-fn give_response(alloc: Global, asked_head: bool, head: ResponseHead, rest: Pending) -> Turn
+fn give_response(alloc: Global, asked_head: bool, head: ResponseHead, rest: Pending) -> MessageTurn
     ensures turn { (closed : Bool) → (result.part, seen_as result.stage result.rest closed) ≡ answered (response_length head.code asked_head head.fields) head rest closed }
     ensures stage { IsStage result.stage }
     ensures once { StandOnce result.stage result.rest }
 {
     match length_of_response(head.code, asked_head, &head.fields) {
         Err(_) => refuse(Fault::BadResponse, rest),
-        Ok(length) => Turn {
+        Ok(length) => MessageTurn {
             part: Part::Response(head),
             stage: behind_head(alloc, Sender::Server, length),
             rest,
@@ -110,7 +110,7 @@ fn give_response(alloc: Global, asked_head: bool, head: ResponseHead, rest: Pend
 }
 
 // What follows the head of a request.
-fn behind_request(alloc: Global, length: Result<Length, Fault>) -> Stage
+fn behind_request(alloc: Global, length: Result<Length, Fault>) -> MessageStage
     ensures seen { (rest : List ℕ) (closed : Bool) → seen_as result rest closed ≡ state_at (request_place length) rest closed }
     ensures client { (rest : List ℕ) (closed : Bool) → is_clients (seen_as result rest closed).place ≡ true }
     ensures stage { IsStage result }
@@ -118,24 +118,24 @@ fn behind_request(alloc: Global, length: Result<Length, Fault>) -> Stage
 {
     match length {
         Ok(length) => behind_head(alloc, Sender::Client, length),
-        Err(fault) => Stage::Refused(fault),
+        Err(fault) => MessageStage::Refused(fault),
     }
 }
 
 // What follows a head, by the length of its body.
-fn behind_head(alloc: Global, sender: Sender, length: Length) -> Stage
+fn behind_head(alloc: Global, sender: Sender, length: Length) -> MessageStage
     ensures seen { (rest : List ℕ) (closed : Bool) → seen_as result rest closed ≡ state_at (body_place sender length) rest closed }
     ensures client { is_client sender ≡ true → (rest : List ℕ) (closed : Bool) → is_clients (seen_as result rest closed).place ≡ true }
     ensures stage { IsStage result }
     ensures once { (rest : List ℕ) → StandOnce result rest }
 {
     match length {
-        Length::None => Stage::Ended(Fields::new(alloc)),
-        Length::Bytes(left) => Stage::Counted { sender, left },
-        Length::Chunked => Stage::Chunked {
+        Length::None => MessageStage::Ended(Fields::new(alloc)),
+        Length::Bytes(left) => MessageStage::Counted { sender, left },
+        Length::Chunked => MessageStage::Chunked {
             sender,
             reader: ChunkReader::new(alloc),
         },
-        Length::ToClose => Stage::ToClose { sender },
+        Length::ToClose => MessageStage::ToClose { sender },
     }
 }

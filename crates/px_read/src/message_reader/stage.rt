@@ -22,7 +22,7 @@ pub enum Sender {
 
 /// What the next byte belongs to.
 #[derive(Debug, Drop)]
-pub enum Stage {
+pub enum MessageStage {
     /// The head of a request. Its reader keeps the bytes.
     Request(HeadReader),
     /// The head of a response, to a HEAD or not. Its reader keeps the bytes.
@@ -52,14 +52,19 @@ pub enum Stage {
 
 /// A part, and where the reader is behind it.
 #[derive(Debug, Drop)]
-pub struct Turn {
+pub struct MessageTurn {
     pub part: Part,
-    pub stage: Stage,
+    pub stage: MessageStage,
     pub rest: Pending,
 }
 
 /// The next part of the bytes. A client's close changes nothing, so bytes may come behind it.
-pub fn take_turn(alloc: Global, stage: Stage, rest: Pending, closed: bool) -> Result<Turn, NoMemory>
+pub fn take_turn(
+    alloc: Global,
+    stage: MessageStage,
+    rest: Pending,
+    closed: bool,
+) -> Result<MessageTurn, NoMemory>
     requires stage { IsStage stage }
     requires once { StandOnce stage rest }
     ensures turn { IfOk result (λ turn. IsTurn (seen_as stage rest closed) turn.part (seen_as turn.stage turn.rest closed)) }
@@ -73,22 +78,27 @@ pub fn take_turn(alloc: Global, stage: Stage, rest: Pending, closed: bool) -> Re
 }
 
 // Whether the close counts there.
-fn heeds(stage: &Stage, closed: bool) -> bool
+fn heeds(stage: &MessageStage, closed: bool) -> bool
     ensures { result ≡ heeded stage.now closed }
 {
     match stage {
-        Stage::Request(_) => false,
-        Stage::Response { .. } => closed,
-        Stage::Counted { sender, .. } => is_shut(*sender, closed),
-        Stage::Chunked { sender, .. } => is_shut(*sender, closed),
-        Stage::ToClose { sender } => is_shut(*sender, closed),
-        Stage::Ended(_) => false,
-        Stage::Refused(_) => false,
+        MessageStage::Request(_) => false,
+        MessageStage::Response { .. } => closed,
+        MessageStage::Counted { sender, .. } => is_shut(*sender, closed),
+        MessageStage::Chunked { sender, .. } => is_shut(*sender, closed),
+        MessageStage::ToClose { sender } => is_shut(*sender, closed),
+        MessageStage::Ended(_) => false,
+        MessageStage::Refused(_) => false,
     }
 }
 
 // The same, where the close is one that counts.
-fn take_part(alloc: Global, stage: Stage, rest: Pending, closed: bool) -> Result<Turn, NoMemory>
+fn take_part(
+    alloc: Global,
+    stage: MessageStage,
+    rest: Pending,
+    closed: bool,
+) -> Result<MessageTurn, NoMemory>
     requires stage { IsStage stage }
     requires once { StandOnce stage rest }
     ensures turn { IfOk result (λ turn. IsTurn (seen_as stage rest closed) turn.part (seen_as turn.stage turn.rest closed)) }
@@ -97,48 +107,48 @@ fn take_part(alloc: Global, stage: Stage, rest: Pending, closed: bool) -> Result
     ensures once { IfOk result (λ turn. StandOnce turn.stage turn.rest) }
 {
     match stage {
-        Stage::Request(reader) => take_request(alloc, reader, rest, closed),
-        Stage::Response { asked_head, reader } => {
+        MessageStage::Request(reader) => take_request(alloc, reader, rest, closed),
+        MessageStage::Response { asked_head, reader } => {
             take_response(alloc, asked_head, reader, rest, closed)
         }
-        Stage::Counted { sender, left } => take_counted(alloc, sender, left, rest, closed),
-        Stage::Chunked { sender, reader } => take_chunk(sender, reader, rest, closed),
-        Stage::ToClose { sender } => take_to_close(alloc, sender, rest, closed),
-        Stage::Ended(trailers) => end(trailers, rest),
-        Stage::Refused(fault) => Ok(refuse(fault, rest)),
+        MessageStage::Counted { sender, left } => take_counted(alloc, sender, left, rest, closed),
+        MessageStage::Chunked { sender, reader } => take_chunk(sender, reader, rest, closed),
+        MessageStage::ToClose { sender } => take_to_close(alloc, sender, rest, closed),
+        MessageStage::Ended(trailers) => end(trailers, rest),
+        MessageStage::Refused(fault) => Ok(refuse(fault, rest)),
     }
 }
 
 /// The message is whole.
-pub fn end(trailers: Fields, rest: Pending) -> Result<Turn, NoMemory>
-    ensures { IfOk result (λ turn. turn ≡ record { part = Part.End trailers; stage = Stage.Ended trailers; rest = rest }) }
+pub fn end(trailers: Fields, rest: Pending) -> Result<MessageTurn, NoMemory>
+    ensures { IfOk result (λ turn. turn ≡ record { part = Part.End trailers; stage = MessageStage.Ended trailers; rest = rest }) }
 {
-    Ok(Turn {
+    Ok(MessageTurn {
         part: Part::End(trailers.try_clone()?),
-        stage: Stage::Ended(trailers),
+        stage: MessageStage::Ended(trailers),
         rest,
     })
 }
 
 /// The message is refused.
-pub fn refuse(fault: Fault, rest: Pending) -> Turn
-    ensures { result ≡ record { part = Part.Bad fault; stage = Stage.Refused fault; rest = rest } }
+pub fn refuse(fault: Fault, rest: Pending) -> MessageTurn
+    ensures { result ≡ record { part = Part.Bad fault; stage = MessageStage.Refused fault; rest = rest } }
 {
-    Turn {
+    MessageTurn {
         part: Part::Bad(fault),
-        stage: Stage::Refused(fault),
+        stage: MessageStage::Refused(fault),
         rest,
     }
 }
 
 /// Nothing further is told: the message waits, unless its server has closed.
-pub fn wait(stage: Stage, rest: Pending, is_cut_off: bool) -> Turn
+pub fn wait(stage: MessageStage, rest: Pending, is_cut_off: bool) -> MessageTurn
     ensures { result ≡ waited is_cut_off stage rest }
 {
     if is_cut_off {
         refuse(Fault::ServerClosed, rest)
     } else {
-        Turn {
+        MessageTurn {
             part: Part::More,
             stage,
             rest,

@@ -5,17 +5,17 @@ use Rattle.px_head.proofs.place.skip_blank.Goals as goal
 
 pub returns-then-width-eq0-clause-value : goal.returns-then-width-eq0-clause-value
 returns-then-width-eq0-clause-value c =
-    let width = c.line_end-width.ensures.value ∙ ap line_end (rest_slice c.args.bytes.now c.loop-from.at) in
-    let none = blank_lines_none (drop c.loop-from.at c.args.bytes.now) (sym width ∙ c.if-width-eq0.true) in
-    let so_far = c.loop-from.invariant.1 in
+    let width = c.line_end-width.ensures.value ∙ ap line_end (rest_slice c.args.bytes.now c.loop-at.at) in
+    let none = blank_lines_none (drop c.loop-at.at c.args.bytes.now) (sym width ∙ c.if-width-eq0.true) in
+    let so_far = c.loop-at.invariant.1 in
     omega arith
 
-pub loop-from-preserved : goal.loop-from-preserved
-loop-from-preserved c =
-    let fits = c.loop-from.invariant.0 in
-    let width = c.line_end-width.ensures.value ∙ ap line_end (rest_slice c.args.bytes.now c.loop-from.at) in
-    let step = skip_step c.args.bytes.now c.loop-from.at c.line_end-width.result fits width (omega arith) in
-    let short = subst (λ (l : List ℕ). c.line_end-width.result ≤ length l) (rest_slice c.args.bytes.now c.loop-from.at)
+pub loop-at-preserved : goal.loop-at-preserved
+loop-at-preserved c =
+    let fits = c.loop-at.invariant.0 in
+    let width = c.line_end-width.ensures.value ∙ ap line_end (rest_slice c.args.bytes.now c.loop-at.at) in
+    let step = skip_step c.args.bytes.now c.loop-at.at c.line_end-width.result fits width (omega arith) in
+    let short = subst (λ (l : List ℕ). c.line_end-width.result ≤ length l) (rest_slice c.args.bytes.now c.loop-at.at)
     c.line_end-width.ensures.within in
-    let size = length-drop c.loop-from.at c.args.bytes.now in
-    (omega arith, step ∙ c.loop-from.invariant.1)
+    let size = length-drop c.loop-at.at c.args.bytes.now in
+    (omega arith, step ∙ c.loop-at.invariant.1)

@@ -1,4 +1,4 @@
-use Rattle.std.proofs.Common.{ℕ, ◌≡◌, List, ap, length, arith, sym, ◌∙◌, inl, inr}
+use Rattle.std.proofs.Common.{arith, sym, ◌∙◌, inl, inr}
 use Rattle.std.proofs.lemmas.List.{length-take-le}
 use Rattle.px_read.proofs.TrailerTurnLemmas.{trailers_go, trailers_too_long, trailers_bad, trailers_parts, trailers_end, trailers_done}
 use Rattle.px_read.proofs.chunk_reader.trailers.hear_trailers.Goals as goal
@@ -9,11 +9,9 @@ read_trailers-requires c = trailers_parts c.args.reader c.feed.new.self _ c.in-H
 
 pub overflow_sub-result : goal.overflow_sub-result
 overflow_sub-result c =
-    let rest = ap (λ (l : List ℕ). length l) c.into_rest.ensures in
-    let count : c.len.result ≡ length c.take_trailers.new.self.rest = omega arith in
-    let end = trailers_end c.args.reader c.feed.new.self c.take_trailers.new.self _ c.in-Head.raw c.len.result c.requires.going.0 c.requires.going.1
+    let end = trailers_end c.args.reader c.feed.new.self c.take_trailers.new.self _ c.in-Head.raw c.unused.result c.requires.going.0 c.requires.going.1
     c.in_ok-feed.ensures.ok (sym c.in-Head.is ∙ c.in_ok-take_trailers.ensures.found) c.in_ok-take_trailers.ensures.state
-    count in
+    c.unused.ensures in
     let late = end.late in
     let sum = end.rest in
     let within = c.line_length-count.ensures.within in
@@ -39,10 +37,8 @@ returns-in-TooLong c =
 
 pub returns-in_ok-kept-in-Head : goal.returns-in_ok-kept-in-Head
 returns-in_ok-kept-in-Head c =
-    let rest = ap (λ (l : List ℕ). length l) c.into_rest.ensures in
-    let count : c.len.result ≡ length c.take_trailers.new.self.rest = omega arith in
-    let end = trailers_end c.args.reader c.feed.new.self c.take_trailers.new.self _ c.in-Head.raw c.len.result c.requires.going.0 c.requires.going.1
+    let end = trailers_end c.args.reader c.feed.new.self c.take_trailers.new.self _ c.in-Head.raw c.unused.result c.requires.going.0 c.requires.going.1
     c.in_ok-feed.ensures.ok (sym c.in-Head.is ∙ c.in_ok-take_trailers.ensures.found) c.in_ok-take_trailers.ensures.state
-    count in
-    trailers_done c.args.reader c.line_length-count.result c.len.result c.args.bytes.now c.in-Head.raw c.in_ok-trailers-in-Head.trailers
+    c.unused.ensures in
+    trailers_done c.args.reader c.line_length-count.result c.unused.result c.args.bytes.now c.in-Head.raw c.in_ok-trailers-in-Head.trailers
     c.in_ok-kept-in-Head.kept c.line_length-count.ensures.within end c.in_ok-trailers-in-Head.ensures c.in_ok-kept-in-Head.ensures

@@ -5,8 +5,8 @@ use Rattle.px_read.specs.Reader.{IsTurn, has_shut}
 use Rattle.px_read.specs.Stages.{IsStage, StandOnce, chunk_place, seen_as, state_at}
 use Rattle.px_read.specs.Waits.{given}
 use Rattle.px_read.specs.declared.chunk_reader.ChunkError.TheVariants as chunk_error
-use Rattle.px_read.specs.declared.message_reader.stage.Stage.TheVariants as stage
-use Rattle.px_read.specs.declared.message_reader.stage.Turn.{Turn}
+use Rattle.px_read.specs.declared.message_reader.stage.MessageStage.TheVariants as stage
+use Rattle.px_read.specs.declared.message_reader.stage.MessageTurn.{MessageTurn}
 use Rattle.px_read.proofs.BodyLemmas.{chunk-turn, chunk-stage, chunk-once, chunk-refused}
 use Rattle.px_read.proofs.ReaderLemmas.{turn-made}
 use Rattle.px_read.proofs.message_reader.body.take_chunk.Goals as goal
@@ -24,7 +24,7 @@ returns-in-Ok-clause-turn c =
     turn-made c.give.result (given step.part kept (drop step.used c.args.rest) (has_shut c.args.sender c.args.closed))
     (state_at (chunk_place c.args.sender c.args.reader) c.args.rest c.args.closed) c.args.closed
     (chunk-turn c.args.sender c.args.reader c.args.rest c.args.closed step after c.requires steps)
-    (subst (λ (t : Turn). IfOk c.give.result (λ turn. turn ≡ t)) same c.give.ensures)
+    (subst (λ (t : MessageTurn). IfOk c.give.result (λ turn. turn ≡ t)) same c.give.ensures)
 
 pub returns-in-Ok-clause-stage : goal.returns-in-Ok-clause-stage
 returns-in-Ok-clause-stage c =
@@ -32,8 +32,8 @@ returns-in-Ok-clause-stage c =
     let after = c.step.new.self in
     let kept = stage.Chunked c.args.sender after in
     let made = given step.part kept c.skip.new.self c.is_shut.result in
-    IfOk-weaker c.give.result (λ (turn : Turn). turn ≡ made) (λ (turn : Turn). IsStage turn.stage)
-    (λ turn is. subst (λ (t : Turn). IsStage t.stage) (sym is)
+    IfOk-weaker c.give.result (λ (turn : MessageTurn). turn ≡ made) (λ (turn : MessageTurn). IsStage turn.stage)
+    (λ turn is. subst (λ (t : MessageTurn). IsStage t.stage) (sym is)
     (chunk-stage c.args.sender c.args.reader c.bytes.result.now c.skip.new.self c.is_shut.result step after c.requires c.in-Ok.ensures.step))
     c.give.ensures
 
@@ -42,8 +42,8 @@ returns-in-Ok-clause-once c =
     let step = c.in-Ok.step in
     let after = c.step.new.self in
     let made = given step.part (stage.Chunked c.args.sender after) c.skip.new.self c.is_shut.result in
-    IfOk-weaker c.give.result (λ (turn : Turn). turn ≡ made) (λ (turn : Turn). StandOnce turn.stage turn.rest)
-    (λ turn is. subst (λ (t : Turn). StandOnce t.stage t.rest) (sym is)
+    IfOk-weaker c.give.result (λ (turn : MessageTurn). turn ≡ made) (λ (turn : MessageTurn). StandOnce turn.stage turn.rest)
+    (λ turn is. subst (λ (t : MessageTurn). StandOnce t.stage t.rest) (sym is)
     (chunk-once step.part c.args.sender after c.skip.new.self c.is_shut.result))
     c.give.ensures
 
@@ -54,6 +54,6 @@ returns-in-Err-BadChunk-clause-turn c =
     subst (λ (bytes : List ℕ). Steps c.args.reader bytes (Err chunk_error.BadChunk) after) c.bytes.ensures
     (rw c.in-Err-BadChunk.field-0-is at c.in-Err-BadChunk.ensures.step) in
     subst
-    (λ (t : Turn). IsTurn (state_at (chunk_place c.args.sender c.args.reader) c.args.rest c.args.closed) t.part (seen_as t.stage t.rest c.args.closed))
+    (λ (t : MessageTurn). IsTurn (state_at (chunk_place c.args.sender c.args.reader) c.args.rest c.args.closed) t.part (seen_as t.stage t.rest c.args.closed))
     (sym c.refuse.ensures)
     (chunk-refused c.args.sender c.args.reader c.args.rest c.args.closed after c.chunk_fault.result c.requires steps c.chunk_fault.ensures)

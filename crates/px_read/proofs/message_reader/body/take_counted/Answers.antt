@@ -2,8 +2,8 @@ use Rattle.std.proofs.Common.{Bool, ◌∙◌, ◌≡◌, ◌<◌, ◌≤◌, �
 use Rattle.px_read.specs.Reader.{in_counted, IsTurn}
 use Rattle.px_read.specs.Stages.{state_at, seen_as}
 use Rattle.px_read.specs.Waits.{waited}
-use Rattle.px_read.specs.declared.message_reader.stage.Stage.TheVariants as stage
-use Rattle.px_read.specs.declared.message_reader.stage.Turn.{Turn}
+use Rattle.px_read.specs.declared.message_reader.stage.MessageStage.TheVariants as stage
+use Rattle.px_read.specs.declared.message_reader.stage.MessageTurn.{MessageTurn}
 use Rattle.px_read.specs.declared.part.Part.TheVariants as part
 use Rattle.px_read.proofs.BodyLemmas.{counted-gives, counted-ends, counted-waits}
 use Rattle.px_read.proofs.ReaderLemmas.{turn-made}
@@ -23,7 +23,7 @@ returns-then-count-eq0-clause-turn c =
     sym c.len.ensures ∙ c.piece_length-count.ensures.all c.if-count-eq0.true some in
     let kept = stage.Counted c.args.sender c.args.left in
     subst
-    (λ (t : Turn). IsTurn (state_at (in_counted c.args.sender c.args.left) c.args.rest c.args.closed) t.part (seen_as t.stage t.rest c.args.closed))
+    (λ (t : MessageTurn). IsTurn (state_at (in_counted c.args.sender c.args.left) c.args.rest c.args.closed) t.part (seen_as t.stage t.rest c.args.closed))
     (sym (c.wait.ensures ∙ ap (λ (cut : Bool). waited cut kept c.args.rest) c.is_shut.ensures))
     (counted-waits c.args.sender c.args.left c.args.rest c.args.closed some none)
 

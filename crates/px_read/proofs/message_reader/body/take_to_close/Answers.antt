@@ -1,7 +1,7 @@
 use Rattle.std.proofs.Common.{◌∙◌, ◌≡◌, ◌≤◌, take, drop, length, arith, sym}
 use Rattle.px_read.specs.Reader.{up_to_close}
 use Rattle.px_read.specs.Stages.{state_at}
-use Rattle.px_read.specs.declared.message_reader.stage.Stage.TheVariants as stage
+use Rattle.px_read.specs.declared.message_reader.stage.MessageStage.TheVariants as stage
 use Rattle.px_read.specs.declared.part.Part.TheVariants as part
 use Rattle.px_read.proofs.BodyLemmas.{closing-gives, closing-ends, closing-waits}
 use Rattle.px_read.proofs.ReaderLemmas.{turn-made}

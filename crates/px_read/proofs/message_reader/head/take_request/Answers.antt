@@ -6,7 +6,7 @@ use Rattle.px_message.specs.declared.fault.Fault.{Fault}
 use Rattle.px_read.specs.Reader.{State, at_head, request, IsTurn}
 use Rattle.px_read.specs.Stages.{seen_as, state_at, request_place}
 use Rattle.px_read.specs.declared.head.RequestHead.{RequestHead}
-use Rattle.px_read.specs.declared.message_reader.stage.Turn.{Turn}
+use Rattle.px_read.specs.declared.message_reader.stage.MessageTurn.{MessageTurn}
 use Rattle.px_read.specs.declared.part.Part.TheVariants as part
 use Rattle.px_read.proofs.HeadLemmas.{finds, waits, is_too_long, is_bad, request-parts, request-waits, request-too_long, request-bad, request-gives}
 use Rattle.px_read.proofs.message_reader.head.take_request.Goals as goal
@@ -26,7 +26,7 @@ returns-in-Partial-clause-turn c =
 pub returns-in_ok-rest_of-in-TooLong-clause-turn : goal.returns-in_ok-rest_of-in-TooLong-clause-turn
 returns-in_ok-rest_of-in-TooLong-clause-turn c =
     subst
-    (λ (t : Turn). IsTurn (state_at (at_head request) c.args.reader.rest c.args.closed) t.part (seen_as t.stage t.rest c.args.closed))
+    (λ (t : MessageTurn). IsTurn (state_at (at_head request) c.args.reader.rest c.args.closed) t.part (seen_as t.stage t.rest c.args.closed))
     (sym c.refuse.ensures)
     (request-too_long c.args.reader c.take_request.new.self c.in_ok-rest_of-in-TooLong.field-0 c.args.closed
     (is_too_long kind.Request c.args.reader c.take_request.new.self c.requires.going
@@ -36,7 +36,7 @@ returns-in_ok-rest_of-in-TooLong-clause-turn c =
 pub returns-in_ok-rest_of-in-BadHead-clause-turn : goal.returns-in_ok-rest_of-in-BadHead-clause-turn
 returns-in_ok-rest_of-in-BadHead-clause-turn c =
     subst
-    (λ (t : Turn). IsTurn (state_at (at_head request) c.args.reader.rest c.args.closed) t.part (seen_as t.stage t.rest c.args.closed))
+    (λ (t : MessageTurn). IsTurn (state_at (at_head request) c.args.reader.rest c.args.closed) t.part (seen_as t.stage t.rest c.args.closed))
     (sym c.refuse-in-BadHead.ensures)
     (request-bad c.args.reader c.take_request.new.self c.in_ok-rest_of-in-BadHead.field-0 c.args.closed
     (is_bad kind.Request c.args.reader c.take_request.new.self c.requires.going

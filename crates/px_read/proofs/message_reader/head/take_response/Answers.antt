@@ -6,8 +6,8 @@ use Rattle.px_read.specs.Heads.{code_of, response_head}
 use Rattle.px_read.specs.Reader.{State, at_head, response, IsTurn}
 use Rattle.px_read.specs.Stages.{seen_as, state_at, answered}
 use Rattle.px_read.specs.declared.head.ResponseHead.{ResponseHead}
-use Rattle.px_read.specs.declared.message_reader.stage.Turn.{Turn}
-use Rattle.px_read.specs.declared.message_reader.stage.Stage.TheVariants as stage
+use Rattle.px_read.specs.declared.message_reader.stage.MessageTurn.{MessageTurn}
+use Rattle.px_read.specs.declared.message_reader.stage.MessageStage.TheVariants as stage
 use Rattle.px_read.specs.declared.part.Part.{Part}
 use Rattle.px_read.specs.declared.part.Part.TheVariants as part
 use Rattle.px_read.proofs.ReaderLemmas.{turn-made}
@@ -23,7 +23,7 @@ read_response_head-requires c =
 pub returns-in_ok-rest_of-in-Partial-clause-turn : goal.returns-in_ok-rest_of-in-Partial-clause-turn
 returns-in_ok-rest_of-in-Partial-clause-turn c =
     subst
-    (λ (t : Turn). IsTurn (state_at (at_head (response c.args.asked_head)) c.args.reader.rest c.args.closed) t.part (seen_as t.stage t.rest c.args.closed))
+    (λ (t : MessageTurn). IsTurn (state_at (at_head (response c.args.asked_head)) c.args.reader.rest c.args.closed) t.part (seen_as t.stage t.rest c.args.closed))
     (sym c.refuse.ensures)
     (response-cut c.args.reader c.take_response.new.self c.in_ok-rest_of-in-Partial.field-0 c.args.asked_head c.args.closed
     (waits kind.Response c.args.reader c.take_response.new.self c.requires.going

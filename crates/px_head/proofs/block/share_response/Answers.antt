@@ -1,13 +1,13 @@
 use Rattle.std.proofs.Common.{ℕ, List, ◌∙◌, ap, map, refl, take}
 use Rattle.httparse.specs.Spans.{header_bytes, span_bytes}
 use Rattle.px_head.proofs.BlockLemmas.{response_parts}
-use Rattle.px_head.proofs.block.read_response.Goals as goal
+use Rattle.px_head.proofs.block.share_response.Goals as goal
 
 pub returns : goal.returns
 returns c =
-    let w = c.in-Some.ensures in
-    let spans = c.in-Some.spans in
-    let room = c.response_spans.new.room in
+    let w = c.requires in
+    let spans = c.args.spans in
+    let room = c.args.room.now in
     let same = c.in_ok-block.ensures in
     response_parts c.args.block.now room spans w.0 _ _ _ _ w.1 w.2
     (c.in_ok-copied.ensures ∙ c.version_text.ensures)

@@ -1,13 +1,13 @@
 use Rattle.std.proofs.Common.{ℕ, List, ◌∙◌, ap, map, take}
 use Rattle.httparse.specs.Spans.{header_bytes, span_bytes}
 use Rattle.px_head.proofs.BlockLemmas.{request_parts}
-use Rattle.px_head.proofs.block.read_request.Goals as goal
+use Rattle.px_head.proofs.block.share_request.Goals as goal
 
 pub returns : goal.returns
 returns c =
-    let w = c.in-Some.ensures in
-    let spans = c.in-Some.spans in
-    let room = c.request_spans.new.room in
+    let w = c.requires in
+    let spans = c.args.spans in
+    let room = c.args.room.now in
     let same = c.in_ok-block.ensures in
     request_parts c.args.block.now room spans w.0 _ _ _ _ w.1 w.2
     (c.in_ok-part.ensures ∙ ap (λ (b : List ℕ). span_bytes b spans.method) same)
