@@ -2,7 +2,7 @@
 ghost use Rattle.std.specs.Prelude.{◌≡◌, length};
 ghost use Rattle.px_wire.specs.Calls.{GotWithin, PutWithin};
 
-use crate::news::Way;
+use crate::notice::Way;
 use crate::share::Share;
 use mio::net::TcpStream;
 use px_wire::{Got, Put, Ready};

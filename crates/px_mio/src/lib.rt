@@ -16,7 +16,7 @@ mod doors;
 mod listen_fault;
 mod listening;
 mod name;
-mod news;
+mod notice;
 mod share;
 mod socket;
 mod sockets;

@@ -3,7 +3,7 @@ ghost use Rattle.std.specs.Prelude.{◌≡◌, length};
 ghost use Rattle.px_wire.specs.Calls.{GotWithin, PutWithin};
 
 use crate::connection::{Begun, Connection, Finished};
-use crate::news::Way;
+use crate::notice::Way;
 use mio::net::TcpStream;
 use mio::{Interest, Registry, Token};
 use px_wire::{Got, Put};

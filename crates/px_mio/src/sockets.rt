@@ -11,7 +11,7 @@ use crate::connection::{Begun, Connection, Drained, Finished, drain};
 use crate::doors::{Came, Doors};
 use crate::listening::{Refused, refusal_at};
 use crate::name::{Names, look_up, peer_address};
-use crate::news::{CONTROL, News, PROXY, Way, door_of, reading_of, slot_of, writing_of};
+use crate::notice::{CONTROL, Notice, PROXY, Way, door_of, reading_of, slot_of, writing_of};
 use crate::socket::{Attempt, Attempted, Socket, connect, look_at, register};
 use mio::event::Event;
 use mio::net::{TcpListener, TcpStream};
@@ -48,8 +48,8 @@ pub(crate) struct Sockets<R> {
     slots: Slab<Slot>,
     names: Names,
     // What is to be told on before the next poll, and what is left to be done behind it.
-    news: VecDeque<News>,
-    later: VecDeque<News>,
+    notices: VecDeque<Notice>,
+    later: VecDeque<Notice>,
     // How often the system was polled, as far as turns are told apart by it.
     turn: u64,
     // The stamp of the last socket that was given a slot.
@@ -96,7 +96,7 @@ impl<R: Net + Clock + Alloc<A = Global> + Drop> Sockets<R> {
             doors: Doors::new(),
             slots: Slab::new(alloc),
             names: Names::new(alloc),
-            news: VecDeque::new(alloc),
+            notices: VecDeque::new(alloc),
             later: VecDeque::new(alloc),
             turn: 0,
             stamp: 0,
@@ -158,9 +158,9 @@ impl<R: Net + Clock + Alloc<A = Global> + Drop> Sockets<R> {
     /// Waits until some socket can go on, and tells it with its moment.
     pub(crate) fn ready(&mut self) -> Result<(u64, Ready), NetError> {
         for _ in 0..u64::MAX {
-            match self.news.pop_front() {
-                Some(news) => {
-                    let told = self.take_news(news)?;
+            match self.notices.pop_front() {
+                Some(notice) => {
+                    let told = self.take_notice(notice)?;
                     if let Some(ready) = told {
                         self.read_clock()?;
                         return Ok((self.moment, ready));
@@ -173,13 +173,13 @@ impl<R: Net + Clock + Alloc<A = Global> + Drop> Sockets<R> {
     }
 
     // What the system told, as it is told on; none where it was nothing, or of a socket that has the slot no more.
-    fn take_news(&mut self, news: News) -> Result<Option<Ready>, NoMemory> {
-        match news {
-            News::Door(door) => self.accept(door),
-            News::Slot { slot, stamp, way } if self.has_stamp(slot, stamp) => {
+    fn take_notice(&mut self, notice: Notice) -> Result<Option<Ready>, NoMemory> {
+        match notice {
+            Notice::Door(door) => self.accept(door),
+            Notice::Slot { slot, stamp, way } if self.has_stamp(slot, stamp) => {
                 self.go_on(slot, way)
             }
-            News::Slot { .. } => Ok(None),
+            Notice::Slot { .. } => Ok(None),
         }
     }
 
@@ -213,21 +213,21 @@ impl<R: Net + Clock + Alloc<A = Global> + Drop> Sockets<R> {
 
     // Takes down what was left to do, and what the last poll told. Where a door could not accept, both are tried again.
     fn gather(&mut self) -> Result<(), NoMemory> {
-        mem::swap(&mut self.news, &mut self.later);
+        mem::swap(&mut self.notices, &mut self.later);
         for event in &self.events {
             if let Some(door) = door_of(event) {
-                self.news.push_back(News::Door(door))?;
+                self.notices.push_back(Notice::Door(door))?;
             }
             if let Some(slot) = slot_of(event) {
                 if let Some(place) = self.slots.get(slot as usize) {
-                    note(&mut self.news, slot, place.stamp, event)?;
+                    note(&mut self.notices, slot, place.stamp, event)?;
                 }
             }
         }
         if self.is_refused {
             self.is_refused = false;
-            self.news.push_back(News::Door(Door::Proxy))?;
-            self.news.push_back(News::Door(Door::Control))?;
+            self.notices.push_back(Notice::Door(Door::Proxy))?;
+            self.notices.push_back(Notice::Door(Door::Control))?;
         }
         Ok(())
     }
@@ -251,11 +251,11 @@ impl<R: Net + Clock + Alloc<A = Global> + Drop> Sockets<R> {
         match self.doors.accept(door, self.turn) {
             Came::Peer(stream, peer) => self.take_in(door, stream, peer),
             Came::Aborted => {
-                self.news.push_back(News::Door(door))?;
+                self.notices.push_back(Notice::Door(door))?;
                 Ok(None)
             }
             Came::Enough => {
-                self.later.push_back(News::Door(door))?;
+                self.later.push_back(Notice::Door(door))?;
                 Ok(None)
             }
             Came::Refused => {
@@ -274,7 +274,7 @@ impl<R: Net + Clock + Alloc<A = Global> + Drop> Sockets<R> {
         stream: TcpStream,
         peer: SocketAddr,
     ) -> Result<Option<Ready>, NoMemory> {
-        self.news.push_back(News::Door(door))?;
+        self.notices.push_back(Notice::Door(door))?;
         let Some(peer) = peer_address(self.alloc, peer)? else {
             return Ok(None);
         };
@@ -334,7 +334,7 @@ impl<R: Net + Clock + Alloc<A = Global> + Drop> Sockets<R> {
     // Has the slot looked at, before the next poll.
     fn tell(&mut self, slot: u32, way: Way) -> Result<(), NoMemory> {
         let stamp = self.stamp_of(slot);
-        self.news.push_front(News::Slot { slot, stamp, way })?;
+        self.notices.push_front(Notice::Slot { slot, stamp, way })?;
         Ok(())
     }
 
@@ -342,7 +342,7 @@ impl<R: Net + Clock + Alloc<A = Global> + Drop> Sockets<R> {
     fn tell_later(&mut self, slot: u32) -> Result<(), NoMemory> {
         let way = Way::ReadMore;
         let stamp = self.stamp_of(slot);
-        self.later.push_back(News::Slot { slot, stamp, way })?;
+        self.later.push_back(Notice::Slot { slot, stamp, way })?;
         Ok(())
     }
 
@@ -447,7 +447,7 @@ impl<R: Net + Clock + Alloc<A = Global> + Drop> Sockets<R> {
         let way = Way::ReadMore;
         if self
             .later
-            .push_back(News::Slot { slot, stamp, way })
+            .push_back(Notice::Slot { slot, stamp, way })
             .is_err()
         {
             return false;
@@ -561,12 +561,17 @@ impl<R: Net + Clock + Alloc<A = Global> + Drop> Sockets<R> {
 }
 
 // Takes down what is told of a slot's socket: first that it may be written, which tells whether it is connected.
-fn note(news: &mut VecDeque<News>, slot: u32, stamp: u64, event: &Event) -> Result<(), NoMemory> {
+fn note(
+    notices: &mut VecDeque<Notice>,
+    slot: u32,
+    stamp: u64,
+    event: &Event,
+) -> Result<(), NoMemory> {
     if let Some(way) = writing_of(event) {
-        news.push_back(News::Slot { slot, stamp, way })?;
+        notices.push_back(Notice::Slot { slot, stamp, way })?;
     }
     if let Some(way) = reading_of(event) {
-        news.push_back(News::Slot { slot, stamp, way })?;
+        notices.push_back(Notice::Slot { slot, stamp, way })?;
     }
     Ok(())
 }

@@ -12,12 +12,12 @@ use Rattle.px_event.specs.declared.heard.Heard.{Heard}
 use Rattle.px_event.specs.declared.heard.Heard.TheVariants as heard
 use Rattle.px_event.specs.declared.said.Said.TheVariants as said
 use Rattle.px_event.specs.declared.step.Step.TheVariants as steps
-use Rattle.px_wire.specs.declared.link.Link.{Link}
+use Rattle.px_wire.specs.declared.endpoint.Endpoint.{Endpoint}
 use Rattle.px_wire.specs.declared.call.WireCall.{WireCall}
 use Rattle.px_wire.specs.declared.call.WireCall.TheVariants as calls
 use Rattle.px_wire.specs.declared.wire.Ready.TheVariants as ready
 use Rattle.px_wire.specs.Calls.{Calls, slots_of, without_slot, IsFree}
-use Rattle.px_wire.specs.Links.{has_slot, is_link_of, new_link}
+use Rattle.px_wire.specs.Endpoints.{has_slot, is_endpoint_of, new_endpoint}
 use Rattle.px_wire.specs.Ledger.{Life, Ledger, ledger, after, is_life_at, is_life_of, drop_first, number_end, new_life}
 use Rattle.px_wire.specs.Rules.{MayAsk}
 use Rattle.px_wire.specs.Stands.{idle, unheard, Fits, AllFit, Name, name_of, ApartFrom, IsUsed, AllUsed, Stands, AllCalm}
@@ -46,26 +46,26 @@ new_client slot slots accepted free (other ∷ names) used = (
   new_client slot slots accepted free names used.1,
 )
 
--- no link has the side that is dialled
-pub new_server : (slot conv : ℕ) (side : Side) (slots : List ℕ) (accepted : ℕ) → list_any (λ s. s == slot) slots ≡ false → (links : List Link) → AllUsed slots accepted (map name_of links)
-    → list_any (is_link_of conv side) links ≡ false → ApartFrom (record { slot = slot; conv = conv; side = side }) (map name_of links)
+-- no endpoint has the side that is dialled
+pub new_server : (slot conv : ℕ) (side : Side) (slots : List ℕ) (accepted : ℕ) → list_any (λ s. s == slot) slots ≡ false → (endpoints : List Endpoint) → AllUsed slots accepted (map name_of endpoints)
+    → list_any (is_endpoint_of conv side) endpoints ≡ false → ApartFrom (record { slot = slot; conv = conv; side = side }) (map name_of endpoints)
 new_server slot conv side slots accepted free [] used none = tt
-new_server slot conv side slots accepted free (other ∷ links) used none =
-    let parts = neither (is_link_of conv side other) (list_any (is_link_of conv side) links) none in (
+new_server slot conv side slots accepted free (other ∷ endpoints) used none =
+    let parts = neither (is_endpoint_of conv side other) (list_any (is_endpoint_of conv side) endpoints) none in (
       record {
         slots = other_than_free slot slots accepted (name_of other) free used.0;
-        sides = λ c s. (let e : is_link_of conv side other ≡ true = is_of c s in let wrong : true ≡ false = sym e ∙ parts.0 in cc);
+        sides = λ c s. (let e : is_endpoint_of conv side other ≡ true = is_of c s in let wrong : true ≡ false = sym e ∙ parts.0 in cc);
       },
-      new_server slot conv side slots accepted free links used.1 parts.1,
+      new_server slot conv side slots accepted free endpoints used.1 parts.1,
     )
   where
-    is_of : conv ≡ other.conv → side ≡ other.side → is_link_of conv side other ≡ true
+    is_of : conv ≡ other.conv → side ≡ other.side → is_endpoint_of conv side other ≡ true
     is_of c s =
         let same : is_same_side other.side side ≡ true = (let P : Side → Type 0 = λ x. is_same_side x side ≡ true in subst P s (side_self side)) in
         rw (eq-eqb other.conv conv (sym c), same) refl
 
 -- a slot that was just given
-pub new_fits : (owed : Option Heard) (slot : ℕ) (conv number : ℕ) (side : Side) → conv ≡ number → unheard owed (new_life slot number side) ≡ [] → Fits idle owed (new_link slot conv side) (new_life slot number side)
+pub new_fits : (owed : Option Heard) (slot : ℕ) (conv number : ℕ) (side : Side) → conv ≡ number → unheard owed (new_life slot number side) ≡ [] → Fits idle owed (new_endpoint slot conv side) (new_life slot number side)
 new_fits owed slot conv number side same nothing = record {
   slot = refl;
   conv = same;
@@ -81,12 +81,12 @@ new_fits owed slot conv number side same nothing = record {
   unfinished = λ free. refl;
 }
 
--- no link has a free slot
-none_at : (slot : ℕ) (slots : List ℕ) (accepted : ℕ) → list_any (λ s. s == slot) slots ≡ false → (links : List Link) → AllUsed slots accepted (map name_of links) → list_any (has_slot slot) links ≡ false
+-- no endpoint has a free slot
+none_at : (slot : ℕ) (slots : List ℕ) (accepted : ℕ) → list_any (λ s. s == slot) slots ≡ false → (endpoints : List Endpoint) → AllUsed slots accepted (map name_of endpoints) → list_any (has_slot slot) endpoints ≡ false
 none_at slot slots accepted free [] used = refl
-none_at slot slots accepted free (link ∷ links) used =
-    let first : has_slot slot link ≡ false = ne_eqb link.slot slot (λ e. other_than_free slot slots accepted (name_of link) free used.0 (sym e)) in
-    let rest : list_any (has_slot slot) links ≡ false = none_at slot slots accepted free links used.1 in
+none_at slot slots accepted free (endpoint ∷ endpoints) used =
+    let first : has_slot slot endpoint ≡ false = ne_eqb endpoint.slot slot (λ e. other_than_free slot slots accepted (name_of endpoint) free used.0 (sym e)) in
+    let rest : list_any (has_slot slot) endpoints ≡ false = none_at slot slots accepted free endpoints used.1 in
     rw (first, rest) refl
 
 -- what is in use stays so where a free slot is given and shut
@@ -99,28 +99,28 @@ used_refused slot slots accepted free (name ∷ names) used = (
   used_refused slot slots accepted free names used.1,
 )
 
-module _ (links : List Link) (accepted moment : ℕ) (list : Calls) (stands : Stands idle None links accepted moment list) (calm : AllCalm links links) (now slot : ℕ) (door : Door) (peer : Address)
+module _ (endpoints : List Endpoint) (accepted moment : ℕ) (list : Calls) (stands : Stands idle None endpoints accepted moment list) (calm : AllCalm endpoints endpoints) (now slot : ℕ) (door : Door) (peer : Address)
     (free : IsFree slot list) where
   asks : MayAsk (ledger list)
-  asks = may_ask links accepted moment list stands calm
+  asks = may_ask endpoints accepted moment list stands calm
 
   -- it has the next number
   pub accepted_as : accepted < number_end
-      → Stands idle (Some (heard.Accepted accepted door peer)) (links ++ new_link slot accepted Client ∷ []) (accepted + 1) now (list ++ calls.Told now (ready.Accepted slot door peer) ∷ [])
+      → Stands idle (Some (heard.Accepted accepted door peer)) (endpoints ++ new_endpoint slot accepted Client ∷ []) (accepted + 1) now (list ++ calls.Told now (ready.Accepted slot door peer) ∷ [])
   accepted_as below =
       let l : Ledger = ledger list in
       let number : accepted ≡ l.accepted = stands.accepted_is in
       let test : nat_lt l.accepted number_end ≡ true = (let P : ℕ → Type 0 = λ n. nat_lt n number_end ≡ true in subst P number (lt-ltb accepted number_end below)) in
       let owed : Option Heard = Some (heard.Accepted accepted door peer) in
-      added idle None links accepted moment list stands (calls.Told now (ready.Accepted slot door peer)) idle owed now asks
-      (new_link slot accepted Client) (new_life slot l.accepted Client) (accepted + 1) (rw test refl)
+      added idle None endpoints accepted moment list stands (calls.Told now (ready.Accepted slot door peer)) idle owed now asks
+      (new_endpoint slot accepted Client) (new_life slot l.accepted Client) (accepted + 1) (rw test refl)
       (λ other life fits. reowed idle None owed other life fits refl)
-      (new_fits owed slot accepted l.accepted Client number refl) (new_client slot (slots_of list) accepted free (map name_of links) stands.used)
+      (new_fits owed slot accepted l.accepted Client number refl) (new_client slot (slots_of list) accepted free (map name_of endpoints) stands.used)
       (omega arith) (omega arith) (λ _. omega arith)
       (record { accepted_is = rw test (ap (λ (n : ℕ). n + 1) number); moment_is = refl; owed_is = rw test (ap (λ (n : ℕ). Some (heard.Accepted n door peer)) (sym number)); refused_is = rw test stands.refused_is }) refl
 
   -- no number is left, and it is shut
-  pub refused_one : number_end ≤ accepted → Stands idle None links accepted now ((list ++ calls.Told now (ready.Accepted slot door peer) ∷ []) ++ calls.Shut slot ∷ [])
+  pub refused_one : number_end ≤ accepted → Stands idle None endpoints accepted now ((list ++ calls.Told now (ready.Accepted slot door peer) ∷ []) ++ calls.Shut slot ∷ [])
   refused_one over =
       let l : Ledger = ledger list in
       let call = calls.Told now (ready.Accepted slot door peer) in
@@ -129,15 +129,15 @@ module _ (links : List Link) (accepted moment : ℕ) (list : Calls) (stands : St
       let first : ledger more ≡ record l { refused = Some slot; moment = now } = ledger_more list call ∙ rw test refl in
       let both : ledger (more ++ calls.Shut slot ∷ []) ≡ record l { lives = drop_first (is_life_at slot) l.lives; refused = None; moment = now } =
       ledger_more more (calls.Shut slot) ∙ ap (λ (x : Ledger). after x (calls.Shut slot)) first in
-      let none : list_any (is_life_at slot) l.lives ≡ false = missing_slot idle None slot links l.lives stands.fits (none_at slot (slots_of list) accepted free links stands.used) in
+      let none : list_any (is_life_at slot) l.lives ≡ false = missing_slot idle None slot endpoints l.lives stands.fits (none_at slot (slots_of list) accepted free endpoints stands.used) in
       let lives : (ledger (more ++ calls.Shut slot ∷ [])).lives ≡ l.lives = ap (λ (x : Ledger). x.lives) both ∙ drop_none (is_life_at slot) l.lives none in
       let slots : slots_of (more ++ calls.Shut slot ∷ []) ≡ without_slot slot (slots_of list ++ slot ∷ []) = slots_more more (calls.Shut slot) ∙ ap (without_slot slot) (slots_more list call) in
-      let P : List Life → Type 0 = λ ls. AllFit (Fits idle None) links ls in
-      let U : List ℕ → Type 0 = λ ss. AllUsed ss accepted (map name_of links) in
+      let P : List Life → Type 0 = λ ls. AllFit (Fits idle None) endpoints ls in
+      let U : List ℕ → Type 0 = λ ss. AllUsed ss accepted (map name_of endpoints) in
       record {
         fits = subst P (sym lives) stands.fits;
         distinct = stands.distinct;
-        used = subst U (sym slots) (used_refused slot (slots_of list) accepted free (map name_of links) stands.used);
+        used = subst U (sym slots) (used_refused slot (slots_of list) accepted free (map name_of endpoints) stands.used);
         accepted_is = stands.accepted_is ∙ ap (λ (x : Ledger). x.accepted) (sym both);
         most = stands.most;
         moment_is = ap (λ (x : Ledger). x.moment) (sym both);
@@ -150,17 +150,17 @@ module _ (links : List Link) (accepted moment : ℕ) (list : Calls) (stands : St
 abbrev pub dial_call : ℕ → ℕ → Address → ℕ → WireCall
 dial_call conv server address slot = calls.Dialled address (steps.Said conv (said.Dial server address)) slot
 
-module _ (links : List Link) (accepted moment : ℕ) (list : Calls) (stands : Stands idle None links accepted moment list) (slot conv server : ℕ) (address : Address) (free : IsFree slot list) where
+module _ (endpoints : List Endpoint) (accepted moment : ℕ) (list : Calls) (stands : Stands idle None endpoints accepted moment list) (slot conv server : ℕ) (address : Address) (free : IsFree slot list) where
   -- the side had no slot
-  pub dialled_as : list_any (is_link_of conv (Server server)) links ≡ false
-      → Stands idle None (links ++ new_link slot conv (Server server) ∷ []) accepted moment (list ++ dial_call conv server address slot ∷ [])
+  pub dialled_as : list_any (is_endpoint_of conv (Server server)) endpoints ≡ false
+      → Stands idle None (endpoints ++ new_endpoint slot conv (Server server) ∷ []) accepted moment (list ++ dial_call conv server address slot ∷ [])
   dialled_as none =
       let change : Life → Life = λ life. record life { is_finished = true } in
-      added idle None links accepted moment list stands (dial_call conv server address slot) idle None moment (conv, server, refl)
-      (new_link slot conv (Server server)) (new_life slot conv (Server server)) accepted
+      added idle None endpoints accepted moment list stands (dial_call conv server address slot) idle None moment (conv, server, refl)
+      (new_endpoint slot conv (Server server)) (new_life slot conv (Server server)) accepted
       (ap (λ (ls : List Life). ls ++ new_life slot conv (Server server) ∷ [])
-      (change_none (is_life_of conv (Server server)) change (ledger list).lives (missing_side idle None conv (Server server) links (ledger list).lives stands.fits none)))
+      (change_none (is_life_of conv (Server server)) change (ledger list).lives (missing_side idle None conv (Server server) endpoints (ledger list).lives stands.fits none)))
       (λ other life fits. fits)
-      (new_fits None slot conv conv (Server server) refl refl) (new_server slot conv (Server server) (slots_of list) accepted free links stands.used none)
+      (new_fits None slot conv conv (Server server) refl refl) (new_server slot conv (Server server) (slots_of list) accepted free endpoints stands.used none)
       (omega arith) stands.most (λ is. (let e : Server server ≡ Client = is in cc))
       (record { accepted_is = stands.accepted_is; moment_is = stands.moment_is; owed_is = stands.owed_is; refused_is = stands.refused_is }) refl

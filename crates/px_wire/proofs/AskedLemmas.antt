@@ -117,7 +117,7 @@ steps_same first list old new a b same = some_same (steps_of list) (steps_of fir
 
 -- Lines gave up: they asked so often, nothing was heard, and nothing was left to be.
 pub in_vain : (table : Table) (old new : Option Calls) (before now : Option Trace) → Agrees before old → Agrees now new → now ≡ before
-    → ((past : Calls) → AnsweredSince past 0 old → AnsweredSince past most_asks new) → Rests None table new → IsCalm table.links → IfTold (AskedInVain most_asks) new
+    → ((past : Calls) → AnsweredSince past 0 old → AnsweredSince past most_asks new) → Rests None table new → IsCalm table.endpoints → IfTold (AskedInVain most_asks) new
 in_vain table old None before now a b same since rests calm = tt
 in_vain table old (Some list) before now a b same since rests calm =
     let f = told_before most_asks old list since in
@@ -133,7 +133,7 @@ in_vain table old (Some list) before now a b same since rests calm =
       are = s.grown ∙ ap (λ (l : Calls). f.0 ++ l) (sym (append-nil s.more));
       silent = silent_behind f.0 s.more (subst S s.grown (steps_same f.0 list before now (subst R f.1 a) b same));
       answered = s.answered;
-      done = subst P s.grown (may_ask rests.links table.accepted table.moment list rests.stands (calm rests.links rests.held));
+      done = subst P s.grown (may_ask rests.endpoints table.accepted table.moment list rests.stands (calm rests.endpoints rests.held));
     }
 
 -- what lines keep while memory has not run out

@@ -6,7 +6,7 @@ use Rattle.std.proofs.lemmas.Bool.{eq-eqb, ne_eqb, eqb-true}
 use Rattle.std.proofs.lemmas.Map.Views.{any-filter_same}
 use Rattle.px_event.specs.declared.side.Side.TheVariants.{Client}
 use Rattle.px_event.specs.declared.heard.Heard.{Heard}
-use Rattle.px_wire.specs.declared.link.Link.{Link}
+use Rattle.px_wire.specs.declared.endpoint.Endpoint.{Endpoint}
 use Rattle.px_wire.specs.declared.call.WireCall.{WireCall}
 use Rattle.px_wire.specs.Calls.{Calls, slots_of, slots_after, without_slot}
 use Rattle.px_wire.specs.Ledger.{Life, Ledger, ledger, after, change_first, move_first, drop_first, is_life_at, is_life_of, number_end}
@@ -15,17 +15,17 @@ use Rattle.px_wire.specs.Stands.{Busy, Fits, AllFit, Name, name_of, Apart, Apart
 use Rattle.px_wire.proofs.LedgerLemmas.{ledger_more, slots_more, obeys_more, change_here, move_here, drop_here, first_here}
 use Rattle.px_wire.proofs.PlaceLemmas.{Split, split, joined, refit, refit_all, Around, around, Misses, misses, own_slot, own_side, distinct_more}
 
-pub names_around : (front back : List Link) (link : Link) → map name_of (front ++ link ∷ back) ≡ map name_of front ++ name_of link ∷ map name_of back
-names_around [] back link = refl
-names_around (first ∷ front) back link = ap (λ (ns : List Name). name_of first ∷ ns) (names_around front back link)
+pub names_around : (front back : List Endpoint) (endpoint : Endpoint) → map name_of (front ++ endpoint ∷ back) ≡ map name_of front ++ name_of endpoint ∷ map name_of back
+names_around [] back endpoint = refl
+names_around (first ∷ front) back endpoint = ap (λ (ns : List Name). name_of first ∷ ns) (names_around front back endpoint)
 
-pub names_joined : (front back : List Link) → map name_of (front ++ back) ≡ map name_of front ++ map name_of back
+pub names_joined : (front back : List Endpoint) → map name_of (front ++ back) ≡ map name_of front ++ map name_of back
 names_joined [] back = refl
 names_joined (first ∷ front) back = ap (λ (ns : List Name). name_of first ∷ ns) (names_joined front back)
 
-names_same : (front back : List Link) (link new : Link) → name_of new ≡ name_of link → map name_of (front ++ new ∷ back) ≡ map name_of (front ++ link ∷ back)
-names_same [] back link new same = ap (λ (n : Name). n ∷ map name_of back) same
-names_same (first ∷ front) back link new same = ap (λ (ns : List Name). name_of first ∷ ns) (names_same front back link new same)
+names_same : (front back : List Endpoint) (endpoint new : Endpoint) → name_of new ≡ name_of endpoint → map name_of (front ++ new ∷ back) ≡ map name_of (front ++ endpoint ∷ back)
+names_same [] back endpoint new same = ap (λ (n : Name). n ∷ map name_of back) same
+names_same (first ∷ front) back endpoint new same = ap (λ (ns : List Name). name_of first ∷ ns) (names_same front back endpoint new same)
 
 -- a slot stays in use where another is shut
 pub stays_used : (slot : ℕ) (slots : List ℕ) (accepted : ℕ) (other : Name) → slot ≢ other.slot → IsUsed slots accepted other → IsUsed (without_slot slot slots) accepted other
@@ -93,57 +93,57 @@ pub record Rest (l : Ledger) (call : WireCall) (accepted moment : ℕ) (owed : O
   pub refused_is : (after l call).refused ≡ None
 
 -- how a slot may be changed, and the others with it
-pub record Change (busy busy' : Busy) (owed owed' : Option Heard) (link link' : Link) (f : Life → Life) : Type 0 where
-  pub name : name_of link' ≡ name_of link
-  pub fits : (life : Life) → Fits busy owed link life → Fits busy' owed' link' (f life)
-  pub others : (other : Link) (life : Life) → Apart (name_of link) (name_of other) → Fits busy owed other life → Fits busy' owed' other life
+pub record Change (busy busy' : Busy) (owed owed' : Option Heard) (endpoint endpoint' : Endpoint) (f : Life → Life) : Type 0 where
+  pub name : name_of endpoint' ≡ name_of endpoint
+  pub fits : (life : Life) → Fits busy owed endpoint life → Fits busy' owed' endpoint' (f life)
+  pub others : (other : Endpoint) (life : Life) → Apart (name_of endpoint) (name_of other) → Fits busy owed other life → Fits busy' owed' other life
 
-module _ (busy : Busy) (owed : Option Heard) (front back : List Link) (link : Link) (accepted moment : ℕ) (list : Calls)
-    (stands : Stands busy owed (front ++ link ∷ back) accepted moment list) where
+module _ (busy : Busy) (owed : Option Heard) (front back : List Endpoint) (endpoint : Endpoint) (accepted moment : ℕ) (list : Calls)
+    (stands : Stands busy owed (front ++ endpoint ∷ back) accepted moment list) where
   -- the lives around its own
-  pub here : Split (Fits busy owed) front back link (ledger list).lives
-  here = split (Fits busy owed) front back link (ledger list).lives stands.fits
+  pub here : Split (Fits busy owed) front back endpoint (ledger list).lives
+  here = split (Fits busy owed) front back endpoint (ledger list).lives stands.fits
 
-  pub apart : Around (name_of link) (map name_of front) (map name_of back)
-  apart = around (name_of link) (map name_of front) (map name_of back)
-      (let P : List Name → Type 0 = Distinct in subst P (names_around front back link) stands.distinct)
+  pub apart : Around (name_of endpoint) (map name_of front) (map name_of back)
+  apart = around (name_of endpoint) (map name_of front) (map name_of back)
+      (let P : List Name → Type 0 = Distinct in subst P (names_around front back endpoint) stands.distinct)
 
-  pub before_misses : Misses (name_of link) here.before
-  before_misses = misses busy owed (name_of link) front here.before apart.front here.front_fits
+  pub before_misses : Misses (name_of endpoint) here.before
+  before_misses = misses busy owed (name_of endpoint) front here.before apart.front here.front_fits
 
   -- what its life is, is what the first life of the slot is, and of the side
-  pub first_at_slot : (P : Life → Type 0) → ((life : Life) → Fits busy owed link life → P life) → FirstIs (is_life_at link.slot) P (ledger list).lives
+  pub first_at_slot : (P : Life → Type 0) → ((life : Life) → Fits busy owed endpoint life → P life) → FirstIs (is_life_at endpoint.slot) P (ledger list).lives
   first_at_slot P holds =
-      let Q : List Life → Type 0 = λ lives. FirstIs (is_life_at link.slot) P lives in
-      subst Q (sym here.lives_are) (first_here (is_life_at link.slot) P here.before here.life here.behind before_misses.slot
-      (own_slot link here.life here.fits.slot) (holds here.life here.fits))
+      let Q : List Life → Type 0 = λ lives. FirstIs (is_life_at endpoint.slot) P lives in
+      subst Q (sym here.lives_are) (first_here (is_life_at endpoint.slot) P here.before here.life here.behind before_misses.slot
+      (own_slot endpoint here.life here.fits.slot) (holds here.life here.fits))
 
-  pub first_at_side : (P : Life → Type 0) → ((life : Life) → Fits busy owed link life → P life) → FirstIs (is_life_of link.conv link.side) P (ledger list).lives
+  pub first_at_side : (P : Life → Type 0) → ((life : Life) → Fits busy owed endpoint life → P life) → FirstIs (is_life_of endpoint.conv endpoint.side) P (ledger list).lives
   first_at_side P holds =
-      let Q : List Life → Type 0 = λ lives. FirstIs (is_life_of link.conv link.side) P lives in
-      subst Q (sym here.lives_are) (first_here (is_life_of link.conv link.side) P here.before here.life here.behind before_misses.side
-      (own_side link here.life here.fits.conv here.fits.side) (holds here.life here.fits))
+      let Q : List Life → Type 0 = λ lives. FirstIs (is_life_of endpoint.conv endpoint.side) P lives in
+      subst Q (sym here.lives_are) (first_here (is_life_of endpoint.conv endpoint.side) P here.before here.life here.behind before_misses.side
+      (own_side endpoint here.life here.fits.conv here.fits.side) (holds here.life here.fits))
 
   module _ (call : WireCall) (busy' : Busy) (owed' : Option Heard) (accepted' moment' : ℕ) (allowed : Allowed (ledger list) call) where
     -- the slot's life is changed, which stands here
-    changed_by : (test : Life → Bool) (f : Life → Life) (link' : Link) → list_any test here.before ≡ false → test here.life ≡ true
+    changed_by : (test : Life → Bool) (f : Life → Life) (endpoint' : Endpoint) → list_any test here.before ≡ false → test here.life ≡ true
         → (after (ledger list) call).lives ≡ change_first test f (ledger list).lives
-        → Change busy busy' owed owed' link link' f → Rest (ledger list) call accepted moment' owed' → slots_after (slots_of list) call ≡ slots_of list
-        → Stands busy' owed' (front ++ link' ∷ back) accepted moment' (list ++ call ∷ [])
-    changed_by test f link' miss hit lives change rest slots =
+        → Change busy busy' owed owed' endpoint endpoint' f → Rest (ledger list) call accepted moment' owed' → slots_after (slots_of list) call ≡ slots_of list
+        → Stands busy' owed' (front ++ endpoint' ∷ back) accepted moment' (list ++ call ∷ [])
+    changed_by test f endpoint' miss hit lives change rest slots =
         let now : ledger (list ++ call ∷ []) ≡ after (ledger list) call = ledger_more list call in
         let lives_are : (ledger (list ++ call ∷ [])).lives ≡ here.before ++ f here.life ∷ here.behind =
         ap (λ (l : Ledger). l.lives) now ∙ (lives ∙ (ap (change_first test f) here.lives_are ∙ change_here test f here.before here.life here.behind miss hit)) in
-        let R : Link → Life → Type 0 = Fits busy owed in
-        let R' : Link → Life → Type 0 = Fits busy' owed' in
-        let all : AllFit R' (front ++ link' ∷ back) (here.before ++ f here.life ∷ here.behind) =
-        joined R' front (link' ∷ back) here.before (f here.life ∷ here.behind) (refit R R' (name_of link) change.others front here.before apart.front here.front_fits)
-        (change.fits here.life here.fits, refit R R' (name_of link) change.others back here.behind apart.back here.back_fits) in
-        let P : List Life → Type 0 = λ ls. AllFit R' (front ++ link' ∷ back) ls in
+        let R : Endpoint → Life → Type 0 = Fits busy owed in
+        let R' : Endpoint → Life → Type 0 = Fits busy' owed' in
+        let all : AllFit R' (front ++ endpoint' ∷ back) (here.before ++ f here.life ∷ here.behind) =
+        joined R' front (endpoint' ∷ back) here.before (f here.life ∷ here.behind) (refit R R' (name_of endpoint) change.others front here.before apart.front here.front_fits)
+        (change.fits here.life here.fits, refit R R' (name_of endpoint) change.others back here.behind apart.back here.back_fits) in
+        let P : List Life → Type 0 = λ ls. AllFit R' (front ++ endpoint' ∷ back) ls in
         let D : List Name → Type 0 = Distinct in
-        let U : List ℕ → Type 0 = λ ss. AllUsed ss accepted (map name_of (front ++ link' ∷ back)) in
+        let U : List ℕ → Type 0 = λ ss. AllUsed ss accepted (map name_of (front ++ endpoint' ∷ back)) in
         let V : List Name → Type 0 = λ ns. AllUsed (slots_of list) accepted ns in
-        let names : map name_of (front ++ link ∷ back) ≡ map name_of (front ++ link' ∷ back) = sym (names_same front back link link' change.name) in
+        let names : map name_of (front ++ endpoint ∷ back) ≡ map name_of (front ++ endpoint' ∷ back) = sym (names_same front back endpoint endpoint' change.name) in
         record {
           fits = subst P (sym lives_are) all;
           distinct = subst D names stands.distinct;
@@ -159,55 +159,55 @@ module _ (busy : Busy) (owed : Option Heard) (front back : List Link) (link : Li
     -- and then the first life of the slot is what it was made
     pub first_after : (test : Life → Bool) (f : Life → Life) (P : Life → Type 0) → list_any test here.before ≡ false → test here.life ≡ true
         → (after (ledger list) call).lives ≡ change_first test f (ledger list).lives → (f here.life).slot ≡ here.life.slot → P (f here.life)
-        → FirstIs (is_life_at link.slot) P (ledger (list ++ call ∷ [])).lives
+        → FirstIs (is_life_at endpoint.slot) P (ledger (list ++ call ∷ [])).lives
     first_after test f P miss hit lives same holds =
         let lives_are : (ledger (list ++ call ∷ [])).lives ≡ here.before ++ f here.life ∷ here.behind =
         ap (λ (l : Ledger). l.lives) (ledger_more list call) ∙ (lives ∙ (ap (change_first test f) here.lives_are ∙ change_here test f here.before here.life here.behind miss hit)) in
-        let Q : List Life → Type 0 = λ ls. FirstIs (is_life_at link.slot) P ls in
-        subst Q (sym lives_are) (first_here (is_life_at link.slot) P here.before (f here.life) here.behind before_misses.slot
-        (own_slot link (f here.life) (here.fits.slot ∙ sym same)) holds)
+        let Q : List Life → Type 0 = λ ls. FirstIs (is_life_at endpoint.slot) P ls in
+        subst Q (sym lives_are) (first_here (is_life_at endpoint.slot) P here.before (f here.life) here.behind before_misses.slot
+        (own_slot endpoint (f here.life) (here.fits.slot ∙ sym same)) holds)
 
-    pub changed_slot : (f : Life → Life) (link' : Link) → (after (ledger list) call).lives ≡ change_first (is_life_at link.slot) f (ledger list).lives
-        → Change busy busy' owed owed' link link' f → Rest (ledger list) call accepted moment' owed' → slots_after (slots_of list) call ≡ slots_of list
-        → Stands busy' owed' (front ++ link' ∷ back) accepted moment' (list ++ call ∷ [])
-    changed_slot f link' lives change rest slots =
-        changed_by (is_life_at link.slot) f link' before_misses.slot (own_slot link here.life here.fits.slot) lives change rest slots
+    pub changed_slot : (f : Life → Life) (endpoint' : Endpoint) → (after (ledger list) call).lives ≡ change_first (is_life_at endpoint.slot) f (ledger list).lives
+        → Change busy busy' owed owed' endpoint endpoint' f → Rest (ledger list) call accepted moment' owed' → slots_after (slots_of list) call ≡ slots_of list
+        → Stands busy' owed' (front ++ endpoint' ∷ back) accepted moment' (list ++ call ∷ [])
+    changed_slot f endpoint' lives change rest slots =
+        changed_by (is_life_at endpoint.slot) f endpoint' before_misses.slot (own_slot endpoint here.life here.fits.slot) lives change rest slots
 
-    pub changed_side : (f : Life → Life) (link' : Link) → (after (ledger list) call).lives ≡ change_first (is_life_of link.conv link.side) f (ledger list).lives
-        → Change busy busy' owed owed' link link' f → Rest (ledger list) call accepted moment' owed' → slots_after (slots_of list) call ≡ slots_of list
-        → Stands busy' owed' (front ++ link' ∷ back) accepted moment' (list ++ call ∷ [])
-    changed_side f link' lives change rest slots =
-        changed_by (is_life_of link.conv link.side) f link' before_misses.side (own_side link here.life here.fits.conv here.fits.side) lives change rest slots
+    pub changed_side : (f : Life → Life) (endpoint' : Endpoint) → (after (ledger list) call).lives ≡ change_first (is_life_of endpoint.conv endpoint.side) f (ledger list).lives
+        → Change busy busy' owed owed' endpoint endpoint' f → Rest (ledger list) call accepted moment' owed' → slots_after (slots_of list) call ≡ slots_of list
+        → Stands busy' owed' (front ++ endpoint' ∷ back) accepted moment' (list ++ call ∷ [])
+    changed_side f endpoint' lives change rest slots =
+        changed_by (is_life_of endpoint.conv endpoint.side) f endpoint' before_misses.side (own_side endpoint here.life here.fits.conv here.fits.side) lives change rest slots
 
     -- the slot's life is changed, which stands here, and both go behind all others
-    pub moved : (f : Life → Life) (link' : Link) → (after (ledger list) call).lives ≡ move_first (is_life_at link.slot) f (ledger list).lives
-        → Change busy busy' owed owed' link link' f → Rest (ledger list) call accepted moment' owed' → slots_after (slots_of list) call ≡ slots_of list
-        → Stands busy' owed' ((front ++ back) ++ link' ∷ []) accepted moment' (list ++ call ∷ [])
-    moved f link' lives change rest slots =
+    pub moved : (f : Life → Life) (endpoint' : Endpoint) → (after (ledger list) call).lives ≡ move_first (is_life_at endpoint.slot) f (ledger list).lives
+        → Change busy busy' owed owed' endpoint endpoint' f → Rest (ledger list) call accepted moment' owed' → slots_after (slots_of list) call ≡ slots_of list
+        → Stands busy' owed' ((front ++ back) ++ endpoint' ∷ []) accepted moment' (list ++ call ∷ [])
+    moved f endpoint' lives change rest slots =
         let now : ledger (list ++ call ∷ []) ≡ after (ledger list) call = ledger_more list call in
         let lives_are : (ledger (list ++ call ∷ [])).lives ≡ (here.before ++ here.behind) ++ f here.life ∷ [] =
-        ap (λ (l : Ledger). l.lives) now ∙ (lives ∙ (ap (move_first (is_life_at link.slot) f) here.lives_are
-        ∙ move_here (is_life_at link.slot) f here.before here.life here.behind before_misses.slot (own_slot link here.life here.fits.slot))) in
-        let R : Link → Life → Type 0 = Fits busy owed in
-        let R' : Link → Life → Type 0 = Fits busy' owed' in
+        ap (λ (l : Ledger). l.lives) now ∙ (lives ∙ (ap (move_first (is_life_at endpoint.slot) f) here.lives_are
+        ∙ move_here (is_life_at endpoint.slot) f here.before here.life here.behind before_misses.slot (own_slot endpoint here.life here.fits.slot))) in
+        let R : Endpoint → Life → Type 0 = Fits busy owed in
+        let R' : Endpoint → Life → Type 0 = Fits busy' owed' in
         let others : AllFit R' (front ++ back) (here.before ++ here.behind) =
-        joined R' front back here.before here.behind (refit R R' (name_of link) change.others front here.before apart.front here.front_fits)
-        (refit R R' (name_of link) change.others back here.behind apart.back here.back_fits) in
-        let all : AllFit R' ((front ++ back) ++ link' ∷ []) ((here.before ++ here.behind) ++ f here.life ∷ []) =
-        joined R' (front ++ back) (link' ∷ []) (here.before ++ here.behind) (f here.life ∷ []) others (change.fits here.life here.fits, tt) in
+        joined R' front back here.before here.behind (refit R R' (name_of endpoint) change.others front here.before apart.front here.front_fits)
+        (refit R R' (name_of endpoint) change.others back here.behind apart.back here.back_fits) in
+        let all : AllFit R' ((front ++ back) ++ endpoint' ∷ []) ((here.before ++ here.behind) ++ f here.life ∷ []) =
+        joined R' (front ++ back) (endpoint' ∷ []) (here.before ++ here.behind) (f here.life ∷ []) others (change.fits here.life here.fits, tt) in
         let some : List Name = map name_of front ++ map name_of back in
-        let names : some ++ name_of link ∷ [] ≡ map name_of ((front ++ back) ++ link' ∷ []) =
-        sym (names_around (front ++ back) [] link' ∙ (ap (λ (ns : List Name). ns ++ name_of link' ∷ []) (names_joined front back) ∙ ap (λ (n : Name). some ++ n ∷ []) change.name)) in
-        let P : List Life → Type 0 = λ ls. AllFit R' ((front ++ back) ++ link' ∷ []) ls in
+        let names : some ++ name_of endpoint ∷ [] ≡ map name_of ((front ++ back) ++ endpoint' ∷ []) =
+        sym (names_around (front ++ back) [] endpoint' ∙ (ap (λ (ns : List Name). ns ++ name_of endpoint' ∷ []) (names_joined front back) ∙ ap (λ (n : Name). some ++ n ∷ []) change.name)) in
+        let P : List Life → Type 0 = λ ls. AllFit R' ((front ++ back) ++ endpoint' ∷ []) ls in
         let D : List Name → Type 0 = Distinct in
-        let U : List ℕ → Type 0 = λ ss. AllUsed ss accepted (map name_of ((front ++ back) ++ link' ∷ [])) in
+        let U : List ℕ → Type 0 = λ ss. AllUsed ss accepted (map name_of ((front ++ back) ++ endpoint' ∷ [])) in
         let V : List Name → Type 0 = λ ns. AllUsed (slots_of list) accepted ns in
-        let used : IsUsed (slots_of list) accepted (name_of link) × AllUsed (slots_of list) accepted some =
-        used_rest (slots_of list) accepted (map name_of front) (map name_of back) (name_of link) (subst V (names_around front back link) stands.used) in
+        let used : IsUsed (slots_of list) accepted (name_of endpoint) × AllUsed (slots_of list) accepted some =
+        used_rest (slots_of list) accepted (map name_of front) (map name_of back) (name_of endpoint) (subst V (names_around front back endpoint) stands.used) in
         record {
           fits = subst P (sym lives_are) all;
-          distinct = subst D names (distinct_more (name_of link) some apart.rest (apart_join (name_of link) (map name_of front) (map name_of back) apart.front apart.back));
-          used = subst U (sym (slots_more list call ∙ slots)) (subst V names (used_behind (slots_of list) accepted some (name_of link) used.1 used.0));
+          distinct = subst D names (distinct_more (name_of endpoint) some apart.rest (apart_join (name_of endpoint) (map name_of front) (map name_of back) apart.front apart.back));
+          used = subst U (sym (slots_more list call ∙ slots)) (subst V names (used_behind (slots_of list) accepted some (name_of endpoint) used.1 used.0));
           accepted_is = rest.accepted_is ∙ ap (λ (l : Ledger). l.accepted) (sym now);
           most = stands.most;
           moment_is = rest.moment_is ∙ ap (λ (l : Ledger). l.moment) (sym now);
@@ -217,30 +217,30 @@ module _ (busy : Busy) (owed : Option Heard) (front back : List Link) (link : Li
         }
 
     -- the slot is shut: its first life, which stands here, is dropped
-    pub removed : (after (ledger list) call).lives ≡ drop_first (is_life_at link.slot) (ledger list).lives
-        → ((other : Link) (life : Life) → Apart (name_of link) (name_of other) → Fits busy owed other life → Fits busy' owed' other life)
-        → Rest (ledger list) call accepted moment' owed' → slots_after (slots_of list) call ≡ without_slot link.slot (slots_of list)
+    pub removed : (after (ledger list) call).lives ≡ drop_first (is_life_at endpoint.slot) (ledger list).lives
+        → ((other : Endpoint) (life : Life) → Apart (name_of endpoint) (name_of other) → Fits busy owed other life → Fits busy' owed' other life)
+        → Rest (ledger list) call accepted moment' owed' → slots_after (slots_of list) call ≡ without_slot endpoint.slot (slots_of list)
         → Stands busy' owed' (front ++ back) accepted moment' (list ++ call ∷ [])
     removed lives others rest slots =
         let now : ledger (list ++ call ∷ []) ≡ after (ledger list) call = ledger_more list call in
         let lives_are : (ledger (list ++ call ∷ [])).lives ≡ here.before ++ here.behind =
-        ap (λ (l : Ledger). l.lives) now ∙ (lives ∙ (ap (drop_first (is_life_at link.slot)) here.lives_are
-        ∙ drop_here (is_life_at link.slot) here.before here.life here.behind before_misses.slot (own_slot link here.life here.fits.slot))) in
-        let R : Link → Life → Type 0 = Fits busy owed in
-        let R' : Link → Life → Type 0 = Fits busy' owed' in
+        ap (λ (l : Ledger). l.lives) now ∙ (lives ∙ (ap (drop_first (is_life_at endpoint.slot)) here.lives_are
+        ∙ drop_here (is_life_at endpoint.slot) here.before here.life here.behind before_misses.slot (own_slot endpoint here.life here.fits.slot))) in
+        let R : Endpoint → Life → Type 0 = Fits busy owed in
+        let R' : Endpoint → Life → Type 0 = Fits busy' owed' in
         let all : AllFit R' (front ++ back) (here.before ++ here.behind) =
-        joined R' front back here.before here.behind (refit R R' (name_of link) others front here.before apart.front here.front_fits)
-        (refit R R' (name_of link) others back here.behind apart.back here.back_fits) in
+        joined R' front back here.before here.behind (refit R R' (name_of endpoint) others front here.before apart.front here.front_fits)
+        (refit R R' (name_of endpoint) others back here.behind apart.back here.back_fits) in
         let P : List Life → Type 0 = λ ls. AllFit R' (front ++ back) ls in
         let D : List Name → Type 0 = Distinct in
         let U : List ℕ → Type 0 = λ ss. AllUsed ss accepted (map name_of (front ++ back)) in
         let V : List Name → Type 0 = λ ns. AllUsed (slots_of list) accepted ns in
-        let W : List Name → Type 0 = λ ns. AllUsed (without_slot link.slot (slots_of list)) accepted ns in
+        let W : List Name → Type 0 = λ ns. AllUsed (without_slot endpoint.slot (slots_of list)) accepted ns in
         record {
           fits = subst P (sym lives_are) all;
           distinct = subst D (sym (names_joined front back)) apart.rest;
           used = subst U (sym (slots_more list call ∙ slots)) (subst W (sym (names_joined front back))
-              (used_without (name_of link) (slots_of list) accepted (map name_of front) (map name_of back) apart.front apart.back (subst V (names_around front back link) stands.used)));
+              (used_without (name_of endpoint) (slots_of list) accepted (map name_of front) (map name_of back) apart.front apart.back (subst V (names_around front back endpoint) stands.used)));
           accepted_is = rest.accepted_is ∙ ap (λ (l : Ledger). l.accepted) (sym now);
           most = stands.most;
           moment_is = rest.moment_is ∙ ap (λ (l : Ledger). l.moment) (sym now);
@@ -249,20 +249,20 @@ module _ (busy : Busy) (owed : Option Heard) (front back : List Link) (link : Li
           obeys = obeys_more list call stands.obeys allowed;
         }
 
-module _ (busy : Busy) (owed : Option Heard) (links : List Link) (accepted moment : ℕ) (list : Calls)
-    (stands : Stands busy owed links accepted moment list) (call : WireCall) (busy' : Busy) (owed' : Option Heard) (moment' : ℕ) (allowed : Allowed (ledger list) call) where
+module _ (busy : Busy) (owed : Option Heard) (endpoints : List Endpoint) (accepted moment : ℕ) (list : Calls)
+    (stands : Stands busy owed endpoints accepted moment list) (call : WireCall) (busy' : Busy) (owed' : Option Heard) (moment' : ℕ) (allowed : Allowed (ledger list) call) where
   -- no slot is changed
   pub kept : (after (ledger list) call).lives ≡ (ledger list).lives
-      → ((other : Link) (life : Life) → Fits busy owed other life → Fits busy' owed' other life)
+      → ((other : Endpoint) (life : Life) → Fits busy owed other life → Fits busy' owed' other life)
       → Rest (ledger list) call accepted moment' owed' → slots_after (slots_of list) call ≡ slots_of list
-      → Stands busy' owed' links accepted moment' (list ++ call ∷ [])
+      → Stands busy' owed' endpoints accepted moment' (list ++ call ∷ [])
   kept lives others rest slots =
       let now : ledger (list ++ call ∷ []) ≡ after (ledger list) call = ledger_more list call in
       let lives_are : (ledger (list ++ call ∷ [])).lives ≡ (ledger list).lives = ap (λ (l : Ledger). l.lives) now ∙ lives in
-      let P : List Life → Type 0 = λ ls. AllFit (Fits busy' owed') links ls in
-      let U : List ℕ → Type 0 = λ ss. AllUsed ss accepted (map name_of links) in
+      let P : List Life → Type 0 = λ ls. AllFit (Fits busy' owed') endpoints ls in
+      let U : List ℕ → Type 0 = λ ss. AllUsed ss accepted (map name_of endpoints) in
       record {
-        fits = subst P (sym lives_are) (refit_all (Fits busy owed) (Fits busy' owed') others links (ledger list).lives stands.fits);
+        fits = subst P (sym lives_are) (refit_all (Fits busy owed) (Fits busy' owed') others endpoints (ledger list).lives stands.fits);
         distinct = stands.distinct;
         used = subst U (sym (slots_more list call ∙ slots)) stands.used;
         accepted_is = rest.accepted_is ∙ ap (λ (l : Ledger). l.accepted) (sym now);
@@ -274,27 +274,27 @@ module _ (busy : Busy) (owed : Option Heard) (links : List Link) (accepted momen
       }
 
   -- a slot is given, which stands behind the others
-  pub added : (link : Link) (life : Life) (accepted' : ℕ) → (after (ledger list) call).lives ≡ (ledger list).lives ++ life ∷ []
-      → ((other : Link) (life : Life) → Fits busy owed other life → Fits busy' owed' other life)
-      → Fits busy' owed' link life → ApartFrom (name_of link) (map name_of links) → accepted ≤ accepted' → accepted' ≤ number_end
-      → (link.side ≡ Client → link.conv < accepted')
-      → Rest (ledger list) call accepted' moment' owed' → slots_after (slots_of list) call ≡ slots_of list ++ link.slot ∷ []
-      → Stands busy' owed' (links ++ link ∷ []) accepted' moment' (list ++ call ∷ [])
-  added link life accepted' lives others new apart more most numbered rest slots =
+  pub added : (endpoint : Endpoint) (life : Life) (accepted' : ℕ) → (after (ledger list) call).lives ≡ (ledger list).lives ++ life ∷ []
+      → ((other : Endpoint) (life : Life) → Fits busy owed other life → Fits busy' owed' other life)
+      → Fits busy' owed' endpoint life → ApartFrom (name_of endpoint) (map name_of endpoints) → accepted ≤ accepted' → accepted' ≤ number_end
+      → (endpoint.side ≡ Client → endpoint.conv < accepted')
+      → Rest (ledger list) call accepted' moment' owed' → slots_after (slots_of list) call ≡ slots_of list ++ endpoint.slot ∷ []
+      → Stands busy' owed' (endpoints ++ endpoint ∷ []) accepted' moment' (list ++ call ∷ [])
+  added endpoint life accepted' lives others new apart more most numbered rest slots =
       let now : ledger (list ++ call ∷ []) ≡ after (ledger list) call = ledger_more list call in
       let lives_are : (ledger (list ++ call ∷ [])).lives ≡ (ledger list).lives ++ life ∷ [] = ap (λ (l : Ledger). l.lives) now ∙ lives in
-      let R' : Link → Life → Type 0 = Fits busy' owed' in
-      let P : List Life → Type 0 = λ ls. AllFit R' (links ++ link ∷ []) ls in
-      let U : List ℕ → Type 0 = λ ss. AllUsed ss accepted' (map name_of (links ++ link ∷ [])) in
+      let R' : Endpoint → Life → Type 0 = Fits busy' owed' in
+      let P : List Life → Type 0 = λ ls. AllFit R' (endpoints ++ endpoint ∷ []) ls in
+      let U : List ℕ → Type 0 = λ ss. AllUsed ss accepted' (map name_of (endpoints ++ endpoint ∷ [])) in
       let D : List Name → Type 0 = Distinct in
-      let V : List Name → Type 0 = λ ns. AllUsed (slots_of list ++ link.slot ∷ []) accepted' ns in
-      let last : IsUsed (slots_of list ++ link.slot ∷ []) accepted' (name_of link) = record { used = used_last link.slot (slots_of list); numbered = numbered } in
+      let V : List Name → Type 0 = λ ns. AllUsed (slots_of list ++ endpoint.slot ∷ []) accepted' ns in
+      let last : IsUsed (slots_of list ++ endpoint.slot ∷ []) accepted' (name_of endpoint) = record { used = used_last endpoint.slot (slots_of list); numbered = numbered } in
       record {
-        fits = subst P (sym lives_are) (joined R' links (link ∷ []) (ledger list).lives (life ∷ [])
-            (refit_all (Fits busy owed) R' others links (ledger list).lives stands.fits) (new, tt));
-        distinct = subst D (sym (names_around links [] link)) (distinct_more (name_of link) (map name_of links) stands.distinct apart);
-        used = subst U (sym (slots_more list call ∙ slots)) (subst V (sym (names_around links [] link))
-            (used_more link.slot (slots_of list) accepted accepted' more (map name_of links) (name_of link) stands.used last));
+        fits = subst P (sym lives_are) (joined R' endpoints (endpoint ∷ []) (ledger list).lives (life ∷ [])
+            (refit_all (Fits busy owed) R' others endpoints (ledger list).lives stands.fits) (new, tt));
+        distinct = subst D (sym (names_around endpoints [] endpoint)) (distinct_more (name_of endpoint) (map name_of endpoints) stands.distinct apart);
+        used = subst U (sym (slots_more list call ∙ slots)) (subst V (sym (names_around endpoints [] endpoint))
+            (used_more endpoint.slot (slots_of list) accepted accepted' more (map name_of endpoints) (name_of endpoint) stands.used last));
         accepted_is = rest.accepted_is ∙ ap (λ (l : Ledger). l.accepted) (sym now);
         most = most;
         moment_is = rest.moment_is ∙ ap (λ (l : Ledger). l.moment) (sym now);

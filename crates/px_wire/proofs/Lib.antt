@@ -7,6 +7,7 @@ pub mod FindLemmas
 pub mod GetLemmas
 pub mod HearLemmas
 pub mod HoldsLemmas
+pub mod InLemmas
 pub mod LedgerLemmas
 pub mod LinesLemmas
 pub mod MemWireLemmas
@@ -21,3 +22,4 @@ pub mod ServeLemmas
 pub mod StepLemmas
 pub mod TableLemmas
 pub mod TakenLemmas
+pub mod TidyLemmas

@@ -7,13 +7,13 @@ use Rattle.px_event.specs.Trace.{Trace}
 use Rattle.px_outside.specs.Count.{Rose}
 use Rattle.px_wire.specs.Hears.{AddsHeard}
 use Rattle.px_outside.specs.Net.{IsNote}
-use Rattle.px_wire.specs.declared.link.Link.{Link}
+use Rattle.px_wire.specs.declared.endpoint.Endpoint.{Endpoint}
 use Rattle.px_wire.specs.declared.table.Table.{Table}
 use Rattle.px_wire.specs.declared.call.WireCall.TheVariants as calls
 use Rattle.px_wire.specs.Calls.{Calls, Tells, NoneTold, AsksMore, AsksAtMost}
-use Rattle.px_wire.specs.declared.link.Flushed.{Flushed}
+use Rattle.px_wire.specs.declared.endpoint.Flushed.{Flushed}
 use Rattle.px_wire.specs.Found.{IsAt, Loose}
-use Rattle.px_wire.specs.Holds.{link_at}
+use Rattle.px_wire.specs.Holds.{endpoint_at}
 use Rattle.px_wire.specs.Puts.{FlushedSo, queue_in, queue_of}
 use Rattle.px_wire.specs.Lines.{Keeps}
 use Rattle.px_wire.specs.Stands.{idle, putting, Stands, StandsFor, Rests}
@@ -37,13 +37,13 @@ pub keeps_loose : (table : Table) (told : Option Calls) → Rests None table tol
 keeps_loose table told rests = (None, rests)
 
 -- a slot was flushed
-pub keeps_flushed : (spent : Bool) (old new : Table) (before after : Option Calls) (slot : ℕ) (link : Link) → link_at old.links slot ≡ Some link
-    → ((owed : Option Heard) (f b : List Link) (l : Link) → IsAt old.links slot f l b → StandsFor (putting l.slot) owed (f ++ l ∷ b) old.accepted old.moment before → Rests owed new after)
+pub keeps_flushed : (spent : Bool) (old new : Table) (before after : Option Calls) (slot : ℕ) (endpoint : Endpoint) → endpoint_at old.endpoints slot ≡ Some endpoint
+    → ((owed : Option Heard) (f b : List Endpoint) (l : Endpoint) → IsAt old.endpoints slot f l b → StandsFor (putting l.slot) owed (f ++ l ∷ b) old.accepted old.moment before → Rests owed new after)
     → Keeps spent old before → Keeps spent new after
-keeps_flushed spent old new before after slot link at flushes keeps =
+keeps_flushed spent old new before after slot endpoint at flushes keeps =
     keeps_by spent old new before after
-    (λ owed rests. let h = here owed old slot link before rests at in
-    flushes owed h.front h.back link h.is_at (may_put_to owed h.front h.back link old.accepted old.moment before h.stands))
+    (λ owed rests. let h = here owed old slot endpoint before rests at in
+    flushes owed h.front h.back endpoint h.is_at (may_put_to owed h.front h.back endpoint old.accepted old.moment before h.stands))
     keeps
 
 -- what is kept, whatever is still to be heard
@@ -52,21 +52,21 @@ kept_so false table told keeps = (None, keeps)
 kept_so true table told keeps = keeps
 
 -- what the flush of a slot did, by the slot
-pub flushed_so : (outcome : Flushed) (spent : Bool) (table : Table) (slot : ℕ) (link : Link) (before after : Option Calls) → link_at table.links slot ≡ Some link → Keeps spent table before
-    → ((f b : List Link) (l : Link) → IsAt table.links slot f l b → FlushedSo outcome l.slot l.queue before after) → FlushedSo outcome slot (queue_of slot table.links) before after
-flushed_so outcome spent table slot link before after at keeps flushes =
+pub flushed_so : (outcome : Flushed) (spent : Bool) (table : Table) (slot : ℕ) (endpoint : Endpoint) (before after : Option Calls) → endpoint_at table.endpoints slot ≡ Some endpoint → Keeps spent table before
+    → ((f b : List Endpoint) (l : Endpoint) → IsAt table.endpoints slot f l b → FlushedSo outcome l.slot l.queue before after) → FlushedSo outcome slot (queue_of slot table.endpoints) before after
+flushed_so outcome spent table slot endpoint before after at keeps flushes =
     let loose = kept_so spent table before keeps in
-    let h = here loose.0 table slot link before loose.1 at in
-    let P : ℕ → Type 0 = λ s. FlushedSo outcome s link.queue before after in
+    let h = here loose.0 table slot endpoint before loose.1 at in
+    let P : ℕ → Type 0 = λ s. FlushedSo outcome s endpoint.queue before after in
     let Q : List ℕ → Type 0 = λ queue. FlushedSo outcome slot queue before after in
-    let R : Option Link → Type 0 = λ o. link.queue ≡ queue_in o in
-    subst Q (subst R (sym at) refl) (subst P h.is_at.slot_is (flushes h.front h.back link h.is_at))
+    let R : Option Endpoint → Type 0 = λ o. endpoint.queue ≡ queue_in o in
+    subst Q (subst R (sym at) refl) (subst P h.is_at.slot_is (flushes h.front h.back endpoint h.is_at))
 
 -- a step was noted, or memory ran out and nothing was
 pub keeps_noted : {T E : Type 0} (r : Result T E) (spent : Bool) (table : Table) (step : Step) (before after : Option Calls) → IsNote step → OnOk r (Tells (calls.Noted step) before after)
     → OnErr r (after ≡ before) → Keeps spent table before → Keeps spent table after
 keeps_noted (Ok value) spent table step before after is tells same keeps =
-    keeps_by spent table table before after (λ owed rests. record { links = rests.links; held = rests.held; stands = notes_so table.accepted table.moment before after owed rests.links step is tells rests.stands }) keeps
+    keeps_by spent table table before after (λ owed rests. record { endpoints = rests.endpoints; held = rests.held; stands = notes_so table.accepted table.moment before after owed rests.endpoints step is tells rests.stands }) keeps
 keeps_noted (Err error) spent table step before after is tells same keeps =
     let P : Option Calls → Type 0 = λ told. Keeps spent table told in subst P (sym same) keeps
 

@@ -64,7 +64,7 @@ pub slots_same : (call : WireCall) (old now : Option Calls) (slots : List ℕ) �
     → SlotsTold old slots → Tells call old now → SlotsTold now slots
 slots_same call old now slots same told tells = subst (SlotsTold now) same (slots_kept call old now slots told tells)
 
--- or was not, for want of memory
+-- or was not, when out of memory
 pub slots_noted : {E : Type 0} (r : Result (Unit {0}) E) (call : WireCall) (later later' : Option Trace) (list list' : Calls) (slots : List ℕ)
     → slots_after slots call ≡ slots → SlotsTold (calls_told later list) slots
     → OnOk r (Tells call (calls_told later list) (calls_told later' list')) → OnErr r (list' ≡ list) → OnErr r (later' ≡ later)

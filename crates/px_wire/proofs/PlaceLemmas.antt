@@ -6,28 +6,28 @@ use Rattle.px_event.specs.Trace.{is_same_side}
 use Rattle.px_event.specs.declared.side.Side.{Side}
 use Rattle.px_event.specs.declared.side.Side.TheVariants.{Client, Server}
 use Rattle.px_event.specs.declared.heard.Heard.{Heard}
-use Rattle.px_wire.specs.declared.link.Link.{Link}
+use Rattle.px_wire.specs.declared.endpoint.Endpoint.{Endpoint}
 use Rattle.px_wire.specs.Ledger.{Life, is_life_at, is_life_of}
 use Rattle.px_wire.specs.Stands.{Busy, Fits, AllFit, Name, name_of, Apart, ApartFrom, Distinct}
 
 -- the pairs around one
-pub record Split (R : Link → Life → Type 0) (front back : List Link) (link : Link) (lives : List Life) : Type 0 where
+pub record Split (R : Endpoint → Life → Type 0) (front back : List Endpoint) (endpoint : Endpoint) (lives : List Life) : Type 0 where
   pub before : List Life
   pub life : Life
   pub behind : List Life
   pub lives_are : lives ≡ before ++ life ∷ behind
-  pub fits : R link life
+  pub fits : R endpoint life
   pub front_fits : AllFit R front before
   pub back_fits : AllFit R back behind
 
-pub split : (R : Link → Life → Type 0) (front back : List Link) (link : Link) (lives : List Life)
-    → AllFit R (front ++ link ∷ back) lives → Split R front back link lives
-split R [] back link [] fit = absurd fit
-split R [] back link (life ∷ lives) fit =
+pub split : (R : Endpoint → Life → Type 0) (front back : List Endpoint) (endpoint : Endpoint) (lives : List Life)
+    → AllFit R (front ++ endpoint ∷ back) lives → Split R front back endpoint lives
+split R [] back endpoint [] fit = absurd fit
+split R [] back endpoint (life ∷ lives) fit =
     record { before = []; life = life; behind = lives; lives_are = refl; fits = fit.0; front_fits = tt; back_fits = fit.1 }
-split R (first ∷ front) back link [] fit = absurd fit
-split R (first ∷ front) back link (life ∷ lives) fit =
-    let rest = split R front back link lives fit.1 in record {
+split R (first ∷ front) back endpoint [] fit = absurd fit
+split R (first ∷ front) back endpoint (life ∷ lives) fit =
+    let rest = split R front back endpoint lives fit.1 in record {
       before = life ∷ rest.before;
       life = rest.life;
       behind = rest.behind;
@@ -38,27 +38,27 @@ split R (first ∷ front) back link (life ∷ lives) fit =
     }
 
 -- pairs behind pairs
-pub joined : (R : Link → Life → Type 0) (front back : List Link) (before behind : List Life)
+pub joined : (R : Endpoint → Life → Type 0) (front back : List Endpoint) (before behind : List Life)
     → AllFit R front before → AllFit R back behind → AllFit R (front ++ back) (before ++ behind)
 joined R [] back [] behind fits others = others
 joined R [] back (life ∷ before) behind fits others = absurd fits
-joined R (link ∷ front) back [] behind fits others = absurd fits
-joined R (link ∷ front) back (life ∷ before) behind fits others = (fits.0, joined R front back before behind fits.1 others)
+joined R (endpoint ∷ front) back [] behind fits others = absurd fits
+joined R (endpoint ∷ front) back (life ∷ before) behind fits others = (fits.0, joined R front back before behind fits.1 others)
 
 -- another relation at each of them, which may use that each is apart from a slot
-pub refit : (R R' : Link → Life → Type 0) (name : Name) → ((link : Link) (life : Life) → Apart name (name_of link) → R link life → R' link life)
-    → (links : List Link) (lives : List Life) → ApartFrom name (map name_of links) → AllFit R links lives → AllFit R' links lives
+pub refit : (R R' : Endpoint → Life → Type 0) (name : Name) → ((endpoint : Endpoint) (life : Life) → Apart name (name_of endpoint) → R endpoint life → R' endpoint life)
+    → (endpoints : List Endpoint) (lives : List Life) → ApartFrom name (map name_of endpoints) → AllFit R endpoints lives → AllFit R' endpoints lives
 refit R R' name change [] [] apart fits = tt
 refit R R' name change [] (life ∷ lives) apart fits = absurd fits
-refit R R' name change (link ∷ links) [] apart fits = absurd fits
-refit R R' name change (link ∷ links) (life ∷ lives) apart fits = (change link life apart.0 fits.0, refit R R' name change links lives apart.1 fits.1)
+refit R R' name change (endpoint ∷ endpoints) [] apart fits = absurd fits
+refit R R' name change (endpoint ∷ endpoints) (life ∷ lives) apart fits = (change endpoint life apart.0 fits.0, refit R R' name change endpoints lives apart.1 fits.1)
 
-pub refit_all : (R R' : Link → Life → Type 0) → ((link : Link) (life : Life) → R link life → R' link life)
-    → (links : List Link) (lives : List Life) → AllFit R links lives → AllFit R' links lives
+pub refit_all : (R R' : Endpoint → Life → Type 0) → ((endpoint : Endpoint) (life : Life) → R endpoint life → R' endpoint life)
+    → (endpoints : List Endpoint) (lives : List Life) → AllFit R endpoints lives → AllFit R' endpoints lives
 refit_all R R' change [] [] fits = tt
 refit_all R R' change [] (life ∷ lives) fits = absurd fits
-refit_all R R' change (link ∷ links) [] fits = absurd fits
-refit_all R R' change (link ∷ links) (life ∷ lives) fits = (change link life fits.0, refit_all R R' change links lives fits.1)
+refit_all R R' change (endpoint ∷ endpoints) [] fits = absurd fits
+refit_all R R' change (endpoint ∷ endpoints) (life ∷ lives) fits = (change endpoint life fits.0, refit_all R R' change endpoints lives fits.1)
 
 pub apart_sym : (a b : Name) → Apart a b → Apart b a
 apart_sym a b apart = record { slots = λ e. apart.slots (sym e); sides = λ e f. apart.sides (sym e) (sym f) }
@@ -100,11 +100,11 @@ side_same (Server n) Client is = cc
 side_same (Server n) (Server m) is = ap Server (eqb-true n m is)
 
 -- the tests at a life of another name
-pub other_slot : (name : Name) (link : Link) (life : Life) → Apart name (name_of link) → link.slot ≡ life.slot → is_life_at name.slot life ≡ false
-other_slot name link life apart slot = ne_eqb life.slot name.slot (λ e. apart.slots (sym (slot ∙ e)))
+pub other_slot : (name : Name) (endpoint : Endpoint) (life : Life) → Apart name (name_of endpoint) → endpoint.slot ≡ life.slot → is_life_at name.slot life ≡ false
+other_slot name endpoint life apart slot = ne_eqb life.slot name.slot (λ e. apart.slots (sym (slot ∙ e)))
 
-pub other_side : (name : Name) (link : Link) (life : Life) → Apart name (name_of link) → link.conv ≡ life.conv → link.side ≡ life.side → is_life_of name.conv name.side life ≡ false
-other_side name link life apart conv side = by (life.conv == name.conv) refl (is_same_side life.side name.side) refl
+pub other_side : (name : Name) (endpoint : Endpoint) (life : Life) → Apart name (name_of endpoint) → endpoint.conv ≡ life.conv → endpoint.side ≡ life.side → is_life_of name.conv name.side life ≡ false
+other_side name endpoint life apart conv side = by (life.conv == name.conv) refl (is_same_side life.side name.side) refl
   where
     by : (a : Bool) → (life.conv == name.conv) ≡ a → (b : Bool) → is_same_side life.side name.side ≡ b → is_life_of name.conv name.side life ≡ false
     by false is b same = rw is refl
@@ -116,22 +116,22 @@ pub record Misses (name : Name) (lives : List Life) : Type 0 where
   pub slot : list_any (is_life_at name.slot) lives ≡ false
   pub side : list_any (is_life_of name.conv name.side) lives ≡ false
 
-pub misses : (busy : Busy) (owed : Option Heard) (name : Name) (links : List Link) (lives : List Life) → ApartFrom name (map name_of links)
-    → AllFit (Fits busy owed) links lives → Misses name lives
+pub misses : (busy : Busy) (owed : Option Heard) (name : Name) (endpoints : List Endpoint) (lives : List Life) → ApartFrom name (map name_of endpoints)
+    → AllFit (Fits busy owed) endpoints lives → Misses name lives
 misses busy owed name [] [] apart fits = record { slot = refl; side = refl }
 misses busy owed name [] (life ∷ lives) apart fits = absurd fits
-misses busy owed name (link ∷ links) [] apart fits = absurd fits
-misses busy owed name (link ∷ links) (life ∷ lives) apart fits =
-    let rest = misses busy owed name links lives apart.1 fits.1 in record {
-      slot = rw (other_slot name link life apart.0 fits.0.slot, rest.slot) refl;
-      side = rw (other_side name link life apart.0 fits.0.conv fits.0.side, rest.side) refl;
+misses busy owed name (endpoint ∷ endpoints) [] apart fits = absurd fits
+misses busy owed name (endpoint ∷ endpoints) (life ∷ lives) apart fits =
+    let rest = misses busy owed name endpoints lives apart.1 fits.1 in record {
+      slot = rw (other_slot name endpoint life apart.0 fits.0.slot, rest.slot) refl;
+      side = rw (other_side name endpoint life apart.0 fits.0.conv fits.0.side, rest.side) refl;
     }
 
 -- its own life passes both tests
-pub own_slot : (link : Link) (life : Life) → link.slot ≡ life.slot → is_life_at link.slot life ≡ true
-own_slot link life slot = eq-eqb life.slot link.slot (sym slot)
+pub own_slot : (endpoint : Endpoint) (life : Life) → endpoint.slot ≡ life.slot → is_life_at endpoint.slot life ≡ true
+own_slot endpoint life slot = eq-eqb life.slot endpoint.slot (sym slot)
 
-pub own_side : (link : Link) (life : Life) → link.conv ≡ life.conv → link.side ≡ life.side → is_life_of link.conv link.side life ≡ true
-own_side link life conv side =
-    let same : is_same_side life.side link.side ≡ true = (let P : Side → Type 0 = λ s. is_same_side s link.side ≡ true in subst P side (side_self link.side)) in
-    rw (eq-eqb life.conv link.conv (sym conv), same) refl
+pub own_side : (endpoint : Endpoint) (life : Life) → endpoint.conv ≡ life.conv → endpoint.side ≡ life.side → is_life_of endpoint.conv endpoint.side life ≡ true
+own_side endpoint life conv side =
+    let same : is_same_side life.side endpoint.side ≡ true = (let P : Side → Type 0 = λ s. is_same_side s endpoint.side ≡ true in subst P side (side_self endpoint.side)) in
+    rw (eq-eqb life.conv endpoint.conv (sym conv), same) refl

@@ -1,12 +1,12 @@
 pub mod Asked
 pub mod Calls
+pub mod Endpoints
 pub mod Flushes
 pub mod Found
 pub mod Hears
 pub mod Holds
 pub mod Ledger
 pub mod Lines
-pub mod Links
 pub mod MemWire
 pub mod Puts
 pub mod Rules

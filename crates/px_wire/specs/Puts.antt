@@ -3,12 +3,12 @@ use Rattle.std.specs.Prelude.{◌≡◌, ℕ, ◌<◌, ◌==◌, List, [], ◌++
 use Rattle.std.specs.List.{flat_map}
 use Rattle.px_wire.specs.declared.call.WireCall.{WireCall}
 use Rattle.px_wire.specs.declared.call.WireCall.TheVariants as calls
-use Rattle.px_wire.specs.declared.link.Flushed.{Flushed}
-use Rattle.px_wire.specs.declared.link.Flushed.TheVariants as flushes
-use Rattle.px_wire.specs.declared.link.Link.{Link}
+use Rattle.px_wire.specs.declared.endpoint.Flushed.{Flushed}
+use Rattle.px_wire.specs.declared.endpoint.Flushed.TheVariants as flushes
+use Rattle.px_wire.specs.declared.endpoint.Endpoint.{Endpoint}
 use Rattle.px_wire.specs.Calls.{Calls, LastIs}
-use Rattle.px_wire.specs.declared.links.Links.{Links}
-use Rattle.px_wire.specs.Holds.{link_at}
+use Rattle.px_wire.specs.declared.endpoints.Endpoints.{Endpoints}
+use Rattle.px_wire.specs.Holds.{endpoint_at}
 
 -- the bytes that the call took for this slot
 abbrev pub taken_from : ℕ → WireCall → List ℕ
@@ -37,10 +37,10 @@ FlushedSo flushes.Empty slot queue old new = TookSo slot queue [] old new
 FlushedSo flushes.Blocked slot queue old new = (left : List ℕ) × TookSo slot queue left old new × (0 < length left) × LastIs (calls.PutBlocked slot) new
 FlushedSo flushes.Broken slot queue old new = (left : List ℕ) × TookSo slot queue left old new × (0 < length left) × LastIs (calls.PutBroke slot) new
 
-abbrev pub queue_in : Option Link → List ℕ
+abbrev pub queue_in : Option Endpoint → List ℕ
 queue_in None = []
-queue_in (Some link) = link.queue
+queue_in (Some endpoint) = endpoint.queue
 
 -- the bytes that wait for the slot; none where it is not in use
-abbrev pub queue_of : ℕ → Links → List ℕ
-queue_of slot t = queue_in (link_at t slot)
+abbrev pub queue_of : ℕ → Endpoints → List ℕ
+queue_of slot t = queue_in (endpoint_at t slot)

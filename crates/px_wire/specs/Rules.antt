@@ -12,7 +12,7 @@ use Rattle.px_event.specs.declared.step.Step.TheVariants as steps
 use Rattle.px_wire.specs.declared.call.WireCall.{WireCall}
 use Rattle.px_wire.specs.declared.call.WireCall.TheVariants as calls
 use Rattle.px_wire.specs.Calls.{Calls}
-use Rattle.px_wire.specs.Links.{faces, read_mark}
+use Rattle.px_wire.specs.Endpoints.{faces, read_mark}
 use Rattle.px_wire.specs.Ledger.{Life, Ledger, no_ledger, is_life_at, is_life_of, after}
 
 -- one of the two, by the test

@@ -6,12 +6,12 @@ use Rattle.px_event.specs.declared.side.Side.{Side}
 use Rattle.px_event.specs.declared.side.Side.TheVariants.{Client}
 use Rattle.px_event.specs.declared.heard.Heard.{Heard}
 use Rattle.px_event.specs.declared.heard.Heard.TheVariants as heard
-use Rattle.px_wire.specs.declared.link.Link.{Link}
+use Rattle.px_wire.specs.declared.endpoint.Endpoint.{Endpoint}
 use Rattle.px_wire.specs.declared.table.Table.{Table}
-use Rattle.px_wire.specs.declared.links.Links.{Links}
+use Rattle.px_wire.specs.declared.endpoints.Endpoints.{Endpoints}
 use Rattle.px_wire.specs.Calls.{Calls, IfTold, slots_of}
 use Rattle.px_wire.specs.Holds.{Holds}
-use Rattle.px_wire.specs.Links.{is_done, is_open_to_read}
+use Rattle.px_wire.specs.Endpoints.{is_done, is_open_to_read}
 use Rattle.px_wire.specs.declared.wire.Got.{Got}
 use Rattle.px_wire.specs.declared.wire.Got.TheVariants as gots
 use Rattle.px_wire.specs.Ledger.{Life, ledger, is_life_of, number_end}
@@ -48,31 +48,31 @@ may_be_finished (ending slot) other = slot == other
 may_be_finished _ other = false
 
 -- A slot that is kept, and its life.
-pub record Fits (busy : Busy) (owed : Option Heard) (link : Link) (life : Life) : Type 0 where
-  pub slot : link.slot ≡ life.slot
-  pub conv : link.conv ≡ life.conv
-  pub side : link.side ≡ life.side
-  pub closing : link.is_closing ≡ life.is_closing
-  pub over : link.is_over ≡ life.is_over
-  pub readable : link.is_readable ≡ life.is_readable
+pub record Fits (busy : Busy) (owed : Option Heard) (endpoint : Endpoint) (life : Life) : Type 0 where
+  pub slot : endpoint.slot ≡ life.slot
+  pub conv : endpoint.conv ≡ life.conv
+  pub side : endpoint.side ≡ life.side
+  pub closing : endpoint.is_closing ≡ life.is_closing
+  pub over : endpoint.is_over ≡ life.is_over
+  pub readable : endpoint.is_readable ≡ life.is_readable
   -- what was taken, followed by what waits, is what was said
-  pub queued : life.is_over ≡ false → life.said ≡ life.taken ++ link.queue
+  pub queued : life.is_over ≡ false → life.said ≡ life.taken ++ endpoint.queue
   -- a socket that ended or failed took a prefix, and nothing waits for it
-  pub cut : life.is_over ≡ true → IsPrefixOf life.taken life.said × (link.queue ≡ [])
+  pub cut : life.is_over ≡ true → IsPrefixOf life.taken life.said × (endpoint.queue ≡ [])
   -- what was given is what was heard, but for what is to be heard now
   pub heard : life.given ≡ life.heard ++ unheard owed life
   -- what waits was blocked
-  pub blocked : may_wait busy link.slot ≡ false → (link.queue ≡ []) ⊎ (life.is_blocked ≡ true)
+  pub blocked : may_wait busy endpoint.slot ≡ false → (endpoint.queue ≡ []) ⊎ (life.is_blocked ≡ true)
   -- what is done with was shut
-  pub still : may_be_done busy link.slot ≡ false → is_done link ≡ false
-  pub unfinished : may_be_finished busy link.slot ≡ false → life.is_finished ≡ false
+  pub still : may_be_done busy endpoint.slot ≡ false → is_done endpoint ≡ false
+  pub unfinished : may_be_finished busy endpoint.slot ≡ false → life.is_finished ≡ false
 
 -- pair by pair
-abbrev pub AllFit : (Link → Life → Type 0) → List Link → List Life → Type 0
+abbrev pub AllFit : (Endpoint → Life → Type 0) → List Endpoint → List Life → Type 0
 AllFit R [] [] = Unit {0}
-AllFit R (link ∷ links) (life ∷ lives) = R link life × AllFit R links lives
+AllFit R (endpoint ∷ endpoints) (life ∷ lives) = R endpoint life × AllFit R endpoints lives
 AllFit R [] (life ∷ lives) = ⊥
-AllFit R (link ∷ links) [] = ⊥
+AllFit R (endpoint ∷ endpoints) [] = ⊥
 
 -- whose socket a slot is
 pub record Name : Type 0 where
@@ -80,8 +80,8 @@ pub record Name : Type 0 where
   pub conv : ℕ
   pub side : Side
 
-abbrev pub name_of : Link → Name
-name_of link = record { slot = link.slot; conv = link.conv; side = link.side }
+abbrev pub name_of : Endpoint → Name
+name_of endpoint = record { slot = endpoint.slot; conv = endpoint.conv; side = endpoint.side }
 
 -- two slots, of two sides
 pub record Apart (a b : Name) : Type 0 where
@@ -107,10 +107,10 @@ AllUsed slots accepted [] = Unit {0}
 AllUsed slots accepted (name ∷ names) = IsUsed slots accepted name × AllUsed slots accepted names
 
 -- What is kept stands for the calls. `owed` is what is to be heard now.
-pub record Stands (busy : Busy) (owed : Option Heard) (links : List Link) (accepted moment : ℕ) (list : Calls) : Type 0 where
-  pub fits : AllFit (Fits busy owed) links (ledger list).lives
-  pub distinct : Distinct (map name_of links)
-  pub used : AllUsed (slots_of list) accepted (map name_of links)
+pub record Stands (busy : Busy) (owed : Option Heard) (endpoints : List Endpoint) (accepted moment : ℕ) (list : Calls) : Type 0 where
+  pub fits : AllFit (Fits busy owed) endpoints (ledger list).lives
+  pub distinct : Distinct (map name_of endpoints)
+  pub used : AllUsed (slots_of list) accepted (map name_of endpoints)
   pub accepted_is : accepted ≡ (ledger list).accepted
   pub most : accepted ≤ number_end
   pub moment_is : moment ≡ (ledger list).moment
@@ -119,28 +119,28 @@ pub record Stands (busy : Busy) (owed : Option Heard) (links : List Link) (accep
   pub obeys : Obeys list
 
 -- the same, where the calls are told
-abbrev pub StandsFor : Busy → Option Heard → List Link → ℕ → ℕ → Option Calls → Type 0
-StandsFor busy owed links accepted moment told = IfTold (Stands busy owed links accepted moment) told
+abbrev pub StandsFor : Busy → Option Heard → List Endpoint → ℕ → ℕ → Option Calls → Type 0
+StandsFor busy owed endpoints accepted moment told = IfTold (Stands busy owed endpoints accepted moment) told
 
 -- a slot stands so, and may be shut
-abbrev pub EndsFor : ℕ → Option Heard → List Link → ℕ → ℕ → Option Calls → Type 0
-EndsFor slot owed links accepted moment told =
-    IfTold (λ list. Stands (ending slot) owed links accepted moment list × MayShut (ledger list) slot) told
+abbrev pub EndsFor : ℕ → Option Heard → List Endpoint → ℕ → ℕ → Option Calls → Type 0
+EndsFor slot owed endpoints accepted moment told =
+    IfTold (λ list. Stands (ending slot) owed endpoints accepted moment list × MayShut (ledger list) slot) told
 
 -- what is kept between two calls of the network
 pub record Rests (owed : Option Heard) (table : Table) (told : Option Calls) : Type 0 where
-  pub links : List Link
-  pub held : Holds table.links links
-  pub stands : StandsFor idle owed links table.accepted table.moment told
+  pub endpoints : List Endpoint
+  pub held : Holds table.endpoints endpoints
+  pub stands : StandsFor idle owed endpoints table.accepted table.moment told
 
 -- nothing can be heard without waiting
-abbrev pub AllCalm : List Link → List Link → Type 0
-AllCalm links [] = Unit {0}
-AllCalm links (link ∷ rest) = (link.is_over ≡ false) × (is_open_to_read links link ≡ false) × AllCalm links rest
+abbrev pub AllCalm : List Endpoint → List Endpoint → Type 0
+AllCalm endpoints [] = Unit {0}
+AllCalm endpoints (endpoint ∷ rest) = (endpoint.is_over ≡ false) × (is_open_to_read endpoints endpoint ≡ false) × AllCalm endpoints rest
 
 -- of the slots that these are
-abbrev pub IsCalm : Links → Type 0
-IsCalm t = (links : List Link) → Holds t links → AllCalm links links
+abbrev pub IsCalm : Endpoints → Type 0
+IsCalm t = (endpoints : List Endpoint) → Holds t endpoints → AllCalm endpoints endpoints
 
 -- what is to be heard of a side that was read
 abbrev pub owed_by : ℕ → Side → List ℕ → Got → Option Heard

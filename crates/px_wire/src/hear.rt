@@ -1,23 +1,23 @@
 //! What can be heard without waiting: what readable slots give, and the close of a side whose socket ended or failed.
-ghost use Rattle.std.specs.Prelude.{◌≡◌, ◌≢◌, ◌⊎◌, ◌<◌, ℕ, List, [], ◌∷◌, ◌++◌, length, Option, None, Some, Ok, Err, false, true, IfOk, OnOk, OnErr, nat_eq};
+ghost use Rattle.std.specs.Prelude.{◌≡◌, ◌≢◌, ◌<◌, ℕ, List, [], ◌∷◌, ◌++◌, length, Option, None, Some, Ok, IsSome, false, true, IfOk, OnOk, OnErr, nat_eq};
 ghost use Rattle.px_event.specs.declared.heard.Heard.{Heard as WhatIsHeard};
 ghost use Rattle.px_event.specs.declared.heard.Heard.TheVariants.{Piece as HeardPiece, Closed as HeardClosed, Dialled as HeardDialled};
 ghost use Rattle.px_event.specs.declared.side.Side.TheVariants.{Server as ServerSide};
 ghost use Rattle.px_event.specs.declared.step.Step.TheVariants.{Heard as WasHeard};
 ghost use Rattle.px_outside.specs.Net.{Adds};
-ghost use Rattle.px_wire.specs.declared.link.Link.{Link as LinkState};
+ghost use Rattle.px_wire.specs.declared.endpoint.Endpoint.{Endpoint as EndpointState};
 ghost use Rattle.std.specs.Map.{set_value};
-ghost use Rattle.px_wire.specs.Links.{after_get};
-ghost use Rattle.px_wire.specs.Holds.{Changes, link_at, last_turn};
+ghost use Rattle.px_wire.specs.Endpoints.{after_get};
+ghost use Rattle.px_wire.specs.Holds.{Changes, IsSettled, endpoint_at, last_turn};
 ghost use Rattle.px_wire.specs.Hears.{IsPlain, AddsHeard};
 ghost use Rattle.px_wire.specs.Asked.{AnsweredSince};
 ghost use Rattle.px_wire.specs.Calls.{Calls, GotWithin, Tells, got_call};
 ghost use Rattle.px_wire.specs.Found.{IsAt, HasTurn, Loose};
-ghost use Rattle.px_wire.specs.Stands.{StandsFor, EndsFor, Rests, IsCalm, idle, name_of, owed_by};
+ghost use Rattle.px_wire.specs.Stands.{StandsFor, EndsFor, Rests, IsCalm, idle};
 
+use crate::endpoint::Endpoint;
+use crate::endpoints::{Due, Endpoints};
 use crate::flush::shut_at;
-use crate::link::Link;
-use crate::links::{Due, Links};
 use crate::table::Table;
 use crate::{Got, Wire};
 use px_event::{Heard, Side, Step};
@@ -32,17 +32,17 @@ pub fn hear<W: Wire>(
 ) -> Result<Option<(u64, Heard)>, NoMemory>
     ensures told { IfOk result (λ told. told ≡ Some (moment, heard)) }
     ensures steps { OnOk result (Adds (W.steps wire.old) (W.steps wire.new) (WasHeard moment heard)) }
-    ensures plain { (links : List LinkState) (accepted : ℕ) → IsPlain heard → StandsFor idle (Some heard) links accepted moment (W.calls wire.old) →
-        OnOk result (StandsFor idle None links accepted moment (W.calls wire.new)) }
-    ensures piece { (front back : List LinkState) (link : LinkState) (accepted : ℕ) (bytes : List ℕ) → heard ≡ HeardPiece link.conv link.side bytes →
-        StandsFor idle (Some heard) (front ++ link ∷ back) accepted moment (W.calls wire.old) →
-        OnOk result (StandsFor idle None (front ++ link ∷ back) accepted moment (W.calls wire.new)) }
-    ensures closed { (front back : List LinkState) (link : LinkState) (accepted : ℕ) → heard ≡ HeardClosed link.conv link.side → link.is_over ≡ true →
-        StandsFor idle None (front ++ link ∷ back) accepted moment (W.calls wire.old) →
-        OnOk result (EndsFor link.slot None (front ++ link ∷ back) accepted moment (W.calls wire.new)) }
-    ensures dialled { (front back : List LinkState) (link : LinkState) (accepted server : ℕ) → heard ≡ HeardDialled link.conv server false → link.side ≡ ServerSide server →
-        StandsFor idle (Some heard) (front ++ link ∷ back) accepted moment (W.calls wire.old) →
-        OnOk result (EndsFor link.slot None (front ++ link ∷ back) accepted moment (W.calls wire.new)) }
+    ensures plain { (endpoints : List EndpointState) (accepted : ℕ) → IsPlain heard → StandsFor idle (Some heard) endpoints accepted moment (W.calls wire.old) →
+        OnOk result (StandsFor idle None endpoints accepted moment (W.calls wire.new)) }
+    ensures piece { (front back : List EndpointState) (endpoint : EndpointState) (accepted : ℕ) (bytes : List ℕ) → heard ≡ HeardPiece endpoint.conv endpoint.side bytes →
+        StandsFor idle (Some heard) (front ++ endpoint ∷ back) accepted moment (W.calls wire.old) →
+        OnOk result (StandsFor idle None (front ++ endpoint ∷ back) accepted moment (W.calls wire.new)) }
+    ensures closed { (front back : List EndpointState) (endpoint : EndpointState) (accepted : ℕ) → heard ≡ HeardClosed endpoint.conv endpoint.side → endpoint.is_over ≡ true →
+        StandsFor idle None (front ++ endpoint ∷ back) accepted moment (W.calls wire.old) →
+        OnOk result (EndsFor endpoint.slot None (front ++ endpoint ∷ back) accepted moment (W.calls wire.new)) }
+    ensures dialled { (front back : List EndpointState) (endpoint : EndpointState) (accepted server : ℕ) → heard ≡ HeardDialled endpoint.conv server false → endpoint.side ≡ ServerSide server →
+        StandsFor idle (Some heard) (front ++ endpoint ∷ back) accepted moment (W.calls wire.old) →
+        OnOk result (EndsFor endpoint.slot None (front ++ endpoint ∷ back) accepted moment (W.calls wire.new)) }
     ensures calls_err { OnErr result (W.calls wire.new ≡ W.calls wire.old) }
     ensures steps_err { OnErr result (W.steps wire.new ≡ W.steps wire.old) }
     ensures listening { W.listening wire.new ≡ W.listening wire.old }
@@ -71,10 +71,11 @@ pub fn hear_close<W: Wire>(
     table: &mut Table,
     slot: u32,
 ) -> Result<Option<(u64, Heard)>, NoMemory>
-    ensures some { (link : LinkState) → link_at table.old.links slot ≡ Some link → result ≢ Ok None }
+    requires there { IsSome (endpoint_at table.old.endpoints slot) }
+    ensures some { result ≢ Ok None }
     ensures steps { IfOk result (λ told. AddsHeard told (W.steps wire.old) (W.steps wire.new)) }
-    ensures stands { (front back : List LinkState) (link : LinkState) → IsAt table.old.links slot front link back → link.is_over ≡ true →
-        StandsFor idle None (front ++ link ∷ back) table.old.accepted table.old.moment (W.calls wire.old) → OnOk result (Rests None table.new (W.calls wire.new)) }
+    ensures stands { (front back : List EndpointState) (endpoint : EndpointState) → IsAt table.old.endpoints slot front endpoint back → endpoint.is_over ≡ true →
+        StandsFor idle None (front ++ endpoint ∷ back) table.old.accepted table.old.moment (W.calls wire.old) → OnOk result (Rests None table.new (W.calls wire.new)) }
     ensures table_err { OnErr result (table.new ≡ table.old) }
     ensures calls_err { OnErr result (W.calls wire.new ≡ W.calls wire.old) }
     ensures steps_err { OnErr result (W.steps wire.new ≡ W.steps wire.old) }
@@ -83,11 +84,11 @@ pub fn hear_close<W: Wire>(
     ensures asks { W.asks wire.new ≡ W.asks wire.old }
     ensures kept { (past : Calls) (times : ℕ) → AnsweredSince past times (W.calls wire.old) → AnsweredSince past times (W.calls wire.new) }
 {
-    let Some(link) = table.links.get(slot) else {
-        return Ok(None);
+    let Some(endpoint) = table.endpoints.get(slot) else {
+        unreachable!()
     };
-    let conv = link.conv;
-    let side = link.side;
+    let conv = endpoint.conv;
+    let side = endpoint.side;
     let told = hear(wire, table.moment, Heard::Closed { conv, side })?;
     shut_at(wire, table, slot);
     Ok(told)
@@ -95,10 +96,10 @@ pub fn hear_close<W: Wire>(
 
 /// Reads the slot once. One that has nothing at present is readable no more; one that ended or failed is over, and what
 /// waits for it is dropped.
-fn read_link<W: Wire>(wire: &mut W, link: &mut Link, room: &mut [u8]) -> Got
+fn read_endpoint<W: Wire>(wire: &mut W, endpoint: &mut Endpoint, room: &mut [u8]) -> Got
     requires some { 0 < length room.old }
-    ensures link { link.new ≡ after_get link.old result }
-    ensures told { Tells (got_call link.old.slot room.new result) (W.calls wire.old) (W.calls wire.new) }
+    ensures endpoint { endpoint.new ≡ after_get endpoint.old result }
+    ensures told { Tells (got_call endpoint.old.slot room.new result) (W.calls wire.old) (W.calls wire.new) }
     ensures within { GotWithin (length room.old) result }
     ensures room { length room.new ≡ length room.old }
     ensures steps { W.steps wire.new ≡ W.steps wire.old }
@@ -106,25 +107,25 @@ fn read_link<W: Wire>(wire: &mut W, link: &mut Link, room: &mut [u8]) -> Got
     ensures faults { W.faults wire.new ≡ W.faults wire.old }
     ensures asks { W.asks wire.new ≡ W.asks wire.old }
 {
-    let got = wire.get(link.slot, room);
+    let got = wire.get(endpoint.slot, room);
     match got {
         Got::Gave(_) => {}
-        Got::Blocked => link.is_readable = false,
+        Got::Blocked => endpoint.is_readable = false,
         Got::Ended | Got::Broken => {
-            link.queue.clear();
-            link.is_over = true;
+            endpoint.queue.clear();
+            endpoint.is_over = true;
         }
     }
     got
 }
 
 // Reads the slot of this number once.
-fn read_in<W: Wire>(wire: &mut W, links: &mut Links, slot: u32, room: &mut [u8]) -> Got
+fn read_in<W: Wire>(wire: &mut W, endpoints: &mut Endpoints, slot: u32, room: &mut [u8]) -> Got
     requires some { 0 < length room.old }
-    ensures reads { (link : LinkState) → link_at links.old slot ≡ Some link →
-        Changes links.old links.new slot link (after_get link result) × Tells (got_call link.slot room.new result) (W.calls wire.old) (W.calls wire.new) }
-    ensures entries { (link : LinkState) → link_at links.old slot ≡ Some link → links.new.by_slot.entries ≡ set_value (nat_eq slot) links.old.by_slot.entries (after_get link result) }
-    ensures next { links.new.next_turn ≡ links.old.next_turn }
+    ensures reads { (endpoint : EndpointState) → endpoint_at endpoints.old slot ≡ Some endpoint →
+        Changes endpoints.old endpoints.new slot endpoint (after_get endpoint result) × Tells (got_call endpoint.slot room.new result) (W.calls wire.old) (W.calls wire.new) }
+    ensures entries { (endpoint : EndpointState) → endpoint_at endpoints.old slot ≡ Some endpoint → endpoints.new.by_slot.entries ≡ set_value (nat_eq slot) endpoints.old.by_slot.entries (after_get endpoint result) }
+    ensures next { endpoints.new.next_turn ≡ endpoints.old.next_turn }
     ensures within { GotWithin (length room.old) result }
     ensures room { length room.new ≡ length room.old }
     ensures steps { W.steps wire.new ≡ W.steps wire.old }
@@ -133,12 +134,12 @@ fn read_in<W: Wire>(wire: &mut W, links: &mut Links, slot: u32, room: &mut [u8])
     ensures asks { W.asks wire.new ≡ W.asks wire.old }
     ensures kept { (past : Calls) (times : ℕ) → AnsweredSince past times (W.calls wire.old) → AnsweredSince past times (W.calls wire.new) }
 {
-    let Some(link) = links.by_slot.get_mut(&slot) else {
+    let Some(endpoint) = endpoints.by_slot.get_mut(&slot) else {
         return Got::Blocked;
     };
-    let conv = link.conv;
-    let got = read_link(wire, link, room);
-    links.mark(conv);
+    let conv = endpoint.conv;
+    let got = read_endpoint(wire, endpoint, room);
+    endpoints.mark(conv);
     got
 }
 
@@ -150,15 +151,16 @@ fn read_at<W: Wire>(
     room: &mut [u8],
     slot: u32,
 ) -> Result<Option<(u64, Heard)>, NoMemory>
-    requires turn { table.old.links.next_turn < last_turn }
+    requires there { IsSome (endpoint_at table.old.endpoints slot) }
+    requires turn { table.old.endpoints.next_turn < last_turn }
     requires some { 0 < length room.old }
     ensures steps { IfOk result (λ told. AddsHeard told (W.steps wire.old) (W.steps wire.new)) }
-    ensures stands { (front back : List LinkState) (link : LinkState) → IsAt table.old.links slot front link back → HasTurn front link back →
-        StandsFor idle None (front ++ link ∷ back) table.old.accepted table.old.moment (W.calls wire.old) → OnOk result (Rests None table.new (W.calls wire.new)) }
-    ensures err { (front back : List LinkState) (link : LinkState) → IsAt table.old.links slot front link back → HasTurn front link back →
-        StandsFor idle None (front ++ link ∷ back) table.old.accepted table.old.moment (W.calls wire.old) → OnErr result (Loose table.new (W.calls wire.new)) }
-    ensures none { (link : LinkState) → link_at table.old.links slot ≡ Some link → result ≡ Ok None →
-        table.new.links.by_slot.entries ≡ set_value (nat_eq slot) table.old.links.by_slot.entries (record link { is_readable = false }) }
+    ensures stands { (front back : List EndpointState) (endpoint : EndpointState) → IsAt table.old.endpoints slot front endpoint back → HasTurn front endpoint back →
+        StandsFor idle None (front ++ endpoint ∷ back) table.old.accepted table.old.moment (W.calls wire.old) → OnOk result (Rests None table.new (W.calls wire.new)) }
+    ensures err { (front back : List EndpointState) (endpoint : EndpointState) → IsAt table.old.endpoints slot front endpoint back → HasTurn front endpoint back →
+        StandsFor idle None (front ++ endpoint ∷ back) table.old.accepted table.old.moment (W.calls wire.old) → OnErr result (Loose table.new (W.calls wire.new)) }
+    ensures none { (endpoint : EndpointState) → endpoint_at table.old.endpoints slot ≡ Some endpoint → result ≡ Ok None →
+        table.new.endpoints.by_slot.entries ≡ set_value (nat_eq slot) table.old.endpoints.by_slot.entries (record endpoint { is_readable = false }) }
     ensures room { length room.new ≡ length room.old }
     ensures steps_err { OnErr result (W.steps wire.new ≡ W.steps wire.old) }
     ensures listening { W.listening wire.new ≡ W.listening wire.old }
@@ -166,7 +168,7 @@ fn read_at<W: Wire>(
     ensures asks { W.asks wire.new ≡ W.asks wire.old }
     ensures kept { (past : Calls) (times : ℕ) → AnsweredSince past times (W.calls wire.old) → AnsweredSince past times (W.calls wire.new) }
 {
-    match read_in(wire, &mut table.links, slot, room) {
+    match read_in(wire, &mut table.endpoints, slot, room) {
         Got::Gave(count) => hear_given(alloc, wire, table, slot, &room[..count]),
         Got::Blocked => Ok(None),
         Got::Ended => hear_close(wire, table, slot),
@@ -182,14 +184,15 @@ fn hear_given<W: Wire>(
     slot: u32,
     bytes: &[u8],
 ) -> Result<Option<(u64, Heard)>, NoMemory>
-    requires turn { table.old.links.next_turn < last_turn }
-    ensures some { (link : LinkState) → link_at table.old.links slot ≡ Some link → result ≢ Ok None }
+    requires there { IsSome (endpoint_at table.old.endpoints slot) }
+    requires turn { table.old.endpoints.next_turn < last_turn }
+    ensures some { result ≢ Ok None }
     ensures steps { IfOk result (λ told. AddsHeard told (W.steps wire.old) (W.steps wire.new)) }
-    ensures stands { (front back : List LinkState) (link : LinkState) → IsAt table.old.links slot front link back →
-        StandsFor idle (Some (HeardPiece link.conv link.side bytes.now)) ((front ++ back) ++ link ∷ []) table.old.accepted table.old.moment (W.calls wire.old) →
+    ensures stands { (front back : List EndpointState) (endpoint : EndpointState) → IsAt table.old.endpoints slot front endpoint back →
+        StandsFor idle (Some (HeardPiece endpoint.conv endpoint.side bytes.now)) ((front ++ back) ++ endpoint ∷ []) table.old.accepted table.old.moment (W.calls wire.old) →
         OnOk result (Rests None table.new (W.calls wire.new)) }
-    ensures err { (front back : List LinkState) (link : LinkState) → IsAt table.old.links slot front link back →
-        StandsFor idle (Some (HeardPiece link.conv link.side bytes.now)) ((front ++ back) ++ link ∷ []) table.old.accepted table.old.moment (W.calls wire.old) →
+    ensures err { (front back : List EndpointState) (endpoint : EndpointState) → IsAt table.old.endpoints slot front endpoint back →
+        StandsFor idle (Some (HeardPiece endpoint.conv endpoint.side bytes.now)) ((front ++ back) ++ endpoint ∷ []) table.old.accepted table.old.moment (W.calls wire.old) →
         OnErr result (Loose table.new (W.calls wire.new)) }
     ensures steps_err { OnErr result (W.steps wire.new ≡ W.steps wire.old) }
     ensures listening { W.listening wire.new ≡ W.listening wire.old }
@@ -197,12 +200,12 @@ fn hear_given<W: Wire>(
     ensures asks { W.asks wire.new ≡ W.asks wire.old }
     ensures kept { (past : Calls) (times : ℕ) → AnsweredSince past times (W.calls wire.old) → AnsweredSince past times (W.calls wire.new) }
 {
-    let Some(link) = table.links.get(slot) else {
-        return Ok(None);
+    let Some(endpoint) = table.endpoints.get(slot) else {
+        unreachable!()
     };
-    let conv = link.conv;
-    let side = link.side;
-    table.links.to_end(slot);
+    let conv = endpoint.conv;
+    let side = endpoint.side;
+    table.endpoints.to_end(slot);
     hear_piece(alloc, wire, table.moment, conv, side, bytes)
 }
 
@@ -217,9 +220,9 @@ fn hear_piece<W: Wire>(
 ) -> Result<Option<(u64, Heard)>, NoMemory>
     ensures some { result ≢ Ok None }
     ensures steps { IfOk result (λ told. AddsHeard told (W.steps wire.old) (W.steps wire.new)) }
-    ensures stands { (front back : List LinkState) (link : LinkState) (accepted : ℕ) → link.conv ≡ conv → link.side ≡ side →
-        StandsFor idle (Some (HeardPiece link.conv link.side bytes.now)) (front ++ link ∷ back) accepted moment (W.calls wire.old) →
-        OnOk result (StandsFor idle None (front ++ link ∷ back) accepted moment (W.calls wire.new)) }
+    ensures stands { (front back : List EndpointState) (endpoint : EndpointState) (accepted : ℕ) → endpoint.conv ≡ conv → endpoint.side ≡ side →
+        StandsFor idle (Some (HeardPiece endpoint.conv endpoint.side bytes.now)) (front ++ endpoint ∷ back) accepted moment (W.calls wire.old) →
+        OnOk result (StandsFor idle None (front ++ endpoint ∷ back) accepted moment (W.calls wire.new)) }
     ensures calls_err { OnErr result (W.calls wire.new ≡ W.calls wire.old) }
     ensures steps_err { OnErr result (W.steps wire.new ≡ W.steps wire.old) }
     ensures listening { W.listening wire.new ≡ W.listening wire.old }
@@ -242,7 +245,8 @@ pub fn hear_waiting<W: Wire>(
     ensures steps { IfOk result (λ told. AddsHeard told (W.steps wire.old) (W.steps wire.new)) }
     ensures stands { Rests None table.old (W.calls wire.old) → OnOk result (Rests None table.new (W.calls wire.new)) }
     ensures err { Rests None table.old (W.calls wire.old) → OnErr result (Loose table.new (W.calls wire.new)) }
-    ensures calm { result ≡ Ok None → IsCalm table.new.links }
+    ensures calm { result ≡ Ok None → IsCalm table.new.endpoints }
+    ensures settled { result ≡ Ok None → IsSettled table.new.endpoints }
     ensures room { length room.new ≡ length room.old }
     ensures steps_err { OnErr result (W.steps wire.new ≡ W.steps wire.old) }
     ensures listening { W.listening wire.new ≡ W.listening wire.old }
@@ -251,7 +255,7 @@ pub fn hear_waiting<W: Wire>(
     ensures kept { (past : Calls) (times : ℕ) → AnsweredSince past times (W.calls wire.old) → AnsweredSince past times (W.calls wire.new) }
 {
     loop {
-        match table.links.next_due()? {
+        match table.endpoints.next_due()? {
             Due::Over(slot) => return hear_close(wire, table, slot),
             Due::Open(slot) => {
                 if let Some(told) = read_at(alloc, wire, table, room, slot)? {

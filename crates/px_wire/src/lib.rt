@@ -10,11 +10,11 @@
 #![tactic(auto)]
 
 mod call;
+mod endpoint;
+mod endpoints;
 mod flush;
 mod hear;
 mod lines;
-mod link;
-mod links;
 mod mem_wire;
 mod queue;
 mod ready;
@@ -23,7 +23,7 @@ mod table;
 mod wire;
 
 pub use call::WireCall;
+pub use endpoint::Flushed;
 pub use lines::Lines;
-pub use link::Flushed;
 pub use mem_wire::MemWire;
 pub use wire::{Got, Put, Ready, Wire};

@@ -1,6 +1,5 @@
 //! A network over a wire.
 ghost use Rattle.std.specs.Prelude.{ℕ, ◌≡◌, ◌⊎◌, ◌-◌, ◌^◌, [], true, ◌+◌, ◌<◌, ◌≤◌, length, Option, Some, None, Ok, Err, IsErr, IfOk, false, OnOk, OnErr, option_copied};
-ghost use Rattle.px_event.specs.declared.heard.Heard.{Heard as WhatIsHeard};
 ghost use Rattle.px_outside.specs.Count.{Rose};
 ghost use Rattle.px_outside.specs.Net.{Adds, idle, failed, at, IsNote};
 ghost use Rattle.px_wire.specs.Asked.{AnsweredSince, most_asks, FailedSo};
@@ -13,9 +12,9 @@ ghost use Rattle.px_wire.specs.Stands.{Rests, IsCalm};
 ghost use Rattle.px_wire.specs.Holds.{Holds};
 
 use crate::Wire;
+use crate::endpoint::Flushed;
 use crate::flush::flush_at;
 use crate::hear::hear_waiting;
-use crate::link::Flushed;
 use crate::ready::hear_ready;
 use crate::say::say;
 use crate::table::Table;
@@ -62,7 +61,7 @@ impl<W: Wire> Lines<W> {
     pub fn new(alloc: Global, wire: W) -> Lines<W>
         requires fresh { NoneTold (W.calls wire) }
         ensures wire { result.wire ≡ wire }
-        ensures links { Holds result.table.links [] }
+        ensures endpoints { Holds result.table.endpoints [] }
         ensures spent { result.is_spent ≡ false }
         ensures own_faults { result.faults ≡ 0 }
     {
@@ -97,11 +96,11 @@ impl<W: Wire> Lines<W> {
         ensures asks { W.asks self.new.wire ≡ W.asks self.old.wire }
         ensures blocked { result ≡ Flushed.Blocked → Rose (W.blocks self.old.wire) (W.blocks self.new.wire) }
         ensures broken { result ≡ Flushed.Broken → Rose (W.breaks self.old.wire) (W.breaks self.new.wire) }
-        ensures does { FlushedSo result slot (queue_of slot self.old.table.links) (W.calls self.old.wire) (W.calls self.new.wire) }
+        ensures does { FlushedSo result slot (queue_of slot self.old.table.endpoints) (W.calls self.old.wire) (W.calls self.new.wire) }
         ensures own_faults { self.new.faults ≡ self.old.faults }
         ensures spent { self.new.is_spent ≡ self.old.is_spent }
     {
-        match self.table.links.get(slot) {
+        match self.table.endpoints.get(slot) {
             Some(_) => flush_at(&mut self.wire, &mut self.table, slot),
             None => Flushed::Empty,
         }
@@ -141,7 +140,7 @@ impl<W: Wire> Net for Lines<W> {
         ensures own_fault { result ≡ Err NetError.Fault → Rose (W.faults self.old.wire) (W.faults self.new.wire) ⊎
             (Rose self.old.faults self.new.faults × AsksMore (2 ^ 64 - 1) (W.asks self.old.wire) (W.asks self.new.wire)) }
 
-        // After want of memory it answers so for ever.
+        // Once out of memory it answers so for ever.
         ensures spent { self.old.is_spent ≡ true → result ≡ Err NetError.NoMemory }
         ensures goes_on { OnOk result (self.new.is_spent ≡ false) }
     {
@@ -174,7 +173,7 @@ impl<W: Wire> Net for Lines<W> {
         ensures listening { W.listening self.new.wire ≡ W.listening self.old.wire }
         ensures faults { W.faults self.new.wire + self.new.faults ≡ W.faults self.old.wire + self.old.faults }
 
-        // After want of memory of `next` it answers so for ever; after its own, nothing was put or dialled.
+        // Once out of memory of `next` it answers so for ever; after its own, nothing was put or dialled.
         ensures spent { self.old.is_spent ≡ true → IsErr result }
         ensures asks { W.asks self.new.wire ≡ W.asks self.old.wire }
         ensures calls_err { OnErr result (W.calls self.new.wire ≡ W.calls self.old.wire) }
@@ -223,7 +222,7 @@ fn hear_next<W: Wire>(
     ensures fault { result ≡ Err NetError.Fault → Rose (W.faults wire.old) (W.faults wire.new) }
     ensures kept { (past : Calls) (times : ℕ) → AnsweredSince past times (W.calls wire.old) → AnsweredSince past times (W.calls wire.new) }
     ensures answered { (past : Calls) → AnsweredSince past 0 (W.calls wire.old) → result ≡ Ok None → AnsweredSince past most_asks (W.calls wire.new) }
-    ensures calm { result ≡ Ok None → IsCalm table.new.links }
+    ensures calm { result ≡ Ok None → IsCalm table.new.endpoints }
 {
     let heard = hear_waiting(alloc, wire, table, room)?;
     match heard {
@@ -240,7 +239,7 @@ fn wait<W: Wire>(
     room: &mut [u8],
 ) -> Result<Option<(u64, Heard)>, NetError>
     requires some { 0 < length room.old }
-    requires calm { IsCalm table.old.links }
+    requires calm { IsCalm table.old.endpoints }
     ensures steps { IfOk result (λ told. AddsHeard told (W.steps wire.old) (W.steps wire.new)) }
     ensures stands { Rests None table.old (W.calls wire.old) → OnOk result (Rests None table.new (W.calls wire.new)) }
     ensures err { Rests None table.old (W.calls wire.old) → OnErr result (Loose table.new (W.calls wire.new)) }
@@ -253,7 +252,7 @@ fn wait<W: Wire>(
     ensures fault { result ≡ Err NetError.Fault → Rose (W.faults wire.old) (W.faults wire.new) }
     ensures kept { (past : Calls) (times : ℕ) → AnsweredSince past times (W.calls wire.old) → AnsweredSince past times (W.calls wire.new) }
     ensures answered { (past : Calls) → AnsweredSince past 0 (W.calls wire.old) → result ≡ Ok None → AnsweredSince past most_asks (W.calls wire.new) }
-    ensures calm { result ≡ Ok None → IsCalm table.new.links }
+    ensures calm { result ≡ Ok None → IsCalm table.new.endpoints }
 {
     let mut left = u64::MAX;
     while left > 0 {
@@ -275,12 +274,12 @@ fn hear_once<W: Wire>(
     room: &mut [u8],
 ) -> Result<Option<(u64, Heard)>, NetError>
     requires some { 0 < length room.old }
-    requires calm { IsCalm table.old.links }
+    requires calm { IsCalm table.old.endpoints }
     ensures steps { IfOk result (λ told. AddsHeard told (W.steps wire.old) (W.steps wire.new)) }
     ensures stands { Rests None table.old (W.calls wire.old) → OnOk result (Rests None table.new (W.calls wire.new)) }
     ensures err { Rests None table.old (W.calls wire.old) → OnErr result (Loose table.new (W.calls wire.new)) }
     ensures fault_stands { Rests None table.old (W.calls wire.old) → result ≡ Err NetError.Fault → Rests None table.new (W.calls wire.new) }
-    ensures calm { result ≡ Ok None → IsCalm table.new.links }
+    ensures calm { result ≡ Ok None → IsCalm table.new.endpoints }
     ensures room { length room.new ≡ length room.old }
     ensures steps_err { OnErr result (W.steps wire.new ≡ W.steps wire.old) }
     ensures listening { W.listening wire.new ≡ W.listening wire.old }

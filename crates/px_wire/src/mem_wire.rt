@@ -431,7 +431,7 @@ impl Wire for MemWire {
         ensures blocks { self.old.blocks ≤ self.new.blocks }
         ensures breaks { 0 ≤ 0 }
 
-        // It fails only for want of memory; and what each answer leaves.
+        // It fails only when out of memory; and what each answer leaves.
         ensures fails { result ≢ Err NetError.Fault }
         ensures after_ok { OnOk result (self.new ≡ listens self.old (at proxy.now (option_copied control.entry))) }
         ensures after_err { OnErr result (self.new ≡ listens self.old failed) }

@@ -1,5 +1,5 @@
 //! Waiting for the wire, and what it tells.
-ghost use Rattle.std.specs.Prelude.{◌≡◌, ◌+◌, ◌<◌, ◌≤◌, ℕ, List, ◌∷◌, ◌++◌, length, Option, None, Some, Err, IfOk, OnOk, OnErr, true};
+ghost use Rattle.std.specs.Prelude.{◌≡◌, ◌+◌, ◌≤◌, ℕ, List, ◌∷◌, ◌++◌, Option, None, Some, Err, IfOk, OnOk, OnErr, true};
 ghost use Rattle.px_outside.specs.Count.{Rose};
 ghost use Rattle.px_wire.specs.declared.wire.Ready.TheVariants as told;
 ghost use Rattle.px_wire.specs.declared.call.WireCall.TheVariants.{Told as WasTold};
@@ -7,16 +7,16 @@ ghost use Rattle.px_wire.specs.Asked.{AnsweredSince};
 ghost use Rattle.px_wire.specs.Calls.{Calls, AsksMore, AsksAtMost, Tells, IfTold, IsFree, GivesFree};
 ghost use Rattle.px_event.specs.declared.heard.Heard.TheVariants.{Dialled as HeardDialled};
 ghost use Rattle.px_event.specs.declared.side.Side.TheVariants.{Server as ServerSide};
-ghost use Rattle.px_wire.specs.declared.link.Link.{Link as LinkState};
+ghost use Rattle.px_wire.specs.declared.endpoint.Endpoint.{Endpoint as EndpointState};
 ghost use Rattle.px_wire.specs.Found.{IsAt, Loose};
 ghost use Rattle.px_wire.specs.Hears.{AddsHeard};
 ghost use Rattle.px_wire.specs.Stands.{StandsFor, Rests, IsCalm, idle};
-ghost use Rattle.px_wire.specs.Holds.{Alike, Changes, HasRoom, link_at};
+ghost use Rattle.px_wire.specs.Holds.{Alike, Changes, HasRoom, endpoint_at};
 
+use crate::endpoint::Endpoint;
+use crate::endpoints::Endpoints;
 use crate::flush::{flush_at, shut_at};
 use crate::hear::hear;
-use crate::link::Link;
-use crate::links::Links;
 use crate::table::Table;
 use crate::{Ready, Wire};
 use px_event::{Door, Heard, Side};
@@ -35,9 +35,9 @@ pub fn hear_ready<W: Wire>(
     table: &mut Table,
 ) -> Result<Option<(u64, Heard)>, NetError>
     ensures steps { IfOk result (λ heard. AddsHeard heard (W.steps wire.old) (W.steps wire.new)) }
-    ensures stands { IsCalm table.old.links → Rests None table.old (W.calls wire.old) → OnOk result (Rests None table.new (W.calls wire.new)) }
-    ensures err { IsCalm table.old.links → Rests None table.old (W.calls wire.old) → OnErr result (Loose table.new (W.calls wire.new)) }
-    ensures fault_stands { IsCalm table.old.links → Rests None table.old (W.calls wire.old) → result ≡ Err NetError.Fault → Rests None table.new (W.calls wire.new) }
+    ensures stands { IsCalm table.old.endpoints → Rests None table.old (W.calls wire.old) → OnOk result (Rests None table.new (W.calls wire.new)) }
+    ensures err { IsCalm table.old.endpoints → Rests None table.old (W.calls wire.old) → OnErr result (Loose table.new (W.calls wire.new)) }
+    ensures fault_stands { IsCalm table.old.endpoints → Rests None table.old (W.calls wire.old) → result ≡ Err NetError.Fault → Rests None table.new (W.calls wire.new) }
     ensures steps_err { OnErr result (W.steps wire.new ≡ W.steps wire.old) }
     ensures listening { W.listening wire.new ≡ W.listening wire.old }
     ensures asks { OnOk result (AsksMore 1 (W.asks wire.old) (W.asks wire.new)) }
@@ -47,7 +47,7 @@ pub fn hear_ready<W: Wire>(
     ensures kept { (past : Calls) (times : ℕ) → AnsweredSince past times (W.calls wire.old) → AnsweredSince past times (W.calls wire.new) }
     ensures answered { (past : Calls) (times : ℕ) → AnsweredSince past times (W.calls wire.old) → OnOk result (AnsweredSince past (times + 1) (W.calls wire.new)) }
 {
-    table.links.reserve(alloc, table.accepted)?;
+    table.endpoints.reserve(table.accepted)?;
     let told = wire.ready()?;
     let (moment, ready) = told;
     let heard = take_ready(alloc, wire, table, moment, ready)?;
@@ -62,11 +62,11 @@ fn take_ready<W: Wire>(
     moment: u64,
     ready: Ready,
 ) -> Result<Option<(u64, Heard)>, NoMemory>
-    requires room { HasRoom table.old.links table.old.accepted }
+    requires room { HasRoom table.old.endpoints table.old.accepted }
     ensures steps { IfOk result (λ heard. AddsHeard heard (W.steps wire.old) (W.steps wire.new)) }
-    ensures stands { (before : Option Calls) → IsCalm table.old.links → Rests None table.old before → IfTold (GivesFree ready) before →
+    ensures stands { (before : Option Calls) → IsCalm table.old.endpoints → Rests None table.old before → IfTold (GivesFree ready) before →
         Tells (WasTold moment ready) before (W.calls wire.old) → OnOk result (Rests None table.new (W.calls wire.new)) }
-    ensures err { (before : Option Calls) → IsCalm table.old.links → Rests None table.old before → IfTold (GivesFree ready) before →
+    ensures err { (before : Option Calls) → IsCalm table.old.endpoints → Rests None table.old before → IfTold (GivesFree ready) before →
         Tells (WasTold moment ready) before (W.calls wire.old) → OnErr result (Loose table.new (W.calls wire.new)) }
     ensures steps_err { OnErr result (W.steps wire.new ≡ W.steps wire.old) }
     ensures listening { W.listening wire.new ≡ W.listening wire.old }
@@ -100,11 +100,11 @@ fn accept<W: Wire>(
     door: Door,
     peer: Address,
 ) -> Result<Option<(u64, Heard)>, NoMemory>
-    requires room { HasRoom table.old.links table.old.accepted }
+    requires room { HasRoom table.old.endpoints table.old.accepted }
     ensures steps { IfOk result (λ heard. AddsHeard heard (W.steps wire.old) (W.steps wire.new)) }
-    ensures stands { (before : Option Calls) → IsCalm table.old.links → Rests None table.old before → IfTold (IsFree slot) before →
+    ensures stands { (before : Option Calls) → IsCalm table.old.endpoints → Rests None table.old before → IfTold (IsFree slot) before →
         Tells (WasTold moment (told.Accepted slot door peer)) before (W.calls wire.old) → OnOk result (Rests None table.new (W.calls wire.new)) }
-    ensures err { (before : Option Calls) → IsCalm table.old.links → Rests None table.old before → IfTold (IsFree slot) before →
+    ensures err { (before : Option Calls) → IsCalm table.old.endpoints → Rests None table.old before → IfTold (IsFree slot) before →
         Tells (WasTold moment (told.Accepted slot door peer)) before (W.calls wire.old) → OnErr result (Loose table.new (W.calls wire.new)) }
     ensures steps_err { OnErr result (W.steps wire.new ≡ W.steps wire.old) }
     ensures listening { W.listening wire.new ≡ W.listening wire.old }
@@ -119,35 +119,37 @@ fn accept<W: Wire>(
     }
     let conv = table.accepted;
     table.accepted += 1;
-    table.links.push(Link::new(alloc, slot, conv, Side::Client));
+    table
+        .endpoints
+        .push(alloc, Endpoint::new(alloc, slot, conv, Side::Client));
     hear(wire, moment, Heard::Accepted { conv, door, peer })
 }
 
 // The slot may be read.
 fn set_readable(table: &mut Table, moment: u64, slot: u32)
-    ensures stands { (before now : Option Calls) → IsCalm table.old.links → Rests None table.old before →
+    ensures stands { (before now : Option Calls) → IsCalm table.old.endpoints → Rests None table.old before →
         Tells (WasTold moment (told.Readable slot)) before now → Rests None table.new now }
 {
     table.moment = moment;
-    set_readable_in(&mut table.links, slot);
+    set_readable_in(&mut table.endpoints, slot);
 }
 
 // The slot of this number may be read.
-fn set_readable_in(links: &mut Links, slot: u32)
-    ensures changes { (link : LinkState) → link_at links.old slot ≡ Some link → Changes links.old links.new slot link (record link { is_readable = true }) }
-    ensures none { link_at links.old slot ≡ None → Alike links.old links.new }
+fn set_readable_in(endpoints: &mut Endpoints, slot: u32)
+    ensures changes { (endpoint : EndpointState) → endpoint_at endpoints.old slot ≡ Some endpoint → Changes endpoints.old endpoints.new slot endpoint (record endpoint { is_readable = true }) }
+    ensures none { endpoint_at endpoints.old slot ≡ None → Alike endpoints.old endpoints.new }
 {
-    let Some(link) = links.by_slot.get_mut(&slot) else {
+    let Some(endpoint) = endpoints.by_slot.get_mut(&slot) else {
         return;
     };
-    let conv = link.conv;
-    link.is_readable = true;
-    links.mark(conv);
+    let conv = endpoint.conv;
+    endpoint.is_readable = true;
+    endpoints.mark(conv);
 }
 
 // The slot may be put to.
 fn flush_slot<W: Wire>(wire: &mut W, table: &mut Table, moment: u64, slot: u32)
-    ensures stands { (before : Option Calls) → IsCalm table.old.links → Rests None table.old before →
+    ensures stands { (before : Option Calls) → IsCalm table.old.endpoints → Rests None table.old before →
         Tells (WasTold moment (told.Writable slot)) before (W.calls wire.old) → Rests None table.new (W.calls wire.new) }
     ensures steps { W.steps wire.new ≡ W.steps wire.old }
     ensures listening { W.listening wire.new ≡ W.listening wire.old }
@@ -156,7 +158,7 @@ fn flush_slot<W: Wire>(wire: &mut W, table: &mut Table, moment: u64, slot: u32)
     ensures kept { (past : Calls) (times : ℕ) → AnsweredSince past times (W.calls wire.old) → AnsweredSince past times (W.calls wire.new) }
 {
     table.moment = moment;
-    if table.links.get(slot).is_some() {
+    if table.endpoints.get(slot).is_some() {
         let _ = flush_at(wire, table, slot);
     }
 }
@@ -170,9 +172,9 @@ fn hear_dialled<W: Wire>(
     ok: bool,
 ) -> Result<Option<(u64, Heard)>, NoMemory>
     ensures steps { IfOk result (λ heard. AddsHeard heard (W.steps wire.old) (W.steps wire.new)) }
-    ensures stands { (before : Option Calls) → IsCalm table.old.links → Rests None table.old before →
+    ensures stands { (before : Option Calls) → IsCalm table.old.endpoints → Rests None table.old before →
         Tells (WasTold moment (told.Dialled slot ok)) before (W.calls wire.old) → OnOk result (Rests None table.new (W.calls wire.new)) }
-    ensures err { (before : Option Calls) → IsCalm table.old.links → Rests None table.old before →
+    ensures err { (before : Option Calls) → IsCalm table.old.endpoints → Rests None table.old before →
         Tells (WasTold moment (told.Dialled slot ok)) before (W.calls wire.old) → OnErr result (Loose table.new (W.calls wire.new)) }
     ensures steps_err { OnErr result (W.steps wire.new ≡ W.steps wire.old) }
     ensures listening { W.listening wire.new ≡ W.listening wire.old }
@@ -181,11 +183,11 @@ fn hear_dialled<W: Wire>(
     ensures kept { (past : Calls) (times : ℕ) → AnsweredSince past times (W.calls wire.old) → AnsweredSince past times (W.calls wire.new) }
 {
     table.moment = moment;
-    let Some(link) = table.links.get(slot) else {
+    let Some(endpoint) = table.endpoints.get(slot) else {
         return Ok(None);
     };
-    let conv = link.conv;
-    match link.side {
+    let conv = endpoint.conv;
+    match endpoint.side {
         Side::Client => Ok(None),
         Side::Server(server) => hear_server(wire, table, slot, conv, server, ok),
     }
@@ -201,8 +203,8 @@ fn hear_server<W: Wire>(
     ok: bool,
 ) -> Result<Option<(u64, Heard)>, NoMemory>
     ensures steps { IfOk result (λ told. AddsHeard told (W.steps wire.old) (W.steps wire.new)) }
-    ensures stands { (front back : List LinkState) (link : LinkState) → IsAt table.old.links slot front link back → link.conv ≡ conv → link.side ≡ ServerSide server →
-        StandsFor idle (Some (HeardDialled link.conv server ok)) (front ++ link ∷ back) table.old.accepted table.old.moment (W.calls wire.old) →
+    ensures stands { (front back : List EndpointState) (endpoint : EndpointState) → IsAt table.old.endpoints slot front endpoint back → endpoint.conv ≡ conv → endpoint.side ≡ ServerSide server →
+        StandsFor idle (Some (HeardDialled endpoint.conv server ok)) (front ++ endpoint ∷ back) table.old.accepted table.old.moment (W.calls wire.old) →
         OnOk result (Rests None table.new (W.calls wire.new)) }
     ensures table_err { OnErr result (table.new ≡ table.old) }
     ensures calls_err { OnErr result (W.calls wire.new ≡ W.calls wire.old) }

@@ -3,19 +3,19 @@ ghost use Rattle.std.specs.Prelude.{◌≡◌, ℕ, List, ◌∷◌, ◌++◌, O
 ghost use Rattle.px_event.specs.declared.said.Said.TheVariants.{Send, Close, Dial};
 ghost use Rattle.px_event.specs.declared.step.Step.TheVariants.{Said as WasSaid};
 ghost use Rattle.px_outside.specs.Net.{Adds};
-ghost use Rattle.px_wire.specs.declared.link.Link.{Link as LinkState};
+ghost use Rattle.px_wire.specs.declared.endpoint.Endpoint.{Endpoint as EndpointState};
 ghost use Rattle.px_wire.specs.declared.call.WireCall.TheVariants.{Noted};
 ghost use Rattle.px_wire.specs.Asked.{AnsweredSince};
 ghost use Rattle.px_wire.specs.Calls.{Calls, Tells};
 ghost use Rattle.px_wire.specs.Found.{IsAt};
 ghost use Rattle.px_wire.specs.Stands.{StandsFor, Rests, idle};
-ghost use Rattle.px_wire.specs.Links.{is_over};
-ghost use Rattle.px_wire.specs.Holds.{Alike, Changes, link_at, passes};
+ghost use Rattle.px_wire.specs.Endpoints.{is_over};
+ghost use Rattle.px_wire.specs.Holds.{Alike, Changes, endpoint_at, passes};
 
 use crate::Wire;
+use crate::endpoint::Endpoint;
+use crate::endpoints::Endpoints;
 use crate::flush::{flush_at, is_done_at, shut_at};
-use crate::link::Link;
-use crate::links::Links;
 use crate::table::Table;
 use px_event::{Said, Side, Step};
 use px_message::Address;
@@ -96,13 +96,15 @@ fn say_dial<W: Wire>(
     ensures kept { (past : Calls) (times : ℕ) → AnsweredSince past times (W.calls wire.old) → AnsweredSince past times (W.calls wire.new) }
 {
     let side = Side::Server(server);
-    table.links.reserve(alloc, conv)?;
-    let old = table.links.find_side(conv, side);
+    table.endpoints.reserve(conv)?;
+    let old = table.endpoints.find_side(conv, side);
     let slot = wire.dial(address, step)?;
-    table.links.push(Link::new(alloc, slot, conv, side));
+    table
+        .endpoints
+        .push(alloc, Endpoint::new(alloc, slot, conv, side));
     if let Some(old) = old {
         wire.shut(old);
-        table.links.remove(old);
+        table.endpoints.remove(old);
     }
     Ok(())
 }
@@ -126,7 +128,7 @@ fn say_send<W: Wire>(
     ensures asks { W.asks wire.new ≡ W.asks wire.old }
     ensures kept { (past : Calls) (times : ℕ) → AnsweredSince past times (W.calls wire.old) → AnsweredSince past times (W.calls wire.new) }
 {
-    match table.links.find_side(conv, side) {
+    match table.endpoints.find_side(conv, side) {
         Some(slot) => send_at(wire, table, slot, bytes, step),
         None => wire.note(step),
     }
@@ -141,8 +143,8 @@ fn send_at<W: Wire>(
     step: &Step,
 ) -> Result<(), NoMemory>
     ensures steps { OnOk result (Adds (W.steps wire.old) (W.steps wire.new) step.now) }
-    ensures stands { (front back : List LinkState) (link : LinkState) → IsAt table.old.links slot front link back → step.now ≡ WasSaid link.conv (Send link.side bytes.now) →
-        StandsFor idle None (front ++ link ∷ back) table.old.accepted table.old.moment (W.calls wire.old) → OnOk result (Rests None table.new (W.calls wire.new)) }
+    ensures stands { (front back : List EndpointState) (endpoint : EndpointState) → IsAt table.old.endpoints slot front endpoint back → step.now ≡ WasSaid endpoint.conv (Send endpoint.side bytes.now) →
+        StandsFor idle None (front ++ endpoint ∷ back) table.old.accepted table.old.moment (W.calls wire.old) → OnOk result (Rests None table.new (W.calls wire.new)) }
     ensures err { Rests None table.old (W.calls wire.old) → OnErr result (Rests None table.new (W.calls wire.new)) }
     ensures calls_err { OnErr result (W.calls wire.new ≡ W.calls wire.old) }
     ensures steps_err { OnErr result (W.steps wire.new ≡ W.steps wire.old) }
@@ -151,19 +153,19 @@ fn send_at<W: Wire>(
     ensures asks { W.asks wire.new ≡ W.asks wire.old }
     ensures kept { (past : Calls) (times : ℕ) → AnsweredSince past times (W.calls wire.old) → AnsweredSince past times (W.calls wire.new) }
 {
-    if is_over_at(&table.links, slot) {
+    if is_over_at(&table.endpoints, slot) {
         return wire.note(step);
     }
-    queue_in(wire, &mut table.links, slot, bytes, step)?;
+    queue_in(wire, &mut table.endpoints, slot, bytes, step)?;
     let _ = flush_at(wire, table, slot);
     Ok(())
 }
 
-fn is_over_at(links: &Links, slot: u32) -> bool
-    ensures is { result ≡ passes is_over (link_at links.now slot) }
+fn is_over_at(endpoints: &Endpoints, slot: u32) -> bool
+    ensures is { result ≡ passes is_over (endpoint_at endpoints.now slot) }
 {
-    match links.get(slot) {
-        Some(link) => link.is_over,
+    match endpoints.get(slot) {
+        Some(endpoint) => endpoint.is_over,
         None => false,
     }
 }
@@ -171,48 +173,48 @@ fn is_over_at(links: &Links, slot: u32) -> bool
 // The bytes wait for the slot of this number, and the step is noted: both or neither.
 fn queue_in<W: Wire>(
     wire: &mut W,
-    links: &mut Links,
+    endpoints: &mut Endpoints,
     slot: u32,
     bytes: &Bytes,
     step: &Step,
 ) -> Result<(), NoMemory>
     ensures steps { OnOk result (Adds (W.steps wire.old) (W.steps wire.new) step.now) }
     ensures told { OnOk result (Tells (Noted step.now) (W.calls wire.old) (W.calls wire.new)) }
-    ensures changes { (link : LinkState) → link_at links.old slot ≡ Some link → OnOk result (Changes links.old links.new slot link (record link { queue = link.queue ++ bytes.now })) }
-    ensures err { OnErr result (Alike links.old links.new) }
+    ensures changes { (endpoint : EndpointState) → endpoint_at endpoints.old slot ≡ Some endpoint → OnOk result (Changes endpoints.old endpoints.new slot endpoint (record endpoint { queue = endpoint.queue ++ bytes.now })) }
+    ensures err { OnErr result (Alike endpoints.old endpoints.new) }
     ensures calls_err { OnErr result (W.calls wire.new ≡ W.calls wire.old) }
     ensures steps_err { OnErr result (W.steps wire.new ≡ W.steps wire.old) }
     ensures listening { W.listening wire.new ≡ W.listening wire.old }
     ensures faults { W.faults wire.new ≡ W.faults wire.old }
     ensures asks { W.asks wire.new ≡ W.asks wire.old }
 {
-    let Some(link) = links.by_slot.get_mut(&slot) else {
+    let Some(endpoint) = endpoints.by_slot.get_mut(&slot) else {
         return wire.note(step);
     };
-    let conv = link.conv;
-    queue_and_note(wire, link, bytes, step)?;
-    links.mark(conv);
+    let conv = endpoint.conv;
+    queue_and_note(wire, endpoint, bytes, step)?;
+    endpoints.mark(conv);
     Ok(())
 }
 
 // Both or neither.
 fn queue_and_note<W: Wire>(
     wire: &mut W,
-    link: &mut Link,
+    endpoint: &mut Endpoint,
     bytes: &Bytes,
     step: &Step,
 ) -> Result<(), NoMemory>
     ensures steps { OnOk result (Adds (W.steps wire.old) (W.steps wire.new) step.now) }
     ensures told { OnOk result (Tells (Noted step.now) (W.calls wire.old) (W.calls wire.new)) }
-    ensures ok { OnOk result (link.new ≡ record link.old { queue = link.old.queue ++ bytes.now }) }
-    ensures err { OnErr result (link.new ≡ link.old) }
+    ensures ok { OnOk result (endpoint.new ≡ record endpoint.old { queue = endpoint.old.queue ++ bytes.now }) }
+    ensures err { OnErr result (endpoint.new ≡ endpoint.old) }
     ensures calls_err { OnErr result (W.calls wire.new ≡ W.calls wire.old) }
     ensures steps_err { OnErr result (W.steps wire.new ≡ W.steps wire.old) }
     ensures listening { W.listening wire.new ≡ W.listening wire.old }
     ensures faults { W.faults wire.new ≡ W.faults wire.old }
     ensures asks { W.asks wire.new ≡ W.asks wire.old }
 {
-    link.queue.push_noted(wire, bytes, step)
+    endpoint.queue.push_noted(wire, bytes, step)
 }
 
 // Closes the side once all that was said to it is taken; the step says it.
@@ -234,7 +236,7 @@ fn say_close<W: Wire>(
     ensures kept { (past : Calls) (times : ℕ) → AnsweredSince past times (W.calls wire.old) → AnsweredSince past times (W.calls wire.new) }
 {
     wire.note(step)?;
-    if let Some(slot) = table.links.find_side(conv, side) {
+    if let Some(slot) = table.endpoints.find_side(conv, side) {
         close_at(wire, table, slot);
     }
     Ok(())
@@ -242,8 +244,8 @@ fn say_close<W: Wire>(
 
 // A Close was said to the side of this slot, and its step noted.
 fn close_at<W: Wire>(wire: &mut W, table: &mut Table, slot: u32)
-    ensures stands { (before : Option Calls) (front back : List LinkState) (link : LinkState) → IsAt table.old.links slot front link back →
-        Tells (Noted (WasSaid link.conv (Close link.side))) before (W.calls wire.old) → StandsFor idle None (front ++ link ∷ back) table.old.accepted table.old.moment before →
+    ensures stands { (before : Option Calls) (front back : List EndpointState) (endpoint : EndpointState) → IsAt table.old.endpoints slot front endpoint back →
+        Tells (Noted (WasSaid endpoint.conv (Close endpoint.side))) before (W.calls wire.old) → StandsFor idle None (front ++ endpoint ∷ back) table.old.accepted table.old.moment before →
         Rests None table.new (W.calls wire.new) }
     ensures steps { W.steps wire.new ≡ W.steps wire.old }
     ensures listening { W.listening wire.new ≡ W.listening wire.old }
@@ -251,19 +253,19 @@ fn close_at<W: Wire>(wire: &mut W, table: &mut Table, slot: u32)
     ensures asks { W.asks wire.new ≡ W.asks wire.old }
     ensures kept { (past : Calls) (times : ℕ) → AnsweredSince past times (W.calls wire.old) → AnsweredSince past times (W.calls wire.new) }
 {
-    set_closing_in(&mut table.links, slot);
-    if is_done_at(&table.links, slot) {
+    set_closing_in(&mut table.endpoints, slot);
+    if is_done_at(&table.endpoints, slot) {
         shut_at(wire, table, slot);
     }
 }
 
-fn set_closing_in(links: &mut Links, slot: u32)
-    ensures changes { (link : LinkState) → link_at links.old slot ≡ Some link → Changes links.old links.new slot link (record link { is_closing = true }) }
+fn set_closing_in(endpoints: &mut Endpoints, slot: u32)
+    ensures changes { (endpoint : EndpointState) → endpoint_at endpoints.old slot ≡ Some endpoint → Changes endpoints.old endpoints.new slot endpoint (record endpoint { is_closing = true }) }
 {
-    let Some(link) = links.by_slot.get_mut(&slot) else {
+    let Some(endpoint) = endpoints.by_slot.get_mut(&slot) else {
         return;
     };
-    let conv = link.conv;
-    link.is_closing = true;
-    links.mark(conv);
+    let conv = endpoint.conv;
+    endpoint.is_closing = true;
+    endpoints.mark(conv);
 }

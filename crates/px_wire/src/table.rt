@@ -2,13 +2,13 @@
 ghost use Rattle.std.specs.Prelude.{◌≡◌, []};
 ghost use Rattle.px_wire.specs.Holds.{Holds};
 
-use crate::links::Links;
+use crate::endpoints::Endpoints;
 use std::alloc::Global;
 
 /// What lines know of their wire.
 #[derive(Debug, Drop)]
 pub struct Table {
-    pub links: Links,
+    pub endpoints: Endpoints,
     /// How many connections were accepted and have a number.
     pub accepted: u32,
     /// The moment of the last `ready`, and 0 before.
@@ -18,12 +18,12 @@ pub struct Table {
 impl Table {
     /// No slot is in use.
     pub fn new(alloc: Global) -> Table
-        ensures links { Holds result.links [] }
+        ensures endpoints { Holds result.endpoints [] }
         ensures accepted { result.accepted ≡ 0 }
         ensures moment { result.moment ≡ 0 }
     {
         Table {
-            links: Links::new(alloc),
+            endpoints: Endpoints::new(alloc),
             accepted: 0,
             moment: 0,
         }

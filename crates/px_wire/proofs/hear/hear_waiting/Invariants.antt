@@ -18,4 +18,4 @@ invariant-loop-slot g l = record {
 }
 
 abbrev pub decreases-loop-slot : goal.decreases-loop-slot
-decreases-loop-slot g l = readable_count l.table.links.by_slot.entries
+decreases-loop-slot g l = readable_count l.table.endpoints.by_slot.entries

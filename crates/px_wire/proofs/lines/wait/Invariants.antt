@@ -8,7 +8,7 @@ use Rattle.px_wire.proofs.lines.wait.Given as goal
 abbrev pub invariant-loop-left : goal.invariant-loop-left
 invariant-loop-left g l = record {
   stands : Rests None l.initial.table (g.W.Wire.calls l.initial.wire) → Rests None l.table (g.W.Wire.calls l.wire);
-  calm : IsCalm l.table.links;
+  calm : IsCalm l.table.endpoints;
   room : 0 < length l.room;
   steps : g.W.Wire.steps l.wire ≡ g.W.Wire.steps l.initial.wire;
   listening : g.W.Wire.listening l.wire ≡ g.W.Wire.listening l.initial.wire;

@@ -1,11 +1,11 @@
 use Rattle.std.proofs.Common.{◌+◌, ◌++◌, ◌∷◌, [], Some, arith, subst}
 use Rattle.px_event.specs.declared.heard.Heard.TheVariants as heard
 use Rattle.px_event.specs.declared.side.Side.TheVariants.{Client}
-use Rattle.px_wire.specs.declared.link.Link.{Link}
+use Rattle.px_wire.specs.declared.endpoint.Endpoint.{Endpoint}
 use Rattle.px_wire.specs.declared.call.WireCall.TheVariants as calls
 use Rattle.px_wire.specs.declared.wire.Ready.TheVariants as ready
 use Rattle.px_wire.specs.Holds.{Holds, without}
-use Rattle.px_wire.specs.Links.{new_link}
+use Rattle.px_wire.specs.Endpoints.{new_endpoint}
 use Rattle.px_wire.proofs.AskedLemmas.{told_kept}
 use Rattle.px_wire.proofs.StepLemmas.{tells_accepted, tells_refused, on_ok, on_err, rests_same, pushed}
 use Rattle.px_wire.proofs.ready.accept.Goals as goal
@@ -14,41 +14,41 @@ pub returns-then-table-ge-NUMBER_END-clause-stands : goal.returns-then-table-ge-
 returns-then-table-ge-NUMBER_END-clause-stands g c = λ before calm rests free tells.
     let old = c.args.table.now in
     record {
-      links = rests.links;
+      endpoints = rests.endpoints;
       held = rests.held;
-      stands = tells_refused rests.links old.accepted old.moment c.args.moment c.args.slot c.args.door c.args.peer before _ (calm rests.links rests.held) rests.stands free tells _
+      stands = tells_refused rests.endpoints old.accepted old.moment c.args.moment c.args.slot c.args.door c.args.peer before _ (calm rests.endpoints rests.held) rests.stands free tells _
           (omega arith) c.shut.ensures.told;
     }
 
 pub returns-clause-stands : goal.returns-clause-stands
 returns-clause-stands g c = λ before calm rests free tells.
     let old = c.args.table.now in
-    let made = new_link c.args.slot old.accepted Client in
-    let turn = old.links.next_turn in
-    let links = without c.args.slot rests.links ++ record made { turn = turn } ∷ [] in
+    let made = new_endpoint c.args.slot old.accepted Client in
+    let turn = old.endpoints.next_turn in
+    let endpoints = without c.args.slot rests.endpoints ++ record made { turn = turn } ∷ [] in
     let what = heard.Accepted old.accepted c.args.door c.args.peer in
-    let P : Link → Type 0 = λ l. Holds c.push.new.self (without l.slot rests.links ++ record l { turn = turn } ∷ []) in
+    let P : Endpoint → Type 0 = λ l. Holds c.push.new.self (without l.slot rests.endpoints ++ record l { turn = turn } ∷ []) in
     on_ok c.hear.result _ _
-    (c.hear.ensures.plain links (old.accepted + 1) tt
-    (pushed c.args.slot turn made rests.links (calls.Told c.args.moment (ready.Accepted c.args.slot c.args.door c.args.peer)) old.accepted old.moment (old.accepted + 1) c.args.moment (Some what) before _ tells rests.stands free
-    (tells_accepted rests.links old.accepted old.moment c.args.moment c.args.slot c.args.door c.args.peer before _ (calm rests.links rests.held) rests.stands free tells (omega arith))))
-    (λ s. record { links = links; held = subst P c.new.ensures (c.push.ensures.holds rests.links rests.held); stands = s })
+    (c.hear.ensures.plain endpoints (old.accepted + 1) tt
+    (pushed c.args.slot turn made rests.endpoints (calls.Told c.args.moment (ready.Accepted c.args.slot c.args.door c.args.peer)) old.accepted old.moment (old.accepted + 1) c.args.moment (Some what) before _ tells rests.stands free
+    (tells_accepted rests.endpoints old.accepted old.moment c.args.moment c.args.slot c.args.door c.args.peer before _ (calm rests.endpoints rests.held) rests.stands free tells (omega arith))))
+    (λ s. record { endpoints = endpoints; held = subst P c.new.ensures (c.push.ensures.holds rests.endpoints rests.held); stands = s })
 
 pub returns-clause-err : goal.returns-clause-err
 returns-clause-err g c = λ before calm rests free tells.
     let old = c.args.table.now in
-    let made = new_link c.args.slot old.accepted Client in
-    let turn = old.links.next_turn in
-    let links = without c.args.slot rests.links ++ record made { turn = turn } ∷ [] in
+    let made = new_endpoint c.args.slot old.accepted Client in
+    let turn = old.endpoints.next_turn in
+    let endpoints = without c.args.slot rests.endpoints ++ record made { turn = turn } ∷ [] in
     let what = heard.Accepted old.accepted c.args.door c.args.peer in
-    let P : Link → Type 0 = λ l. Holds c.push.new.self (without l.slot rests.links ++ record l { turn = turn } ∷ []) in
+    let P : Endpoint → Type 0 = λ l. Holds c.push.new.self (without l.slot rests.endpoints ++ record l { turn = turn } ∷ []) in
     on_err c.hear.result _ _ c.hear.ensures.calls_err (λ same. (
       Some what,
-      rests_same (Some what) (record { links = c.push.new.self; accepted = old.accepted + 1; moment = c.args.moment }) _ _ same (record {
-        links = links;
-        held = subst P c.new.ensures (c.push.ensures.holds rests.links rests.held);
-        stands = pushed c.args.slot turn made rests.links (calls.Told c.args.moment (ready.Accepted c.args.slot c.args.door c.args.peer)) old.accepted old.moment (old.accepted + 1) c.args.moment (Some what) before _ tells rests.stands free
-            (tells_accepted rests.links old.accepted old.moment c.args.moment c.args.slot c.args.door c.args.peer before _ (calm rests.links rests.held) rests.stands free tells (omega arith));
+      rests_same (Some what) (record { endpoints = c.push.new.self; accepted = old.accepted + 1; moment = c.args.moment }) _ _ same (record {
+        endpoints = endpoints;
+        held = subst P c.new.ensures (c.push.ensures.holds rests.endpoints rests.held);
+        stands = pushed c.args.slot turn made rests.endpoints (calls.Told c.args.moment (ready.Accepted c.args.slot c.args.door c.args.peer)) old.accepted old.moment (old.accepted + 1) c.args.moment (Some what) before _ tells rests.stands free
+            (tells_accepted rests.endpoints old.accepted old.moment c.args.moment c.args.slot c.args.door c.args.peer before _ (calm rests.endpoints rests.held) rests.stands free tells (omega arith));
       }),
     ))
 

@@ -9,43 +9,43 @@ returns-in_err-told-clause-err g c = λ calm rests.
     let old = c.args.table.now in
     on_any_err c.from_residual-in_err-told.result _ (
       None,
-      rests_alike None old (record old { links = c.reserve.new.self }) _ c.reserve.ensures.same refl refl (record {
-        links = rests.links;
+      rests_alike None old (record old { endpoints = c.reserve.new.self }) _ c.reserve.ensures.same refl refl (record {
+        endpoints = rests.endpoints;
         held = rests.held;
-        stands = tells_no rests.links old.accepted old.moment old.moment 0 _ _ (calm rests.links rests.held) rests.stands c.ready.result c.in_err-told.field-0.0 c.in_err-told.was c.ready.ensures.failed c.ready.ensures.no_memory;
+        stands = tells_no rests.endpoints old.accepted old.moment old.moment 0 _ _ (calm rests.endpoints rests.held) rests.stands c.ready.result c.in_err-told.field-0.0 c.in_err-told.was c.ready.ensures.failed c.ready.ensures.no_memory;
       }),
     )
 
 pub returns-in_err-told-clause-fault_stands : goal.returns-in_err-told-clause-fault_stands
 returns-in_err-told-clause-fault_stands g c = λ calm rests is.
     let old = c.args.table.now in
-    rests_alike None old (record old { links = c.reserve.new.self }) _ c.reserve.ensures.same refl refl (record {
-      links = rests.links;
+    rests_alike None old (record old { endpoints = c.reserve.new.self }) _ c.reserve.ensures.same refl refl (record {
+      endpoints = rests.endpoints;
       held = rests.held;
-      stands = tells_no rests.links old.accepted old.moment old.moment 0 _ _ (calm rests.links rests.held) rests.stands c.ready.result c.in_err-told.field-0.0 c.in_err-told.was c.ready.ensures.failed c.ready.ensures.no_memory;
+      stands = tells_no rests.endpoints old.accepted old.moment old.moment 0 _ _ (calm rests.endpoints rests.held) rests.stands c.ready.result c.in_err-told.field-0.0 c.in_err-told.was c.ready.ensures.failed c.ready.ensures.no_memory;
     })
 
 pub returns-in_err-reserve-clause-err : goal.returns-in_err-reserve-clause-err
 returns-in_err-reserve-clause-err g c = λ calm rests.
     let old = c.args.table.now in
-    on_any_err c.from_residual.result _ (None, rests_alike None old (record old { links = c.reserve.new.self }) _ c.reserve.ensures.same refl refl rests)
+    on_any_err c.from_residual.result _ (None, rests_alike None old (record old { endpoints = c.reserve.new.self }) _ c.reserve.ensures.same refl refl rests)
 
 pub returns-in_err-reserve-clause-fault_stands : goal.returns-in_err-reserve-clause-fault_stands
 returns-in_err-reserve-clause-fault_stands g c = λ calm rests is.
     let old = c.args.table.now in
-    rests_alike None old (record old { links = c.reserve.new.self }) _ c.reserve.ensures.same refl refl rests
+    rests_alike None old (record old { endpoints = c.reserve.new.self }) _ c.reserve.ensures.same refl refl rests
 
 pub returns-clause-stands : goal.returns-clause-stands
 returns-clause-stands g c = λ calm rests.
     let old = c.args.table.now in
-    c.in_ok-heard.ensures.stands (g.W.Wire.calls c.args.wire.now) (calm_alike old.links c.reserve.new.self c.reserve.ensures.same calm)
-    (rests_alike None old (record old { links = c.reserve.new.self }) _ c.reserve.ensures.same refl refl rests) c.in_ok-told.ensures.free c.in_ok-told.ensures.told
+    c.in_ok-heard.ensures.stands (g.W.Wire.calls c.args.wire.now) (calm_alike old.endpoints c.reserve.new.self c.reserve.ensures.same calm)
+    (rests_alike None old (record old { endpoints = c.reserve.new.self }) _ c.reserve.ensures.same refl refl rests) c.in_ok-told.ensures.free c.in_ok-told.ensures.told
 
 pub returns-in_err-heard-clause-err : goal.returns-in_err-heard-clause-err
 returns-in_err-heard-clause-err g c = λ calm rests.
     let old = c.args.table.now in
-    on_any_err c.from_residual-in_err-heard.result _ (c.in_err-heard.ensures.err (g.W.Wire.calls c.args.wire.now) (calm_alike old.links c.reserve.new.self c.reserve.ensures.same calm)
-    (rests_alike None old (record old { links = c.reserve.new.self }) _ c.reserve.ensures.same refl refl rests) c.in_ok-told.ensures.free c.in_ok-told.ensures.told)
+    on_any_err c.from_residual-in_err-heard.result _ (c.in_err-heard.ensures.err (g.W.Wire.calls c.args.wire.now) (calm_alike old.endpoints c.reserve.new.self c.reserve.ensures.same calm)
+    (rests_alike None old (record old { endpoints = c.reserve.new.self }) _ c.reserve.ensures.same refl refl rests) c.in_ok-told.ensures.free c.in_ok-told.ensures.told)
 
 pub returns-in_err-told-clause-kept : goal.returns-in_err-told-clause-kept
 returns-in_err-told-clause-kept g c = failed_kept c.ready.result c.in_err-told.field-0.0 _ _ c.in_err-told.was c.ready.ensures.failed c.ready.ensures.no_memory

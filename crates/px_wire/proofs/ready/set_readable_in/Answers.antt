@@ -1,16 +1,16 @@
 use Rattle.std.proofs.Common.{◌≡◌, ◌∙◌, refl, subst, rules, true, Some}
-use Rattle.px_wire.specs.declared.link.Link.{Link}
+use Rattle.px_wire.specs.declared.endpoint.Endpoint.{Endpoint}
 use Rattle.px_wire.specs.Holds.{Changes}
 use Rattle.px_wire.proofs.HoldsLemmas.{changes_of}
 use Rattle.px_wire.proofs.ready.set_readable_in.Goals as goal
 
 pub returns-clause-changes : goal.returns-clause-changes
-returns-clause-changes c = λ link at.
-    let seen = c.in-Some.link.now in
+returns-clause-changes c = λ endpoint at.
+    let seen = c.in-Some.endpoint.now in
     let new = record seen { is_readable = true } in
-    let mid = record c.args.links.now { by_slot = c.get_mut.follows.lender new } in
-    let e : Some seen ≡ Some link = c.in-Some.ensures.value ∙ at in
-    let same : seen ≡ link = cc in
-    let P : Link → Type 0 = λ l. Changes c.args.links.now c.mark.new.self c.args.slot l (record l { is_readable = true }) in
-    subst P same (changes_of c.args.links.now mid c.mark.new.self c.args.slot seen.conv seen new refl ((c.get_mut.follows.holds new).3 (search rules))
-    c.mark.ensures.rest refl c.mark.ensures.marked c.mark.ensures.kept)
+    let mid = record c.args.endpoints.now { by_slot = c.get_mut.follows.lender new } in
+    let e : Some seen ≡ Some endpoint = c.in-Some.ensures.value ∙ at in
+    let same : seen ≡ endpoint = cc in
+    let P : Endpoint → Type 0 = λ l. Changes c.args.endpoints.now c.mark.new.self c.args.slot l (record l { is_readable = true }) in
+    subst P same (changes_of c.args.endpoints.now mid c.mark.new.self c.args.slot seen.conv seen new refl ((c.get_mut.follows.holds new).3 (search rules))
+    c.mark.ensures.rest refl c.mark.ensures.marked c.mark.ensures.kept c.mark.ensures.once)

@@ -8,15 +8,15 @@ use Rattle.px_wire.proofs.say.say_close.Goals as goal
 pub returns-in-Some-clause-stands : goal.returns-in-Some-clause-stands
 returns-in-Some-clause-stands g c = λ is rests.
     let f = c.in-Some.ensures.found in
-    let h = here None c.args.table.now c.in-Some.slot f.link _ rests f.at in
-    c.close_at.ensures.stands _ h.front h.back f.link h.is_at (close_is f.link c.args.conv c.args.side c.args.step.now _ _ f.passes_side is c.in_ok-note.ensures.told) h.stands
+    let h = here None c.args.table.now c.in-Some.slot f.endpoint _ rests f.at in
+    c.close_at.ensures.stands _ h.front h.back f.endpoint h.is_at (close_is f.endpoint c.args.conv c.args.side c.args.step.now _ _ f.passes_side is c.in_ok-note.ensures.told) h.stands
 
 pub returns-in_default-clause-stands : goal.returns-in_default-clause-stands
 returns-in_default-clause-stands g c = λ is rests. record {
-  links = rests.links;
+  endpoints = rests.endpoints;
   held = rests.held;
-  stands = closes_none c.args.table.now.accepted c.args.table.now.moment _ _ None rests.links c.args.conv c.args.side c.args.step.now is
-      (c.find_side.ensures.missing rests.links rests.held c.in_default.is) c.in_ok-note.ensures.told rests.stands;
+  stands = closes_none c.args.table.now.accepted c.args.table.now.moment _ _ None rests.endpoints c.args.conv c.args.side c.args.step.now is
+      (c.find_side.ensures.missing rests.endpoints rests.held c.in_default.is) c.in_ok-note.ensures.told rests.stands;
 }
 
 pub returns-in-Some-clause-kept : goal.returns-in-Some-clause-kept

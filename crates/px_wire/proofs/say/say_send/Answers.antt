@@ -8,16 +8,16 @@ use Rattle.px_wire.proofs.say.say_send.Goals as goal
 pub returns-in-Some-clause-stands : goal.returns-in-Some-clause-stands
 returns-in-Some-clause-stands g c = λ is rests.
     let f = c.in-Some.ensures.found in
-    let h = here None c.args.table.now c.in-Some.slot f.link _ rests f.at in
-    c.send_at.ensures.stands h.front h.back f.link h.is_at (send_is f.link c.args.conv c.args.side c.args.bytes.now c.args.step.now f.passes_side is) h.stands
+    let h = here None c.args.table.now c.in-Some.slot f.endpoint _ rests f.at in
+    c.send_at.ensures.stands h.front h.back f.endpoint h.is_at (send_is f.endpoint c.args.conv c.args.side c.args.bytes.now c.args.step.now f.passes_side is) h.stands
 
 pub returns-in-None-clause-stands : goal.returns-in-None-clause-stands
 returns-in-None-clause-stands g c = λ is rests.
     on_ok c.note.result _ _ c.note.ensures.told (λ tells. record {
-      links = rests.links;
+      endpoints = rests.endpoints;
       held = rests.held;
-      stands = sends_none c.args.table.now.accepted c.args.table.now.moment _ _ None rests.links c.args.conv c.args.side c.args.bytes.now c.args.step.now is
-          (c.find_side.ensures.missing rests.links rests.held c.in-None.is) tells rests.stands;
+      stands = sends_none c.args.table.now.accepted c.args.table.now.moment _ _ None rests.endpoints c.args.conv c.args.side c.args.bytes.now c.args.step.now is
+          (c.find_side.ensures.missing rests.endpoints rests.held c.in-None.is) tells rests.stands;
     })
 
 pub returns-in-None-clause-err : goal.returns-in-None-clause-err
