@@ -1,4 +1,3 @@
-pub mod ByShown
 pub mod ShownLaws
 pub mod PlaceLaws
 pub mod StayLaws

@@ -13,10 +13,12 @@ use Rattle.px_event.specs.Chain.{Asks, at_its_step, Chain, due, Ends, found, Loo
 use Rattle.px_event.specs.Trace.{is_same_side}
 use Rattle.px_exchange.specs.declared.terms.Terms.{Terms}
 use Rattle.px_cuts.specs.Alike.{is_like, PlacesAlike}
-use Rattle.px_cuts.proofs.AlikeLaws.{more_alike, owed_alike, owes_alike, pass_alike, turn_alike}
-use Rattle.px_stream.specs.Chain.{http_chain, look, pass, so_far, IsOnward}
+use Rattle.px_cuts.proofs.AlikeLaws.{more_alike, owes_alike, pass_alike, turn_alike}
+use Rattle.px_chain.specs.Chain.{http_chain, IsOnward}
+use Rattle.px_chain.specs.Sights.{Standing}
 use Rattle.px_cuts.specs.Cuts.{EqualButForMoments, joined_onto, joined_pieces, MayStand, no_moment, piece_at, retimed, SameStreams, values_of}
-use Rattle.px_stream.specs.Stages.{Stage}
+use Rattle.px_chain.specs.Stages.{Stage}
+use Rattle.px_cuts.specs.Shown.{look_over, passed_over, so_far_over}
 use Rattle.px_cuts.proofs.CutLemmas.{halves_owe}
 
 -- ---- walks at other moments
@@ -53,30 +55,30 @@ joins : (a b c d : List Command) → EqualButForMoments a b → EqualButForMomen
 joins a b c d same alike = (is_like no_moment).joins a b c d same alike
 
 module _ (onward : Stage → Stage) (goes : IsOnward onward) (terms : Terms) where
-  abbrev chain : Chain Stage Event Reply Command
+  abbrev chain : Chain Standing Event Reply Command
   chain = http_chain onward terms
 
-  abbrev Same : Stage → List (Timed Event) → Stage → List (Timed Event) → Type 0
+  abbrev Same : Standing → List (Timed Event) → Standing → List (Timed Event) → Type 0
   Same = PlacesAlike no_moment
 
-  record ReachedAlike (here there : Reached Stage Event Command) : Type 0 where
+  record ReachedAlike (here there : Reached Standing Event Command) : Type 0 where
     pub before : EqualButForMoments here.before there.before
-    pub place : Same here.stage here.front there.stage there.front
+    pub place : Same here.stage here.prefix there.stage there.prefix
     pub rest : values_of here.rest ≡ values_of there.rest
 
   -- the search where it stands
-  abbrev here_at : List Command → Stage → List (Timed Event) → List (Stamped Event) → Reached Stage Event Command
-  here_at before s f es = record { before = before ++ (pass s f).owed; stage = (pass s f).stage; front = f; rest = es }
+  abbrev here_at : List Command → Standing → List (Timed Event) → List (Stamped Event) → Reached Standing Event Command
+  here_at before s f es = record { before = before ++ []; stage = passed_over s f; prefix = f; rest = es }
 
-  here_alike : (before other : List Command) (s : Stage) (f : List (Timed Event)) (t : Stage) (g : List (Timed Event)) (es xs : List (Stamped Event)) →
+  here_alike : (before other : List Command) (s : Standing) (f : List (Timed Event)) (t : Standing) (g : List (Timed Event)) (es xs : List (Stamped Event)) →
       EqualButForMoments before other → Same s f t g → values_of es ≡ values_of xs → ReachedAlike (here_at before s f es) (here_at other t g xs)
   here_alike before other s f t g es xs befores place same = record {
-    before = joins before other _ _ befores (owed_alike no_moment onward goes terms s f t g);
+    before = joins before other [] [] befores refl;
     place = pass_alike no_moment onward goes terms s f t g place;
     rest = same;
   }
 
-  reach_by_alike : (l m : Look Command) (further here further' here' : Reached Stage Event Command) → BothFind l m →
+  reach_by_alike : (l m : Look Command) (further here further' here' : Reached Standing Event Command) → BothFind l m →
       (l ≡ NotYet → ReachedAlike further further') → ReachedAlike here here' → ReachedAlike (reach_by l further here) (reach_by m further' here')
   reach_by_alike l m further here further' here' (nothing is is') on at =
       let P : Look Command → Look Command → Type 0 = λ a b. ReachedAlike (reach_by a further here) (reach_by b further' here') in
@@ -88,7 +90,7 @@ module _ (onward : Stage → Stage) (goes : IsOnward onward) (terms : Terms) whe
       let P : Look Command → Look Command → Type 0 = λ a b. ReachedAlike (reach_by a further here) (reach_by b further' here') in
       subst (λ (a : Look Command). P a m) (sym is) (subst (λ (b : Look Command). P (Ends owed) b) (sym is') at)
 
-  reach_alike : (last last' : Stamp) (before other : List Command) (s : Stage) (f : List (Timed Event)) (t : Stage) (g : List (Timed Event)) (es xs : List (Stamped Event)) →
+  reach_alike : (last last' : Stamp) (before other : List Command) (s : Standing) (f : List (Timed Event)) (t : Standing) (g : List (Timed Event)) (es xs : List (Stamped Event)) →
       EqualButForMoments before other → Same s f t g → values_of es ≡ values_of xs →
       ReachedAlike (reach chain last before s f es) (reach chain last' other t g xs)
   reach_alike last last' before other s f t g [] [] befores place same = here_alike before other s f t g [] [] befores place refl
@@ -99,25 +101,25 @@ module _ (onward : Stage → Stage) (goes : IsOnward onward) (terms : Terms) whe
       let one : e.value ≡ x.value = cc in
       let others : values_of es ≡ values_of xs = cc in
       let at = here_alike before other s f t g (e ∷ es) (x ∷ xs) befores place same in
-      let on = (pass s f).stage in
-      let on' = (pass t g).stage in
-      reach_by_alike (look terms on f) (look terms on' g) _ _ _ _
-      (both_find (look terms on f) (look terms on' g) (owes_alike no_moment onward goes terms on f on' g at.place).look)
-      (λ is. reach_alike last last' (before ++ (pass s f).owed) (other ++ (pass t g).owed) on (f ++ worked_off last e ∷ []) on' (g ++ worked_off last' x ∷ []) es xs at.before
+      let on = passed_over s f in
+      let on' = passed_over t g in
+      reach_by_alike (look_over terms on f) (look_over terms on' g) _ _ _ _
+      (both_find (look_over terms on f) (look_over terms on' g) (owes_alike no_moment onward goes terms on f on' g at.place).look)
+      (λ is. reach_alike last last' (before ++ []) (other ++ []) on (f ++ worked_off last e ∷ []) on' (g ++ worked_off last' x ∷ []) es xs at.before
       (more_alike no_moment onward goes terms on f on' g at.place is (worked_off last e) (worked_off last' x) one refl) others)
       at
 
   -- all that is owed where a search stopped
-  abbrev owed_there : Reached Stage Event Command → List Command
-  owed_there here = here.before ++ (so_far here.stage here.front ++ found (look terms here.stage here.front))
+  abbrev owed_there : Reached Standing Event Command → List Command
+  owed_there here = here.before ++ (so_far_over here.stage here.prefix ++ found (look_over terms here.stage here.prefix))
 
-  owed_alike_there : (here there : Reached Stage Event Command) → ReachedAlike here there → EqualButForMoments (owed_there here) (owed_there there)
+  owed_alike_there : (here there : Reached Standing Event Command) → ReachedAlike here there → EqualButForMoments (owed_there here) (owed_there there)
   owed_alike_there here there at =
-      let owes = owes_alike no_moment onward goes terms here.stage here.front there.stage there.front at.place in
+      let owes = owes_alike no_moment onward goes terms here.stage here.prefix there.stage there.prefix at.place in
       joins here.before there.before _ _ at.before
-      (joins (so_far here.stage here.front) (so_far there.stage there.front) _ _ owes.so_far (found_owed (look terms here.stage here.front) (look terms there.stage there.front) owes.look))
+      (joins (so_far_over here.stage here.prefix) (so_far_over there.stage there.prefix) _ _ owes.so_far (found_owed (look_over terms here.stage here.prefix) (look_over terms there.stage there.prefix) owes.look))
 
-  walk_by_alike : (l m : Look Command) (on other : Command → Stop Stage Event Reply Command) (stop stop' : Stop Stage Event Reply Command) → BothFind l m →
+  walk_by_alike : (l m : Look Command) (on other : Command → Stop Standing Event Reply Command) (stop stop' : Stop Standing Event Reply Command) → BothFind l m →
       ((ask ask' : Command) → l ≡ Asks ask → EqualButForMoments (ask ∷ []) (ask' ∷ []) → EqualButForMoments (owed_at chain (on ask)) (owed_at chain (other ask'))) →
       EqualButForMoments (owed_at chain stop) (owed_at chain stop') →
       EqualButForMoments (owed_at chain (walk_by l on stop)) (owed_at chain (walk_by m other stop'))
@@ -132,7 +134,7 @@ module _ (onward : Stage → Stage) (goes : IsOnward onward) (terms : Terms) whe
       subst (λ (a : Look Command). P a m) (sym is) (subst (λ (b : Look Command). P (Ends owed) b) (sym is') at)
 
   -- Walks over the same values owe the same.
-  pub walk_alike : (rs qs : List (Stamped Reply)) (last last' : Stamp) (before other : List Command) (s : Stage) (f : List (Timed Event)) (t : Stage) (g : List (Timed Event)) (es xs : List (Stamped Event)) →
+  pub walk_alike : (rs qs : List (Stamped Reply)) (last last' : Stamp) (before other : List Command) (s : Standing) (f : List (Timed Event)) (t : Standing) (g : List (Timed Event)) (es xs : List (Stamped Event)) →
       values_of rs ≡ values_of qs → EqualButForMoments before other → Same s f t g → values_of es ≡ values_of xs →
       EqualButForMoments (owed_at chain (walk chain rs last before s f es)) (owed_at chain (walk chain qs last' other t g xs))
   walk_alike [] [] last last' before other s f t g es xs replies befores place same =
@@ -146,19 +148,19 @@ module _ (onward : Stage → Stage) (goes : IsOnward onward) (terms : Terms) whe
       let here = reach chain last before s f es in
       let there = reach chain last' other t g xs in
       let at = reach_alike last last' before other s f t g es xs befores place same in
-      let owes = owes_alike no_moment onward goes terms here.stage here.front there.stage there.front at.place in
-      walk_by_alike (look terms here.stage here.front) (look terms there.stage there.front) _ _ _ _
-      (both_find (look terms here.stage here.front) (look terms there.stage there.front) owes.look)
+      let owes = owes_alike no_moment onward goes terms here.stage here.prefix there.stage there.prefix at.place in
+      walk_by_alike (look_over terms here.stage here.prefix) (look_over terms there.stage there.prefix) _ _ _ _
+      (both_find (look_over terms here.stage here.prefix) (look_over terms there.stage there.prefix) owes.look)
       (λ ask ask' is alike.
-      let turned = turn_alike no_moment onward goes terms here.stage here.front there.stage there.front at.place ask is (at_its_step r) (at_its_step q) (record { value = one; moment = refl }) in
-      walk_alike rs qs r.stamp q.stamp _ _ (chain.turn here.stage here.front (at_its_step r)).stage here.front (chain.turn there.stage there.front (at_its_step q)).stage there.front here.rest there.rest others
-      (joins here.before there.before _ _ at.before (joins (so_far here.stage here.front) (so_far there.stage there.front) _ _ owes.so_far (joins (ask ∷ []) (ask' ∷ []) _ _ alike turned.owed)))
+      let turned = turn_alike no_moment onward goes terms here.stage here.prefix there.stage there.prefix at.place (at_its_step r) (at_its_step q) (record { value = one; moment = refl }) in
+      walk_alike rs qs r.stamp q.stamp _ _ (chain.turn here.stage here.prefix (at_its_step r)).stage here.prefix (chain.turn there.stage there.prefix (at_its_step q)).stage there.prefix here.rest there.rest others
+      (joins here.before there.before _ _ at.before (joins (so_far_over here.stage here.prefix) (so_far_over there.stage there.prefix) _ _ owes.so_far (joins (ask ∷ []) (ask' ∷ []) _ _ alike turned.owed)))
       turned.stage at.rest)
       (owed_alike_there here there at)
 
   -- ---- pieces joined
 
-  module _ (start : Stage) (may : MayStand start []) (replies : List (Stamped Reply)) where
+  module _ (start : Standing) (may : MayStand start []) (replies : List (Stamped Reply)) where
     -- events that owe the same, and are these but for their steps
     pub record Joins (before these : List (Stamped Event)) (values : List Event) : Type 0 where
       pub joined : List (Stamped Event)
@@ -217,13 +219,13 @@ module _ (onward : Stage → Stage) (goes : IsOnward onward) (terms : Terms) whe
               ∙ whole.owes));
         }
 
-  pub streams_owe : (start : Stage) → MayStand start [] → (these those : List (Stamped Event)) (replies answers : List (Stamped Reply)) →
+  pub streams_owe : (start : Standing) → MayStand start [] → (these those : List (Stamped Event)) (replies answers : List (Stamped Reply)) →
       SameStreams these those → values_of replies ≡ values_of answers →
       EqualButForMoments (due chain start these replies) (due chain start those answers)
   streams_owe start may these those replies answers same given =
       let joined = join_all start may replies [] these in
       let other = join_all start may answers [] those in
       joined.owes
-      ∙ (walk_alike replies answers never never [] [] start [] start [] joined.joined other.joined given refl (record { shows = refl; may = may; other_may = may })
+      ∙ (walk_alike replies answers never never [] [] start [] start [] joined.joined other.joined given refl (record { stages = refl; sights = refl; may = may; other_may = may })
       (joined.are ∙ (same ∙ sym other.are))
       ∙ sym other.owes)

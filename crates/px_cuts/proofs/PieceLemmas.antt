@@ -18,16 +18,18 @@ use Rattle.px_event.specs.Laws.{IsFound}
 use Rattle.px_event.specs.Trace.{is_same_side}
 use Rattle.px_exchange.specs.declared.terms.Terms.{Terms}
 use Rattle.px_cuts.specs.Alike.{HeardEarly}
-use Rattle.px_cuts.proofs.AlikeLaws.{is_found_seen, moment_seen, passing}
-use Rattle.px_stream.specs.Chain.{look, pass, IsOnward}
+use Rattle.px_cuts.proofs.AlikeLaws.{is_found_seen}
+use Rattle.px_chain.specs.Chain.{look, pass}
+use Rattle.px_chain.specs.Sights.{Sight, Standing, server_with, shut_with, sight_over, sight_with}
 use Rattle.px_cuts.specs.Cuts.{AlikeSeen, as_it_is, DialledBefore, IsDialled, IsNoEarlier, MayBeHeard, MayStand, MayWaitFor, no_moment, piece_at, retimed, retimed_error, retimed_flow, retimed_option}
-use Rattle.px_stream.specs.Stages.{link_of, place_of, At, Link, Stage, idle, receiving, dialling, answering, returning, given_head, given_body, next, over}
-use Rattle.px_stream.specs.Laws.{closed_more, open_still}
-use Rattle.px_cuts.specs.Shown.{hears, bare, bytes_with, moment_of, shown, Shown, shut_with, with_event}
-use Rattle.px_cuts.proofs.PlaceLaws.{may_more, shown_more, shown_passed}
-use Rattle.px_cuts.proofs.ByShown.{look_in, retimed_look}
-use Rattle.px_cuts.proofs.ShownLaws.{look_shown}
-use Rattle.px_stream.specs.Streams.{client_closed}
+use Rattle.px_chain.specs.Stages.{At, ServerSide, Stage, busy, idle, next, over, place_of, side_of}
+use Rattle.px_chain.proofs.ChainLaws.{open_still}
+use Rattle.px_chain.proofs.FrontLaws.{closed_more}
+use Rattle.px_chain.proofs.SightLaws.{sight_passed}
+use Rattle.px_cuts.specs.Shown.{hears, look_over, passed_over, retimed_sight, retimed_stage}
+use Rattle.px_cuts.proofs.PlaceLaws.{make_eq, may_more, shown_more}
+use Rattle.px_cuts.proofs.ShownLaws.{look_shown, pass_shown, retimed_look}
+use Rattle.px_chain.specs.Streams.{client_closed}
 
 -- ---- bytes in two pieces
 
@@ -40,32 +42,24 @@ twice_open : (closed : Bool) → ((closed || false) || false) ≡ (closed || fal
 twice_open true = refl
 twice_open false = refl
 
-server_joined : (l : Option Link) (shut : Bool) (server : List ℕ) (side : Side) (bytes more : List ℕ) →
-    bytes_with l (shut_with l shut (events.Piece side bytes)) (bytes_with l shut server (events.Piece side bytes)) (events.Piece side more)
-    ≡ bytes_with l shut server (events.Piece side (bytes ++ more))
+server_joined : (l : Option ServerSide) (shut : Bool) (server : List ℕ) (side : Side) (bytes more : List ℕ) →
+    server_with l (shut_with l shut (events.Piece side bytes)) (server_with l shut server (events.Piece side bytes)) (events.Piece side more)
+    ≡ server_with l shut server (events.Piece side (bytes ++ more))
 server_joined None shut server side bytes more = refl
-server_joined (Some link) true server side bytes more = refl
-server_joined (Some link) false server side bytes more = joined (is_same_side side (Server link.server)) server bytes more
+server_joined (Some own) true server side bytes more = refl
+server_joined (Some own) false server side bytes more = joined (is_same_side side (Server own.server)) server bytes more
 
-shut_joined : (l : Option Link) (shut : Bool) (side other : Side) (bytes more : List ℕ) (whole : List ℕ) →
+shut_joined : (l : Option ServerSide) (shut : Bool) (side other : Side) (bytes more : List ℕ) (whole : List ℕ) →
     shut_with l (shut_with l shut (events.Piece side bytes)) (events.Piece other more) ≡ shut_with l shut (events.Piece side whole)
 shut_joined None shut side other bytes more whole = refl
-shut_joined (Some link) shut side other bytes more whole = twice_open shut
+shut_joined (Some own) shut side other bytes more whole = twice_open shut
 
-abbrev make : Stage → List ℕ → Bool → List ℕ → Bool → ℕ → Shown
-make stage client closed server shut now = record { stage = stage; client = client; closed = closed; server = server; shut = shut; now = now }
-
-make_eq : (stage : Stage) (client client' : List ℕ) (closed closed' : Bool) (server server' : List ℕ) (shut shut' : Bool) (now now' : ℕ) →
-    client ≡ client' → closed ≡ closed' → server ≡ server' → shut ≡ shut' → now ≡ now' →
-    make stage client closed server shut now ≡ make stage client' closed' server' shut' now'
-make_eq stage client client' closed closed' server server' shut shut' now now' a b c d e = rw (a, b, c, d, e) refl
-
--- what is shown behind both pieces is what is shown behind the whole
-cut_shown : (v : Shown) (side : Side) (bytes more : List ℕ) (now other : ℕ) → now ≡ other →
-    hears (with_event v (events.Piece side bytes) now) (events.Piece side more) ≡ with_event v (events.Piece side (bytes ++ more)) other
-cut_shown v side bytes more now other same =
-    make_eq v.stage _ _ _ _ _ _ _ _ now other (joined (is_same_side side Client) v.client bytes more) (twice_open v.closed)
-    (server_joined (link_of v.stage) v.shut v.server side bytes more) (shut_joined (link_of v.stage) v.shut side side bytes more (bytes ++ more)) same
+-- what is seen behind both pieces is what is seen behind the whole
+cut_shown : (own : Option ServerSide) (v : Sight) (side : Side) (bytes more : List ℕ) (now other : ℕ) → now ≡ other →
+    hears own (sight_with own v (events.Piece side bytes) now) (events.Piece side more) ≡ sight_with own v (events.Piece side (bytes ++ more)) other
+cut_shown own v side bytes more now other same =
+    make_eq _ _ _ _ _ _ _ _ now other (joined (is_same_side side Client) v.client bytes more) (twice_open v.closed)
+    (server_joined own v.shut v.server side bytes more) (shut_joined own v.shut side side bytes more (bytes ++ more)) same
 
 -- ---- pieces of two sides
 
@@ -89,42 +83,37 @@ either_way true false before bytes more two = ap (λ l. l ++ bytes) (append-nil 
 either_way false true before bytes more two = append-nil (before ++ more) ∙ ap (λ l. l ++ more) (sym (append-nil before))
 either_way false false before bytes more two = refl
 
-server_either : (l : Option Link) (shut : Bool) (server : List ℕ) (side other : Side) (bytes more : List ℕ) → is_same_side side other ≡ false →
-    bytes_with l (shut_with l shut (events.Piece other more)) (bytes_with l shut server (events.Piece other more)) (events.Piece side bytes)
-    ≡ bytes_with l (shut_with l shut (events.Piece side bytes)) (bytes_with l shut server (events.Piece side bytes)) (events.Piece other more)
+server_either : (l : Option ServerSide) (shut : Bool) (server : List ℕ) (side other : Side) (bytes more : List ℕ) → is_same_side side other ≡ false →
+    server_with l (shut_with l shut (events.Piece other more)) (server_with l shut server (events.Piece other more)) (events.Piece side bytes)
+    ≡ server_with l (shut_with l shut (events.Piece side bytes)) (server_with l shut server (events.Piece side bytes)) (events.Piece other more)
 server_either None shut server side other bytes more two = refl
-server_either (Some link) true server side other bytes more two = refl
-server_either (Some link) false server side other bytes more two =
-    either_way (is_same_side side (Server link.server)) (is_same_side other (Server link.server)) server bytes more (apart side other (Server link.server) two)
+server_either (Some own) true server side other bytes more two = refl
+server_either (Some own) false server side other bytes more two =
+    either_way (is_same_side side (Server own.server)) (is_same_side other (Server own.server)) server bytes more (apart side other (Server own.server) two)
 
-shut_either : (l : Option Link) (shut : Bool) (side other : Side) (bytes more : List ℕ) →
+shut_either : (l : Option ServerSide) (shut : Bool) (side other : Side) (bytes more : List ℕ) →
     shut_with l (shut_with l shut (events.Piece other more)) (events.Piece side bytes)
     ≡ shut_with l (shut_with l shut (events.Piece side bytes)) (events.Piece other more)
 shut_either None shut side other bytes more = refl
-shut_either (Some link) shut side other bytes more = refl
+shut_either (Some own) shut side other bytes more = refl
 
-swap_shown : (v : Shown) (side other : Side) (bytes more : List ℕ) (a b now : ℕ) → is_same_side side other ≡ false → a ≡ now →
-    hears (with_event v (events.Piece other more) a) (events.Piece side bytes) ≡ with_event (with_event v (events.Piece side bytes) b) (events.Piece other more) now
-swap_shown v side other bytes more a b now two same =
-    make_eq v.stage _ _ _ _ _ _ _ _ a now (either_way (is_same_side side Client) (is_same_side other Client) v.client bytes more (apart side other Client two)) refl
-    (server_either (link_of v.stage) v.shut v.server side other bytes more two) (shut_either (link_of v.stage) v.shut side other bytes more) same
+swap_shown : (own : Option ServerSide) (v : Sight) (side other : Side) (bytes more : List ℕ) (a b now : ℕ) → is_same_side side other ≡ false → a ≡ now →
+    hears own (sight_with own v (events.Piece other more) a) (events.Piece side bytes) ≡ sight_with own (sight_with own v (events.Piece side bytes) b) (events.Piece other more) now
+swap_shown own v side other bytes more a b now two same =
+    make_eq _ _ _ _ _ _ _ _ a now (either_way (is_same_side side Client) (is_same_side other Client) v.client bytes more (apart side other Client two)) refl
+    (server_either own v.shut v.server side other bytes more two) (shut_either own v.shut side other bytes more) same
 
 -- ---- where nothing was found, and one event more was worked off
 
-still_open : (front : List (Timed Event)) (moment : ℕ) (side : Side) (bytes : List ℕ) → client_closed front ≡ false →
-    client_closed (front ++ record { moment = moment; value = events.Piece side bytes } ∷ []) ≡ false
-still_open front moment side bytes open_client = closed_more Client front (record { moment = moment; value = events.Piece side bytes }) open_client ∙ rw open_client refl
+still_open : (prefix : List (Timed Event)) (moment : ℕ) (side : Side) (bytes : List ℕ) → client_closed prefix ≡ false →
+    client_closed (prefix ++ record { moment = moment; value = events.Piece side bytes } ∷ []) ≡ false
+still_open prefix moment side bytes open_client = closed_more Client prefix (record { moment = moment; value = events.Piece side bytes }) open_client ∙ rw open_client refl
 
 -- ---- a piece of a server that was not dialled
 
 dialled_by : (server : ℕ) (s : Stage) → server < (place_of s).dials → IsDialled server s
 dialled_by server (idle at) is = is
-dialled_by server (receiving at flow given) is = is
-dialled_by server (dialling at flow) is = is
-dialled_by server (answering at flow link) is = is
-dialled_by server (returning at flow link) is = is
-dialled_by server (given_head at flow) is = is
-dialled_by server (given_body at flow) is = is
+dialled_by server (busy at flow doing) is = is
 dialled_by server (next at) is = is
 dialled_by server over is = tt
 
@@ -136,115 +125,117 @@ stays_open : (closed : Bool) → (closed || false) ≡ closed
 stays_open true = refl
 stays_open false = refl
 
-server_unheard : (l : Option Link) (at : At) (shut : Bool) (heard : List ℕ) (server : ℕ) (bytes : List ℕ) → DialledBefore l at → at.dials ≤ server →
-    bytes_with l shut heard (events.Piece (Server server) bytes) ≡ heard
+server_unheard : (l : Option ServerSide) (at : At) (shut : Bool) (heard : List ℕ) (server : ℕ) (bytes : List ℕ) → DialledBefore l at → at.dials ≤ server →
+    server_with l shut heard (events.Piece (Server server) bytes) ≡ heard
 server_unheard None at shut heard server bytes before late = refl
-server_unheard (Some link) at true heard server bytes before late = refl
-server_unheard (Some link) at false heard server bytes before late =
-    let was : link.server < at.dials = before in
-    ap (λ l. heard ++ l) (other_piece server link.server bytes (server == link.server) (omega arith) refl) ∙ append-nil heard
+server_unheard (Some own) at true heard server bytes before late = refl
+server_unheard (Some own) at false heard server bytes before late =
+    let was : own.server < at.dials = before in
+    ap (λ l. heard ++ l) (other_piece server own.server bytes (server == own.server) (omega arith) refl) ∙ append-nil heard
 
-shut_unheard : (l : Option Link) (shut : Bool) (server : ℕ) (bytes : List ℕ) → shut_with l shut (events.Piece (Server server) bytes) ≡ shut
+shut_unheard : (l : Option ServerSide) (shut : Bool) (server : ℕ) (bytes : List ℕ) → shut_with l shut (events.Piece (Server server) bytes) ≡ shut
 shut_unheard None shut server bytes = refl
-shut_unheard (Some link) shut server bytes = stays_open shut
+shut_unheard (Some own) shut server bytes = stays_open shut
 
--- a place shows the same with it, but for the moment
-unheard_by : (stage : Stage) (l : Option Link) (at : At) (client : List ℕ) (closed : Bool) (heard : List ℕ) (shut : Bool) (now : ℕ) (server : ℕ) (bytes : List ℕ) →
-    DialledBefore l at → at.dials ≤ server →
-    make stage (client ++ []) (closed || false) (bytes_with l shut heard (events.Piece (Server server) bytes)) (shut_with l shut (events.Piece (Server server) bytes)) now
-    ≡ make stage client closed heard shut now
-unheard_by stage l at client closed heard shut now server bytes before late =
-    make_eq stage _ _ _ _ _ _ _ _ now now (append-nil client) (stays_open closed) (server_unheard l at shut heard server bytes before late) (shut_unheard l shut server bytes) refl
+-- the sight is the same with it, but for the moment
+unheard_by : (own : Option ServerSide) (at : At) (v : Sight) (server : ℕ) (bytes : List ℕ) → DialledBefore own at → at.dials ≤ server →
+    sight_with own v (events.Piece (Server server) bytes) v.now ≡ v
+unheard_by own at v server bytes before late =
+    make_eq _ _ _ _ _ _ _ _ v.now v.now (append-nil v.client) (stays_open v.closed) (server_unheard own at v.shut v.server server bytes before late) (shut_unheard own v.shut server bytes) refl
 
--- the server's side of the stage but for counts of events
-bare_dialled : (see : ℕ → ℕ) (s : Stage) → DialledBefore (link_of s) (place_of s) → DialledBefore (link_of (bare see s)) (place_of s)
-bare_dialled see (idle at) is = tt
-bare_dialled see (receiving at flow given) is = tt
-bare_dialled see (dialling at flow) is = tt
-bare_dialled see (answering at flow link) is = is
-bare_dialled see (returning at flow link) is = is
-bare_dialled see (given_head at flow) is = tt
-bare_dialled see (given_body at flow) is = tt
-bare_dialled see (next at) is = tt
-bare_dialled see over is = tt
+module _ (terms : Terms) (s : Standing) (prefix : List (Timed Event)) (e : Timed Event) (may : MayStand s prefix) (is : look_over terms s prefix ≡ NotYet) (settled : passed_over s prefix ≡ s) where
+  abbrev longer : List (Timed Event)
+  longer = prefix ++ e ∷ []
 
-module _ (terms : Terms) (s : Stage) (front : List (Timed Event)) (e : Timed Event) (may : MayStand s front) (is : look terms s front ≡ NotYet) (settled : (pass s front).stage ≡ s) where
-  unheard_shows : (server : ℕ) (bytes : List ℕ) → e.value ≡ events.Piece (Server server) bytes → (place_of s).dials ≤ server →
-      shown no_moment s (front ++ e ∷ []) ≡ shown no_moment s front
+  unheard_shows : (server : ℕ) (bytes : List ℕ) → e.value ≡ events.Piece (Server server) bytes → (place_of s.stage).dials ≤ server →
+      retimed_sight no_moment (sight_over s longer) ≡ retimed_sight no_moment (sight_over s prefix)
   unheard_shows server bytes piece late =
-      let v : Shown = shown no_moment s front in
-      shown_more no_moment s front e may (open_still terms s front is)
-      ∙ (ap (λ x. with_event v x 0) piece
-      ∙ unheard_by v.stage (link_of v.stage) (place_of s) v.client v.closed v.server v.shut 0 server bytes (bare_dialled no_moment s may.dialled) late)
+      shown_more no_moment s prefix e may (open_still terms s.stage (sight_over s prefix) is)
+      ∙ (ap (λ x. sight_with (side_of s.stage) (retimed_sight no_moment (sight_over s prefix)) x 0) piece
+      ∙ unheard_by (side_of s.stage) (place_of s.stage) (retimed_sight no_moment (sight_over s prefix)) server bytes may.dialled late)
+
+  -- what is found where it passed, but for moments
+  found_passed : (f : List (Timed Event)) → retimed_look no_moment (look_over terms (passed_over s f) f)
+      ≡ look terms (pass (retimed_stage no_moment s.stage) (retimed_sight no_moment (sight_over s f))) (retimed_sight no_moment (sight_over s f))
+  found_passed f =
+      ap (λ v. retimed_look no_moment (look terms (pass s.stage (sight_over s f)) v)) (sight_passed s (sight_over s f) f)
+      ∙ (look_shown no_moment terms (pass s.stage (sight_over s f)) (sight_over s f)
+      ∙ ap (λ x. look terms x (retimed_sight no_moment (sight_over s f))) (pass_shown no_moment s.stage (sight_over s f)))
 
   -- nothing is found with it either
-  unheard_finds : (server : ℕ) (bytes : List ℕ) → e.value ≡ events.Piece (Server server) bytes → (place_of s).dials ≤ server →
-      retimed_look no_moment (look terms (pass s (front ++ e ∷ [])).stage (front ++ e ∷ [])) ≡ NotYet
+  unheard_finds : (server : ℕ) (bytes : List ℕ) → e.value ≡ events.Piece (Server server) bytes → (place_of s.stage).dials ≤ server →
+      retimed_look no_moment (look_over terms (passed_over s longer) longer) ≡ NotYet
   unheard_finds server bytes piece late =
-      look_shown no_moment terms (pass s (front ++ e ∷ [])).stage (front ++ e ∷ [])
-      ∙ (ap (λ v. look_in terms v) (shown_passed no_moment s (front ++ e ∷ []) ∙ (ap passing (unheard_shows server bytes piece late) ∙ sym (shown_passed no_moment s front)))
-      ∙ (sym (look_shown no_moment terms (pass s front).stage front)
-      ∙ (ap (λ x. retimed_look no_moment (look terms x front)) settled ∙ ap (λ l. retimed_look no_moment l) is)))
+      found_passed longer
+      ∙ (ap (λ v. look terms (pass (retimed_stage no_moment s.stage) v) v) (unheard_shows server bytes piece late)
+      ∙ (sym (found_passed prefix)
+      ∙ (ap (λ x. retimed_look no_moment (look_over terms x prefix)) settled ∙ ap (λ l. retimed_look no_moment l) is)))
 
-  server_heard : (server : ℕ) (bytes : List ℕ) (below : Bool) → e.value ≡ events.Piece (Server server) bytes → nat_lt server (place_of s).dials ≡ below →
-      IsFound (look terms (pass s (front ++ e ∷ [])).stage (front ++ e ∷ [])) → MayBeHeard (Server server) s
-  server_heard server bytes true piece at found = dialled_by server s (ltb-true server (place_of s).dials at)
+  server_heard : (server : ℕ) (bytes : List ℕ) (below : Bool) → e.value ≡ events.Piece (Server server) bytes → nat_lt server (place_of s.stage).dials ≡ below →
+      IsFound (look_over terms (passed_over s longer) longer) → MayBeHeard (Server server) s.stage
+  server_heard server bytes true piece at found = dialled_by server s.stage (ltb-true server (place_of s.stage).dials at)
   server_heard server bytes false piece at found =
       let P : Look Command → Type 0 = IsFound in
-      absurd (subst P (unheard_finds server bytes piece (ltb-false server (place_of s).dials at)) (is_found_seen no_moment (look terms (pass s (front ++ e ∷ [])).stage (front ++ e ∷ [])) found))
+      absurd (subst P (unheard_finds server bytes piece (ltb-false server (place_of s.stage).dials at)) (is_found_seen no_moment (look_over terms (passed_over s longer) longer) found))
 
   -- where something is found with a piece, its side may be heard
-  found_heard : (side : Side) (bytes : List ℕ) → e.value ≡ events.Piece side bytes → IsFound (look terms (pass s (front ++ e ∷ [])).stage (front ++ e ∷ [])) → MayBeHeard side s
+  found_heard : (side : Side) (bytes : List ℕ) → e.value ≡ events.Piece side bytes → IsFound (look_over terms (passed_over s longer) longer) → MayBeHeard side s.stage
   found_heard Client bytes piece found = tt
-  found_heard (Server server) bytes piece found = server_heard server bytes (nat_lt server (place_of s).dials) piece refl found
+  found_heard (Server server) bytes piece found = server_heard server bytes (nat_lt server (place_of s.stage).dials) piece refl found
 
-module _ (see : ℕ → ℕ) (onward : Stage → Stage) (goes : IsOnward onward) (terms : Terms) where
+module _ (see : ℕ → ℕ) (terms : Terms) where
   abbrev HttpStop : Type 0
-  HttpStop = Stop Stage Event Reply Command
+  HttpStop = Stop Standing Event Reply Command
+
+  abbrev shown : Standing → List (Timed Event) → Sight
+  shown s f = retimed_sight see (sight_over s f)
 
   -- behind the first half, the second may be taken early, to where the whole was worked off
-  pub cut_early : (w : HttpStop) (first second stamp : Stamp) (side : Side) (bytes more : List ℕ) → MayStand w.stage w.front → look terms w.stage w.front ≡ NotYet →
-      (pass w.stage w.front).stage ≡ w.stage → see (later w.last first).moment ≡ see (later w.last stamp).moment → see (later w.last second).moment ≡ see (later w.last first).moment →
+  pub cut_early : (w : HttpStop) (first second stamp : Stamp) (side : Side) (bytes more : List ℕ) → MayStand w.stage w.prefix → look_over terms w.stage w.prefix ≡ NotYet →
+      passed_over w.stage w.prefix ≡ w.stage → see (later w.last first).moment ≡ see (later w.last stamp).moment → see (later w.last second).moment ≡ see (later w.last first).moment →
       HeardEarly see terms (piece_at second side more) w.last w.stage (front_with w (piece_at first side bytes)) w.stage (front_with w (piece_at stamp side (bytes ++ more)))
   cut_early w first second stamp side bytes more may is settled whole half =
-      let open_client = open_still terms w.stage w.front is in
+      let open_client : client_closed w.prefix ≡ false = open_still terms w.stage.stage (sight_over w.stage w.prefix) is in
+      let own : Option ServerSide = side_of w.stage.stage in
       let e : Timed Event = worked_off w.last (piece_at first side bytes) in
       let e' : Timed Event = worked_off w.last (piece_at stamp side (bytes ++ more)) in
-      let shows = shown_more see w.stage w.front e may open_client in
-      let shows' = shown_more see w.stage w.front e' may open_client in
+      let shows = shown_more see w.stage w.prefix e may open_client in
+      let shows' = shown_more see w.stage w.prefix e' may open_client in
       record {
         side = side;
         bytes = more;
         is_piece = refl;
-        hears = ap (λ v. hears v (events.Piece side more)) shows
-            ∙ (cut_shown (shown see w.stage w.front) side bytes more (see (moment_of w.stage e.moment)) (see (moment_of w.stage e'.moment))
-            (moment_seen see w.stage e.moment e'.moment whole) ∙ sym shows');
-        open_client = still_open w.front e.moment side bytes open_client;
-        comes = moment_seen see w.stage (later w.last second).moment (later w.last first).moment half ∙ sym (ap (λ v. v.now) shows);
-        heard = found_heard terms w.stage w.front e may is settled side bytes refl;
-        may = may_more w.stage w.front e may;
-        other_may = may_more w.stage w.front e' may;
+        stages = refl;
+        hears = ap (λ v. hears own v (events.Piece side more)) shows
+            ∙ (cut_shown own (shown w.stage w.prefix) side bytes more (see e.moment) (see e'.moment) whole ∙ sym shows');
+        open_client = still_open w.prefix e.moment side bytes open_client;
+        comes = half ∙ sym (ap (λ v. v.now) shows);
+        heard = found_heard terms w.stage w.prefix e may is settled side bytes refl;
+        may = may_more w.stage w.prefix e may;
+        other_may = may_more w.stage w.prefix e' may;
       }
 
   -- behind one piece, the other may be taken early
-  pub next_early : (w : HttpStop) (first second : Stamp) (side other : Side) (bytes more : List ℕ) → MayStand w.stage w.front → look terms w.stage w.front ≡ NotYet →
-      MayBeHeard other w.stage → see (later w.last second).moment ≡ see (later w.last first).moment →
+  pub next_early : (w : HttpStop) (first second : Stamp) (side other : Side) (bytes more : List ℕ) → MayStand w.stage w.prefix → look_over terms w.stage w.prefix ≡ NotYet →
+      MayBeHeard other w.stage.stage → see (later w.last second).moment ≡ see (later w.last first).moment →
       HeardEarly see terms (piece_at second other more) w.last w.stage (front_with w (piece_at first side bytes))
       w.stage (front_with w (piece_at first side bytes) ++ worked_off w.last (piece_at second other more) ∷ [])
   next_early w first second side other bytes more may is heard half =
-      let open_client = open_still terms w.stage w.front is in
+      let open_client : client_closed w.prefix ≡ false = open_still terms w.stage.stage (sight_over w.stage w.prefix) is in
+      let own : Option ServerSide = side_of w.stage.stage in
       let e : Timed Event = worked_off w.last (piece_at first side bytes) in
       let e' : Timed Event = worked_off w.last (piece_at second other more) in
-      let shows = shown_more see w.stage w.front e may open_client in
-      let still = still_open w.front e.moment side bytes open_client in
-      let there = may_more w.stage w.front e may in
-      let v : Shown = shown see w.stage (front_with w (piece_at first side bytes)) in
-      let comes : see (moment_of w.stage e'.moment) ≡ v.now = moment_seen see w.stage e'.moment e.moment half ∙ sym (ap (λ x. x.now) shows) in
+      let shows = shown_more see w.stage w.prefix e may open_client in
+      let still = still_open w.prefix e.moment side bytes open_client in
+      let there = may_more w.stage w.prefix e may in
+      let v : Sight = shown w.stage (front_with w (piece_at first side bytes)) in
+      let comes : see e'.moment ≡ v.now = half ∙ sym (ap (λ x. x.now) shows) in
       record {
         side = other;
         bytes = more;
         is_piece = refl;
-        hears = ap (λ n. with_event v (events.Piece other more) n) (sym comes) ∙ sym (shown_more see w.stage (front_with w (piece_at first side bytes)) e' there still);
+        stages = refl;
+        hears = ap (λ n. sight_with own v (events.Piece other more) n) (sym comes) ∙ sym (shown_more see w.stage (front_with w (piece_at first side bytes)) e' there still);
         open_client = still;
         comes = comes;
         heard = λ found. heard;
@@ -253,30 +244,32 @@ module _ (see : ℕ → ℕ) (onward : Stage → Stage) (goes : IsOnward onward)
       }
 
   -- and the other way round, to the same place
-  pub swap_early : (w : HttpStop) (first second : Stamp) (side other : Side) (bytes more : List ℕ) → MayStand w.stage w.front → look terms w.stage w.front ≡ NotYet →
-      is_same_side side other ≡ false → MayBeHeard side w.stage → see (later w.last second).moment ≡ see (later w.last first).moment →
+  pub swap_early : (w : HttpStop) (first second : Stamp) (side other : Side) (bytes more : List ℕ) → MayStand w.stage w.prefix → look_over terms w.stage w.prefix ≡ NotYet →
+      is_same_side side other ≡ false → MayBeHeard side w.stage.stage → see (later w.last second).moment ≡ see (later w.last first).moment →
       HeardEarly see terms (piece_at first side bytes) w.last w.stage (front_with w (piece_at second other more))
       w.stage (front_with w (piece_at first side bytes) ++ worked_off w.last (piece_at second other more) ∷ [])
   swap_early w first second side other bytes more may is two heard half =
-      let open_client = open_still terms w.stage w.front is in
+      let open_client : client_closed w.prefix ≡ false = open_still terms w.stage.stage (sight_over w.stage w.prefix) is in
+      let own : Option ServerSide = side_of w.stage.stage in
       let e : Timed Event = worked_off w.last (piece_at first side bytes) in
       let e' : Timed Event = worked_off w.last (piece_at second other more) in
-      let shows = shown_more see w.stage w.front e may open_client in
-      let shows' = shown_more see w.stage w.front e' may open_client in
-      let still = still_open w.front e.moment side bytes open_client in
-      let there = may_more w.stage w.front e may in
+      let shows = shown_more see w.stage w.prefix e may open_client in
+      let shows' = shown_more see w.stage w.prefix e' may open_client in
+      let still = still_open w.prefix e.moment side bytes open_client in
+      let there = may_more w.stage w.prefix e may in
       record {
         side = side;
         bytes = bytes;
         is_piece = refl;
-        hears = ap (λ v. hears v (events.Piece side bytes)) shows'
-            ∙ (swap_shown (shown see w.stage w.front) side other bytes more (see (moment_of w.stage e'.moment)) (see (moment_of w.stage e.moment)) (see (moment_of w.stage e'.moment)) two refl
-            ∙ (ap (λ v. with_event v (events.Piece other more) (see (moment_of w.stage e'.moment))) (sym shows)
+        stages = refl;
+        hears = ap (λ v. hears own v (events.Piece side bytes)) shows'
+            ∙ (swap_shown own (shown w.stage w.prefix) side other bytes more (see e'.moment) (see e.moment) (see e'.moment) two refl
+            ∙ (ap (λ v. sight_with own v (events.Piece other more) (see e'.moment)) (sym shows)
             ∙ sym (shown_more see w.stage (front_with w (piece_at first side bytes)) e' there still)));
-        open_client = still_open w.front e'.moment other more open_client;
-        comes = moment_seen see w.stage (later w.last first).moment (later w.last second).moment (sym half) ∙ sym (ap (λ v. v.now) shows');
+        open_client = still_open w.prefix e'.moment other more open_client;
+        comes = sym half ∙ sym (ap (λ v. v.now) shows');
         heard = λ found. heard;
-        may = may_more w.stage w.front e' may;
+        may = may_more w.stage w.prefix e' may;
         other_may = may_more w.stage (front_with w (piece_at first side bytes)) e' there;
       }
 

@@ -15,15 +15,18 @@ use Rattle.px_read.specs.Items.{answer_list, Item, missing, part, complete, bad_
 use Rattle.px_read.specs.Laws.{FinalHeadStays, FinalStays, head_in, InterimStay, is_begun, is_decided, RequestHeadStays, RequestStays}
 use Rattle.px_read.specs.declared.head.RequestHead.{RequestHead as ReadRequest}
 use Rattle.px_read.specs.declared.head.ResponseHead.{ResponseHead as ReadResponse}
+use Rattle.px_exchange.specs.declared.asked.Judged.{Judged}
+use Rattle.px_exchange.specs.declared.asked.Judged.TheVariants.{Refused, Accepted}
 use Rattle.px_exchange.specs.declared.ending.Used.{Used}
 use Rattle.px_exchange.specs.declared.ending.Used.TheVariants.{NoServer, ByServer}
 use Rattle.px_exchange.specs.declared.terms.Terms.{Terms}
 use Rattle.px_exchange.specs.Finds.{look_answer, look_answer_head, look_body, look_head, look_judged, look_returned, or_leaves}
-use Rattle.px_cuts.specs.Shown.{hears, Shown}
+use Rattle.px_cuts.specs.Shown.{hears}
 use Rattle.px_exchange.specs.Requests.{is_head, judged}
-use Rattle.px_cuts.proofs.ByShown.{answer_head_turn, answer_turn, body_turn, head_turn, judged_turn, look_in, pass_by, pass_in, returned_turn, so_far_in, turn_in}
-use Rattle.px_stream.specs.Stages.{At, Link, Stage, idle, receiving, dialling, answering, returning, given_head, given_body, next, over}
-use Rattle.px_stream.specs.Streams.{piece_of}
+use Rattle.px_chain.specs.Chain.{look, pass, pass_body, so_far, turn, turn_answer, turn_answer_head, turn_body, turn_head, turn_judged, turn_returned}
+use Rattle.px_chain.specs.Sights.{Sight}
+use Rattle.px_chain.specs.Stages.{At, ServerSide, Stage, busy, connection, given_body, given_head, idle, next, over, request_body, response_body, response_head, side_of}
+use Rattle.px_chain.specs.Streams.{piece_of}
 use Rattle.px_exchange.specs.Texts.{interim_commands}
 use Rattle.px_exchange.specs.Endings.{closed_message, ends_early, without_response}
 
@@ -64,11 +67,22 @@ request_split readers n bytes more later is = record {
 request_stays : ReadersStay → (n : ℕ) (bytes more : List ℕ) → Stays (request_item (drop n bytes)) (request_item (drop n (bytes ++ more)))
 request_stays readers n bytes more = let split = drop_split n bytes more in request_split readers n bytes more split.0 split.1
 
-final_stays : ReadersStay → (asked_head : Bool) (bytes more : List ℕ) → Stays (answer_list asked_head false bytes).final (answer_list asked_head false (bytes ++ more)).final
-final_stays readers asked_head bytes more = record {
-  head = λ head at. readers.final_head asked_head false bytes more head at;
-  decided = λ at. readers.final asked_head false bytes more at;
+final_split : ReadersStay → (asked_head : Bool) (n : ℕ) (bytes more later : List ℕ) → drop n (bytes ++ more) ≡ drop n bytes ++ later →
+    Stays (answer_list asked_head false (drop n bytes)).final (answer_list asked_head false (drop n (bytes ++ more))).final
+final_split readers asked_head n bytes more later is = record {
+  head = λ head at. ap (λ l. head_in (answer_list asked_head false l).final) is ∙ readers.final_head asked_head false (drop n bytes) later head at;
+  decided = λ at. ap (λ l. (answer_list asked_head false l).final) is ∙ readers.final asked_head false (drop n bytes) later at;
 }
+
+final_stays : ReadersStay → (asked_head : Bool) (n : ℕ) (bytes more : List ℕ) →
+    Stays (answer_list asked_head false (drop n bytes)).final (answer_list asked_head false (drop n (bytes ++ more))).final
+final_stays readers asked_head n bytes more = let split = drop_split n bytes more in final_split readers asked_head n bytes more split.0 split.1
+
+interim_stays : ReadersStay → (asked_head : Bool) (n : ℕ) (bytes more : List ℕ) → is_begun (answer_list asked_head false (drop n bytes)).final ≡ true →
+    (answer_list asked_head false (drop n (bytes ++ more))).interim ≡ (answer_list asked_head false (drop n bytes)).interim
+interim_stays readers asked_head n bytes more begun =
+    let split = drop_split n bytes more in
+    ap (λ l. (answer_list asked_head false l).interim) split.1 ∙ (readers.interim asked_head false (drop n bytes) split.0 begun).0
 
 none_is : {H : Type 0} {P : Type 0} (head : H) → None ≡ Some head → P
 none_is head is = absurd (let e : None ≡ Some head = is in cc)
@@ -80,30 +94,30 @@ some_is h head is = cc
 
 module _ (terms : Terms) where
   head_looked : (index : ℕ) (item : Item ReadRequest) (head : ReadRequest) (now : ℕ) (closed : Bool) → head_in item ≡ Some head →
-      look_head terms index item now closed ≡ look_judged terms index head (judged terms.address head) now closed
+      look_head terms index item now closed ≡ look_judged terms index head (judged terms.place head) now closed
   head_looked index missing head now closed is = none_is head is
-  head_looked index (part h body) head now closed is = ap (λ k. look_judged terms index k (judged terms.address k) now closed) (some_is h head is)
-  head_looked index (complete h body trailers used) head now closed is = ap (λ k. look_judged terms index k (judged terms.address k) now closed) (some_is h head is)
+  head_looked index (part h body) head now closed is = ap (λ k. look_judged terms index k (judged terms.place k) now closed) (some_is h head is)
+  head_looked index (complete h body trailers used) head now closed is = ap (λ k. look_judged terms index k (judged terms.place k) now closed) (some_is h head is)
   head_looked index (bad_head fault) head now closed is = none_is head is
-  head_looked index (bad_body fault h body) head now closed is = ap (λ k. look_judged terms index k (judged terms.address k) now closed) (some_is h head is)
+  head_looked index (bad_body fault h body) head now closed is = ap (λ k. look_judged terms index k (judged terms.place k) now closed) (some_is h head is)
 
   look_head_same : (index : ℕ) (item later : Item ReadRequest) (now : ℕ) (closed : Bool) → SameHead item later →
       look_head terms index later now closed ≡ look_head terms index item now closed
   look_head_same index item later now closed (same is) = ap (λ i. look_head terms index i now closed) is
   look_head_same index item later now closed (heads head is at) = head_looked index later head now closed at ∙ sym (head_looked index item head now closed is)
 
-  head_led : (at : At) (item : Item ReadRequest) (head : ReadRequest) (now : ℕ) (answer : Timed Reply) (closed : Bool) → head_in item ≡ Some head →
-      head_turn terms at item now answer closed ≡ judged_turn terms at head (judged terms.address head) now answer closed
-  head_led at missing head now answer closed is = none_is head is
-  head_led at (part h body) head now answer closed is = ap (λ k. judged_turn terms at k (judged terms.address k) now answer closed) (some_is h head is)
-  head_led at (complete h body trailers used) head now answer closed is = ap (λ k. judged_turn terms at k (judged terms.address k) now answer closed) (some_is h head is)
-  head_led at (bad_head fault) head now answer closed is = none_is head is
-  head_led at (bad_body fault h body) head now answer closed is = ap (λ k. judged_turn terms at k (judged terms.address k) now answer closed) (some_is h head is)
+  head_led : (at : At) (item : Item ReadRequest) (head : ReadRequest) (seen : Sight) (answer : Timed Reply) → head_in item ≡ Some head →
+      turn_head terms at item seen answer ≡ turn_judged terms at head (judged terms.place head) seen answer
+  head_led at missing head seen answer is = none_is head is
+  head_led at (part h body) head seen answer is = ap (λ k. turn_judged terms at k (judged terms.place k) seen answer) (some_is h head is)
+  head_led at (complete h body trailers used) head seen answer is = ap (λ k. turn_judged terms at k (judged terms.place k) seen answer) (some_is h head is)
+  head_led at (bad_head fault) head seen answer is = none_is head is
+  head_led at (bad_body fault h body) head seen answer is = ap (λ k. turn_judged terms at k (judged terms.place k) seen answer) (some_is h head is)
 
-  head_turn_same : (at : At) (item later : Item ReadRequest) (now : ℕ) (answer : Timed Reply) (closed : Bool) → SameHead item later →
-      head_turn terms at later now answer closed ≡ head_turn terms at item now answer closed
-  head_turn_same at item later now answer closed (same is) = ap (λ i. head_turn terms at i now answer closed) is
-  head_turn_same at item later now answer closed (heads head is there) = head_led at later head now answer closed there ∙ sym (head_led at item head now answer closed is)
+  head_turn_same : (at : At) (item later : Item ReadRequest) (seen : Sight) (answer : Timed Reply) → SameHead item later →
+      turn_head terms at later seen answer ≡ turn_head terms at item seen answer
+  head_turn_same at item later seen answer (same is) = ap (λ i. turn_head terms at i seen answer) is
+  head_turn_same at item later seen answer (heads head is there) = head_led at later head seen answer there ∙ sym (head_led at item head seen answer is)
 
   -- where a head is found, it is found with more behind it
   head_found : (index : ℕ) (item later : Item ReadRequest) (now : ℕ) (closed : Bool) → Stays item later → IsFound (look_head terms index item now closed) → SameHead item later
@@ -126,19 +140,19 @@ look_answer_same : (flow : Flow) (item later : Item ReadResponse) (now : ℕ) (u
 look_answer_same flow item later now used closed (same is) = ap (λ i. look_answer flow i now used closed) is
 look_answer_same flow item later now used closed (heads head is at) = answer_looked flow later head now used closed at ∙ sym (answer_looked flow item head now used closed is)
 
-answer_led : (at : At) (flow : Flow) (link : Link) (item : Item ReadResponse) (head : ReadResponse) (now : ℕ) (answer : Timed Reply) (used : Used) (closed : Bool) → head_in item ≡ Some head →
-    answer_turn at flow link item now answer used closed ≡ answer_head_turn at flow link head now answer used closed
-answer_led at flow link missing head now answer used closed is = none_is head is
-answer_led at flow link (part h body) head now answer used closed is = ap (λ k. answer_head_turn at flow link k now answer used closed) (some_is h head is)
-answer_led at flow link (complete h body trailers size) head now answer used closed is = ap (λ k. answer_head_turn at flow link k now answer used closed) (some_is h head is)
-answer_led at flow link (bad_head fault) head now answer used closed is = none_is head is
-answer_led at flow link (bad_body fault h body) head now answer used closed is = ap (λ k. answer_head_turn at flow link k now answer used closed) (some_is h head is)
+answer_led : (at : At) (flow : Flow) (side : ServerSide) (item : Item ReadResponse) (head : ReadResponse) (seen : Sight) (answer : Timed Reply) → head_in item ≡ Some head →
+    turn_answer at flow side item seen answer ≡ turn_answer_head at flow side head seen answer
+answer_led at flow side missing head seen answer is = none_is head is
+answer_led at flow side (part h body) head seen answer is = ap (λ k. turn_answer_head at flow side k seen answer) (some_is h head is)
+answer_led at flow side (complete h body trailers size) head seen answer is = ap (λ k. turn_answer_head at flow side k seen answer) (some_is h head is)
+answer_led at flow side (bad_head fault) head seen answer is = none_is head is
+answer_led at flow side (bad_body fault h body) head seen answer is = ap (λ k. turn_answer_head at flow side k seen answer) (some_is h head is)
 
-answer_turn_same : (at : At) (flow : Flow) (link : Link) (item later : Item ReadResponse) (now : ℕ) (answer : Timed Reply) (used : Used) (closed : Bool) → SameHead item later →
-    answer_turn at flow link later now answer used closed ≡ answer_turn at flow link item now answer used closed
-answer_turn_same at flow link item later now answer used closed (same is) = ap (λ i. answer_turn at flow link i now answer used closed) is
-answer_turn_same at flow link item later now answer used closed (heads head is there) =
-    answer_led at flow link later head now answer used closed there ∙ sym (answer_led at flow link item head now answer used closed is)
+answer_turn_same : (at : At) (flow : Flow) (side : ServerSide) (item later : Item ReadResponse) (seen : Sight) (answer : Timed Reply) → SameHead item later →
+    turn_answer at flow side later seen answer ≡ turn_answer at flow side item seen answer
+answer_turn_same at flow side item later seen answer (same is) = ap (λ i. turn_answer at flow side i seen answer) is
+answer_turn_same at flow side item later seen answer (heads head is there) =
+    answer_led at flow side later head seen answer there ∙ sym (answer_led at flow side item head seen answer is)
 
 answer_found : (flow : Flow) (item later : Item ReadResponse) (now : ℕ) (used : Used) (closed : Bool) → Stays item later → IsFound (look_answer flow item now used closed) → SameHead item later
 answer_found flow missing later now used closed stays found = absurd found
@@ -179,87 +193,146 @@ or_found leaves (Asks ask) found = tt
 or_found leaves (Ends owed) found = tt
 
 -- all that is found is found with this event too
-pub record FindsAlike (terms : Terms) (v w : Shown) : Type 0 where
-  pub look : look_in terms w ≡ look_in terms v
-  pub so_far : so_far_in w ≡ so_far_in v
-  pub turn : (answer : Timed Reply) → turn_in terms w answer ≡ turn_in terms v answer
+pub record FindsAlike (terms : Terms) (stage : Stage) (v w : Sight) : Type 0 where
+  pub look : look terms stage w ≡ look terms stage v
+  pub so_far : so_far stage w ≡ so_far stage v
+  pub turn : (answer : Timed Reply) → turn terms stage w answer ≡ turn terms stage v answer
 
-abbrev make : Stage → List ℕ → Bool → List ℕ → Bool → ℕ → Shown
-make stage client closed server shut now = record { stage = stage; client = client; closed = closed; server = server; shut = shut; now = now }
+abbrev make : List ℕ → Bool → List ℕ → Bool → ℕ → Sight
+make client closed server shut now = record { client = client; closed = closed; server = server; shut = shut; now = now }
+
+-- ---- a turn reads no bytes of its sight but those of the item
+
+module _ (client client' : List ℕ) (closed : Bool) (server server' : List ℕ) (shut : Bool) (now : ℕ) (answer : Timed Reply) where
+  abbrev one : Sight
+  one = make client closed server shut now
+
+  abbrev other : Sight
+  other = make client' closed server' shut now
+
+  judged_reads : (terms : Terms) (at : At) (head : ReadRequest) (j : Judged) → turn_judged terms at head j one answer ≡ turn_judged terms at head j other answer
+  judged_reads terms at head (Refused fault) = refl
+  judged_reads terms at head (Accepted request) = refl
+
+  head_reads : (terms : Terms) (at : At) (item : Item ReadRequest) → turn_head terms at item one answer ≡ turn_head terms at item other answer
+  head_reads terms at missing = refl
+  head_reads terms at (part head body) = judged_reads terms at head (judged terms.place head)
+  head_reads terms at (complete head body trailers used) = judged_reads terms at head (judged terms.place head)
+  head_reads terms at (bad_head fault) = refl
+  head_reads terms at (bad_body fault head body) = judged_reads terms at head (judged terms.place head)
+
+  body_reads : (at : At) (flow : Flow) (item : Item ReadRequest) → turn_body at flow item one answer ≡ turn_body at flow item other answer
+  body_reads at flow missing = refl
+  body_reads at flow (part head body) = refl
+  body_reads at flow (complete head body trailers used) = refl
+  body_reads at flow (bad_head fault) = refl
+  body_reads at flow (bad_body fault head body) = refl
+
+  answer_reads : (at : At) (flow : Flow) (side : ServerSide) (item : Item ReadResponse) → turn_answer at flow side item one answer ≡ turn_answer at flow side item other answer
+  answer_reads at flow side missing = refl
+  answer_reads at flow side (part head body) = refl
+  answer_reads at flow side (complete head body trailers size) = refl
+  answer_reads at flow side (bad_head fault) = refl
+  answer_reads at flow side (bad_body fault head body) = refl
+
+  returned_reads : (at : At) (flow : Flow) (side : ServerSide) (item : Item ReadResponse) → turn_returned at flow side item one answer ≡ turn_returned at flow side item other answer
+  returned_reads at flow side missing = refl
+  returned_reads at flow side (part head body) = refl
+  returned_reads at flow side (complete head body trailers size) = refl
+  returned_reads at flow side (bad_head fault) = refl
+  returned_reads at flow side (bad_body fault head body) = refl
+
+-- ---- a piece more
 
 module _ (terms : Terms) (readers : ReadersStay) (side : Side) (bytes : List ℕ) where
   abbrev piece : Event
   piece = events.Piece side bytes
 
-  finds_by : (stage : Stage) (client server : List ℕ) (shut : Bool) (now : ℕ) → IsFound (look_in terms (make stage client false server shut now)) →
-      FindsAlike terms (make stage client false server shut now) (hears (make stage client false server shut now) piece)
+  finds_by : (stage : Stage) (client server : List ℕ) (shut : Bool) (now : ℕ) → IsFound (look terms stage (make client false server shut now)) →
+      FindsAlike terms stage (make client false server shut now) (hears (side_of stage) (make client false server shut now) piece)
   finds_by (idle at) client server shut now found =
+      let longer = client ++ piece_of Client piece in
       let item = request_item (drop at.used client) in
-      let later = request_item (drop at.used (client ++ piece_of Client piece)) in
+      let later = request_item (drop at.used longer) in
       let stays = request_stays readers at.used client (piece_of Client piece) in
       let heads = head_found terms at.flow item later now false stays (or_found [] (look_head terms at.flow item now false) found) in
       record {
         look = ap (λ l. or_leaves false [] l) (look_head_same terms at.flow item later now false heads);
         so_far = refl;
-        turn = λ answer. head_turn_same terms at item later now answer false heads;
+        turn = λ answer. head_turn_same terms at item later (make longer false server shut now) answer heads ∙ head_reads longer client false server server shut now answer terms at item;
       }
-  finds_by (receiving at flow given) client server shut now found =
+  finds_by (busy at flow (request_body given)) client server shut now found =
+      let longer = client ++ piece_of Client piece in
       let item = request_item (drop at.used client) in
-      let later = request_item (drop at.used (client ++ piece_of Client piece)) in
+      let later = request_item (drop at.used longer) in
       let stays = request_stays readers at.used client (piece_of Client piece) in
       let whole = body_found flow item later now false stays (or_found (ends_early flow closed_message now NoServer true) (look_body flow item now false) found) in
       record {
         look = ap (λ i. or_leaves false (ends_early flow closed_message now NoServer true) (look_body flow i now false)) whole;
         so_far = refl;
-        turn = λ answer. ap (λ i. body_turn at flow i now answer false) whole;
+        turn = λ answer. ap (λ i. turn_body at flow i (make longer false server shut now) answer) whole ∙ body_reads longer client false server server shut now answer at flow item;
       }
-  finds_by (dialling at flow) client server shut now found = record { look = refl; so_far = refl; turn = λ answer. refl }
-  finds_by (answering at flow link) client server true now found = record { look = refl; so_far = refl; turn = λ answer. refl }
-  finds_by (answering at flow link) client server false now found =
+  finds_by (busy at flow connection) client server shut now found = record { look = refl; so_far = refl; turn = λ answer. refl }
+  finds_by (busy at flow (response_head own how)) client server true now found = record {
+    look = refl;
+    so_far = refl;
+    turn = λ answer.
+        answer_reads (client ++ piece_of Client piece) client false server server true now answer at flow own (answer_list (is_head flow.request.method) true (drop own.used server)).final;
+  }
+  finds_by (busy at flow (response_head own how)) client server false now found =
       let asked_head = is_head flow.request.method in
-      let more = piece_of (Server link.server) piece in
-      let item = (answer_list asked_head false server).final in
-      let later = (answer_list asked_head false (server ++ more)).final in
-      let used : Used = ByServer link.server false in
+      let longer = client ++ piece_of Client piece in
+      let more = piece_of (Server own.server) piece in
+      let item = (answer_list asked_head false (drop own.used server)).final in
+      let later = (answer_list asked_head false (drop own.used (server ++ more))).final in
+      let used : Used = ByServer own.server false in
       let there = or_found (ends_early flow closed_message now used true) (look_answer flow item now used false) found in
-      let heads = answer_found flow item later now used false (final_stays readers asked_head server more) there in
+      let heads = answer_found flow item later now used false (final_stays readers asked_head own.used server more) there in
       record {
         look = ap (λ l. or_leaves false (ends_early flow closed_message now used true) l) (look_answer_same flow item later now used false heads);
-        so_far = ap (λ l. interim_commands flow.request l) (readers.interim asked_head false server more (answer_begun flow item now used false there)).0;
-        turn = λ answer. answer_turn_same at flow link item later now answer used false heads;
+        so_far = ap (λ l. interim_commands flow.request l) (interim_stays readers asked_head own.used server more (answer_begun flow item now used false there));
+        turn = λ answer. answer_turn_same at flow own item later (make longer false (server ++ more) false now) answer heads
+            ∙ answer_reads longer client false (server ++ more) server false now answer at flow own item;
       }
-  finds_by (returning at flow link) client server true now found = record { look = refl; so_far = refl; turn = λ answer. refl }
-  finds_by (returning at flow link) client server false now found =
+  finds_by (busy at flow (response_body own how)) client server true now found = record {
+    look = refl;
+    so_far = refl;
+    turn = λ answer.
+        returned_reads (client ++ piece_of Client piece) client false server server true now answer at flow own (answer_list (is_head flow.request.method) true (drop own.used server)).final;
+  }
+  finds_by (busy at flow (response_body own how)) client server false now found =
       let asked_head = is_head flow.request.method in
-      let more = piece_of (Server link.server) piece in
-      let item = (answer_list asked_head false server).final in
-      let later = (answer_list asked_head false (server ++ more)).final in
-      let used : Used = ByServer link.server false in
+      let longer = client ++ piece_of Client piece in
+      let more = piece_of (Server own.server) piece in
+      let item = (answer_list asked_head false (drop own.used server)).final in
+      let later = (answer_list asked_head false (drop own.used (server ++ more))).final in
+      let used : Used = ByServer own.server false in
       let there = or_found (ends_early (without_response flow) closed_message now used true) (look_returned flow item now used false) found in
-      let whole = returned_found flow item later now used false (final_stays readers asked_head server more) there in
+      let whole = returned_found flow item later now used false (final_stays readers asked_head own.used server more) there in
       record {
         look = ap (λ i. or_leaves false (ends_early (without_response flow) closed_message now used true) (look_returned flow i now used false)) whole;
         so_far = refl;
-        turn = λ answer. ap (λ i. returned_turn at flow i now answer used false) whole;
+        turn = λ answer. ap (λ i. turn_returned at flow own i (make longer false (server ++ more) false now) answer) whole
+            ∙ returned_reads longer client false (server ++ more) server false now answer at flow own item;
       }
-  finds_by (given_head at flow) client server shut now found = record { look = refl; so_far = refl; turn = λ answer. refl }
-  finds_by (given_body at flow) client server shut now found = record { look = refl; so_far = refl; turn = λ answer. refl }
+  finds_by (busy at flow given_head) client server shut now found = record { look = refl; so_far = refl; turn = λ answer. refl }
+  finds_by (busy at flow given_body) client server shut now found = record { look = refl; so_far = refl; turn = λ answer. refl }
   finds_by (next at) client server shut now found = record { look = refl; so_far = refl; turn = λ answer. refl }
   finds_by over client server shut now found = record { look = refl; so_far = refl; turn = λ answer. refl }
 
   -- What is found without a piece is found with it, where the client has not closed.
-  pub finds_alike : (v : Shown) → v.closed ≡ false → IsFound (look_in terms v) → FindsAlike terms v (hears v piece)
-  finds_alike v open_client found =
-      let P : Bool → Type 0 = λ b. IsFound (look_in terms (make v.stage v.client b v.server v.shut v.now)) →
-      FindsAlike terms (make v.stage v.client b v.server v.shut v.now) (hears (make v.stage v.client b v.server v.shut v.now) piece) in
-      subst P (sym open_client) (finds_by v.stage v.client v.server v.shut v.now) found
+  pub finds_alike : (stage : Stage) (v : Sight) → v.closed ≡ false → IsFound (look terms stage v) → FindsAlike terms stage v (hears (side_of stage) v piece)
+  finds_alike stage v open_client found =
+      let P : Bool → Type 0 = λ b. IsFound (look terms stage (make v.client b v.server v.shut v.now)) →
+      FindsAlike terms stage (make v.client b v.server v.shut v.now) (hears (side_of stage) (make v.client b v.server v.shut v.now) piece) in
+      subst P (sym open_client) (finds_by stage v.client v.server v.shut v.now) found
 
   -- ---- and where it passes
 
   pass_body_stays : (at : At) (flow : Flow) (response : Response) (client : List ℕ) (item later : Item ReadRequest) (server : List ℕ) (shut : Bool) (now : ℕ) →
       request_item (drop at.used client) ≡ item → Stays item later →
-      IsFound (look_in terms (make (pass_by (receiving at flow (Some response)) item now) client false server shut now)) →
-      pass_by (receiving at flow (Some response)) later now ≡ pass_by (receiving at flow (Some response)) item now
+      IsFound (look terms (pass_body at flow (Some response) item now) (make client false server shut now)) →
+      pass_body at flow (Some response) later now ≡ pass_body at flow (Some response) item now
   pass_body_stays at flow response client missing later server shut now is stays found =
       let P : Item ReadRequest → Type 0 = λ i. IsFound (or_leaves false (ends_early flow closed_message now NoServer true) (look_body flow i now false)) in
       absurd (subst P is found)
@@ -267,32 +340,32 @@ module _ (terms : Terms) (readers : ReadersStay) (side : Side) (bytes : List ℕ
       let P : Item ReadRequest → Type 0 = λ i. IsFound (or_leaves false (ends_early flow closed_message now NoServer true) (look_body flow i now false)) in
       absurd (subst P is found)
   pass_body_stays at flow response client (complete head body trailers used) later server shut now is stays found =
-      ap (λ i. pass_by (receiving at flow (Some response)) i now) (stays.decided refl)
+      ap (λ i. pass_body at flow (Some response) i now) (stays.decided refl)
   pass_body_stays at flow response client (bad_head fault) later server shut now is stays found =
       let P : Item ReadRequest → Type 0 = λ i. IsFound (or_leaves false (ends_early flow closed_message now NoServer true) (look_body flow i now false)) in
       absurd (subst P is found)
   pass_body_stays at flow response client (bad_body fault head body) later server shut now is stays found =
-      ap (λ i. pass_by (receiving at flow (Some response)) i now) (stays.decided refl)
+      ap (λ i. pass_body at flow (Some response) i now) (stays.decided refl)
 
   pass_stays_by : (stage : Stage) (client server : List ℕ) (shut : Bool) (now : ℕ) →
-      IsFound (look_in terms (make (pass_in (make stage client false server shut now)) client false server shut now)) →
-      pass_in (hears (make stage client false server shut now) piece) ≡ pass_in (make stage client false server shut now)
+      IsFound (look terms (pass stage (make client false server shut now)) (make client false server shut now)) →
+      pass stage (hears (side_of stage) (make client false server shut now) piece) ≡ pass stage (make client false server shut now)
   pass_stays_by (idle at) client server shut now found = refl
-  pass_stays_by (receiving at flow None) client server shut now found = refl
-  pass_stays_by (receiving at flow (Some response)) client server shut now found =
+  pass_stays_by (busy at flow (request_body None)) client server shut now found = refl
+  pass_stays_by (busy at flow (request_body (Some response))) client server shut now found =
       pass_body_stays at flow response client (request_item (drop at.used client)) (request_item (drop at.used (client ++ piece_of Client piece))) server shut now refl
       (request_stays readers at.used client (piece_of Client piece)) found
-  pass_stays_by (dialling at flow) client server shut now found = refl
-  pass_stays_by (answering at flow link) client server shut now found = refl
-  pass_stays_by (returning at flow link) client server shut now found = refl
-  pass_stays_by (given_head at flow) client server shut now found = refl
-  pass_stays_by (given_body at flow) client server shut now found = refl
+  pass_stays_by (busy at flow connection) client server shut now found = refl
+  pass_stays_by (busy at flow (response_head own how)) client server shut now found = refl
+  pass_stays_by (busy at flow (response_body own how)) client server shut now found = refl
+  pass_stays_by (busy at flow given_head) client server shut now found = refl
+  pass_stays_by (busy at flow given_body) client server shut now found = refl
   pass_stays_by (next at) client server shut now found = refl
   pass_stays_by over client server shut now found = refl
 
   -- Where something is found behind passing, it passes with the piece as without it.
-  pub pass_stays : (v : Shown) → v.closed ≡ false → IsFound (look_in terms (record v { stage = pass_in v })) → pass_in (hears v piece) ≡ pass_in v
-  pass_stays v open_client found =
-      let P : Bool → Type 0 = λ b. IsFound (look_in terms (make (pass_in (make v.stage v.client b v.server v.shut v.now)) v.client b v.server v.shut v.now)) →
-      pass_in (hears (make v.stage v.client b v.server v.shut v.now) piece) ≡ pass_in (make v.stage v.client b v.server v.shut v.now) in
-      subst P (sym open_client) (pass_stays_by v.stage v.client v.server v.shut v.now) found
+  pub pass_stays : (stage : Stage) (v : Sight) → v.closed ≡ false → IsFound (look terms (pass stage v) v) → pass stage (hears (side_of stage) v piece) ≡ pass stage v
+  pass_stays stage v open_client found =
+      let P : Bool → Type 0 = λ b. IsFound (look terms (pass stage (make v.client b v.server v.shut v.now)) (make v.client b v.server v.shut v.now)) →
+      pass stage (hears (side_of stage) (make v.client b v.server v.shut v.now) piece) ≡ pass stage (make v.client b v.server v.shut v.now) in
+      subst P (sym open_client) (pass_stays_by stage v.client v.server v.shut v.now) found

@@ -8,11 +8,12 @@ use Rattle.px_event.specs.Alike.{Alike, IsLikeness, Unhurried}
 use Rattle.px_event.specs.Chain.{later, Stamp, Stamped, Timed}
 use Rattle.px_event.specs.Laws.{IsFound}
 use Rattle.px_exchange.specs.declared.terms.Terms.{Terms}
-use Rattle.px_stream.specs.Chain.{http_chain, look, pass}
+use Rattle.px_chain.specs.Chain.{http_chain}
+use Rattle.px_chain.specs.Sights.{Standing, sight_over}
 use Rattle.px_cuts.specs.Cuts.{AlikeSeen, MayBeHeard, MayStand, MayWaitFor, retimed}
-use Rattle.px_stream.specs.Stages.{Stage}
-use Rattle.px_cuts.specs.Shown.{hears, moment_of, now_of, shown}
-use Rattle.px_stream.specs.Streams.{client_closed}
+use Rattle.px_chain.specs.Stages.{Stage, side_of}
+use Rattle.px_cuts.specs.Shown.{hears, look_over, passed_over, retimed_sight, retimed_stage}
+use Rattle.px_chain.specs.Streams.{client_closed, now_over}
 
 -- ---- what is owed, its moments seen so
 
@@ -27,22 +28,24 @@ is_like see = record {
 
 -- ---- places that show the same
 
-pub record PlacesAlike (see : ℕ → ℕ) (s : Stage) (f : List (Timed Event)) (t : Stage) (g : List (Timed Event)) : Type 0 where
-  pub shows : shown see s f ≡ shown see t g
+pub record PlacesAlike (see : ℕ → ℕ) (s : Standing) (f : List (Timed Event)) (t : Standing) (g : List (Timed Event)) : Type 0 where
+  pub stages : retimed_stage see s.stage ≡ retimed_stage see t.stage
+  pub sights : retimed_sight see (sight_over s f) ≡ retimed_sight see (sight_over t g)
   pub may : MayStand s f
   pub other_may : MayStand t g
 
 -- ---- a piece that waits behind the one place, and was heard in the other
 
-pub record HeardEarly (see : ℕ → ℕ) (terms : Terms) (event : Stamped Event) (last : Stamp) (s : Stage) (f : List (Timed Event)) (t : Stage) (g : List (Timed Event)) : Type 0 where
+pub record HeardEarly (see : ℕ → ℕ) (terms : Terms) (event : Stamped Event) (last : Stamp) (s : Standing) (f : List (Timed Event)) (t : Standing) (g : List (Timed Event)) : Type 0 where
   pub side : Side
   pub bytes : List ℕ
   pub is_piece : event.value ≡ events.Piece side bytes
-  pub hears : hears (shown see s f) (events.Piece side bytes) ≡ shown see t g
+  pub stages : retimed_stage see s.stage ≡ retimed_stage see t.stage
+  pub hears : hears (side_of s.stage) (retimed_sight see (sight_over s f)) (events.Piece side bytes) ≡ retimed_sight see (sight_over t g)
   pub open_client : client_closed f ≡ false
-  pub comes : see (moment_of s (later last event.stamp).moment) ≡ see (now_of s f)
+  pub comes : see (later last event.stamp).moment ≡ see (now_over s.since f)
   -- a server's piece that waits while something is found is none of a server that is dialled later
-  pub heard : IsFound (look terms (pass s f).stage f) → MayBeHeard side s
+  pub heard : IsFound (look_over terms (passed_over s f) f) → MayBeHeard side s.stage
   pub may : MayStand s f
   pub other_may : MayStand t g
 

@@ -1,5 +1,5 @@
 -- However the network cuts the bytes into pieces, what is due is the same: the words of these laws.
-use Rattle.std.specs.Prelude.{◌≡◌, ℕ, ◌<◌, ◌≤◌, List, [], ◌∷◌, ◌++◌, length, map, if◌then◌else◌, Option, Some, None, ⊤}
+use Rattle.std.specs.Prelude.{◌≡◌, ℕ, ◌<◌, ◌≤◌, List, [], ◌∷◌, ◌++◌, map, if◌then◌else◌, Option, Some, None, ⊤}
 use Rattle.px_message.specs.declared.flow.Flow.{Flow}
 use Rattle.px_message.specs.declared.flow.FlowError.{FlowError}
 use Rattle.px_event.specs.declared.command.Command.{Command}
@@ -11,7 +11,8 @@ use Rattle.px_event.specs.declared.side.Side.{Side}
 use Rattle.px_event.specs.declared.side.Side.TheVariants.{Client, Server}
 use Rattle.px_event.specs.Chain.{later, Stamp, Stamped, Timed}
 use Rattle.px_event.specs.Trace.{is_same_side}
-use Rattle.px_stream.specs.Stages.{At, Link, Stage, over, place_of, link_of}
+use Rattle.px_chain.specs.Sights.{IsWithin, Standing}
+use Rattle.px_chain.specs.Stages.{At, ServerSide, Stage, over, place_of, side_of}
 
 -- ---- the moments inside what is owed, each seen through a function
 
@@ -80,20 +81,15 @@ SameStreams these those = joined_pieces (values_of these) ≡ joined_pieces (val
 
 -- ---- where and when pieces come
 
-abbrev pub OpenedWithin : Option Link → List (Timed Event) → Type 0
-OpenedWithin None front = ⊤
-OpenedWithin (Some link) front = link.opened ≤ length front
-
-abbrev pub DialledBefore : Option Link → At → Type 0
+abbrev pub DialledBefore : Option ServerSide → At → Type 0
 DialledBefore None at = ⊤
-DialledBefore (Some link) at = link.server < at.dials
+DialledBefore (Some side) at = side.server < at.dials
 
--- A stage that may stand over this front: it stands since an event of it, and so does its server's side, whose dial is
+-- A place that may stand over this prefix: it stands since an event of it, and so does its server's side, whose dial is
 -- counted. Over no events it is one that counts none, as each at which a conversation begins.
-pub record MayStand (stage : Stage) (front : List (Timed Event)) : Type 0 where
-  pub since : (place_of stage).since.events ≤ length front
-  pub opened : OpenedWithin (link_of stage) front
-  pub dialled : DialledBefore (link_of stage) (place_of stage)
+pub record MayStand (place : Standing) (prefix : List (Timed Event)) : Type 0 where
+  pub within : IsWithin place prefix
+  pub dialled : DialledBefore (side_of place.stage) (place_of place.stage)
 
 -- The side may have been heard where a conversation stands: it is the client's, or that of a server that was dialled. At the
 -- end it makes no difference.

@@ -5,9 +5,10 @@ ghost use Rattle.px_event.specs.Chain.{Stamped, due};
 ghost use Rattle.px_event.specs.declared.event.Event.{Event as Heard};
 ghost use Rattle.px_event.specs.declared.reply.Reply.{Reply as Answer};
 ghost use Rattle.px_exchange.specs.declared.terms.Terms.{Terms as Made};
-ghost use Rattle.px_stream.specs.Chain.{IsOnward, http_chain};
-ghost use Rattle.px_stream.specs.Laws.{settles};
-ghost use Rattle.px_stream.specs.Stages.{Stage};
+ghost use Rattle.px_chain.specs.Chain.{IsOnward, http_chain};
+ghost use Rattle.px_chain.proofs.ChainLaws.{settles};
+ghost use Rattle.px_chain.specs.Sights.{Standing};
+ghost use Rattle.px_chain.specs.Stages.{Stage};
 ghost use Rattle.px_cuts.specs.Alike.{Conversation, HeardEarly, IsCompared, PlacesAlike, is_like};
 ghost use Rattle.px_cuts.specs.Cuts.{AlikeSeen, EqualButForMoments, MayWaitFor, as_it_is, no_moment};
 
@@ -20,7 +21,7 @@ pub struct Exactly;
 pub struct AtAnyMoments;
 
 impl Compared for Exactly {
-    ghost Stage = { Stage };
+    ghost Stage = { Standing };
 
     ghost Given = { Conversation as_it_is };
 
@@ -44,7 +45,7 @@ impl Compared for Exactly {
 }
 
 impl Compared for AtAnyMoments {
-    ghost Stage = { Stage };
+    ghost Stage = { Standing };
 
     ghost Given = { Conversation no_moment };
 
@@ -75,10 +76,10 @@ pub fn conversations_are_compared()
 
 /// Conversations owe the same that start at places that show the same: as it is, or but for the moments inside flows.
 pub fn alike_starts_owe_the_same()
-    ensures exactly { (onward : Stage → Stage) (made : Made) (start other : Stage) (events : List (Stamped Heard)) (replies : List (Stamped Answer)) → IsOnward onward →
+    ensures exactly { (onward : Stage → Stage) (made : Made) (start other : Standing) (events : List (Stamped Heard)) (replies : List (Stamped Answer)) → IsOnward onward →
         PlacesAlike as_it_is start [] other [] →
         AlikeSeen as_it_is (due (http_chain onward made) start events replies) (due (http_chain onward made) other events replies) }
-    ensures at_any_moments { (onward : Stage → Stage) (made : Made) (start other : Stage) (events : List (Stamped Heard)) (replies : List (Stamped Answer)) → IsOnward onward →
+    ensures at_any_moments { (onward : Stage → Stage) (made : Made) (start other : Standing) (events : List (Stamped Heard)) (replies : List (Stamped Answer)) → IsOnward onward →
         PlacesAlike no_moment start [] other [] →
         EqualButForMoments (due (http_chain onward made) start events replies) (due (http_chain onward made) other events replies) }
 {

@@ -14,16 +14,17 @@ ghost use Rattle.px_event.specs.Trace.{is_same_side};
 ghost use Rattle.px_event.specs.declared.event.Event.{Event as Heard};
 ghost use Rattle.px_event.specs.declared.reply.Reply.{Reply as Answer};
 ghost use Rattle.px_event.specs.declared.side.Side.{Side as Peer};
-ghost use Rattle.px_stream.specs.Chain.{http_chain, IsOnward};
+ghost use Rattle.px_chain.specs.Chain.{http_chain, IsOnward};
 ghost use Rattle.px_cuts.specs.Cuts.{as_piece, EqualButForMoments, IsNoEarlier, MayBeHeard, MayStand, SameStreams, piece_at, values_of};
-ghost use Rattle.px_stream.specs.Stages.{Stage};
+ghost use Rattle.px_chain.specs.Sights.{Standing};
+ghost use Rattle.px_chain.specs.Stages.{Stage};
 ghost use Rattle.px_exchange.specs.declared.terms.Terms.{Terms as Made};
 
 /// However the network cuts the bytes of a side into pieces, and in whatever steps they come, what is due is the same but
 /// for the moments inside flows. The events are the same with all neighbouring pieces of a side joined, and the replies are
 /// the same in the same order.
 pub fn same_streams_owe_the_same()
-    ensures { (onward : Stage → Stage) (made : Made) (start : Stage) (these those : List (Stamped Heard)) (replies answers : List (Stamped Answer)) →
+    ensures { (onward : Stage → Stage) (made : Made) (start : Standing) (these those : List (Stamped Heard)) (replies answers : List (Stamped Answer)) →
         IsOnward onward → MayStand start [] → SameStreams these those → values_of replies ≡ values_of answers →
         EqualButForMoments (due (http_chain onward made) start these replies) (due (http_chain onward made) start those answers) }
 {}
@@ -31,12 +32,12 @@ pub fn same_streams_owe_the_same()
 /// A piece of a side in two, cut anywhere, changes nothing of what is due: in one step exactly, and in any steps but for the
 /// moments inside flows.
 pub fn cut_pieces_owe_the_same()
-    ensures exactly { (onward : Stage → Stage) (made : Made) (start : Stage) (before after : List (Stamped Heard)) (replies : List (Stamped Answer))
+    ensures exactly { (onward : Stage → Stage) (made : Made) (start : Standing) (before after : List (Stamped Heard)) (replies : List (Stamped Answer))
         (stamp : Stamp) (side : Peer) (bytes more : List ℕ) → IsOnward onward → MayStand start [] →
         MayCome (IsNoEarlier stamp) (walk_from (http_chain onward made) start before replies).unused →
         due (http_chain onward made) start (before ++ piece_at stamp side bytes ∷ piece_at stamp side more ∷ after) replies
         ≡ due (http_chain onward made) start (before ++ piece_at stamp side (bytes ++ more) ∷ after) replies }
-    ensures at_any_moments { (onward : Stage → Stage) (made : Made) (start : Stage) (before after : List (Stamped Heard)) (replies : List (Stamped Answer))
+    ensures at_any_moments { (onward : Stage → Stage) (made : Made) (start : Standing) (before after : List (Stamped Heard)) (replies : List (Stamped Answer))
         (stamp first second : Stamp) (side : Peer) (bytes more : List ℕ) → IsOnward onward → MayStand start [] →
         EqualButForMoments (due (http_chain onward made) start (before ++ piece_at first side bytes ∷ piece_at second side more ∷ after) replies)
         (due (http_chain onward made) start (before ++ piece_at stamp side (bytes ++ more) ∷ after) replies) }
@@ -45,12 +46,12 @@ pub fn cut_pieces_owe_the_same()
 /// However many pieces of a side come one behind the other, what is due is that of all their bytes in one piece: in one step
 /// exactly, and in any steps but for the moments inside flows.
 pub fn joined_pieces_owe_the_same()
-    ensures exactly { (onward : Stage → Stage) (made : Made) (start : Stage) (before after : List (Stamped Heard)) (replies : List (Stamped Answer))
+    ensures exactly { (onward : Stage → Stage) (made : Made) (start : Standing) (before after : List (Stamped Heard)) (replies : List (Stamped Answer))
         (stamp : Stamp) (side : Peer) (first : List ℕ) (rest : List (List ℕ)) → IsOnward onward → MayStand start [] →
         MayCome (IsNoEarlier stamp) (walk_from (http_chain onward made) start before replies).unused →
         due (http_chain onward made) start (before ++ (map (piece_at stamp side) (first ∷ rest) ++ after)) replies
         ≡ due (http_chain onward made) start (before ++ piece_at stamp side (flat_map (λ bytes. bytes) (first ∷ rest)) ∷ after) replies }
-    ensures at_any_moments { (onward : Stage → Stage) (made : Made) (start : Stage) (before after : List (Stamped Heard)) (replies : List (Stamped Answer))
+    ensures at_any_moments { (onward : Stage → Stage) (made : Made) (start : Standing) (before after : List (Stamped Heard)) (replies : List (Stamped Answer))
         (stamp : Stamp) (side : Peer) (first : Stamped (List ℕ)) (rest : List (Stamped (List ℕ))) → IsOnward onward → MayStand start [] →
         EqualButForMoments (due (http_chain onward made) start (before ++ (map (as_piece side) (first ∷ rest) ++ after)) replies)
         (due (http_chain onward made) start (before ++ piece_at stamp side (flat_map (λ bytes. bytes.value) (first ∷ rest)) ∷ after) replies) }
@@ -60,17 +61,17 @@ pub fn joined_pieces_owe_the_same()
 /// steps but for the moments inside flows. Both sides may be heard by then: a side is the client's, or that of a server that
 /// was dialled. In a run that is so: a server is heard once it is connected. Before its dial its bytes are not heard at all.
 pub fn swapped_pieces_owe_the_same()
-    ensures exactly { (onward : Stage → Stage) (made : Made) (start : Stage) (before after : List (Stamped Heard)) (replies : List (Stamped Answer))
+    ensures exactly { (onward : Stage → Stage) (made : Made) (start : Standing) (before after : List (Stamped Heard)) (replies : List (Stamped Answer))
         (stamp : Stamp) (side other : Peer) (bytes more : List ℕ) → IsOnward onward → MayStand start [] → is_same_side side other ≡ false →
-        MayBeHeard side (walk_from (http_chain onward made) start before replies).stage →
-        MayBeHeard other (walk_from (http_chain onward made) start before replies).stage →
+        MayBeHeard side (walk_from (http_chain onward made) start before replies).stage.stage →
+        MayBeHeard other (walk_from (http_chain onward made) start before replies).stage.stage →
         MayCome (IsNoEarlier stamp) (walk_from (http_chain onward made) start before replies).unused →
         due (http_chain onward made) start (before ++ piece_at stamp side bytes ∷ piece_at stamp other more ∷ after) replies
         ≡ due (http_chain onward made) start (before ++ piece_at stamp other more ∷ piece_at stamp side bytes ∷ after) replies }
-    ensures at_any_moments { (onward : Stage → Stage) (made : Made) (start : Stage) (before after : List (Stamped Heard)) (replies : List (Stamped Answer))
+    ensures at_any_moments { (onward : Stage → Stage) (made : Made) (start : Standing) (before after : List (Stamped Heard)) (replies : List (Stamped Answer))
         (first second : Stamp) (side other : Peer) (bytes more : List ℕ) → IsOnward onward → MayStand start [] → is_same_side side other ≡ false →
-        MayBeHeard side (walk_from (http_chain onward made) start before replies).stage →
-        MayBeHeard other (walk_from (http_chain onward made) start before replies).stage →
+        MayBeHeard side (walk_from (http_chain onward made) start before replies).stage.stage →
+        MayBeHeard other (walk_from (http_chain onward made) start before replies).stage.stage →
         EqualButForMoments (due (http_chain onward made) start (before ++ piece_at first side bytes ∷ piece_at second other more ∷ after) replies)
         (due (http_chain onward made) start (before ++ piece_at second other more ∷ piece_at first side bytes ∷ after) replies) }
 {}

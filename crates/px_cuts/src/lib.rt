@@ -6,7 +6,7 @@
 //! for the moments that its flows tell (`cuts`). So `GET / HT` and then `TP/1.1` ask the same hooks, and send the same
 //! bytes to the same sides, as `GET / HTTP/1.1` in one piece.
 //!
-//! The reason is one word. What a place shows, a stage over a front, is its stage and the joined bytes of its sides
+//! The reason is one word. What a place shows, a stage over a prefix, is its stage and the joined bytes of its sides
 //! (`specs/Shown.antt`), and all that the chain finds and brings is a function of that: so places that show the same owe the
 //! same (`compared`), and a piece that waits changes nothing that is found without it.
 #![tactic(auto)]

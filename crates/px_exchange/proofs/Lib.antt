@@ -1,1 +1,3 @@
+pub mod GoalLemmas
 pub mod OrderLemmas
+pub mod BodyLemmas

@@ -16,6 +16,7 @@ use Rattle.px_exchange.specs.declared.asked.Judged.{Judged}
 use Rattle.px_exchange.specs.declared.asked.Judged.TheVariants.{Refused, Accepted}
 use Rattle.px_exchange.specs.declared.ending.Used.{Used}
 use Rattle.px_exchange.specs.declared.ending.Used.TheVariants.{NoServer, ByServer}
+use Rattle.px_exchange.specs.declared.place.Place.{Place}
 use Rattle.px_exchange.specs.declared.terms.Terms.{Terms}
 use Rattle.px_exchange.specs.Finds.{or_leaves, look_head, look_judged, look_body, look_answer, look_answer_head, look_returned, is_relayed}
 use Rattle.px_exchange.specs.Texts.{meets_expectation}
@@ -73,13 +74,13 @@ finished_ends flow response used stays closed = closes_both (shut_server used) (
 
 -- ---- what a dial's answer brings, and what lets a body come
 
-pub dial_ends : (flow : Flow) (server : ℕ) (answer : Reply) (moment : ℕ) (closed : Bool) → EndsInOrder (dial_owes flow server answer moment closed)
-dial_ends flow server reply.Dialled moment closed = tt
-dial_ends flow server (reply.Refused fault) moment closed = fault_ends flow fault moment NoServer closed
-dial_ends flow server (reply.Go other stream) moment closed = tt
-dial_ends flow server (reply.Respond given) moment closed = tt
-dial_ends flow server reply.Kill moment closed = tt
-dial_ends flow server reply.Discard moment closed = tt
+pub dial_ends : (place : Place) (flow : Flow) (server : ℕ) (answer : Reply) (moment : ℕ) (closed : Bool) → EndsInOrder (dial_owes place flow server answer moment closed)
+dial_ends place flow server reply.Dialled moment closed = tt
+dial_ends place flow server (reply.Refused fault) moment closed = fault_ends flow fault moment NoServer closed
+dial_ends place flow server (reply.Go other stream) moment closed = tt
+dial_ends place flow server (reply.Respond given) moment closed = tt
+dial_ends place flow server reply.Kill moment closed = tt
+dial_ends place flow server reply.Discard moment closed = tt
 
 pub expectation_ends : (expected : Bool) → EndsInOrder (meets_expectation expected)
 expectation_ends true = tt
@@ -93,10 +94,10 @@ judged_ends terms index head (Accepted message) moment closed = tt
 
 pub head_ends : (terms : Terms) (index : ℕ) (item : Item ReadRequest) (moment : ℕ) (closed : Bool) → FoundInOrder (look_head terms index item moment closed)
 head_ends terms index missing moment closed = tt
-head_ends terms index (part head body) moment closed = judged_ends terms index head (judged terms.address head) moment closed
-head_ends terms index (complete head body trailers used) moment closed = judged_ends terms index head (judged terms.address head) moment closed
+head_ends terms index (part head body) moment closed = judged_ends terms index head (judged terms.place head) moment closed
+head_ends terms index (complete head body trailers used) moment closed = judged_ends terms index head (judged terms.place head) moment closed
 head_ends terms index (bad_head fault) moment closed = refuses_ends fault false closed
-head_ends terms index (bad_body fault head body) moment closed = judged_ends terms index head (judged terms.address head) moment closed
+head_ends terms index (bad_body fault head body) moment closed = judged_ends terms index head (judged terms.place head) moment closed
 
 pub body_ends : (flow : Flow) (item : Item ReadRequest) (moment : ℕ) (closed : Bool) → FoundInOrder (look_body flow item moment closed)
 body_ends flow missing moment closed = tt

@@ -31,11 +31,11 @@ look_judged terms index head (Accepted request) moment closed = Asks (ask_of (fl
 
 abbrev pub look_head : Terms → ℕ → Item ReadRequest → ℕ → Bool → Look Command
 look_head terms index missing moment closed = NotYet
-look_head terms index (part head body) moment closed = look_judged terms index head (judged terms.address head) moment closed
+look_head terms index (part head body) moment closed = look_judged terms index head (judged terms.place head) moment closed
 look_head terms index (complete head body trailers used) moment closed =
-    look_judged terms index head (judged terms.address head) moment closed
+    look_judged terms index head (judged terms.place head) moment closed
 look_head terms index (bad_head fault) moment closed = Ends (refuses fault false closed)
-look_head terms index (bad_body fault head body) moment closed = look_judged terms index head (judged terms.address head) moment closed
+look_head terms index (bad_body fault head body) moment closed = look_judged terms index head (judged terms.place head) moment closed
 
 abbrev pub look_body : Flow → Item ReadRequest → ℕ → Bool → Look Command
 look_body flow (complete head body trailers used) moment closed = Asks (ask_of (with_body flow body.content trailers moment) RequestBody)

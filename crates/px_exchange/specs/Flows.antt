@@ -2,15 +2,19 @@
 use Rattle.std.specs.Prelude.{ℕ, false, List, [], Option, Some, None}
 use Rattle.px_message.specs.declared.flow.Flow.{Flow}
 use Rattle.px_message.specs.declared.response.Response.{Response}
+use Rattle.px_event.specs.declared.ask.Ask.{Ask}
 use Rattle.px_event.specs.declared.ask.Ask.TheVariants as asks
 use Rattle.px_event.specs.declared.ask.Hook.{Hook}
 use Rattle.px_event.specs.declared.command.Command.{Command}
 use Rattle.px_event.specs.declared.command.Command.TheVariants as commands
 use Rattle.px_read.specs.declared.head.ResponseHead.{ResponseHead as ReadResponse}
 
--- the question of a hook about a flow
+-- the question of a hook about a flow, and the command that asks it
+abbrev pub hook_of : Flow → Hook → Ask
+hook_of flow hook = asks.Hook flow.id.index hook
+
 abbrev pub ask_of : Flow → Hook → Command
-ask_of flow hook = commands.Ask (asks.Hook flow.id.index hook) flow
+ask_of flow hook = commands.Ask (hook_of flow hook) flow
 
 -- the flow with its whole request
 abbrev pub with_body : Flow → List ℕ → List (List ℕ × List ℕ) → ℕ → Flow

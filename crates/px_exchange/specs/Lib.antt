@@ -7,3 +7,4 @@ pub mod Endings
 pub mod EndOrder
 pub mod Finds
 pub mod Places
+pub mod Bodies

@@ -1,18 +1,42 @@
 -- Where the requests of a conversation go.
 use Rattle.std.specs.Prelude.{ℕ, Option, None, ⊤}
 use Rattle.px_message.specs.declared.address.Address.{Address}
+use Rattle.px_message.specs.declared.request.Request.{Request}
+use Rattle.px_write.specs.declared.form.Form.{Form}
+use Rattle.px_write.specs.declared.form.Form.TheVariants.{Origin, Absolute}
+use Rattle.px_exchange.specs.declared.mode.Mode.{Mode}
+use Rattle.px_exchange.specs.declared.mode.Mode.TheVariants as modes
 use Rattle.px_exchange.specs.declared.place.Place.{Place}
 use Rattle.px_exchange.specs.declared.place.Place.TheVariants as places
 use Rattle.px_exchange.specs.declared.terms.Terms.{Terms}
 
--- its server is dialled, and reached through no other
+-- the place of each conversation in this mode
+abbrev pub place_of : Mode → Place
+place_of modes.Regular = places.Regular
+place_of (modes.Reverse address) = places.Fixed address None None
+place_of (modes.Upstream proxy) = places.Upstream proxy
+
+-- what is dialled is reached through no other, and no side is connected already
 abbrev pub IsDialled : Place → Type 0
 IsDialled (places.Fixed address None None) = ⊤
-IsDialled _ = ⊥
+IsDialled (places.Fixed address side inside) = ⊥
+IsDialled places.Regular = ⊤
+IsDialled (places.Upstream proxy) = ⊤
 
-abbrev pub address_in : Place → Address
-address_in (places.Fixed address side inside) = address
+-- where a request goes: to its own host and port, as its hooks left them
+abbrev pub address_of : Request → Address
+address_of request = record { host = request.host; port = request.port; port_not_zero = request.port_not_zero }
+
+-- what is dialled for a request: the proxy that it goes to, or its own host and port
+abbrev pub dialled_for : Place → Request → Address
+dialled_for (places.Upstream proxy) request = proxy
+dialled_for place request = address_of request
+
+-- the form in which its target is sent: a proxy gets the whole URL (RFC 9112 section 3.2.2)
+abbrev pub form_at : Place → Form
+form_at (places.Upstream proxy) = Absolute
+form_at place = Origin
 
 -- how the flows of a conversation are made
 abbrev pub terms_of : ℕ → Option Address → Place → Terms
-terms_of conv client place = record { conv = conv; client = client; address = address_in place }
+terms_of conv client place = record { conv = conv; client = client; place = place }

@@ -8,16 +8,16 @@ use Rattle.px_event.specs.declared.command.Command.TheVariants as commands
 use Rattle.px_event.specs.declared.side.Side.TheVariants.{Client}
 use Rattle.px_read.specs.declared.head.ResponseHead.{ResponseHead}
 use Rattle.px_write.specs.Text.{crlf, interim_text, request_text, response_text}
-use Rattle.px_write.specs.declared.form.Form.TheVariants.{Origin}
+use Rattle.px_write.specs.declared.form.Form.{Form}
 use Rattle.px_exchange.specs.Requests.{is_head, is_http11}
 
 -- the body may come (RFC 9110 section 15.2.1)
 unfoldable pub continue_text : List ℕ
 continue_text = codes "HTTP/1.1 100 Continue" ++ crlf ++ crlf
 
--- the request as it goes to the server: its framing made true to its body
-abbrev pub onward_text : Request → List ℕ
-onward_text request = request_text (settled_request request) Origin
+-- the request as it goes to the server, or to a proxy: its framing made true to its body
+abbrev pub onward_text : Form → Request → List ℕ
+onward_text form request = request_text (settled_request request) form
 
 -- the response as it goes to the client: to HEAD its head alone
 abbrev pub returned_text : Request → Response → List ℕ
@@ -28,9 +28,13 @@ returned_text request response =
 abbrev pub interim_command : ResponseHead → Command
 interim_command head = commands.Send Client (interim_text head.version head.code head.reason head.fields)
 
--- interim responses: a client of version 1.0 knows none (RFC 9110 section 15.2)
+-- interim responses, where the client knows them
+abbrev pub sends_on : Bool → List ResponseHead → List Command
+sends_on sends heads = if sends then map interim_command heads else []
+
+-- a client of version 1.0 knows none (RFC 9110 section 15.2)
 abbrev pub interim_commands : Request → List ResponseHead → List Command
-interim_commands request heads = if is_http11 request.version then map interim_command heads else []
+interim_commands request heads = sends_on (is_http11 request.version) heads
 
 -- an answer before the body was sent, where the client waits for it
 abbrev pub meets_expectation : Bool → List Command

@@ -1,9 +1,12 @@
 //! The request that a head asks: its target is judged, then its length, and the expectation is taken out that this proxy
 //! meets itself.
-ghost use Rattle.std.specs.Prelude.{◌≡◌, ◌≢◌, ◌∷◌, [], IfOk};
+ghost use Rattle.std.specs.Prelude.{◌≡◌, ◌≢◌, ◌∷◌, [], IfOk, Some};
 ghost use Rattle.px_message.specs.Target.{target_form};
-ghost use Rattle.px_exchange.specs.Requests.{connect_method, expects, fields_asked, is_head, is_http11, judged, path_in, request_of, unless_met};
+ghost use Rattle.px_read.specs.Requests.{connect_method};
+ghost use Rattle.px_write.specs.TargetPath.{path_said};
+ghost use Rattle.px_exchange.specs.Requests.{expects, fields_asked, is_head, is_http11, goal_at, goal_in, judged, request_of, unless_met, with_path};
 
+use crate::Place;
 use px_message::{
     Address, Body, Fault, Fields, Path, Request, Target, TargetError, Version, length_of_request,
     read_target,
@@ -43,14 +46,14 @@ pub fn expects(head: &RequestHead) -> bool
     is_http11(head.version) && head.fields.has_value(b"Expect", b"100-continue")
 }
 
-/// The request of this head, for this address.
-pub fn judge(alloc: Global, address: &Address, head: RequestHead) -> Result<Judged, NoMemory>
-    ensures { IfOk result (λ made. made ≡ judged address.now head) }
+/// The request of this head, where it is asked at this place.
+pub fn judge(alloc: Global, place: &Place, head: RequestHead) -> Result<Judged, NoMemory>
+    ensures { IfOk result (λ made. made ≡ judged place.now head) }
 {
     if head.method.bytes() == b"CONNECT".as_slice() {
         return Ok(Judged::Refused(Fault::BadTarget));
     }
-    let Some(path) = allowed_path(alloc, head.method.bytes(), head.target.as_slice())? else {
+    let Some((address, path)) = find_goal(alloc, place, &head)? else {
         return Ok(Judged::Refused(Fault::BadTarget));
     };
     if let Err(fault) = length_of_request(&head.fields) {
@@ -59,9 +62,57 @@ pub fn judge(alloc: Global, address: &Address, head: RequestHead) -> Result<Judg
     Ok(Judged::Accepted(accept(alloc, address, head, path)?))
 }
 
-// The path of a target in a form that is allowed here.
+// Where a request goes, and its path, if its target is in a form that is allowed at this place.
+fn find_goal(
+    alloc: Global,
+    place: &Place,
+    head: &RequestHead,
+) -> Result<Option<(Address, Path)>, NoMemory>
+    ensures { IfOk result (λ goal. goal ≡ goal_at place.now (target_form head.now.method head.now.target)) }
+{
+    let method = head.method.bytes();
+    let target = head.target.as_slice();
+    match place {
+        Place::Fixed { address, .. } => fixed_goal(alloc, address, method, target),
+        Place::Regular => named_goal(alloc, method, target),
+        Place::Upstream(_) => named_goal(alloc, method, target),
+    }
+}
+
+// This address, with the path of the target.
+fn fixed_goal(
+    alloc: Global,
+    address: &Address,
+    method: &[u8],
+    target: &[u8],
+) -> Result<Option<(Address, Path)>, NoMemory>
+    ensures { IfOk result (λ goal. goal ≡ with_path (Some address.now) (path_said (target_form method.now target.now))) }
+{
+    match allowed_path(alloc, method, target)? {
+        Some(path) => Ok(Some((address.try_clone()?, path))),
+        None => Ok(None),
+    }
+}
+
+// What a target in absolute form names.
+fn named_goal(
+    alloc: Global,
+    method: &[u8],
+    target: &[u8],
+) -> Result<Option<(Address, Path)>, NoMemory>
+    ensures { IfOk result (λ goal. goal ≡ goal_in (target_form method.now target.now)) }
+{
+    match read_target(alloc, method, target) {
+        Ok(Target::Absolute(address, path)) => Ok(Some((address, path))),
+        Ok(_) => Ok(None),
+        Err(TargetError::BadTarget) => Ok(None),
+        Err(TargetError::NoMemory) => Err(NoMemory),
+    }
+}
+
+// The path of a target in a form that a server gets.
 fn allowed_path(alloc: Global, method: &[u8], target: &[u8]) -> Result<Option<Path>, NoMemory>
-    ensures { IfOk result (λ path. path ≡ path_in (target_form method.now target.now)) }
+    ensures { IfOk result (λ path. path ≡ path_said (target_form method.now target.now)) }
 {
     match read_target(alloc, method, target) {
         Ok(Target::Origin(path)) => Ok(Some(path)),
@@ -85,19 +136,18 @@ fn asterisk(alloc: Global) -> Result<Path, NoMemory>
 // The request of a head that is accepted, without its expectation.
 fn accept(
     alloc: Global,
-    address: &Address,
+    address: Address,
     head: RequestHead,
     path: Path,
 ) -> Result<Request, NoMemory>
     requires not_connect { head.method ≢ connect_method }
-    ensures { (not_connect : head.method ≢ connect_method) → IfOk result (λ request. request ≡ request_of address.now head path not_connect) }
+    ensures { (not_connect : head.method ≢ connect_method) → IfOk result (λ request. request ≡ request_of address head path not_connect) }
 {
-    let host = address.host.try_clone()?;
     let expected = expects(&head);
     let fields = without_expectation(expected, head.fields)?;
     Ok(Request {
         method: head.method,
-        host,
+        host: address.host,
         port: address.port,
         path,
         version: head.version,

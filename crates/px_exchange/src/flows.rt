@@ -1,13 +1,16 @@
 //! A flow as it is told so far.
 ghost use Rattle.std.specs.Prelude.{◌≡◌, false, true, Some, IfOk, MatchOption};
-ghost use Rattle.px_exchange.specs.Dials.{address_of};
 ghost use Rattle.px_exchange.specs.Finds.{is_relayed};
-ghost use Rattle.px_exchange.specs.Flows.{filled, response_of, with_answer, with_body, with_end, with_returned, with_start};
+ghost use Rattle.px_exchange.specs.Flows.{filled, hook_of, response_of, with_answer, with_body, with_end, with_returned, with_start};
 ghost use Rattle.px_exchange.specs.Endings.{with_error, without_response};
-ghost use Rattle.px_exchange.specs.Requests.{flow_of};
+ghost use Rattle.px_exchange.specs.Places.{address_of, dialled_for};
+ghost use Rattle.px_exchange.specs.Requests.{flow_of, is_http11};
 
+use crate::asked::is_http11;
 use crate::content::Content;
+use crate::place::Place;
 use crate::terms::{Now, Terms};
+use px_event::{Ask, Hook};
 use px_message::{
     Address, Body, Fields, Flow, FlowError, FlowId, Replayed, Request, Response, Shared, Status,
     Times,
@@ -203,8 +206,18 @@ pub fn with_error(now: Now, flow: Flow, message: &[u8]) -> Result<Flow, NoMemory
     Ok(flow)
 }
 
-/// Where the request of a flow goes, as its hooks left it.
-pub fn address_of(flow: &Flow) -> Result<Address, NoMemory>
+/// What is dialled for the request of a flow: the proxy that it goes to, or its host and port, as its hooks left them.
+pub fn dialled_for(place: &Place, flow: &Flow) -> Result<Address, NoMemory>
+    ensures { IfOk result (λ address. address ≡ dialled_for place.now flow.now.request) }
+{
+    match place {
+        Place::Upstream(proxy) => proxy.try_clone(),
+        _ => address_of(flow),
+    }
+}
+
+// Where the request of a flow goes.
+fn address_of(flow: &Flow) -> Result<Address, NoMemory>
     ensures { IfOk result (λ address. address ≡ address_of flow.now.request) }
 {
     let request = flow.request.get();
@@ -239,4 +252,21 @@ pub fn response_of(alloc: Global, head: ResponseHead, status: Status) -> Respons
         trailers: Fields::new(alloc),
         streamed: false,
     }
+}
+
+/// The question of a hook about the flow.
+pub fn hook_of(flow: &Flow, hook: Hook) -> Ask
+    ensures { result ≡ hook_of flow.now hook }
+{
+    Ask::Hook {
+        flow: flow.id.index,
+        hook,
+    }
+}
+
+/// Whether its request is of HTTP/1.1.
+pub fn asks_http11(flow: &Flow) -> bool
+    ensures { result ≡ is_http11 flow.now.request.version }
+{
+    is_http11(flow.request.get().version)
 }

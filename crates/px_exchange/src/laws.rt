@@ -12,6 +12,7 @@ ghost use Rattle.px_exchange.specs.EndOrder.{EndsInOrder, FoundInOrder};
 ghost use Rattle.px_exchange.specs.Endings.{ends_by_fault, ends_early, finished, refuses, shut_unless};
 ghost use Rattle.px_exchange.specs.Finds.{look_answer, look_body, look_head, look_returned};
 ghost use Rattle.px_exchange.specs.declared.ending.Used.{Used as Use};
+ghost use Rattle.px_exchange.specs.declared.place.Place.{Place as At};
 ghost use Rattle.px_exchange.specs.declared.terms.Terms.{Terms as Made};
 
 /// What is owed at an end is bytes, then the end of at most one flow, then closes, in this order.
@@ -20,7 +21,7 @@ pub fn ends_are_in_order()
     ensures fault { (flow : Told) (fault : Wrong) (moment : ℕ) (used : Use) (closed : Bool) → EndsInOrder (ends_by_fault flow fault moment used closed) }
     ensures refused { (fault : Wrong) (asked_head closed : Bool) → EndsInOrder (refuses fault asked_head closed) }
     ensures finished { (flow : Told) (response : Answered) (used : Use) (stays closed : Bool) → EndsInOrder (finished flow response used ++ shut_unless stays closed) }
-    ensures dial { (flow : Told) (server : ℕ) (answer : Answer) (moment : ℕ) (closed : Bool) → EndsInOrder (dial_owes flow server answer moment closed) }
+    ensures dial { (place : At) (flow : Told) (server : ℕ) (answer : Answer) (moment : ℕ) (closed : Bool) → EndsInOrder (dial_owes place flow server answer moment closed) }
 {}
 
 /// So is each end that is found where a message is awaited.

@@ -10,7 +10,8 @@
 //! `taken`: what a reply to a hook is taken for. A hook of a head takes a head, one of a body a body besides, and what makes
 //! no sense there goes on as it was asked. A status 101 that no server sent becomes 502 (RFC 9110 section 15.2.2).
 //!
-//! `flows`: a flow as it is told so far, each part with the moment at which it came. `content` is a body while it comes.
+//! `flows`: a flow as it is told so far, each part with the moment at which it came. `content` is a body while it comes, and `body`
+//! reads it, part by part.
 //!
 //! `texts`: what is sent: the request onward and the response, each with its framing made true to its body, an interim
 //! response, and `100 Continue` (RFC 9110 section 15.2.1). To HEAD a response is its head alone (section 9.3.2).
@@ -20,15 +21,19 @@
 //! the close (RFC 9112 section 9.3): so `Connection: close` in either of them ends it, and so does an answer of version 1.0
 //! that does not say `keep-alive`.
 //!
+//! `Mode` says where requests go, and a conversation's place follows from it.
+//!
 //! What is found where a message is awaited (`specs/Finds.antt`), and what a dial's answer brings (`specs/Dials.antt`), are
 //! definitions for the crate above.
 #![tactic(auto)]
 
 pub mod asked;
+pub mod body;
 pub mod content;
 pub mod ending;
 pub mod flows;
 pub mod laws;
+mod mode;
 mod outcome;
 mod place;
 pub mod said;
@@ -36,5 +41,6 @@ pub mod taken;
 pub mod terms;
 pub mod texts;
 
+pub use mode::Mode;
 pub use outcome::Outcome;
 pub use place::Place;

@@ -1,13 +1,15 @@
 //! How the flows of a conversation are made.
+use crate::Place;
 use px_message::Address;
 use std::alloc::Global;
 
-/// How the flows of a conversation are made: its number, where its client is, and where its requests go.
+/// How the flows of a conversation are made: its number, where its client is, and where its
+/// requests go.
 #[derive(Debug, Drop)]
 pub struct Terms {
     pub conv: u32,
     pub client: Option<Address>,
-    pub address: Address,
+    pub place: Place,
 }
 
 /// When a call is made, and whether the client has closed by then.

@@ -1,5 +1,6 @@
 //! The texts that a conversation sends.
 ghost use Rattle.std.specs.Prelude.{◌≡◌, [], IfOk};
+ghost use Rattle.px_read.specs.Heads.{is_interim};
 ghost use Rattle.px_write.specs.Text.{interim_text, response_text};
 ghost use Rattle.px_exchange.specs.Requests.{is_head as asks_head};
 ghost use Rattle.px_exchange.specs.Texts.{continue_text, onward_text};
@@ -14,14 +15,14 @@ use std::alloc::Global;
 /// Room for the head of a message, beside its body.
 const HEAD_ROOM: usize = 512;
 
-/// The request as it goes to the server: its framing made true to its body.
-pub fn onward_text(alloc: Global, request: &Request) -> Result<Bytes, NoMemory>
-    ensures { IfOk result (λ text. text ≡ onward_text request.now) }
+/// The request as it goes to the server, or to a proxy: its framing made true to its body.
+pub fn onward_text(alloc: Global, form: Form, request: &Request) -> Result<Bytes, NoMemory>
+    ensures { IfOk result (λ text. text ≡ onward_text form request.now) }
 {
     let mut settled = request.try_clone()?;
     settle_request(&mut settled)?;
     let mut text = room_for(alloc, &settled.body)?;
-    write_request(&settled, Form::Origin, &mut text)?;
+    write_request(&settled, form, &mut text)?;
     Bytes::new(text)
 }
 
@@ -62,4 +63,11 @@ pub fn continue_text(alloc: Global) -> Result<Bytes, NoMemory>
     ensures { IfOk result (λ text. text ≡ continue_text) }
 {
     Bytes::copied(alloc, b"HTTP/1.1 100 Continue\r\n\r\n")
+}
+
+/// An interim response: another one follows it (RFC 9110 section 15.2).
+pub fn is_interim(head: &ResponseHead) -> bool
+    ensures { result ≡ is_interim head.now }
+{
+    head.code / 100 == 1 && head.code != 101
 }

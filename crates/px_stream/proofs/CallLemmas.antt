@@ -1,5 +1,5 @@
 -- The calls of a flow: what its state stands for before, it stands for after, with one move more.
-use Rattle.std.proofs.Common.{◌≡◌, ℕ, ◌+◌, ◌<◌, ◌≤◌, Bool, true, false, List, [], ◌∷◌, ◌++◌, Option, Some, None, refl, ap, sym, ◌∙◌, subst, arith, append_assoc}
+use Rattle.std.proofs.Common.{◌≡◌, ℕ, ◌+◌, ◌<◌, ◌≤◌, Bool, true, false, List, [], ◌∷◌, ◌++◌, Option, Some, None, refl, ap, sym, ◌∙◌, subst, arith, append_assoc, drop}
 use Rattle.std.proofs.lemmas.List.{append-nil}
 use Rattle.px_event.specs.declared.ask.Ask.{Ask}
 use Rattle.px_event.specs.declared.command.Command.{Command}
@@ -16,127 +16,126 @@ use Rattle.px_read.specs.declared.head.ResponseHead.{ResponseHead as ReadRespons
 use Rattle.px_stream.specs.declared.phase.Asked.{Asked}
 use Rattle.px_stream.specs.declared.phase.Phase.{Phase}
 use Rattle.px_stream.specs.declared.phase.Phase.TheVariants as phase
-use Rattle.px_stream.specs.declared.phase.Ready.{Ready}
-use Rattle.px_stream.specs.declared.phase.Ready.TheVariants as ready
+use Rattle.px_stream.specs.declared.phase.Wanted.{Wanted}
+use Rattle.px_stream.specs.declared.phase.Wanted.TheVariants as ready
 use Rattle.px_stream.specs.declared.stream.Stream.{Stream}
 use Rattle.px_stream.specs.declared.numbers.Numbers.{Numbers}
 use Rattle.px_exchange.specs.declared.terms.Terms.{Terms}
 use Rattle.px_stream.specs.Calls.{Answers, Hears, IsSome, LooksOnce, MayHear, TakesEvent, TurnsTo, ended, hears}
-use Rattle.px_stream.specs.Chain.{alone, look, onto, sequence, turn, http_chain}
+use Rattle.px_chain.specs.Chain.{IsOnward, alone, begin, http_chain, is_alone, is_sequence, look, sequence, stands, turn}
+use Rattle.px_chain.specs.Sights.{Sight, Standing, sight_behind, sight_over, sight_with}
+use Rattle.px_chain.specs.Stages.{Stage, busy, connection, given_body, given_head, idle, next, over, request_body, response_body, response_head, side_of}
 use Rattle.px_exchange.specs.Finds.{look_head, or_leaves}
 use Rattle.px_stream.specs.Heard.{LinkAgrees, closes_client, ready_takes, requests_take}
-use Rattle.px_stream.specs.Laws.{open_still, settles}
+use Rattle.px_chain.proofs.ChainLaws.{settles}
 use Rattle.px_stream.specs.Led.{Turned}
-use Rattle.px_stream.specs.Left.{flow_left, sequence_left, stage_left, stages_left}
+use Rattle.px_chain.specs.Left.{stage_left, stages_left}
+use Rattle.px_stream.specs.Left.{flow_left, sequence_left}
 use Rattle.px_stream.specs.Looking.{LookFound, MayLook}
 use Rattle.px_exchange.specs.Requests.{is_head}
 use Rattle.px_stream.specs.Sequence.{IsFew, IsInSequence, Stands, StandsInSequence, ready_onward, requests_onward}
-use Rattle.px_stream.specs.Stages.{Stage, idle, receiving, dialling, answering, returning, given_head, given_body, next, over}
-use Rattle.px_stream.specs.Stands.{IsAsked, IsAt, IsReady, PhaseAt, awaits, is_last, last_of, start_of}
+use Rattle.px_stream.specs.Stands.{IsAsked, IsAt, IsIn, IsReady, PhaseAt, awaits, is_last, last_of, start_of}
 use Rattle.px_stream.specs.StateLaws.{ends_where_it_ends}
-use Rattle.px_stream.specs.Streams.{client_bytes, client_closed, server_bytes, server_closed}
 use Rattle.px_stream.specs.Turns.{asked_leads, asked_owes, behind_asked, behind_ready}
 use Rattle.px_stream.proofs.HearLemmas.{ready_on}
 use Rattle.px_stream.proofs.MoveLemmas.{flow_falls, flow_measures, pass_few, resumes_asks, resumes_left, sequence_falls, sequence_few, sequence_measures, takes_asks, takes_left, turn_few}
-use Rattle.px_stream.proofs.ResumeLemmas.{begun_again, led_alone, led_onward, resumes_answer}
+use Rattle.px_stream.proofs.ResumeLemmas.{begun_again, led_alone, led_onward, onto, resumes_answer}
 use Rattle.px_stream.proofs.TakeLemmas.{never_last, takes_event}
 use Rattle.px_stream.proofs.TurnLemmas.{answered}
 
 -- ---- what a flow that waits may hear, and look for
 
-module _ (front : List (Timed Event)) (requests : State) (sent : List ReadResponse) where
+module _ (seen : Sight) (requests : State) (sent : List ReadResponse) where
   -- its readers are somewhere in the bytes of their sides
-  pub may_look : (stage : Stage) (looked : Ready) → IsReady requests looked stage front sent → MayLook looked requests
-  may_look (idle at) looked is = let P : Ready → Type 0 = λ r. MayLook r requests in subst P (sym is.phase) tt
-  may_look (receiving at flow given) looked is =
-      let P : Ready → Type 0 = λ r. MayLook r requests in
-      subst P (sym is.phase) (record { message = request; told = asks is.head ∷ is.marks; fed = client_bytes at.used front; closed = false; reads = is.reads })
-  may_look (dialling at flow) looked is = let P : Ready → Type 0 = λ r. MayLook r requests in subst P (sym is.phase) tt
-  may_look (answering at flow link) looked is =
-      let P : Ready → Type 0 = λ r. MayLook r requests in
+  pub may_look : (stage : Stage) (looked : Wanted) → IsReady requests looked stage seen sent → MayLook looked requests
+  may_look (idle at) looked is = let P : Wanted → Type 0 = λ r. MayLook r requests in subst P (sym is.phase) tt
+  may_look (busy at flow (request_body given)) looked is =
+      let P : Wanted → Type 0 = λ r. MayLook r requests in
+      subst P (sym is.phase) (record { message = request; told = asks is.head ∷ is.marks; fed = drop at.used seen.client; closed = false; reads = is.reads })
+  may_look (busy at flow connection) looked is = let P : Wanted → Type 0 = λ r. MayLook r requests in subst P (sym is.phase) tt
+  may_look (busy at flow (response_head side how)) looked is =
+      let P : Wanted → Type 0 = λ r. MayLook r requests in
       subst P (sym is.phase) (record {
         asked_head = is_head flow.request.method;
-        number = link.server;
-        bytes = server_bytes link.server link.opened front;
-        shut = server_closed link.server link.opened front;
+        number = side.server;
+        bytes = drop side.used seen.server;
+        shut = seen.shut;
         sent = sent;
         keeps = is.is_link.keeps;
       })
-  may_look (returning at flow link) looked is =
-      let P : Ready → Type 0 = λ r. MayLook r requests in
+  may_look (busy at flow (response_body side how)) looked is =
+      let P : Wanted → Type 0 = λ r. MayLook r requests in
       subst P (sym is.phase) (record {
         message = response (is_head flow.request.method);
         told = answers is.head ∷ is.marks;
         fed = is.is_link.keeps.fed;
-        closed = server_closed link.server link.opened front;
+        closed = seen.shut;
         reads = is.is_link.keeps.reads;
       })
-  may_look (given_head at flow) looked is = let P : Ready → Type 0 = λ r. MayLook r requests in subst P (sym is.phase) tt
-  may_look (given_body at flow) looked is = let P : Ready → Type 0 = λ r. MayLook r requests in subst P (sym is.phase) tt
-  may_look (next at) looked is = let P : Ready → Type 0 = λ r. MayLook r requests in subst P (sym is.phase) tt
-  may_look over looked is = let P : Ready → Type 0 = λ r. MayLook r requests in subst P (sym is) tt
+  may_look (busy at flow given_head) looked is = let P : Wanted → Type 0 = λ r. MayLook r requests in subst P (sym is.phase) tt
+  may_look (busy at flow given_body) looked is = let P : Wanted → Type 0 = λ r. MayLook r requests in subst P (sym is.phase) tt
+  may_look (next at) looked is = let P : Wanted → Type 0 = λ r. MayLook r requests in subst P (sym is.phase) tt
+  may_look over looked is = let P : Wanted → Type 0 = λ r. MayLook r requests in subst P (sym is) tt
 
   -- both say whether the server closed
-  agrees : (stage : Stage) (looked : Ready) → IsReady requests looked stage front sent → LinkAgrees looked
+  agrees : (stage : Stage) (looked : Wanted) → IsReady requests looked stage seen sent → LinkAgrees looked
   agrees (idle at) looked is = subst LinkAgrees (sym is.phase) tt
-  agrees (receiving at flow given) looked is = subst LinkAgrees (sym is.phase) tt
-  agrees (dialling at flow) looked is = subst LinkAgrees (sym is.phase) tt
-  agrees (answering at flow link) looked is = let k = is.is_link.keeps in subst LinkAgrees (sym is.phase) (k.reads.closed ∙ sym k.closed)
-  agrees (returning at flow link) looked is = let k = is.is_link.keeps in subst LinkAgrees (sym is.phase) (k.reads.closed ∙ sym k.closed)
-  agrees (given_head at flow) looked is = subst LinkAgrees (sym is.phase) tt
-  agrees (given_body at flow) looked is = subst LinkAgrees (sym is.phase) tt
+  agrees (busy at flow (request_body given)) looked is = subst LinkAgrees (sym is.phase) tt
+  agrees (busy at flow connection) looked is = subst LinkAgrees (sym is.phase) tt
+  agrees (busy at flow (response_head side how)) looked is = let k = is.is_link.keeps in subst LinkAgrees (sym is.phase) (k.reads.closed ∙ sym k.closed)
+  agrees (busy at flow (response_body side how)) looked is = let k = is.is_link.keeps in subst LinkAgrees (sym is.phase) (k.reads.closed ∙ sym k.closed)
+  agrees (busy at flow given_head) looked is = subst LinkAgrees (sym is.phase) tt
+  agrees (busy at flow given_body) looked is = subst LinkAgrees (sym is.phase) tt
   agrees (next at) looked is = subst LinkAgrees (sym is.phase) tt
   agrees over looked is = subst LinkAgrees (sym is) tt
 
   -- the client's reader was told of no close
-  open_reader : (stage : Stage) (looked : Ready) → IsReady requests looked stage front sent → is_last (phase.Ready looked) ≡ false → requests.closed ≡ false
+  open_reader : (stage : Stage) (looked : Wanted) → IsReady requests looked stage seen sent → is_last (phase.Ready looked) ≡ false → requests.closed ≡ false
   open_reader (idle at) looked is goes = is.reads.closed
-  open_reader (receiving at flow given) looked is goes = is.reads.closed
-  open_reader (dialling at flow) looked is goes = is.keeps.open_still
-  open_reader (answering at flow link) looked is goes = is.keeps.open_still
-  open_reader (returning at flow link) looked is goes = is.keeps.open_still
-  open_reader (given_head at flow) looked is goes = is.keeps.open_still
-  open_reader (given_body at flow) looked is goes = is.keeps.open_still
+  open_reader (busy at flow (request_body given)) looked is goes = is.reads.closed
+  open_reader (busy at flow connection) looked is goes = is.keeps.open_still
+  open_reader (busy at flow (response_head side how)) looked is goes = is.keeps.open_still
+  open_reader (busy at flow (response_body side how)) looked is goes = is.keeps.open_still
+  open_reader (busy at flow given_head) looked is goes = is.keeps.open_still
+  open_reader (busy at flow given_body) looked is goes = is.keeps.open_still
   open_reader (next at) looked is goes = is.keeps.open_still
   open_reader over looked is goes = absurd (let no : true ≡ false = ap (λ r. is_last (phase.Ready r)) (sym is) ∙ goes in cc)
 
-module _ (made : Terms) (before : Stream) (event : Event) (looked : Ready) (live : before.phase ≡ phase.Ready looked) (goes : is_last (phase.Ready looked) ≡ false) where
-  hears_by : (l : Look Command) (stage : Stage) (front : List (Timed Event)) → look made stage front ≡ l → PhaseAt l made before.requests before.phase stage front →
-      IsAt made before stage front → MayHear event before.requests looked
-  hears_by NotYet stage front is (known, sent, same, there, gave) at =
+module _ (made : Terms) (before : Stream) (event : Event) (looked : Wanted) (live : before.phase ≡ phase.Ready looked) (goes : is_last (phase.Ready looked) ≡ false) where
+  hears_by : (l : Look Command) (stage : Stage) (seen : Sight) → PhaseAt l made before.requests before.phase stage seen → IsIn made before stage seen → MayHear event before.requests looked
+  hears_by NotYet stage seen (known, sent, same, there, gave) at =
       let one : phase.Ready known ≡ phase.Ready looked = sym same ∙ live in
       let same_ready : known ≡ looked = cc in
-      let P : Ready → Type 0 = λ r. IsReady before.requests r stage front sent in
-      let here : IsReady before.requests looked stage front sent = subst P same_ready there in
-      let now : Timed Event = record { moment = 0; value = event } in
+      let P : Wanted → Type 0 = λ r. IsReady before.requests r stage seen sent in
+      let here : IsReady before.requests looked stage seen sent = subst P same_ready there in
       record {
-        open_still = open_reader front before.requests sent stage looked here goes;
-        agrees = agrees front before.requests sent stage looked here;
-        looks = may_look (front ++ now ∷ []) (requests_take event before.requests) sent stage (ready_takes event looked)
-            (ready_on front now (open_still made stage front is) stage before.requests looked sent before.numbers before.client_closed at.place here);
+        open_still = open_reader seen before.requests sent stage looked here goes;
+        agrees = agrees seen before.requests sent stage looked here;
+        looks = may_look (sight_with (side_of stage) seen event 0) (requests_take event before.requests) sent stage (ready_takes event looked)
+            (ready_on seen event 0 stage before.requests looked sent before.numbers before.client_closed at.place here);
       }
-  hears_by (Asks ask) stage front is (here, same, there) at = absurd (let e : phase.Asked here ≡ phase.Ready looked = sym same ∙ live in cc)
-  hears_by (Ends owed) stage front is (same, there) at = absurd (never_last stage (ap is_last (sym same ∙ live) ∙ goes))
+  hears_by (Asks ask) stage seen (here, same, there) at = absurd (let e : phase.Asked here ≡ phase.Ready looked = sym same ∙ live in cc)
+  hears_by (Ends owed) stage seen (same, there) at = absurd (never_last stage (ap is_last (sym same ∙ live) ∙ goes))
 
-  pub may_hear : (stage : Stage) (front : List (Timed Event)) → IsAt made before stage front → MayHear event before.requests looked
-  may_hear stage front at = hears_by (look made stage front) stage front refl at.phase at
+  pub may_hear : (stage : Stage) (seen : Sight) → IsIn made before stage seen → MayHear event before.requests looked
+  may_hear stage seen at = hears_by (look made stage seen) stage seen at.phase at
 
-pub alone_hears : (before : Stream) (event : Event) → IsSound (Stands alone) before → (looked : Ready) → before.phase ≡ phase.Ready looked → is_last (phase.Ready looked) ≡ false → MayHear event before.requests looked
-alone_hears before event (made, past, given, stands) looked live goes = may_hear made.terms before event looked live goes _ _ stands.place
+pub alone_hears : (before : Stream) (event : Event) → IsSound (Stands alone) before → (looked : Wanted) → before.phase ≡ phase.Ready looked → is_last (phase.Ready looked) ≡ false → MayHear event before.requests looked
+alone_hears before event (made, past, given, stands) looked live goes = may_hear made.terms before event looked live goes _ _ stands.place.is_in
 
-pub sequence_hears : (before : Stream) (event : Event) → IsSound StandsInSequence before → (looked : Ready) → before.phase ≡ phase.Ready looked → is_last (phase.Ready looked) ≡ false → MayHear event before.requests looked
-sequence_hears before event (made, past, given, stands) looked live goes = may_hear made.terms before event looked live goes _ _ stands.place.is_at
+pub sequence_hears : (before : Stream) (event : Event) → IsSound StandsInSequence before → (looked : Wanted) → before.phase ≡ phase.Ready looked → is_last (phase.Ready looked) ≡ false → MayHear event before.requests looked
+sequence_hears before event (made, past, given, stands) looked live goes = may_hear made.terms before event looked live goes _ _ stands.place.is_at.is_in
 
 -- ---- from call to call
 
 -- the same look, from the same fields
-pub look_as : (terms terms_now : Terms) (numbers numbers_now : Numbers) (looked looked_now : Ready) (old old_now new : State) (moment moment_now : ℕ) (closed closed_now : Bool) (out longer : List Command) (is_now found_now : Phase) →
+pub look_as : (terms terms_now : Terms) (numbers numbers_now : Numbers) (looked looked_now : Wanted) (old old_now new : State) (moment moment_now : ℕ) (closed closed_now : Bool) (out longer : List Command) (is_now found_now : Phase) →
     terms_now ≡ terms → numbers_now ≡ numbers → looked_now ≡ looked → old_now ≡ old → moment_now ≡ moment → closed_now ≡ closed → found_now ≡ is_now →
     LookFound terms_now numbers_now looked_now old_now new moment_now closed_now out longer found_now → LookFound terms numbers looked old new moment closed out longer is_now
 look_as terms terms_now numbers numbers_now looked looked_now old old_now new moment moment_now closed closed_now out longer is_now found_now same_terms same_numbers same_looked same_old same_moment same_closed same_phase seen =
     let A : Terms → Type 0 = λ x. LookFound x numbers looked old new moment closed out longer is_now in
     let B : Numbers → Type 0 = λ x. LookFound terms_now x looked old new moment closed out longer is_now in
-    let C : Ready → Type 0 = λ x. LookFound terms_now numbers_now x old new moment closed out longer is_now in
+    let C : Wanted → Type 0 = λ x. LookFound terms_now numbers_now x old new moment closed out longer is_now in
     let D : State → Type 0 = λ x. LookFound terms_now numbers_now looked_now x new moment closed out longer is_now in
     let E : ℕ → Type 0 = λ x. LookFound terms_now numbers_now looked_now old_now new x closed out longer is_now in
     let F : Bool → Type 0 = λ x. LookFound terms_now numbers_now looked_now old_now new moment_now x out longer is_now in
@@ -144,7 +143,7 @@ look_as terms terms_now numbers numbers_now looked looked_now old old_now new mo
     subst A same_terms (subst B same_numbers (subst C same_looked (subst D same_old (subst E same_moment (subst F same_closed (subst G same_phase seen))))))
 
 -- what is behind an event that was heard
-pub hears_then : (before heard after : Stream) (moment : ℕ) (event : Event) (looked now : Ready) (out longer : List Command) →
+pub hears_then : (before heard after : Stream) (moment : ℕ) (event : Event) (looked now : Wanted) (out longer : List Command) →
     heard.terms ≡ before.terms → heard.numbers ≡ before.numbers → heard.requests ≡ requests_take event before.requests → heard.client_closed ≡ closes_client event before.client_closed →
     now ≡ ready_takes event looked → LooksOnce heard after moment now out longer → Hears before after moment event looked out longer
 hears_then before heard after moment event looked now out longer terms numbers requests client is once = record {
@@ -156,59 +155,59 @@ hears_then before heard after moment event looked now out longer terms numbers r
 }
 
 -- an event that is heard, whatever the phase was that was taken out
-pub hears_as : (before after : Stream) (there : Phase) (moment : ℕ) (event : Event) (looked : Ready) (out longer : List Command) →
+pub hears_as : (before after : Stream) (there : Phase) (moment : ℕ) (event : Event) (looked : Wanted) (out longer : List Command) →
     Hears (record before { phase = there }) after moment event looked out longer → Hears before after moment event looked out longer
 hears_as before after there moment event looked out longer call = record { terms = call.terms; numbers = call.numbers; client = call.client; looks = call.looks }
 
-pub takes_as : (before after : Stream) (there : Phase) (moment : ℕ) (event : Event) (looked : Ready) (out longer : List Command) → before.phase ≡ phase.Ready looked → is_last before.phase ≡ false →
+pub takes_as : (before after : Stream) (there : Phase) (moment : ℕ) (event : Event) (looked : Wanted) (out longer : List Command) → before.phase ≡ phase.Ready looked → is_last before.phase ≡ false →
     Hears (record before { phase = there }) after moment event looked out longer → TakesEvent before after moment event out longer
 takes_as before after there moment event looked out longer live goes call =
     hears looked live (ap is_last (sym live) ∙ goes) (hears_as before after there moment event looked out longer call)
 
 -- an answer that was taken, and the look behind it
-pub answers_then : (before turned after : Stream) (moment : ℕ) (reply : Reply) (here : Asked) (leads : Ready) (out between longer : List Command) →
+pub answers_then : (before turned after : Stream) (moment : ℕ) (reply : Reply) (here : Asked) (leads : Wanted) (out between longer : List Command) →
     TurnsTo before turned moment reply here leads out between → LooksOnce turned after moment leads between longer →
-    Answers before after moment reply here (asked_leads before.numbers.flow here reply) before.requests out longer
+    Answers before after moment reply here (asked_leads before.terms.place before.numbers.flow here reply) before.requests out longer
 answers_then before turned after moment reply here leads out between longer turns once = record {
   terms = once.terms ∙ turns.terms;
   client = once.client ∙ turns.client;
   numbers = once.numbers ∙ turns.numbers;
   between = between;
   owes = turns.gives;
-  looks = look_as before.terms turned.terms after.numbers turned.numbers (asked_leads before.numbers.flow here reply) leads before.requests turned.requests after.requests moment moment
+  looks = look_as before.terms turned.terms after.numbers turned.numbers (asked_leads before.terms.place before.numbers.flow here reply) leads before.requests turned.requests after.requests moment moment
       before.client_closed turned.client_closed between longer after.phase after.phase turns.terms (sym once.numbers) turns.leads turns.requests refl turns.client refl once.looks;
 }
 
 -- in sequence the next flow begins before the look
-pub answers_onward : (before turned begun after : Stream) (moment : ℕ) (reply : Reply) (here : Asked) (leads now : Ready) (out between longer : List Command) →
+pub answers_onward : (before turned begun after : Stream) (moment : ℕ) (reply : Reply) (here : Asked) (leads now : Wanted) (out between longer : List Command) →
     TurnsTo before turned moment reply here leads out between → begun.terms ≡ turned.terms → begun.numbers ≡ turned.numbers → begun.client_closed ≡ turned.client_closed →
     begun.requests ≡ requests_onward leads turned.requests → now ≡ ready_onward leads → LooksOnce begun after moment now between longer →
-    Answers before after moment reply here (ready_onward (asked_leads before.numbers.flow here reply)) (requests_onward (asked_leads before.numbers.flow here reply) before.requests) out longer
+    Answers before after moment reply here (ready_onward (asked_leads before.terms.place before.numbers.flow here reply)) (requests_onward (asked_leads before.terms.place before.numbers.flow here reply) before.requests) out longer
 answers_onward before turned begun after moment reply here leads now out between longer turns terms numbers client requests is once =
-    let same : now ≡ ready_onward (asked_leads before.numbers.flow here reply) = is ∙ ap ready_onward turns.leads in
-    let kept : begun.requests ≡ requests_onward (asked_leads before.numbers.flow here reply) before.requests =
-    requests ∙ (ap (λ r. requests_onward r turned.requests) turns.leads ∙ ap (λ s. requests_onward (asked_leads before.numbers.flow here reply) s) turns.requests) in
+    let same : now ≡ ready_onward (asked_leads before.terms.place before.numbers.flow here reply) = is ∙ ap ready_onward turns.leads in
+    let kept : begun.requests ≡ requests_onward (asked_leads before.terms.place before.numbers.flow here reply) before.requests =
+    requests ∙ (ap (λ r. requests_onward r turned.requests) turns.leads ∙ ap (λ s. requests_onward (asked_leads before.terms.place before.numbers.flow here reply) s) turns.requests) in
     record {
       terms = once.terms ∙ (terms ∙ turns.terms);
       client = once.client ∙ (client ∙ turns.client);
       numbers = once.numbers ∙ (numbers ∙ turns.numbers);
       between = between;
       owes = turns.gives;
-      looks = look_as before.terms begun.terms after.numbers begun.numbers (ready_onward (asked_leads before.numbers.flow here reply)) now
-          (requests_onward (asked_leads before.numbers.flow here reply) before.requests) begun.requests after.requests moment moment
+      looks = look_as before.terms begun.terms after.numbers begun.numbers (ready_onward (asked_leads before.terms.place before.numbers.flow here reply)) now
+          (requests_onward (asked_leads before.terms.place before.numbers.flow here reply) before.requests) begun.requests after.requests moment moment
           before.client_closed begun.client_closed between longer after.phase after.phase (terms ∙ turns.terms) (sym once.numbers) same kept refl (client ∙ turns.client) refl once.looks;
     }
 
 -- and it may look there
-pub may_look_then : (before turned : Stream) (moment : ℕ) (reply : Reply) (here : Asked) (leads : Ready) (out between : List Command) → TurnsTo before turned moment reply here leads out between →
-    MayLook (asked_leads before.numbers.flow here reply) before.requests → MayLook leads turned.requests
+pub may_look_then : (before turned : Stream) (moment : ℕ) (reply : Reply) (here : Asked) (leads : Wanted) (out between : List Command) → TurnsTo before turned moment reply here leads out between →
+    MayLook (asked_leads before.terms.place before.numbers.flow here reply) before.requests → MayLook leads turned.requests
 may_look_then before turned moment reply here leads out between turns may =
     let P : State → Type 0 = λ s. MayLook leads s in
-    let Q : Ready → Type 0 = λ r. MayLook r before.requests in
+    let Q : Wanted → Type 0 = λ r. MayLook r before.requests in
     subst P (sym turns.requests) (subst Q (sym turns.leads) may)
 
 -- the same answer, whatever the phase was that was taken out
-pub answers_as : (before after : Stream) (there : Phase) (moment : ℕ) (reply : Reply) (here : Asked) (looked : Ready) (requests : State) (out longer : List Command) →
+pub answers_as : (before after : Stream) (there : Phase) (moment : ℕ) (reply : Reply) (here : Asked) (looked : Wanted) (requests : State) (out longer : List Command) →
     Answers (record before { phase = there }) after moment reply here looked requests out longer → Answers before after moment reply here looked requests out longer
 answers_as before after there moment reply here looked requests out longer call =
     record { terms = call.terms; client = call.client; numbers = call.numbers; between = call.between; owes = call.owes; looks = call.looks }
@@ -218,23 +217,23 @@ pub is_awaited : (here : Option Ask) (reply : Reply) → MayAnswer here reply �
 is_awaited None reply may = may
 is_awaited (Some ask) reply may = tt
 
-pub may_look_heard : (event : Event) (requests now : State) (looked there : Ready) → there ≡ ready_takes event looked → now ≡ requests_take event requests → MayHear event requests looked → MayLook there now
+pub may_look_heard : (event : Event) (requests now : State) (looked there : Wanted) → there ≡ ready_takes event looked → now ≡ requests_take event requests → MayHear event requests looked → MayLook there now
 may_look_heard event requests now looked there is same may =
     let P : State → Type 0 = λ s. MayLook there s in
-    let Q : Ready → Type 0 = λ r. MayLook r (requests_take event requests) in
+    let Q : Wanted → Type 0 = λ r. MayLook r (requests_take event requests) in
     subst P (sym same) (subst Q (sym is) may.looks)
 
 -- a turn, from the fields that it reads
-pub turns_by : (before : Stream) (server numbers : Numbers) (moment moment_now : ℕ) (closed_now : Bool) (reply : Reply) (here : Asked) (leads : Ready) (out longer : List Command) →
+pub turns_by : (before : Stream) (server numbers : Numbers) (moment moment_now : ℕ) (closed_now : Bool) (reply : Reply) (here : Asked) (leads : Wanted) (out longer : List Command) →
     server ≡ behind_asked before.numbers here → numbers ≡ behind_ready server leads → moment_now ≡ moment → closed_now ≡ before.client_closed →
-    longer ≡ out ++ asked_owes before.numbers.flow here reply moment_now closed_now → leads ≡ asked_leads before.numbers.flow here reply →
+    longer ≡ out ++ asked_owes before.terms.place before.numbers.flow here reply moment_now closed_now → leads ≡ asked_leads before.terms.place before.numbers.flow here reply →
     TurnsTo before (record before { numbers = numbers }) moment reply here leads out longer
 turns_by before server numbers moment moment_now closed_now reply here leads out longer counts is same_moment same_closed gives led = record {
   terms = refl;
   requests = refl;
   client = refl;
   numbers = is ∙ (ap (λ n. behind_ready n leads) counts ∙ ap (λ r. behind_ready (behind_asked before.numbers here) r) led);
-  gives = gives ∙ (ap (λ m. out ++ asked_owes before.numbers.flow here reply m closed_now) same_moment ∙ ap (λ b. out ++ asked_owes before.numbers.flow here reply moment b) same_closed);
+  gives = gives ∙ (ap (λ m. out ++ asked_owes before.terms.place before.numbers.flow here reply m closed_now) same_moment ∙ ap (λ b. out ++ asked_owes before.terms.place before.numbers.flow here reply moment b) same_closed);
   leads = led;
 }
 
@@ -243,45 +242,43 @@ turns_by before server numbers moment moment_now closed_now reply here leads out
 grown_by : (out between longer xs ys : List Command) → between ≡ out ++ xs → longer ≡ between ++ ys → (more : List Command) × (longer ≡ out ++ more)
 grown_by out between longer xs ys one two = (xs ++ ys, two ∙ (ap (λ l. l ++ ys) one ∙ append_assoc out xs ys))
 
-module _ (terms : Terms) (numbers : Numbers) (front : List (Timed Event)) (old new : State) (moment : ℕ) (closed : Bool) (out longer : List Command) (is_now : Phase) (sent : List ReadResponse) where
-  as_ready : (looked known : Ready) → looked ≡ known → LookFound terms numbers looked old new moment closed out longer is_now → LookFound terms numbers known old new moment closed out longer is_now
-  as_ready looked known is seen = let P : Ready → Type 0 = λ r. LookFound terms numbers r old new moment closed out longer is_now in subst P is seen
+module _ (terms : Terms) (numbers : Numbers) (seen : Sight) (old new : State) (moment : ℕ) (closed : Bool) (out longer : List Command) (is_now : Phase) (sent : List ReadResponse) where
+  as_ready : (looked known : Wanted) → looked ≡ known → LookFound terms numbers looked old new moment closed out longer is_now → LookFound terms numbers known old new moment closed out longer is_now
+  as_ready looked known is look_found = let P : Wanted → Type 0 = λ r. LookFound terms numbers r old new moment closed out longer is_now in subst P is look_found
 
-  look_adds : (stage : Stage) (looked : Ready) → IsReady old looked stage front sent → LookFound terms numbers looked old new moment closed out longer is_now →
+  look_adds : (stage : Stage) (looked : Wanted) → IsReady old looked stage seen sent → LookFound terms numbers looked old new moment closed out longer is_now →
       (more : List Command) × (longer ≡ out ++ more)
-  look_adds (idle at) looked is seen = let head = as_ready looked ready.Idle is.phase seen in (_, head.gives (client_bytes at.used front) is.reads)
-  look_adds (receiving at flow given) looked is seen = let body = as_ready looked (ready.Receiving flow given _) is.phase seen in (_, body.gives)
-  look_adds (dialling at flow) looked is seen = let once = as_ready looked (ready.Dialling flow) is.phase seen in (_, once.gives)
-  look_adds (answering at flow link) looked is seen =
-      let both = as_ready looked (ready.Answering flow is.kept) is.phase seen in
-      let read = both.1.read (is_head flow.request.method) link.server (server_bytes link.server link.opened front) (server_closed link.server link.opened front) sent is.is_link.keeps in
+  look_adds (idle at) looked is look_found = let head = as_ready looked ready.Idle is.phase look_found in (_, head.gives (drop at.used seen.client) is.reads)
+  look_adds (busy at flow (request_body given)) looked is look_found = let body = as_ready looked (ready.Receiving flow given _) is.phase look_found in (_, body.gives)
+  look_adds (busy at flow connection) looked is look_found = let once = as_ready looked (ready.Dialling flow) is.phase look_found in (_, once.gives)
+  look_adds (busy at flow (response_head side how)) looked is look_found =
+      let both = as_ready looked (ready.Answering flow is.kept) is.phase look_found in
+      let read = both.1.read (is_head flow.request.method) side.server (drop side.used seen.server) seen.shut sent is.is_link.keeps in
       grown_by out both.1.between longer _ _ read.grown both.1.gives
-  look_adds (returning at flow link) looked is seen = let both = as_ready looked (ready.Returning flow is.kept _) is.phase seen in (_, both.1.1.gives)
-  look_adds (given_head at flow) looked is seen = let once = as_ready looked (ready.GivenHead flow) is.phase seen in (_, once.gives)
-  look_adds (given_body at flow) looked is seen = let once = as_ready looked (ready.GivenBody flow) is.phase seen in (_, once.gives)
-  look_adds (next at) looked is seen = let once = as_ready looked ready.Finished is.phase seen in (_, once.gives)
-  look_adds over looked is seen = let once = as_ready looked ready.Over is seen in (_, once.gives)
+  look_adds (busy at flow (response_body side how)) looked is look_found = let both = as_ready looked (ready.Returning flow is.kept _) is.phase look_found in (_, both.1.1.gives)
+  look_adds (busy at flow given_head) looked is look_found = let once = as_ready looked (ready.GivenHead flow) is.phase look_found in (_, once.gives)
+  look_adds (busy at flow given_body) looked is look_found = let once = as_ready looked (ready.GivenBody flow) is.phase look_found in (_, once.gives)
+  look_adds (next at) looked is look_found = let once = as_ready looked ready.Finished is.phase look_found in (_, once.gives)
+  look_adds over looked is look_found = let once = as_ready looked ready.Over is look_found in (_, once.gives)
 
 -- ---- an event
 
 module _ (before after : Stream) (moment : ℕ) (event : Event) (out longer : List Command) where
-  heard_by : (made : Terms) (looked : Ready) → before.phase ≡ phase.Ready looked → is_last (phase.Ready looked) ≡ false → Hears before after moment event looked out longer →
-      (l : Look Command) (stage : Stage) (front : List (Timed Event)) → look made stage front ≡ l → PhaseAt l made before.requests before.phase stage front → IsAt made before stage front →
-      (more : List Command) × (longer ≡ out ++ more)
-  heard_by made looked live goes heard NotYet stage front is (known, sent, same, there, gave) at =
+  heard_by : (made : Terms) (looked : Wanted) → before.phase ≡ phase.Ready looked → is_last (phase.Ready looked) ≡ false → Hears before after moment event looked out longer →
+      (l : Look Command) (stage : Stage) (seen : Sight) → PhaseAt l made before.requests before.phase stage seen → IsIn made before stage seen → (more : List Command) × (longer ≡ out ++ more)
+  heard_by made looked live goes heard NotYet stage seen (known, sent, same, there, gave) at =
       let one : phase.Ready known ≡ phase.Ready looked = sym same ∙ live in
       let same_ready : known ≡ looked = cc in
-      let P : Ready → Type 0 = λ r. IsReady before.requests r stage front sent in
-      let now : Timed Event = record { moment = moment; value = event } in
-      look_adds before.terms before.numbers (front ++ now ∷ []) (requests_take event before.requests) after.requests moment (closes_client event before.client_closed) out longer after.phase sent
+      let P : Wanted → Type 0 = λ r. IsReady before.requests r stage seen sent in
+      look_adds before.terms before.numbers (sight_with (side_of stage) seen event moment) (requests_take event before.requests) after.requests moment (closes_client event before.client_closed) out longer after.phase sent
       stage (ready_takes event looked)
-      (ready_on front now (open_still made stage front is) stage before.requests looked sent before.numbers before.client_closed at.place (subst P same_ready there)) heard.looks
-  heard_by made looked live goes heard (Asks ask) stage front is (here, same, there) at = absurd (let e : phase.Asked here ≡ phase.Ready looked = sym same ∙ live in cc)
-  heard_by made looked live goes heard (Ends owed) stage front is (same, there) at = absurd (never_last stage (ap is_last (sym same ∙ live) ∙ goes))
+      (ready_on seen event moment stage before.requests looked sent before.numbers before.client_closed at.place (subst P same_ready there)) heard.looks
+  heard_by made looked live goes heard (Asks ask) stage seen (here, same, there) at = absurd (let e : phase.Asked here ≡ phase.Ready looked = sym same ∙ live in cc)
+  heard_by made looked live goes heard (Ends owed) stage seen (same, there) at = absurd (never_last stage (ap is_last (sym same ∙ live) ∙ goes))
 
-  take_adds : (made : Terms) (stage : Stage) (front : List (Timed Event)) → IsAt made before stage front → TakesEvent before after moment event out longer → (more : List Command) × (longer ≡ out ++ more)
-  take_adds made stage front at (ended is same none) = ([], none ∙ sym (append-nil out))
-  take_adds made stage front at (hears looked live goes heard) = heard_by made looked live goes heard (look made stage front) stage front refl at.phase at
+  take_adds : (made : Terms) (stage : Stage) (seen : Sight) → IsIn made before stage seen → TakesEvent before after moment event out longer → (more : List Command) × (longer ≡ out ++ more)
+  take_adds made stage seen at (ended is same none) = ([], none ∙ sym (append-nil out))
+  take_adds made stage seen at (hears looked live goes heard) = heard_by made looked live goes heard (look made stage seen) stage seen at.phase at
 
   nothing_added : (more : List Command) → longer ≡ out → longer ≡ out ++ more → more ≡ []
   nothing_added more none grown = nil out more (append-nil out ∙ (sym none ∙ grown))
@@ -291,92 +288,103 @@ module _ (before after : Stream) (moment : ℕ) (event : Event) (out longer : Li
       nil (x ∷ xs) ys is = nil xs ys (let e : x ∷ (xs ++ []) ≡ x ∷ (xs ++ ys) = is in cc)
 
   -- where it goes, and what it adds
-  takes : (onward_to : Stage → Stage) (made : Terms) (more : List Command) → TakesEvent before after moment event out longer → longer ≡ out ++ more → (stage : Stage) (front : List (Timed Event)) →
-      IsAt made before stage front → Takes (http_chain onward_to made) (IsAt made) after moment event more stage front
-  takes onward_to made more (ended is same none) grown stage front at =
-      let end = (ends_where_it_ends onward_to made).ends before stage front at is in
-      let P : Stream → Type 0 = λ s. IsAt made s stage front in
+  takes : (onward_to : Stage → Stage) (made : Terms) (more : List Command) → TakesEvent before after moment event out longer → longer ≡ out ++ more → (place : Standing) (prefix : List (Timed Event)) →
+      IsAt made before place prefix → Takes (http_chain onward_to made) (IsAt made) after moment event more place prefix
+  takes onward_to made more (ended is same none) grown place prefix at =
+      let end = (ends_where_it_ends onward_to made).ends before place prefix at is in
+      let P : Stream → Type 0 = λ s. IsAt made s place prefix in
       let nothing = nothing_added more none grown in
       past_end end.0 end.1 (subst P (sym same) at) (λ view. ap (seen_of view) nothing)
-  takes onward_to made more (hears looked live goes heard) grown stage front at =
-      takes_event onward_to made before after moment event looked out longer more live goes heard.terms heard.numbers heard.client heard.looks grown stage front at
+  takes onward_to made more (hears looked live goes heard) grown place prefix at =
+      takes_event onward_to made before after moment event looked out longer more live goes heard.terms heard.numbers heard.client heard.looks grown place prefix at
 
   -- where flows follow one another
-  few_takes : (made : Terms) (more : List Command) (stage : Stage) (front : List (Timed Event)) → IsFew stage → Takes (http_chain sequence made) (IsAt made) after moment event more stage front →
-      Takes (http_chain sequence made) (IsInSequence made) after moment event more stage front
-  few_takes made more stage front few (onward is place gives) =
-      onward is (record { is_at = place; few = pass_few stage (front ++ record { moment = moment; value = event } ∷ []) few }) gives
-  few_takes made more stage front few (past_end owed is place gives) = past_end owed is (record { is_at = place; few = few }) gives
+  few_takes : (made : Terms) (more : List Command) (place : Standing) (prefix : List (Timed Event)) → IsFew place.stage → Takes (http_chain sequence made) (IsAt made) after moment event more place prefix →
+      Takes (http_chain sequence made) (IsInSequence made) after moment event more place prefix
+  few_takes made more place prefix few (onward is at gives) =
+      onward is (record { is_at = at; few = pass_few place.stage (sight_over place (prefix ++ record { moment = moment; value = event } ∷ [])) few }) gives
+  few_takes made more place prefix few (past_end owed is at gives) = past_end owed is (record { is_at = at; few = few }) gives
 
   pub take_alone_goes : IsSound (Stands alone) before → TakesEvent before after moment event out longer → Goes (Stands alone) before after (Took moment event) out longer
   take_alone_goes (made, past, given, stands) call =
-      let added = take_adds made.terms _ _ stands.place call in
-      take_goes (λ (m : Stream). http_chain alone m.terms) (λ m. settles alone m.terms) (λ m. idle (start_of m.numbers)) (λ m. IsAt m.terms) before after moment event added.0 out longer added.1
-      (λ m stage front _ at. takes alone m.terms added.0 call added.1 stage front at)
+      let added = take_adds made.terms _ _ stands.place.is_in call in
+      take_goes (λ (m : Stream). http_chain alone m.terms) (λ m. settles alone m.terms) (λ m. begin (idle (start_of m.numbers))) (λ m. IsAt m.terms) before after moment event added.0 out longer added.1
+      (λ m place prefix _ at. takes alone m.terms added.0 call added.1 place prefix at)
 
   pub take_alone_asks : IsSound (Stands alone) before → TakesEvent before after moment event out longer → AsksOnly (awaits after) out longer
   take_alone_asks (made, past, given, stands) call =
-      let added = take_adds made.terms _ _ stands.place call in
+      let added = take_adds made.terms _ _ stands.place.is_in call in
       (added.0, added.1, takes_asks alone made.terms after moment added.0 event _ _ (takes alone made.terms added.0 call added.1 _ _ stands.place))
 
   pub take_alone_left : IsSound (Stands alone) before → TakesEvent before after moment event out longer → flow_left after ≤ flow_left before
   take_alone_left (made, past, given, stands) call =
-      let added = take_adds made.terms _ _ stands.place call in
+      let added = take_adds made.terms _ _ stands.place.is_in call in
       takes_left flow_left stage_left flow_measures made.terms alone before after moment event added.0 _ _ stands.place (takes alone made.terms added.0 call added.1 _ _ stands.place)
 
   pub take_sequence_goes : IsSound StandsInSequence before → TakesEvent before after moment event out longer → Goes StandsInSequence before after (Took moment event) out longer
   take_sequence_goes (made, past, given, stands) call =
-      let added = take_adds made.terms _ _ stands.place.is_at call in
-      take_goes (λ (m : Stream). http_chain sequence m.terms) (λ m. settles sequence m.terms) (λ m. idle (start_of m.numbers)) (λ m. IsInSequence m.terms) before after moment event added.0 out longer added.1
-      (λ m stage front _ at. few_takes m.terms added.0 stage front at.few (takes sequence m.terms added.0 call added.1 stage front at.is_at))
+      let added = take_adds made.terms _ _ stands.place.is_at.is_in call in
+      take_goes (λ (m : Stream). http_chain sequence m.terms) (λ m. settles sequence m.terms) (λ m. begin (idle (start_of m.numbers))) (λ m. IsInSequence m.terms) before after moment event added.0 out longer added.1
+      (λ m place prefix _ at. few_takes m.terms added.0 place prefix at.few (takes sequence m.terms added.0 call added.1 place prefix at.is_at))
 
   pub take_sequence_asks : IsSound StandsInSequence before → TakesEvent before after moment event out longer → AsksOnly (awaits after) out longer
   take_sequence_asks (made, past, given, stands) call =
-      let added = take_adds made.terms _ _ stands.place.is_at call in
+      let added = take_adds made.terms _ _ stands.place.is_at.is_in call in
       (added.0, added.1, takes_asks sequence made.terms after moment added.0 event _ _ (takes sequence made.terms added.0 call added.1 _ _ stands.place.is_at))
 
   pub take_sequence_left : IsSound StandsInSequence before → TakesEvent before after moment event out longer → sequence_left after ≤ sequence_left before
   take_sequence_left (made, past, given, stands) call =
-      let added = take_adds made.terms _ _ stands.place.is_at call in
+      let added = take_adds made.terms _ _ stands.place.is_at.is_in call in
       takes_left sequence_left stages_left sequence_measures made.terms sequence before after moment event added.0 _ _ stands.place.is_at (takes sequence made.terms added.0 call added.1 _ _ stands.place.is_at)
 
 -- ---- an answer
+
+-- what is seen behind a reply
+abbrev behind_reply : Terms → ℕ → Reply → Stage → Sight → Sight
+behind_reply made moment reply stage seen =
+    sight_behind (side_of stage) seen moment (side_of (turn made stage seen (record { moment = moment; value = reply })).stage)
 
 module _ (made : Terms) (before : Stream) (moment : ℕ) (reply : Reply) (here : Asked) (live : before.phase ≡ phase.Asked here) where
   abbrev told : Timed Reply
   told = record { moment = moment; value = reply }
 
-  asked_by : (l : Look Command) (stage : Stage) (front : List (Timed Event)) → PhaseAt l made before.requests before.phase stage front → IsAsked made before.requests here stage front
-  asked_by NotYet stage front (looked, sent, same, ready, gave) = absurd (let e : phase.Ready looked ≡ phase.Asked here = sym same ∙ live in cc)
-  asked_by (Asks ask) stage front (one, same, there) =
+  asked_by : (l : Look Command) (stage : Stage) (seen : Sight) → PhaseAt l made before.requests before.phase stage seen → IsAsked made before.requests here stage seen
+  asked_by NotYet stage seen (looked, sent, same, ready, gave) = absurd (let e : phase.Ready looked ≡ phase.Asked here = sym same ∙ live in cc)
+  asked_by (Asks ask) stage seen (one, same, there) =
       let e : phase.Asked one ≡ phase.Asked here = sym same ∙ live in
       let same_asked : one ≡ here = cc in
-      let P : Asked → Type 0 = λ a. IsAsked made before.requests a stage front in
+      let P : Asked → Type 0 = λ a. IsAsked made before.requests a stage seen in
       subst P same_asked there
-  asked_by (Ends owed) stage front (same, there) = absurd (let e : phase.Ready (last_of stage) ≡ phase.Asked here = sym same ∙ live in cc)
+  asked_by (Ends owed) stage seen (same, there) = absurd (let e : phase.Ready (last_of stage) ≡ phase.Asked here = sym same ∙ live in cc)
 
-  -- where the chain leads
-  turned : (stage : Stage) (front : List (Timed Event)) → IsAt made before stage front →
-      Turned (turn made stage front told) front before.requests (asked_owes before.numbers.flow here reply moment (client_closed front)) (asked_leads before.numbers.flow here reply)
-      (behind_ready (behind_asked before.numbers here) (asked_leads before.numbers.flow here reply)) before.client_closed moment
-  turned stage front at = answered made front before.requests before.numbers before.client_closed told stage here at.place at.dials (asked_by (look made stage front) stage front at.phase)
+  -- where the chain leads, and what is seen there
+  abbrev behind : Stage → Sight → Sight
+  behind stage seen = behind_reply made moment reply stage seen
+
+  turned : (stage : Stage) (seen : Sight) → IsIn made before stage seen →
+      Turned (turn made stage seen told) (behind stage seen) before.requests (asked_owes before.terms.place before.numbers.flow here reply moment seen.closed) (asked_leads before.terms.place before.numbers.flow here reply)
+      (behind_ready (behind_asked before.numbers here) (asked_leads before.terms.place before.numbers.flow here reply)) before.client_closed moment
+  turned stage seen at =
+      let P : Terms → Type 0 = λ t. Turned (turn made stage seen told) (behind stage seen) before.requests (asked_owes t.place before.numbers.flow here reply moment seen.closed) (asked_leads t.place before.numbers.flow here reply)
+      (behind_ready (behind_asked before.numbers here) (asked_leads t.place before.numbers.flow here reply)) before.client_closed moment in
+      subst P (sym at.terms) (answered made seen before.requests before.numbers before.client_closed told stage here at.place at.dials (asked_by (look made stage seen) stage seen at.phase))
 
   -- so it may look there
-  pub may_look_on : (stage : Stage) (front : List (Timed Event)) → IsAt made before stage front → MayLook (asked_leads before.numbers.flow here reply) before.requests
-  may_look_on stage front at =
-      let there = turned stage front at in
-      may_look front before.requests there.sent (turn made stage front told).stage (asked_leads before.numbers.flow here reply) there.is_ready
+  pub may_look_on : (stage : Stage) (seen : Sight) → IsIn made before stage seen → MayLook (asked_leads before.terms.place before.numbers.flow here reply) before.requests
+  may_look_on stage seen at =
+      let there = turned stage seen at in
+      may_look (behind stage seen) before.requests there.sent (turn made stage seen told).stage (asked_leads before.terms.place before.numbers.flow here reply) there.is_ready
 
 pub alone_answers : (before : Stream) (moment : ℕ) (reply : Reply) (here : Asked) → IsSound (Stands alone) before → before.phase ≡ phase.Asked here →
-    MayLook (asked_leads before.numbers.flow here reply) before.requests
-alone_answers before moment reply here (made, past, given, stands) live = may_look_on made.terms before moment reply here live _ _ stands.place
+    MayLook (asked_leads before.terms.place before.numbers.flow here reply) before.requests
+alone_answers before moment reply here (made, past, given, stands) live = may_look_on made.terms before moment reply here live _ _ stands.place.is_in
 
 pub sequence_answers : (before : Stream) (moment : ℕ) (reply : Reply) (here : Asked) → IsSound StandsInSequence before → before.phase ≡ phase.Asked here →
-    MayLook (asked_leads before.numbers.flow here reply) before.requests
-sequence_answers before moment reply here (made, past, given, stands) live = may_look_on made.terms before moment reply here live _ _ stands.place.is_at
+    MayLook (asked_leads before.terms.place before.numbers.flow here reply) before.requests
+sequence_answers before moment reply here (made, past, given, stands) live = may_look_on made.terms before moment reply here live _ _ stands.place.is_at.is_in
 
 -- where the next flow begins its reader may look too
-pub may_look_onward : (looked : Ready) (requests : State) → MayLook looked requests → MayLook (ready_onward looked) (requests_onward looked requests)
+pub may_look_onward : (looked : Wanted) (requests : State) → MayLook looked requests → MayLook (ready_onward looked) (requests_onward looked requests)
 may_look_onward ready.Idle requests may = tt
 may_look_onward (ready.Receiving flow given body) requests may = may
 may_look_onward (ready.Dialling flow) requests may = tt
@@ -387,71 +395,75 @@ may_look_onward (ready.GivenBody flow) requests may = tt
 may_look_onward ready.Finished requests may = tt
 may_look_onward ready.Over requests may = tt
 
-module _ (onward_to : Stage → Stage) (before after : Stream) (moment : ℕ) (reply : Reply) (here : Asked) (looked : Ready) (requests : State) (out longer : List Command)
+module _ (onward_to : Stage → Stage) (goes : IsOnward onward_to) (before after : Stream) (moment : ℕ) (reply : Reply) (here : Asked) (looked : Wanted) (requests : State) (out longer : List Command)
     (live : before.phase ≡ phase.Asked here) (call : Answers before after moment reply here looked requests out longer) where
-  abbrev Led : Terms → Stage → List (Timed Event) → Type 0
-  Led made stage front = Turned (onto onward_to (turn made stage front (record { moment = moment; value = reply }))) front requests
-      (asked_owes before.numbers.flow here reply moment (client_closed front)) looked after.numbers before.client_closed moment
+  abbrev Led : Terms → Stage → Sight → Type 0
+  Led made stage seen = Turned (onto onward_to (turn made stage seen (record { moment = moment; value = reply }))) (behind_reply made moment reply stage seen) requests
+      (asked_owes before.terms.place before.numbers.flow here reply moment seen.closed) looked after.numbers before.client_closed moment
 
-  answer_adds : (made : Terms) (stage : Stage) (front : List (Timed Event)) → Led made stage front → (more : List Command) × (longer ≡ out ++ more)
-  answer_adds made stage front led =
-      let there = look_adds before.terms after.numbers front requests after.requests moment before.client_closed call.between longer after.phase led.sent
-      (onward_to (turn made stage front (record { moment = moment; value = reply })).stage) looked led.is_ready call.looks in
-      grown_by out call.between longer (asked_owes before.numbers.flow here reply moment before.client_closed) there.0 call.owes there.1
+  answer_adds : (made : Terms) (stage : Stage) (seen : Sight) → Led made stage seen → (more : List Command) × (longer ≡ out ++ more)
+  answer_adds made stage seen led =
+      let there = look_adds before.terms after.numbers (behind_reply made moment reply stage seen) requests after.requests moment before.client_closed call.between longer after.phase led.sent
+      (onward_to (turn made stage seen (record { moment = moment; value = reply })).stage) looked led.is_ready call.looks in
+      grown_by out call.between longer (asked_owes before.terms.place before.numbers.flow here reply moment before.client_closed) there.0 call.owes there.1
 
   -- where it goes, and what it adds
-  resumes : (made : Terms) (more : List Command) → longer ≡ out ++ more → (stage : Stage) (front : List (Timed Event)) → IsAt made before stage front → Led made stage front →
-      Resumes (http_chain onward_to made) (IsAt made) after moment reply more stage front
-  resumes made more grown stage front at led =
-      resumes_answer onward_to made before after moment reply here looked requests out call.between longer more live call.terms call.client call.owes call.looks grown stage front at (λ _. led)
+  resumes : (made : Terms) (more : List Command) → longer ≡ out ++ more → (place : Standing) (prefix : List (Timed Event)) → IsAt made before place prefix → Led made place.stage (sight_over place prefix) →
+      Resumes (http_chain onward_to made) (IsAt made) after moment reply more place prefix
+  resumes made more grown place prefix at led =
+      resumes_answer onward_to goes made before after moment reply here looked requests out call.between longer more live call.terms call.client call.owes call.looks grown place prefix at (λ _. led)
 
 module _ (before after : Stream) (moment : ℕ) (reply : Reply) (here : Asked) (out longer : List Command) (live : before.phase ≡ phase.Asked here) where
   abbrev answer : Timed Reply
   answer = record { moment = moment; value = reply }
 
   -- what the machine looks for next
-  abbrev leads : Ready
-  leads = asked_leads before.numbers.flow here reply
+  abbrev leads : Wanted
+  leads = asked_leads before.terms.place before.numbers.flow here reply
 
   -- the numbers are those that were counted
-  counted : (turned_to : Turn Stage Command) (front : List (Timed Event)) (requests : State) (looked : Ready) →
+  counted : (turned_to : Turn Stage Command) (seen : Sight) (closed : Bool) (requests : State) (looked : Wanted) →
       after.numbers ≡ behind_ready (behind_asked before.numbers here) leads →
-      Turned turned_to front requests (asked_owes before.numbers.flow here reply moment (client_closed front)) looked (behind_ready (behind_asked before.numbers here) leads) before.client_closed moment →
-      Turned turned_to front requests (asked_owes before.numbers.flow here reply moment (client_closed front)) looked after.numbers before.client_closed moment
-  counted turned_to front requests looked is there =
-      let P : Numbers → Type 0 = λ n. Turned turned_to front requests (asked_owes before.numbers.flow here reply moment (client_closed front)) looked n before.client_closed moment in
+      Turned turned_to seen requests (asked_owes before.terms.place before.numbers.flow here reply moment closed) looked (behind_ready (behind_asked before.numbers here) leads) before.client_closed moment →
+      Turned turned_to seen requests (asked_owes before.terms.place before.numbers.flow here reply moment closed) looked after.numbers before.client_closed moment
+  counted turned_to seen closed requests looked is there =
+      let P : Numbers → Type 0 = λ n. Turned turned_to seen requests (asked_owes before.terms.place before.numbers.flow here reply moment closed) looked n before.client_closed moment in
       subst P (sym is) there
 
   -- ---- alone
 
   module _ (call : Answers before after moment reply here leads before.requests out longer) where
-    alone_led : (made : Terms) (stage : Stage) (front : List (Timed Event)) → IsAt made before stage front → Led alone before after moment reply here leads before.requests out longer live call made stage front
-    alone_led made stage front at =
-        counted (onto alone (turn made stage front answer)) front before.requests leads call.numbers
-        (led_alone (turn made stage front answer) front before.requests _ leads _ before.client_closed moment (turned made before moment reply here live stage front at))
+    alone_led : (made : Terms) (stage : Stage) (seen : Sight) → IsIn made before stage seen →
+        Led alone (is_alone refl) before after moment reply here leads before.requests out longer live call made stage seen
+    alone_led made stage seen at =
+        counted (onto alone (turn made stage seen answer)) (behind_reply made moment reply stage seen) seen.closed before.requests leads call.numbers
+        (led_alone (turn made stage seen answer) (behind_reply made moment reply stage seen) before.requests _ leads _ before.client_closed moment
+        (turned made before moment reply here live stage seen at))
 
-    alone_resumes : (made : Terms) (more : List Command) → longer ≡ out ++ more → (stage : Stage) (front : List (Timed Event)) → IsAt made before stage front →
-        Resumes (http_chain alone made) (IsAt made) after moment reply more stage front
-    alone_resumes made more grown stage front at =
-        resumes alone before after moment reply here leads before.requests out longer live call made more grown stage front at (alone_led made stage front at)
+    alone_resumes : (made : Terms) (more : List Command) → longer ≡ out ++ more → (place : Standing) (prefix : List (Timed Event)) → IsAt made before place prefix →
+        Resumes (http_chain alone made) (IsAt made) after moment reply more place prefix
+    alone_resumes made more grown place prefix at =
+        resumes alone (is_alone refl) before after moment reply here leads before.requests out longer live call made more grown place prefix at
+        (alone_led made place.stage (sight_over place prefix) at.is_in)
 
-    alone_adds : (made : Terms) (stage : Stage) (front : List (Timed Event)) → IsAt made before stage front → (more : List Command) × (longer ≡ out ++ more)
-    alone_adds made stage front at = answer_adds alone before after moment reply here leads before.requests out longer live call made stage front (alone_led made stage front at)
+    alone_adds : (made : Terms) (stage : Stage) (seen : Sight) → IsIn made before stage seen → (more : List Command) × (longer ≡ out ++ more)
+    alone_adds made stage seen at =
+        answer_adds alone (is_alone refl) before after moment reply here leads before.requests out longer live call made stage seen (alone_led made stage seen at)
 
     pub resume_alone_goes : IsSound (Stands alone) before → Goes (Stands alone) before after (Replied moment reply) out longer
     resume_alone_goes (made, past, given, stands) =
-        let added = alone_adds made.terms _ _ stands.place in
-        resume_goes (λ (m : Stream). http_chain alone m.terms) (λ m. settles alone m.terms) (λ m. idle (start_of m.numbers)) (λ m. IsAt m.terms) before after moment reply added.0 out longer added.1
-        (λ m stage front _ at. alone_resumes m.terms added.0 added.1 stage front at)
+        let added = alone_adds made.terms _ _ stands.place.is_in in
+        resume_goes (λ (m : Stream). http_chain alone m.terms) (λ m. settles alone m.terms) (λ m. begin (idle (start_of m.numbers))) (λ m. IsAt m.terms) before after moment reply added.0 out longer added.1
+        (λ m place prefix _ at. alone_resumes m.terms added.0 added.1 place prefix at)
 
     pub resume_alone_asks : IsSound (Stands alone) before → AsksOnly (awaits after) out longer
     resume_alone_asks (made, past, given, stands) =
-        let added = alone_adds made.terms _ _ stands.place in
+        let added = alone_adds made.terms _ _ stands.place.is_in in
         (added.0, added.1, resumes_asks alone made.terms after moment added.0 reply _ _ (alone_resumes made.terms added.0 added.1 _ _ stands.place))
 
     pub resume_alone_left : IsSound (Stands alone) before → flow_left after < flow_left before
     resume_alone_left (made, past, given, stands) =
-        let added = alone_adds made.terms _ _ stands.place in
+        let added = alone_adds made.terms _ _ stands.place.is_in in
         let there = alone_resumes made.terms added.0 added.1 _ _ stands.place in
         resumes_left flow_left stage_left flow_measures made.terms alone before after moment reply added.0 _ _ stands.place
         (flow_falls made.terms _ _ answer there.ask there.asked) there
@@ -459,67 +471,70 @@ module _ (before after : Stream) (moment : ℕ) (reply : Reply) (here : Asked) (
   -- ---- in sequence
 
   module _ (call : Answers before after moment reply here (ready_onward leads) (requests_onward leads before.requests) out longer) where
-    onward_led : (made : Terms) (stage : Stage) (front : List (Timed Event)) (ask : Command) → look made stage front ≡ Asks ask → IsInSequence made before stage front →
-        Led sequence before after moment reply here (ready_onward leads) (requests_onward leads before.requests) out longer live call made stage front
-    onward_led made stage front ask is at =
-        counted (onto sequence (turn made stage front answer)) front (requests_onward leads before.requests) (ready_onward leads) call.numbers
-        (led_onward (turn made stage front answer) front before.requests _ leads _ before.client_closed moment (turn_few made stage front answer ask is at.few)
-        (turned made before moment reply here live stage front at.is_at))
+    onward_led : (made : Terms) (stage : Stage) (seen : Sight) (ask : Command) → look made stage seen ≡ Asks ask → IsIn made before stage seen → IsFew stage →
+        Led sequence (is_sequence refl) before after moment reply here (ready_onward leads) (requests_onward leads before.requests) out longer live call made stage seen
+    onward_led made stage seen ask is at few =
+        counted (onto sequence (turn made stage seen answer)) (behind_reply made moment reply stage seen) seen.closed (requests_onward leads before.requests) (ready_onward leads) call.numbers
+        (led_onward (turn made stage seen answer) (behind_reply made moment reply stage seen) before.requests _ leads _ before.client_closed moment
+        (turn_few made stage seen answer ask is few) (turned made before moment reply here live stage seen at))
 
-    asks_there : (made : Terms) (l : Look Command) (stage : Stage) (front : List (Timed Event)) → look made stage front ≡ l → PhaseAt l made before.requests before.phase stage front →
-        (ask : Command) × (look made stage front ≡ Asks ask)
-    asks_there made NotYet stage front is (looked, sent, same, ready, gave) = absurd (let e : phase.Ready looked ≡ phase.Asked here = sym same ∙ live in cc)
-    asks_there made (Asks ask) stage front is there = (ask, is)
-    asks_there made (Ends owed) stage front is (same, there) = absurd (let e : phase.Ready (last_of stage) ≡ phase.Asked here = sym same ∙ live in cc)
+    asks_there : (made : Terms) (l : Look Command) (stage : Stage) (seen : Sight) → look made stage seen ≡ l → PhaseAt l made before.requests before.phase stage seen →
+        (ask : Command) × (look made stage seen ≡ Asks ask)
+    asks_there made NotYet stage seen is (looked, sent, same, ready, gave) = absurd (let e : phase.Ready looked ≡ phase.Asked here = sym same ∙ live in cc)
+    asks_there made (Asks ask) stage seen is there = (ask, is)
+    asks_there made (Ends owed) stage seen is (same, there) = absurd (let e : phase.Ready (last_of stage) ≡ phase.Asked here = sym same ∙ live in cc)
 
-    sequence_led : (made : Terms) (stage : Stage) (front : List (Timed Event)) → IsInSequence made before stage front →
-        Led sequence before after moment reply here (ready_onward leads) (requests_onward leads before.requests) out longer live call made stage front
-    sequence_led made stage front at =
-        let asks_now = asks_there made (look made stage front) stage front refl at.is_at.phase in onward_led made stage front asks_now.0 asks_now.1 at
+    sequence_led : (made : Terms) (stage : Stage) (seen : Sight) → IsIn made before stage seen → IsFew stage →
+        Led sequence (is_sequence refl) before after moment reply here (ready_onward leads) (requests_onward leads before.requests) out longer live call made stage seen
+    sequence_led made stage seen at few =
+        let asks_now = asks_there made (look made stage seen) stage seen refl at.phase in onward_led made stage seen asks_now.0 asks_now.1 at few
 
-    sequence_resumes : (made : Terms) (more : List Command) → longer ≡ out ++ more → (stage : Stage) (front : List (Timed Event)) → IsInSequence made before stage front →
-        Resumes (http_chain sequence made) (IsAt made) after moment reply more stage front
-    sequence_resumes made more grown stage front at =
-        resumes sequence before after moment reply here (ready_onward leads) (requests_onward leads before.requests) out longer live call made more grown stage front at.is_at (sequence_led made stage front at)
+    sequence_resumes : (made : Terms) (more : List Command) → longer ≡ out ++ more → (place : Standing) (prefix : List (Timed Event)) → IsInSequence made before place prefix →
+        Resumes (http_chain sequence made) (IsAt made) after moment reply more place prefix
+    sequence_resumes made more grown place prefix at =
+        resumes sequence (is_sequence refl) before after moment reply here (ready_onward leads) (requests_onward leads before.requests) out longer live call made more grown place prefix at.is_at
+        (sequence_led made place.stage (sight_over place prefix) at.is_at.is_in at.few)
 
-    few_resumes : (made : Terms) (more : List Command) → longer ≡ out ++ more → (stage : Stage) (front : List (Timed Event)) → IsInSequence made before stage front →
-        Resumes (http_chain sequence made) (IsInSequence made) after moment reply more stage front
-    few_resumes made more grown stage front at =
-        let there = sequence_resumes made more grown stage front at in
+    few_resumes : (made : Terms) (more : List Command) → longer ≡ out ++ more → (place : Standing) (prefix : List (Timed Event)) → IsInSequence made before place prefix →
+        Resumes (http_chain sequence made) (IsInSequence made) after moment reply more place prefix
+    few_resumes made more grown place prefix at =
+        let there = sequence_resumes made more grown place prefix at in
+        let seen : Sight = sight_over place prefix in
+        let further : Standing = stands place moment prefix (sequence (turn made place.stage seen answer).stage) in
         record {
           ask = there.ask;
           asked = there.asked;
-          place = record { is_at = there.place; few = sequence_few made stage front answer there.ask there.asked at.few };
+          place = record { is_at = there.place; few = sequence_few made place.stage seen (sight_over further prefix) answer there.ask there.asked at.few };
           gives = there.gives;
         }
 
-    sequence_adds : (made : Terms) (stage : Stage) (front : List (Timed Event)) → IsInSequence made before stage front → (more : List Command) × (longer ≡ out ++ more)
-    sequence_adds made stage front at =
-        answer_adds sequence before after moment reply here (ready_onward leads) (requests_onward leads before.requests) out longer live call made stage front (sequence_led made stage front at)
+    sequence_adds : (made : Terms) (stage : Stage) (seen : Sight) → IsIn made before stage seen → IsFew stage → (more : List Command) × (longer ≡ out ++ more)
+    sequence_adds made stage seen at few =
+        answer_adds sequence (is_sequence refl) before after moment reply here (ready_onward leads) (requests_onward leads before.requests) out longer live call made stage seen (sequence_led made stage seen at few)
 
     pub resume_sequence_goes : IsSound StandsInSequence before → Goes StandsInSequence before after (Replied moment reply) out longer
     resume_sequence_goes (made, past, given, stands) =
-        let added = sequence_adds made.terms _ _ stands.place in
-        resume_goes (λ (m : Stream). http_chain sequence m.terms) (λ m. settles sequence m.terms) (λ m. idle (start_of m.numbers)) (λ m. IsInSequence m.terms) before after moment reply added.0 out longer added.1
-        (λ m stage front _ at. few_resumes m.terms added.0 added.1 stage front at)
+        let added = sequence_adds made.terms _ _ stands.place.is_at.is_in stands.place.few in
+        resume_goes (λ (m : Stream). http_chain sequence m.terms) (λ m. settles sequence m.terms) (λ m. begin (idle (start_of m.numbers))) (λ m. IsInSequence m.terms) before after moment reply added.0 out longer added.1
+        (λ m place prefix _ at. few_resumes m.terms added.0 added.1 place prefix at)
 
     pub resume_sequence_asks : IsSound StandsInSequence before → AsksOnly (awaits after) out longer
     resume_sequence_asks (made, past, given, stands) =
-        let added = sequence_adds made.terms _ _ stands.place in
+        let added = sequence_adds made.terms _ _ stands.place.is_at.is_in stands.place.few in
         (added.0, added.1, resumes_asks sequence made.terms after moment added.0 reply _ _ (sequence_resumes made.terms added.0 added.1 _ _ stands.place))
 
     pub resume_sequence_left : IsSound StandsInSequence before → sequence_left after < sequence_left before
     resume_sequence_left (made, past, given, stands) =
-        let added = sequence_adds made.terms _ _ stands.place in
+        let added = sequence_adds made.terms _ _ stands.place.is_at.is_in stands.place.few in
         let there = sequence_resumes made.terms added.0 added.1 _ _ stands.place in
         resumes_left sequence_left stages_left sequence_measures made.terms sequence before after moment reply added.0 _ _ stands.place.is_at
         (sequence_falls made.terms _ _ answer there.ask there.asked) there
 
 -- where the next flow begins
-pub may_look_begun : (leads now : Ready) (turned requests : State) → now ≡ ready_onward leads → requests ≡ requests_onward leads turned → MayLook leads turned → MayLook now requests
+pub may_look_begun : (leads now : Wanted) (turned requests : State) → now ≡ ready_onward leads → requests ≡ requests_onward leads turned → MayLook leads turned → MayLook now requests
 may_look_begun leads now turned requests is same may =
     let P : State → Type 0 = λ s. MayLook now s in
-    let Q : Ready → Type 0 = λ r. MayLook r (requests_onward leads turned) in
+    let Q : Wanted → Type 0 = λ r. MayLook r (requests_onward leads turned) in
     subst P (sym same) (subst Q (sym is) (may_look_onward leads turned may))
 
 -- ---- a new flow
@@ -528,30 +543,37 @@ module _ (made : Stream) (open_still : made.client_closed ≡ false) (waits : ma
   abbrev first : Stage
   first = idle (start_of made.numbers)
 
+  -- what a conversation sees before all
+  abbrev nothing : Sight
+  nothing = sight_over (begin first) []
+
   -- no bytes are no request
-  finds_nothing : look made.terms first [] ≡ NotYet
+  finds_nothing : look made.terms first nothing ≡ NotYet
   finds_nothing =
       let none : request_item [] ≡ missing = refl in
       ap (λ i. or_leaves false [] (look_head made.terms made.numbers.flow i 0 false)) none
 
-  begins_there : IsAt made.terms made first []
-  begins_there =
-      let P : Look Command → Type 0 = λ l. PhaseAt l made.terms made.requests made.phase first [] in
+  begins_in : IsIn made.terms made first nothing
+  begins_in =
+      let P : Look Command → Type 0 = λ l. PhaseAt l made.terms made.requests made.phase first nothing in
       let Q : State → Type 0 = λ s. Reads request [] [] false s in
       let reads : Reads request [] [] false made.requests = subst Q (sym fresh) (begun_again []) in
       record {
         terms = refl;
-        place = record { index = refl; servers = λ small. refl; client = open_still; used = omega arith; since = omega arith };
+        place = record { index = refl; servers = λ small. refl; client = open_still; used = omega arith };
         phase = subst P (sym finds_nothing) (ready.Idle, [], waits, record { phase = refl; reads = reads }, refl);
         dials = fits;
       }
 
+  begins_there : IsAt made.terms made (begin first) []
+  begins_there = record { within = record { since = omega arith; opened = omega arith }; is_in = begins_in }
+
   -- it stands for no moves, and has given nothing
   pub stands_first : (onward_to : Stage → Stage) → Stands onward_to made made [] []
   stands_first onward_to =
-      begins (http_chain onward_to made.terms) (settles onward_to made.terms) first (IsAt made.terms) made begins_there (λ view. ap (λ l. seen_of view (found l)) finds_nothing)
+      begins (http_chain onward_to made.terms) (settles onward_to made.terms) (begin first) (IsAt made.terms) made begins_there (λ view. ap (λ l. seen_of view (found l)) finds_nothing)
 
   pub stands_first_in_sequence : made.numbers.flow < 1000000 → made.numbers.server ≤ made.numbers.flow + 1 → StandsInSequence made made [] []
   stands_first_in_sequence few dials =
-      begins (http_chain sequence made.terms) (settles sequence made.terms) first (IsInSequence made.terms) made
+      begins (http_chain sequence made.terms) (settles sequence made.terms) (begin first) (IsInSequence made.terms) made
       (record { is_at = begins_there; few = record { few = few; dials = dials } }) (λ view. ap (λ l. seen_of view (found l)) finds_nothing)

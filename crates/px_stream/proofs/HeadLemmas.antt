@@ -29,18 +29,18 @@ found_by terms index head (Accepted message) moment closed shut = refl
 
 -- what a head that stands gives
 pub gives_at : (terms : Terms) (index : ℕ) (item : Item RequestHead) (head : RequestHead) (moment : ℕ) (closed : Bool) → head_in item ≡ Some head →
-    found (look_judged terms index head (judged terms.address head) moment closed) ≡ found (or_leaves closed [] (look_head terms index item moment closed))
+    found (look_judged terms index head (judged terms.place head) moment closed) ≡ found (or_leaves closed [] (look_head terms index item moment closed))
 gives_at terms index missing head moment closed is = absurd (let e : None ≡ Some head = is in cc)
 gives_at terms index (part own body) head moment closed is =
-    let e : own ≡ head = cc in rw e (found_by terms index head (judged terms.address head) moment closed closed)
+    let e : own ≡ head = cc in rw e (found_by terms index head (judged terms.place head) moment closed closed)
 gives_at terms index (complete own body trailers used) head moment closed is =
-    let e : own ≡ head = cc in rw e (found_by terms index head (judged terms.address head) moment closed closed)
+    let e : own ≡ head = cc in rw e (found_by terms index head (judged terms.place head) moment closed closed)
 gives_at terms index (bad_head fault) head moment closed is = absurd (let e : None ≡ Some head = is in cc)
 gives_at terms index (bad_body fault own body) head moment closed is =
-    let e : own ≡ head = cc in rw e (found_by terms index head (judged terms.address head) moment closed closed)
+    let e : own ≡ head = cc in rw e (found_by terms index head (judged terms.place head) moment closed closed)
 
 pub phase_at : (terms : Terms) (index : ℕ) (item : Item RequestHead) (head : RequestHead) (moment : ℕ) (closed : Bool) → head_in item ≡ Some head →
-    judged_phase terms index head (judged terms.address head) moment ≡ head_phase terms index item moment closed
+    judged_phase terms index head (judged terms.place head) moment ≡ head_phase terms index item moment closed
 phase_at terms index missing head moment closed is = absurd (let e : None ≡ Some head = is in cc)
 phase_at terms index (part own body) head moment closed is = let e : own ≡ head = cc in rw e refl
 phase_at terms index (complete own body trailers used) head moment closed is = let e : own ≡ head = cc in rw e refl
@@ -67,7 +67,7 @@ shows_missing (given.Bad fault) item is no_head no_fault = absurd (no_fault faul
 
 -- what is found, by the head
 pub look_at_head : (terms : Terms) (index : ℕ) (item : Item RequestHead) (head : RequestHead) (moment : ℕ) (closed : Bool) → head_in item ≡ Some head →
-    look_head terms index item moment closed ≡ look_judged terms index head (judged terms.address head) moment closed
+    look_head terms index item moment closed ≡ look_judged terms index head (judged terms.place head) moment closed
 look_at_head terms index missing head moment closed is = absurd (let e : None ≡ Some head = is in cc)
 look_at_head terms index (part own body) head moment closed is = let e : own ≡ head = cc in rw e refl
 look_at_head terms index (complete own body trailers used) head moment closed is = let e : own ≡ head = cc in rw e refl

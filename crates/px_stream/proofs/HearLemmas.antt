@@ -1,25 +1,24 @@
 -- One event more, where no answer is awaited: the readers have heard it, and the flow stands where it stood.
-use Rattle.std.proofs.Common.{◌≡◌, ℕ, ◌≤◌, ◌==◌, Bool, true, false, List, [], ◌∷◌, ◌++◌, length, drop, refl, ap, sym, ◌∙◌, subst, arith, append_assoc, length-append}
+use Rattle.std.proofs.Common.{◌≡◌, ℕ, ◌≤◌, ◌==◌, Bool, true, false, List, [], ◌∷◌, ◌++◌, length, drop, Option, Some, None, refl, ap, sym, ◌∙◌, subst, arith, append_assoc, length-append}
 use Rattle.std.specs.Prelude.{◌+◌, ◌||◌, if◌then◌else◌}
 use Rattle.std.proofs.lemmas.List.{append-nil, drop-append-le}
 use Rattle.px_event.specs.declared.event.Event.{Event}
 use Rattle.px_event.specs.declared.event.Event.TheVariants as events
 use Rattle.px_event.specs.declared.side.Side.TheVariants.{Client, Server}
-use Rattle.px_event.specs.Chain.{Timed}
 use Rattle.px_read.specs.Items.{answer_list}
 use Rattle.px_read.specs.Marks.{Mark, asks, answers}
 use Rattle.px_read.specs.Reader.{Message, request, response, State, Reads}
 use Rattle.px_read.specs.declared.head.ResponseHead.{ResponseHead}
 use Rattle.px_message.specs.declared.request.Request.{Request}
 use Rattle.px_stream.specs.declared.link.Link.{Link as KeptLink}
-use Rattle.px_stream.specs.declared.phase.Ready.{Ready}
+use Rattle.px_stream.specs.declared.phase.Wanted.{Wanted}
 use Rattle.px_stream.specs.declared.numbers.Numbers.{Numbers}
 use Rattle.px_stream.specs.Heard.{feeds, shuts, link_hears, link_closes, link_takes, requests_take, ready_takes, closes_client}
-use Rattle.px_stream.specs.Laws.{bytes_more, bytes_shut, closed_more, open_behind}
 use Rattle.px_exchange.specs.Requests.{is_head}
-use Rattle.px_stream.specs.Stages.{At, Link, Stage, idle, receiving, dialling, answering, returning, given_head, given_body, next, over}
+use Rattle.px_chain.specs.Sights.{Sight, sight_with}
+use Rattle.px_chain.specs.Stages.{At, ServerSide, Stage, busy, connection, given_body, given_head, idle, next, over, request_body, response_body, response_head, side_in, side_of}
+use Rattle.px_chain.specs.Streams.{closes, piece_of}
 use Rattle.px_stream.specs.Stands.{Passes, Keeps, IsLink, KeepsBehind, IsReady, IsPlaced, HasPlace}
-use Rattle.px_stream.specs.Streams.{piece_of, closes, bytes_of, is_closed, client_bytes, client_closed}
 use Rattle.px_stream.proofs.ReadLemmas.{fed_on, shut_on}
 
 -- ---- the server's side
@@ -119,40 +118,28 @@ module _ (asked_head : Bool) (number : ℕ) (sent : List ResponseHead) (told : L
   link_took bytes was kept (events.Closed (Server server)) is = link_shut bytes was kept server is
   link_took bytes was kept (events.Answered ask reply) is = keeps_same bytes was kept is
 
-  -- the bytes of a side, one event on
-  bytes_on : (front : List (Timed Event)) (e : Timed Event) (was : Bool) → is_closed Client front ≡ false → is_closed (Server number) front ≡ was →
-      heard_more was (bytes_of (Server number) front) (piece_of (Server number) e.value) ≡ bytes_of (Server number) (front ++ e ∷ [])
-  bytes_on front e true open_client is = sym (bytes_shut (Server number) front e is)
-  bytes_on front e false open_client is = sym (bytes_more (Server number) front e open_client is)
+-- what is heard behind bytes that flows before have used
+heard_behind : (used : ℕ) (bytes more : List ℕ) (was : Bool) → used ≤ length bytes →
+    (if was then drop used bytes else (drop used bytes ++ more)) ≡ drop used (if was then bytes else (bytes ++ more))
+heard_behind used bytes more true within = refl
+heard_behind used bytes more false within = sym (drop-append-le used bytes more within)
 
-  side_took : (front : List (Timed Event)) (e : Timed Event) (kept : KeptLink) → is_closed Client front ≡ false →
-      Keeps asked_head number (bytes_of (Server number) front) (is_closed (Server number) front) sent told kept →
-      Keeps asked_head number (bytes_of (Server number) (front ++ e ∷ [])) (is_closed (Server number) (front ++ e ∷ [])) sent told (link_takes e.value kept)
-  side_took front e kept open_client is =
-      let was : Bool = is_closed (Server number) front in
-      let P : List ℕ → Type 0 = λ l. Keeps asked_head number l (was || closes (Server number) e.value) sent told (link_takes e.value kept) in
-      let Q : Bool → Type 0 = λ b. Keeps asked_head number (bytes_of (Server number) (front ++ e ∷ [])) b sent told (link_takes e.value kept) in
-      subst Q (sym (closed_more (Server number) front e open_client))
-      (subst P (bytes_on front e was open_client refl) (link_took (bytes_of (Server number) front) was kept e.value is))
+heard_within : (used : ℕ) (bytes more : List ℕ) (was : Bool) → used ≤ length bytes → used ≤ length (if was then bytes else (bytes ++ more))
+heard_within used bytes more true within = within
+heard_within used bytes more false within = let size = length-append bytes more in omega arith
 
-pub link_on : (message : Request) (link : Link) (front : List (Timed Event)) (e : Timed Event) (sent : List ResponseHead) (told : List Mark) (kept : KeptLink) →
-    client_closed front ≡ false → IsLink message link front sent told kept → IsLink message link (front ++ e ∷ []) sent told (link_takes e.value kept)
-link_on message link front e sent told kept open_client is =
-    let was = is.opened in
-    let size = length-append front (e ∷ []) in
-    let P : List (Timed Event) → Type 0 = λ l. Keeps (is_head message.method) link.server (bytes_of (Server link.server) l) (is_closed (Server link.server) l) sent told (link_takes e.value kept) in
+pub link_on : (message : Request) (side : ServerSide) (seen : Sight) (event : Event) (now : ℕ) (sent : List ResponseHead) (told : List Mark) (kept : KeptLink) →
+    IsLink message side seen sent told kept → IsLink message side (sight_with (Some side) seen event now) sent told (link_takes event kept)
+link_on message side seen event now sent told kept is =
+    let more : List ℕ = piece_of (Server side.server) event in
+    let P : List ℕ → Type 0 = λ l. Keeps (is_head message.method) side.server l (seen.shut || closes (Server side.server) event) sent told (link_takes event kept) in
     record {
-      opened = omega arith;
-      keeps = subst P (sym (drop-append-le link.opened front (e ∷ []) is.opened))
-          (side_took (is_head message.method) link.server sent told (drop link.opened front) e kept (open_behind link.opened front open_client) is.keeps);
+      within = heard_within side.used seen.server more seen.shut is.within;
+      keeps = subst P (heard_behind side.used seen.server more seen.shut is.within)
+          (link_took (is_head message.method) side.server sent told (drop side.used seen.server) seen.shut kept event is.keeps);
     }
 
 -- ---- the client's side
-
-pub client_on : (used : ℕ) (front : List (Timed Event)) (e : Timed Event) → client_closed front ≡ false → used ≤ length (bytes_of Client front) →
-    client_bytes used (front ++ e ∷ []) ≡ client_bytes used front ++ piece_of Client e.value
-client_on used front e open_client within =
-    ap (λ l. drop used l) (bytes_more Client front e open_client open_client) ∙ drop-append-le used (bytes_of Client front) (piece_of Client e.value) within
 
 feeds_nothing : (told : List Mark) (message : Message) (fed : List ℕ) (state : State) → Reads message told fed false state → Reads message told (fed ++ []) false state
 feeds_nothing told message fed state reads = let P : List ℕ → Type 0 = λ l. Reads message told l false state in subst P (sym (append-nil fed)) reads
@@ -180,57 +167,58 @@ shut_took state (events.Piece (Server server) bytes) = refl
 shut_took state (events.Closed side) = refl
 shut_took state (events.Answered ask reply) = refl
 
-module _ (front : List (Timed Event)) (e : Timed Event) (open_client : client_closed front ≡ false) where
-  reads_on : (told : List Mark) (message : Message) (used : ℕ) (state : State) → used ≤ length (bytes_of Client front) →
-      Reads message told (client_bytes used front) false state → Reads message told (client_bytes used (front ++ e ∷ [])) false (requests_take e.value state)
+module _ (seen : Sight) (event : Event) (now : ℕ) where
+  reads_on : (told : List Mark) (message : Message) (used : ℕ) (state : State) → used ≤ length seen.client →
+      Reads message told (drop used seen.client) false state → Reads message told (drop used (seen.client ++ piece_of Client event)) false (requests_take event state)
   reads_on told message used state within reads =
-      let P : List ℕ → Type 0 = λ l. Reads message told l false (requests_take e.value state) in
-      subst P (sym (client_on used front e open_client within)) (requests_took told message (client_bytes used front) state e.value reads)
+      let P : List ℕ → Type 0 = λ l. Reads message told l false (requests_take event state) in
+      subst P (sym (drop-append-le used seen.client (piece_of Client event) within)) (requests_took told message (drop used seen.client) state event reads)
 
-  keeps_on : (used : ℕ) (state : State) → used ≤ length (bytes_of Client front) → KeepsBehind used front state → KeepsBehind used (front ++ e ∷ []) (requests_take e.value state)
-  keeps_on used state within is = record {
-    rest = rest_took state e.value ∙ (ap (λ l. l ++ piece_of Client e.value) is.rest ∙ sym (client_on used front e open_client within));
-    open_still = shut_took state e.value ∙ is.open_still;
+  keeps_on : (side : Option ServerSide) (used : ℕ) (state : State) → used ≤ length seen.client → KeepsBehind used seen state →
+      KeepsBehind used (sight_with side seen event now) (requests_take event state)
+  keeps_on side used state within is = record {
+    rest = rest_took state event ∙ (ap (λ l. l ++ piece_of Client event) is.rest ∙ sym (drop-append-le used seen.client (piece_of Client event) within));
+    open_still = shut_took state event ∙ is.open_still;
   }
 
   -- the flow stands where it stood, and its readers have heard the event
-  pub ready_on : (stage : Stage) (requests : State) (looked : Ready) (sent : List ResponseHead) (numbers : Numbers) (closed : Bool) →
-      HasPlace stage front numbers closed → IsReady requests looked stage front sent →
-      IsReady (requests_take e.value requests) (ready_takes e.value looked) stage (front ++ e ∷ []) sent
+  pub ready_on : (stage : Stage) (requests : State) (looked : Wanted) (sent : List ResponseHead) (numbers : Numbers) (closed : Bool) →
+      HasPlace stage seen numbers closed → IsReady requests looked stage seen sent →
+      IsReady (requests_take event requests) (ready_takes event looked) stage (sight_with (side_of stage) seen event now) sent
   ready_on (idle at) requests looked sent numbers closed place is = record {
-    phase = ap (ready_takes e.value) is.phase;
+    phase = ap (ready_takes event) is.phase;
     reads = reads_on [] request at.used requests place.used is.reads;
   }
-  ready_on (receiving at flow given) requests looked sent numbers closed place is = record {
+  ready_on (busy at flow (request_body given)) requests looked sent numbers closed place is = record {
     head = is.head;
     marks = is.marks;
-    phase = ap (ready_takes e.value) is.phase;
+    phase = ap (ready_takes event) is.phase;
     reads = reads_on (asks is.head ∷ is.marks) request at.used requests place.used is.reads;
   }
-  ready_on (dialling at flow) requests looked sent numbers closed place is =
-      record { phase = ap (ready_takes e.value) is.phase; keeps = keeps_on at.used requests place.used is.keeps }
-  ready_on (answering at flow link) requests looked sent numbers closed place is = record {
-    kept = link_takes e.value is.kept;
-    phase = ap (ready_takes e.value) is.phase;
-    is_link = link_on flow.request link front e sent [] is.kept open_client is.is_link;
-    keeps = keeps_on at.used requests place.used is.keeps;
+  ready_on (busy at flow connection) requests looked sent numbers closed place is =
+      record { phase = ap (ready_takes event) is.phase; keeps = keeps_on None at.used requests place.used is.keeps }
+  ready_on (busy at flow (response_head side how)) requests looked sent numbers closed place is = record {
+    kept = link_takes event is.kept;
+    phase = ap (ready_takes event) is.phase;
+    is_link = link_on flow.request side seen event now sent [] is.kept is.is_link;
+    keeps = keeps_on (Some side) at.used requests place.used is.keeps;
   }
-  ready_on (returning at flow link) requests looked sent numbers closed place is = record {
-    kept = link_takes e.value is.kept;
+  ready_on (busy at flow (response_body side how)) requests looked sent numbers closed place is = record {
+    kept = link_takes event is.kept;
     head = is.head;
     marks = is.marks;
-    phase = ap (ready_takes e.value) is.phase;
+    phase = ap (ready_takes event) is.phase;
     final = is.final;
-    is_link = link_on flow.request link front e sent (answers is.head ∷ is.marks) is.kept open_client is.is_link;
-    keeps = keeps_on at.used requests place.used is.keeps;
+    is_link = link_on flow.request side seen event now sent (answers is.head ∷ is.marks) is.kept is.is_link;
+    keeps = keeps_on (Some side) at.used requests place.used is.keeps;
   }
-  ready_on (given_head at flow) requests looked sent numbers closed place is =
-      record { phase = ap (ready_takes e.value) is.phase; keeps = keeps_on at.used requests place.used is.keeps }
-  ready_on (given_body at flow) requests looked sent numbers closed place is =
-      record { phase = ap (ready_takes e.value) is.phase; keeps = keeps_on at.used requests place.used is.keeps }
+  ready_on (busy at flow given_head) requests looked sent numbers closed place is =
+      record { phase = ap (ready_takes event) is.phase; keeps = keeps_on None at.used requests place.used is.keeps }
+  ready_on (busy at flow given_body) requests looked sent numbers closed place is =
+      record { phase = ap (ready_takes event) is.phase; keeps = keeps_on None at.used requests place.used is.keeps }
   ready_on (next at) requests looked sent numbers closed place is =
-      record { phase = ap (ready_takes e.value) is.phase; keeps = keeps_on at.used requests place.used is.keeps }
-  ready_on over requests looked sent numbers closed place is = ap (ready_takes e.value) is
+      record { phase = ap (ready_takes event) is.phase; keeps = keeps_on None at.used requests place.used is.keeps }
+  ready_on over requests looked sent numbers closed place is = ap (ready_takes event) is
 
 closes_by_event : (event : Event) (was : Bool) → closes_client event was ≡ (was || closes Client event)
 closes_by_event events.Begun true = refl
@@ -244,31 +232,22 @@ closes_by_event (events.Closed (Server server)) false = refl
 closes_by_event (events.Answered ask reply) true = refl
 closes_by_event (events.Answered ask reply) false = refl
 
-placed_on : (at : At) (front : List (Timed Event)) (e : Timed Event) (numbers : Numbers) (closed : Bool) → client_closed front ≡ false →
-    IsPlaced at front numbers closed → IsPlaced at (front ++ e ∷ []) numbers (closes_client e.value closed)
-placed_on at front e numbers closed open_client place =
-    let more = bytes_more Client front e open_client open_client in
-    let size = ap length more ∙ length-append (bytes_of Client front) (piece_of Client e.value) in
-    let longer = length-append front (e ∷ []) in
+placed_on : (at : At) (side : Option ServerSide) (seen : Sight) (event : Event) (now : ℕ) (numbers : Numbers) (closed : Bool) →
+    IsPlaced at seen numbers closed → IsPlaced at (sight_with side seen event now) numbers (closes_client event closed)
+placed_on at side seen event now numbers closed place =
+    let size = length-append seen.client (piece_of Client event) in
     let used = place.used in
-    let since = place.since in
     record {
       index = place.index;
       servers = place.servers;
-      client = closes_by_event e.value closed ∙ (ap (λ b. b || closes Client e.value) place.client ∙ sym (closed_more Client front e open_client));
+      client = closes_by_event event closed ∙ ap (λ b. b || closes Client event) place.client;
       used = omega arith;
-      since = omega arith;
     }
 
 -- and its numbers are the same
-pub place_on : (stage : Stage) (front : List (Timed Event)) (e : Timed Event) (numbers : Numbers) (closed : Bool) → client_closed front ≡ false →
-    HasPlace stage front numbers closed → HasPlace stage (front ++ e ∷ []) numbers (closes_client e.value closed)
-place_on (idle at) front e numbers closed open_client place = placed_on at front e numbers closed open_client place
-place_on (receiving at flow given) front e numbers closed open_client place = placed_on at front e numbers closed open_client place
-place_on (dialling at flow) front e numbers closed open_client place = placed_on at front e numbers closed open_client place
-place_on (answering at flow link) front e numbers closed open_client place = placed_on at front e numbers closed open_client place
-place_on (returning at flow link) front e numbers closed open_client place = placed_on at front e numbers closed open_client place
-place_on (given_head at flow) front e numbers closed open_client place = placed_on at front e numbers closed open_client place
-place_on (given_body at flow) front e numbers closed open_client place = placed_on at front e numbers closed open_client place
-place_on (next at) front e numbers closed open_client place = placed_on at front e numbers closed open_client place
-place_on over front e numbers closed open_client place = tt
+pub place_on : (stage : Stage) (seen : Sight) (event : Event) (now : ℕ) (numbers : Numbers) (closed : Bool) →
+    HasPlace stage seen numbers closed → HasPlace stage (sight_with (side_of stage) seen event now) numbers (closes_client event closed)
+place_on (idle at) seen event now numbers closed place = placed_on at None seen event now numbers closed place
+place_on (busy at flow doing) seen event now numbers closed place = placed_on at (side_in doing) seen event now numbers closed place
+place_on (next at) seen event now numbers closed place = placed_on at None seen event now numbers closed place
+place_on over seen event now numbers closed place = tt

@@ -1,5 +1,4 @@
 pub mod ReadLemmas
-pub mod BodyLemmas
 pub mod HeadLemmas
 pub mod HearLemmas
 pub mod TurnLemmas
@@ -9,14 +8,11 @@ pub mod ReturnLemmas
 pub mod ResponseLemmas
 pub mod AnsweringLemmas
 pub mod AdvanceLemmas
+pub mod WalkLemmas
 pub mod TakeLemmas
 pub mod ResumeLemmas
-pub mod QuietLemmas
 pub mod MoveLemmas
 pub mod CallLemmas
 pub mod LookingLemmas
 pub mod RestLemmas
-pub mod SilentLemmas
-pub mod EndingLemmas
-pub mod Quiet
 pub mod OutcomeLemmas

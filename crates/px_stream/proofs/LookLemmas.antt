@@ -8,9 +8,7 @@ use Rattle.px_message.specs.declared.response.Response.{Response}
 use Rattle.px_event.specs.declared.ask.Hook.TheVariants.{RequestHead, RequestBody, ResponseHead, ResponseBody}
 use Rattle.px_event.specs.declared.command.Command.{Command}
 use Rattle.px_event.specs.declared.command.Command.TheVariants as commands
-use Rattle.px_event.specs.declared.event.Event.{Event}
-use Rattle.px_event.specs.declared.side.Side.TheVariants.{Client}
-use Rattle.px_event.specs.Chain.{Timed, Look, NotYet, Asks, Ends, found}
+use Rattle.px_event.specs.Chain.{Look, NotYet, Asks, Ends, found}
 use Rattle.px_read.specs.Chunks.{Reading}
 use Rattle.px_read.specs.Items.{Body, Item, missing, part, complete, bad_head, bad_body, body_of, content_in, request_told, request_item}
 use Rattle.px_read.specs.Laws.{head_in}
@@ -21,14 +19,17 @@ use Rattle.px_exchange.specs.declared.ending.Used.TheVariants.{NoServer}
 use Rattle.px_stream.specs.declared.phase.Asked.TheVariants as asked
 use Rattle.px_stream.specs.declared.phase.Phase.{Phase}
 use Rattle.px_stream.specs.declared.phase.Phase.TheVariants as phase
-use Rattle.px_stream.specs.declared.phase.Ready.TheVariants as ready
-use Rattle.px_stream.specs.declared.reading.Progress.{Progress}
-use Rattle.px_stream.specs.declared.reading.Progress.TheVariants as progress
+use Rattle.px_stream.specs.declared.phase.Wanted.TheVariants as ready
+use Rattle.px_exchange.specs.declared.body.Progress.{Progress}
+use Rattle.px_exchange.specs.declared.body.Progress.TheVariants as progress
 use Rattle.px_exchange.specs.declared.terms.Terms.{Terms}
-use Rattle.px_stream.specs.Bodies.{HasRead, BodyFound}
-use Rattle.px_exchange.specs.Dials.{address_of}
+use Rattle.px_exchange.specs.Bodies.{HasRead, content_of}
+use Rattle.px_exchange.specs.Places.{dialled_for}
+use Rattle.px_stream.specs.Bodies.{BodyFound}
 use Rattle.px_exchange.specs.Flows.{ask_of, with_body, with_end, with_start}
-use Rattle.px_stream.specs.Chain.{look, pass, pass_body, request_over, so_far}
+use Rattle.px_chain.specs.Chain.{look, pass, pass_body, so_far, used_more}
+use Rattle.px_chain.specs.Sights.{Sight, request_in}
+use Rattle.px_chain.specs.Stages.{At, Stage, busy, connection, given_body, given_head, idle, request_body}
 use Rattle.px_exchange.specs.Finds.{look_head, look_judged, or_leaves}
 use Rattle.px_exchange.specs.Endings.{closed_message, ends_by_fault, ends_early, refuses}
 use Rattle.px_stream.specs.Found.{LookedAt}
@@ -38,49 +39,46 @@ use Rattle.px_exchange.specs.Requests.{expects, flow_of, is_head, judged}
 use Rattle.px_exchange.specs.declared.asked.Judged.{Judged}
 use Rattle.px_exchange.specs.declared.asked.Judged.TheVariants.{Refused, Accepted}
 use Rattle.px_stream.proofs.HeadLemmas.{gives_at, gives_missing, look_at_head, phase_at}
-use Rattle.px_stream.specs.Laws.{now_here}
-use Rattle.px_stream.specs.Stages.{At, Stage, idle, receiving, dialling, given_head, given_body}
-use Rattle.px_stream.specs.Stands.{content_of, KeepsBehind, IsReceiving, PhaseAt}
-use Rattle.px_stream.specs.Streams.{bytes_of, client_bytes, client_closed, now_over, from_here}
+use Rattle.px_stream.specs.Stands.{KeepsBehind, IsReceiving, PhaseAt}
 
 -- ---- from what is found to where the flow is
 
 -- the same over what is found
-pub at_look : (terms : Terms) (stage : Stage) (front : List (Timed Event)) (requests : State) (is_now : Phase) (before out longer more : List Command) (l : Look Command) →
-    look terms stage front ≡ l → longer ≡ out ++ more → before ++ more ≡ so_far stage front ++ found l → PhaseAt l terms requests is_now stage front →
-    LookedAt terms stage front requests is_now before out longer
-at_look terms stage front requests is_now before out longer more l is grown owes there =
-    let P : Look Command → Type 0 = λ k. before ++ more ≡ so_far stage front ++ found k in
-    let Q : Look Command → Type 0 = λ k. PhaseAt k terms requests is_now stage front in
+pub at_look : (terms : Terms) (stage : Stage) (seen : Sight) (requests : State) (is_now : Phase) (before out longer more : List Command) (l : Look Command) →
+    look terms stage seen ≡ l → longer ≡ out ++ more → before ++ more ≡ so_far stage seen ++ found l → PhaseAt l terms requests is_now stage seen →
+    LookedAt terms stage seen requests is_now before out longer
+at_look terms stage seen requests is_now before out longer more l is grown owes there =
+    let P : Look Command → Type 0 = λ k. before ++ more ≡ so_far stage seen ++ found k in
+    let Q : Look Command → Type 0 = λ k. PhaseAt k terms requests is_now stage seen in
     record { more = more; grown = grown; owes = subst P (sym is) owes; phase = subst Q (sym is) there }
 
 -- ---- the stages whose ask is found at once
 
-module _ (terms : Terms) (front : List (Timed Event)) (requests : State) (out longer : List Command) (is_now : Phase) where
+module _ (terms : Terms) (seen : Sight) (requests : State) (out longer : List Command) (is_now : Phase) where
   always_asks : (closed : Bool) (leaves : List Command) (ask : Command) → or_leaves closed leaves (Asks ask) ≡ Asks ask
   always_asks closed leaves ask = refl
 
-  pub dial_looked : (at : At) (flow : Flow) → KeepsBehind at.used front requests → longer ≡ out ++ commands.Dial at.dials (address_of flow.request) None ∷ [] →
-      is_now ≡ phase.Asked (asked.Dial flow at.dials) → LookedAt terms (dialling at flow) front requests is_now [] out longer
+  pub dial_looked : (at : At) (flow : Flow) → KeepsBehind at.used seen requests → longer ≡ out ++ commands.Dial at.dials (dialled_for terms.place flow.request) None ∷ [] →
+      is_now ≡ phase.Asked (asked.Dial flow at.dials) → LookedAt terms (busy at flow connection) seen requests is_now [] out longer
   dial_looked at flow keeps grown is =
-      at_look terms (dialling at flow) front requests is_now [] out longer (commands.Dial at.dials (address_of flow.request) None ∷ []) (Asks (commands.Dial at.dials (address_of flow.request) None))
+      at_look terms (busy at flow connection) seen requests is_now [] out longer (commands.Dial at.dials (dialled_for terms.place flow.request) None ∷ []) (Asks (commands.Dial at.dials (dialled_for terms.place flow.request) None))
       refl grown refl (asked.Dial flow at.dials, is, record { phase = refl; keeps = keeps })
 
-  pub given_head_looked : (at : At) (flow : Flow) (moment : ℕ) → moment ≡ now_over at.since front → KeepsBehind at.used front requests →
+  pub given_head_looked : (at : At) (flow : Flow) (moment : ℕ) → moment ≡ seen.now → KeepsBehind at.used seen requests →
       longer ≡ out ++ ask_of (with_start flow moment) ResponseHead ∷ [] → is_now ≡ phase.Asked (asked.GivenHead (with_start flow moment)) →
-      LookedAt terms (given_head at flow) front requests is_now [] out longer
+      LookedAt terms (busy at flow given_head) seen requests is_now [] out longer
   given_head_looked at flow moment now keeps grown is =
-      at_look terms (given_head at flow) front requests is_now [] out longer (ask_of (with_start flow (now_over at.since front)) ResponseHead ∷ []) (Asks (ask_of (with_start flow (now_over at.since front)) ResponseHead))
+      at_look terms (busy at flow given_head) seen requests is_now [] out longer (ask_of (with_start flow seen.now) ResponseHead ∷ []) (Asks (ask_of (with_start flow seen.now) ResponseHead))
       refl (grown ∙ ap (λ m. out ++ ask_of (with_start flow m) ResponseHead ∷ []) now) refl
-      (asked.GivenHead (with_start flow (now_over at.since front)), is ∙ ap (λ m. phase.Asked (asked.GivenHead (with_start flow m))) now, record { phase = refl; keeps = keeps })
+      (asked.GivenHead (with_start flow seen.now), is ∙ ap (λ m. phase.Asked (asked.GivenHead (with_start flow m))) now, record { phase = refl; keeps = keeps })
 
-  pub given_body_looked : (at : At) (flow : Flow) (moment : ℕ) → moment ≡ now_over at.since front → KeepsBehind at.used front requests →
+  pub given_body_looked : (at : At) (flow : Flow) (moment : ℕ) → moment ≡ seen.now → KeepsBehind at.used seen requests →
       longer ≡ out ++ ask_of (with_end flow moment) ResponseBody ∷ [] → is_now ≡ phase.Asked (asked.GivenBody (with_end flow moment)) →
-      LookedAt terms (given_body at flow) front requests is_now [] out longer
+      LookedAt terms (busy at flow given_body) seen requests is_now [] out longer
   given_body_looked at flow moment now keeps grown is =
-      at_look terms (given_body at flow) front requests is_now [] out longer (ask_of (with_end flow (now_over at.since front)) ResponseBody ∷ []) (Asks (ask_of (with_end flow (now_over at.since front)) ResponseBody))
+      at_look terms (busy at flow given_body) seen requests is_now [] out longer (ask_of (with_end flow seen.now) ResponseBody ∷ []) (Asks (ask_of (with_end flow seen.now) ResponseBody))
       refl (grown ∙ ap (λ m. out ++ ask_of (with_end flow m) ResponseBody ∷ []) now) refl
-      (asked.GivenBody (with_end flow (now_over at.since front)), is ∙ ap (λ m. phase.Asked (asked.GivenBody (with_end flow m))) now, record { phase = refl; keeps = keeps })
+      (asked.GivenBody (with_end flow seen.now), is ∙ ap (λ m. phase.Asked (asked.GivenBody (with_end flow m))) now, record { phase = refl; keeps = keeps })
 
 -- ---- the request's body
 
@@ -119,22 +117,22 @@ body_shown (progress.Bad fault) head marks fed old new content longer reads is r
     let come = read.come request (asks head ∷ marks) fed false reads in
     (body_of (marks ++ m), ap (λ (r : Reading). request_told r.marks r.finish) come)
 
-module _ (terms : Terms) (at : At) (flow : Flow) (front : List (Timed Event)) (requests : State) (out longer : List Command) (is_now : Phase) where
+module _ (terms : Terms) (at : At) (flow : Flow) (seen : Sight) (requests : State) (out longer : List Command) (is_now : Phase) where
   -- the stage, where the item is known
-  body_stays : (given : Option Response) (item : Item ReadRequest) → request_over at front ≡ item → ((response : Response) → given ≡ Some response → pass_body at flow given item (now_over at.since front) front ≡ receiving at flow given) →
-      (pass (receiving at flow given) front).stage ≡ receiving at flow given
+  body_stays : (given : Option Response) (item : Item ReadRequest) → request_in at seen ≡ item → ((response : Response) → given ≡ Some response → pass_body at flow given item seen.now ≡ busy at flow (request_body given)) →
+      (pass (busy at flow (request_body given)) seen) ≡ busy at flow (request_body given)
   body_stays None item is stays = refl
-  body_stays (Some response) item is stays = ap (λ i. pass_body at flow (Some response) i (now_over at.since front) front) is ∙ stays response refl
+  body_stays (Some response) item is stays = ap (λ i. pass_body at flow (Some response) i seen.now) is ∙ stays response refl
 
-  missing_by : (given : Option Response) (head : ReadRequest) (all : List Mark) (content : List ℕ) (shut : Bool) → client_closed front ≡ shut → request_over at front ≡ part head (body_of all) →
-      content ≡ content_of all → Reads request (asks head ∷ all) (client_bytes at.used front) false requests →
-      longer ≡ out ++ where_left shut (ends_early flow closed_message (now_over at.since front) NoServer true) → is_now ≡ unless_left shut (ready.Receiving flow given content) →
-      LookedAt terms (receiving at flow given) front requests is_now [] out longer
+  missing_by : (given : Option Response) (head : ReadRequest) (all : List Mark) (content : List ℕ) (shut : Bool) → seen.closed ≡ shut → request_in at seen ≡ part head (body_of all) →
+      content ≡ content_of all → Reads request (asks head ∷ all) (drop at.used seen.client) false requests →
+      longer ≡ out ++ where_left shut (ends_early flow closed_message seen.now NoServer true) → is_now ≡ unless_left shut (ready.Receiving flow given content) →
+      LookedAt terms (busy at flow (request_body given)) seen requests is_now [] out longer
   missing_by given head all content true shut is same reads grown there =
-      at_look terms (receiving at flow given) front requests is_now [] out longer (ends_early flow closed_message (now_over at.since front) NoServer true)
-      (Ends (ends_early flow closed_message (now_over at.since front) NoServer true)) (rw (shut, is) refl) grown refl (there, tt)
+      at_look terms (busy at flow (request_body given)) seen requests is_now [] out longer (ends_early flow closed_message seen.now NoServer true)
+      (Ends (ends_early flow closed_message seen.now NoServer true)) (rw (shut, is) refl) grown refl (there, tt)
   missing_by given head all content false shut is same reads grown there =
-      at_look terms (receiving at flow given) front requests is_now [] out longer [] NotYet (rw (shut, is) refl) grown refl (
+      at_look terms (busy at flow (request_body given)) seen requests is_now [] out longer [] NotYet (rw (shut, is) refl) grown refl (
         ready.Receiving flow given content,
         [],
         there,
@@ -142,29 +140,29 @@ module _ (terms : Terms) (at : At) (flow : Flow) (front : List (Timed Event)) (r
         refl,
       )
 
-  bad_by : (given : Option Response) (head : ReadRequest) (body : Body) (fault : Fault) → request_over at front ≡ bad_body fault head body →
-      longer ≡ out ++ ends_by_fault flow fault (now_over at.since front) NoServer (client_closed front) → is_now ≡ is_over →
-      LookedAt terms (receiving at flow given) front requests is_now [] out longer
+  bad_by : (given : Option Response) (head : ReadRequest) (body : Body) (fault : Fault) → request_in at seen ≡ bad_body fault head body →
+      longer ≡ out ++ ends_by_fault flow fault seen.now NoServer seen.closed → is_now ≡ is_over →
+      LookedAt terms (busy at flow (request_body given)) seen requests is_now [] out longer
   bad_by given head body fault is grown there =
-      at_look terms (receiving at flow given) front requests is_now [] out longer (ends_by_fault flow fault (now_over at.since front) NoServer (client_closed front))
-      (Ends (ends_by_fault flow fault (now_over at.since front) NoServer (client_closed front))) (rw is refl) grown refl (there, tt)
+      at_look terms (busy at flow (request_body given)) seen requests is_now [] out longer (ends_by_fault flow fault seen.now NoServer seen.closed)
+      (Ends (ends_by_fault flow fault seen.now NoServer seen.closed)) (rw is refl) grown refl (there, tt)
 
-  behind_bytes_used : (used : ℕ) → requests.rest ≡ drop used (client_bytes at.used front) → requests.closed ≡ false → KeepsBehind (at.used + used) front requests
-  behind_bytes_used used rest open_still = record { rest = rest ∙ drop-drop used at.used (bytes_of Client front); open_still = open_still }
+  behind_bytes_used : (used : ℕ) → requests.rest ≡ drop used (drop at.used seen.client) → requests.closed ≡ false → KeepsBehind (at.used + used) seen requests
+  behind_bytes_used used rest open_still = record { rest = rest ∙ drop-drop used at.used seen.client; open_still = open_still }
 
-  within_used : (used : ℕ) → at.used ≤ length (bytes_of Client front) → used ≤ length (client_bytes at.used front) → at.used + used ≤ length (bytes_of Client front)
-  within_used used before more = let l = length-drop at.used (bytes_of Client front) in omega arith
+  within_used : (used : ℕ) → at.used ≤ length seen.client → used ≤ length (drop at.used seen.client) → at.used + used ≤ length seen.client
+  within_used used before more = let l = length-drop at.used seen.client in omega arith
 
-  whole_by : (head : ReadRequest) (body : Body) (trailers : List (List ℕ × List ℕ)) (used : ℕ) (content : List ℕ) → request_over at front ≡ complete head body trailers used → content ≡ body.content →
-      requests.rest ≡ drop used (client_bytes at.used front) → requests.closed ≡ false → at.used ≤ length (bytes_of Client front) → used ≤ length (client_bytes at.used front) →
-      longer ≡ out ++ ask_of (with_body flow content trailers (now_over at.since front)) RequestBody ∷ [] →
-      is_now ≡ phase.Asked (asked.Body (with_body flow content trailers (now_over at.since front))) → LookedAt terms (receiving at flow None) front requests is_now [] out longer
+  whole_by : (head : ReadRequest) (body : Body) (trailers : List (List ℕ × List ℕ)) (used : ℕ) (content : List ℕ) → request_in at seen ≡ complete head body trailers used → content ≡ body.content →
+      requests.rest ≡ drop used (drop at.used seen.client) → requests.closed ≡ false → at.used ≤ length seen.client → used ≤ length (drop at.used seen.client) →
+      longer ≡ out ++ ask_of (with_body flow content trailers seen.now) RequestBody ∷ [] →
+      is_now ≡ phase.Asked (asked.Body (with_body flow content trailers seen.now)) → LookedAt terms (busy at flow (request_body None)) seen requests is_now [] out longer
   whole_by head body trailers used content is same rest open_still before more grown there =
-      let told : Flow = with_body flow body.content trailers (now_over at.since front) in
-      at_look terms (receiving at flow None) front requests is_now [] out longer (ask_of told RequestBody ∷ []) (Asks (ask_of told RequestBody)) (rw is refl)
-      (grown ∙ ap (λ l. out ++ ask_of (with_body flow l trailers (now_over at.since front)) RequestBody ∷ []) same) refl (
+      let told : Flow = with_body flow body.content trailers seen.now in
+      at_look terms (busy at flow (request_body None)) seen requests is_now [] out longer (ask_of told RequestBody ∷ []) (Asks (ask_of told RequestBody)) (rw is refl)
+      (grown ∙ ap (λ l. out ++ ask_of (with_body flow l trailers seen.now) RequestBody ∷ []) same) refl (
         asked.Body told,
-        there ∙ ap (λ l. phase.Asked (asked.Body (with_body flow l trailers (now_over at.since front)))) same,
+        there ∙ ap (λ l. phase.Asked (asked.Body (with_body flow l trailers seen.now))) same,
         record {
           head = head;
           body = body;
@@ -177,124 +175,124 @@ module _ (terms : Terms) (at : At) (flow : Flow) (front : List (Timed Event)) (r
         },
       )
 
-at_stage : (terms : Terms) (one other : Stage) (front : List (Timed Event)) (requests : State) (is_now : Phase) (before out longer : List Command) → other ≡ one →
-    LookedAt terms one front requests is_now before out longer → LookedAt terms other front requests is_now before out longer
-at_stage terms one other front requests is_now before out longer same looked =
-    let P : Stage → Type 0 = λ s. LookedAt terms s front requests is_now before out longer in subst P (sym same) looked
+at_stage : (terms : Terms) (one other : Stage) (seen : Sight) (requests : State) (is_now : Phase) (before out longer : List Command) → other ≡ one →
+    LookedAt terms one seen requests is_now before out longer → LookedAt terms other seen requests is_now before out longer
+at_stage terms one other seen requests is_now before out longer same looked =
+    let P : Stage → Type 0 = λ s. LookedAt terms s seen requests is_now before out longer in subst P (sym same) looked
 
 -- what the flow gives by how the body stands, where the stage is passed
-body_looked_by : (terms : Terms) (at : At) (flow : Flow) (given : Option Response) (front : List (Timed Event)) (new : State) (out longer : List Command) (is_now : Phase) (head : ReadRequest) (content : List ℕ)
-    (got : Progress) → at.used ≤ length (bytes_of Client front) → BodyShown got head (client_bytes at.used front) new content →
-    longer ≡ out ++ body_gives flow given got content (now_over at.since front) (client_closed front) →
-    is_now ≡ body_phase flow given got content (now_over at.since front) (client_closed front) →
-    LookedAt terms (pass (receiving at flow given) front).stage front new is_now [] out longer
-body_looked_by terms at flow given front new out longer is_now head content progress.Missing within (all, is, same, reads) grown there =
-    at_stage terms (receiving at flow given) _ front new is_now [] out longer
-    (body_stays terms at flow front new out longer is_now given (part head (body_of all)) is (λ response _. rest_by given))
-    (missing_by terms at flow front new out longer is_now given head all content (client_closed front) refl is same reads grown there)
+body_looked_by : (terms : Terms) (at : At) (flow : Flow) (given : Option Response) (seen : Sight) (new : State) (out longer : List Command) (is_now : Phase) (head : ReadRequest) (content : List ℕ)
+    (got : Progress) → at.used ≤ length seen.client → BodyShown got head (drop at.used seen.client) new content →
+    longer ≡ out ++ body_gives flow given got content seen.now seen.closed →
+    is_now ≡ body_phase flow given got content seen.now seen.closed →
+    LookedAt terms (pass (busy at flow (request_body given)) seen) seen new is_now [] out longer
+body_looked_by terms at flow given seen new out longer is_now head content progress.Missing within (all, is, same, reads) grown there =
+    at_stage terms (busy at flow (request_body given)) _ seen new is_now [] out longer
+    (body_stays terms at flow seen new out longer is_now given (part head (body_of all)) is (λ response _. rest_by given))
+    (missing_by terms at flow seen new out longer is_now given head all content seen.closed refl is same reads grown there)
   where
-    rest_by : (given : Option Response) → pass_body at flow given (part head (body_of all)) (now_over at.since front) front ≡ receiving at flow given
+    rest_by : (given : Option Response) → pass_body at flow given (part head (body_of all)) seen.now ≡ busy at flow (request_body given)
     rest_by None = refl
     rest_by (Some response) = refl
-body_looked_by terms at flow given front new out longer is_now head content (progress.Bad fault) within (body, is) grown there =
-    at_stage terms (receiving at flow given) _ front new is_now [] out longer
-    (body_stays terms at flow front new out longer is_now given (bad_body fault head body) is (λ response _. rest_by given))
-    (bad_by terms at flow front new out longer is_now given head body fault is grown there)
+body_looked_by terms at flow given seen new out longer is_now head content (progress.Bad fault) within (body, is) grown there =
+    at_stage terms (busy at flow (request_body given)) _ seen new is_now [] out longer
+    (body_stays terms at flow seen new out longer is_now given (bad_body fault head body) is (λ response _. rest_by given))
+    (bad_by terms at flow seen new out longer is_now given head body fault is grown there)
   where
-    rest_by : (given : Option Response) → pass_body at flow given (bad_body fault head body) (now_over at.since front) front ≡ receiving at flow given
+    rest_by : (given : Option Response) → pass_body at flow given (bad_body fault head body) seen.now ≡ busy at flow (request_body given)
     rest_by None = refl
     rest_by (Some response) = refl
-body_looked_by terms at flow None front new out longer is_now head content (progress.Whole trailers) within (body, used, is, same, rest, more, open_still) grown there =
-    whole_by terms at flow front new out longer is_now head body trailers used content is same rest open_still within more grown there
-body_looked_by terms at flow (Some response) front new out longer is_now head content (progress.Whole trailers) within (body, used, is, same, rest, more, open_still) grown there =
-    let moment : ℕ = now_over at.since front in
-    let behind : At = record at { used = at.used + used; since = from_here moment front } in
+body_looked_by terms at flow None seen new out longer is_now head content (progress.Whole trailers) within (body, used, is, same, rest, more, open_still) grown there =
+    whole_by terms at flow seen new out longer is_now head body trailers used content is same rest open_still within more grown there
+body_looked_by terms at flow (Some response) seen new out longer is_now head content (progress.Whole trailers) within (body, used, is, same, rest, more, open_still) grown there =
+    let moment : ℕ = seen.now in
+    let behind : At = used_more at used in
     let told : Flow = record (with_body flow body.content trailers moment) { response = Some response } in
-    at_stage terms (given_head behind told) _ front new is_now [] out longer
-    (ap (λ i. pass_body at flow (Some response) i moment front) is)
-    (given_head_looked terms front new out longer is_now behind told moment (sym (now_here moment front))
-    (behind_bytes_used terms at flow front new out longer is_now used rest open_still)
+    at_stage terms (busy behind told given_head) _ seen new is_now [] out longer
+    (ap (λ i. pass_body at flow (Some response) i moment) is)
+    (given_head_looked terms seen new out longer is_now behind told moment refl
+    (behind_bytes_used terms at flow seen new out longer is_now used rest open_still)
     (grown ∙ ap (λ l. out ++ ask_of (with_start (record (with_body flow l trailers moment) { response = Some response }) moment) ResponseHead ∷ []) same)
     (there ∙ ap (λ l. phase.Asked (asked.GivenHead (with_start (record (with_body flow l trailers moment) { response = Some response }) moment))) same))
 
-pub receiving_looked : (terms : Terms) (at : At) (flow : Flow) (given : Option Response) (front : List (Timed Event)) (old new : State) (content : List ℕ) (moment : ℕ) (closed : Bool)
-    (out longer : List Command) (is_now : Phase) → at.used ≤ length (bytes_of Client front) → moment ≡ now_over at.since front → closed ≡ client_closed front →
-    IsReceiving at front old flow given (ready.Receiving flow given content) → BodyFound flow given content old new moment closed out longer is_now →
-    LookedAt terms (pass (receiving at flow given) front).stage front new is_now [] out longer
-receiving_looked terms at flow given front old new content moment closed out longer is_now within now shut is looked =
+pub receiving_looked : (terms : Terms) (at : At) (flow : Flow) (given : Option Response) (seen : Sight) (old new : State) (content : List ℕ) (moment : ℕ) (closed : Bool)
+    (out longer : List Command) (is_now : Phase) → at.used ≤ length seen.client → moment ≡ seen.now → closed ≡ seen.closed →
+    IsReceiving at seen old flow given (ready.Receiving flow given content) → BodyFound flow given content old new moment closed out longer is_now →
+    LookedAt terms (pass (busy at flow (request_body given)) seen) seen new is_now [] out longer
+receiving_looked terms at flow given seen old new content moment closed out longer is_now within now shut is looked =
     let same : content ≡ content_of is.marks = (let e : ready.Receiving flow given content ≡ ready.Receiving flow given (content_of is.marks) = is.phase in cc) in
-    let shown = body_shown looked.got is.head is.marks (client_bytes at.used front) old new content looked.body is.reads same looked.read in
+    let shown = body_shown looked.got is.head is.marks (drop at.used seen.client) old new content looked.body is.reads same looked.read in
     let P : ℕ → Bool → Type 0 = λ m b. (longer ≡ out ++ body_gives flow given looked.got looked.body m b) × (is_now ≡ body_phase flow given looked.got looked.body m b) in
     let Q : ℕ → Type 0 = λ m. P m closed in
-    let R : Bool → Type 0 = λ b. P (now_over at.since front) b in
-    let both : P (now_over at.since front) (client_closed front) = subst R shut (subst Q now (looked.gives, looked.phase)) in
-    body_looked_by terms at flow given front new out longer is_now is.head looked.body looked.got within shown both.0 both.1
+    let R : Bool → Type 0 = λ b. P seen.now b in
+    let both : P seen.now seen.closed = subst R shut (subst Q now (looked.gives, looked.phase)) in
+    body_looked_by terms at flow given seen new out longer is_now is.head looked.body looked.got within shown both.0 both.1
 
 -- ---- a request's head
 
-module _ (terms : Terms) (at : At) (front : List (Timed Event)) (requests : State) (out longer : List Command) (is_now : Phase) where
-  judged_by : (head : ReadRequest) (made : Judged) → judged terms.address head ≡ made → head_in (request_over at front) ≡ Some head →
-      Reads request (asks head ∷ []) (client_bytes at.used front) false requests →
-      longer ≡ out ++ found (look_judged terms at.flow head made (now_over at.since front) (client_closed front)) →
-      is_now ≡ judged_phase terms at.flow head made (now_over at.since front) → LookedAt terms (idle at) front requests is_now [] out longer
+module _ (terms : Terms) (at : At) (seen : Sight) (requests : State) (out longer : List Command) (is_now : Phase) where
+  judged_by : (head : ReadRequest) (made : Judged) → judged terms.place head ≡ made → head_in (request_in at seen) ≡ Some head →
+      Reads request (asks head ∷ []) (drop at.used seen.client) false requests →
+      longer ≡ out ++ found (look_judged terms at.flow head made seen.now seen.closed) →
+      is_now ≡ judged_phase terms at.flow head made seen.now → LookedAt terms (idle at) seen requests is_now [] out longer
   judged_by head (Refused fault) accepts stands reads grown there =
-      let ends : look terms (idle at) front ≡ Ends (refuses fault (is_head head.method) (client_closed front)) =
-      ap (or_leaves (client_closed front) []) (look_at_head terms at.flow (request_over at front) head (now_over at.since front) (client_closed front) stands
-      ∙ ap (λ j. look_judged terms at.flow head j (now_over at.since front) (client_closed front)) accepts) in
-      at_look terms (idle at) front requests is_now [] out longer (refuses fault (is_head head.method) (client_closed front)) _ ends grown refl (there, tt)
+      let ends : look terms (idle at) seen ≡ Ends (refuses fault (is_head head.method) seen.closed) =
+      ap (or_leaves seen.closed []) (look_at_head terms at.flow (request_in at seen) head seen.now seen.closed stands
+      ∙ ap (λ j. look_judged terms at.flow head j seen.now seen.closed) accepts) in
+      at_look terms (idle at) seen requests is_now [] out longer (refuses fault (is_head head.method) seen.closed) _ ends grown refl (there, tt)
   judged_by head (Accepted message) accepts stands reads grown there =
-      let flow : Flow = flow_of terms at.flow message (now_over at.since front) in
-      let asks_now : look terms (idle at) front ≡ Asks (ask_of flow RequestHead) =
-      ap (or_leaves (client_closed front) []) (look_at_head terms at.flow (request_over at front) head (now_over at.since front) (client_closed front) stands
-      ∙ ap (λ j. look_judged terms at.flow head j (now_over at.since front) (client_closed front)) accepts) in
-      at_look terms (idle at) front requests is_now [] out longer (ask_of flow RequestHead ∷ []) _ asks_now grown refl
+      let flow : Flow = flow_of terms at.flow message seen.now in
+      let asks_now : look terms (idle at) seen ≡ Asks (ask_of flow RequestHead) =
+      ap (or_leaves seen.closed []) (look_at_head terms at.flow (request_in at seen) head seen.now seen.closed stands
+      ∙ ap (λ j. look_judged terms at.flow head j seen.now seen.closed) accepts) in
+      at_look terms (idle at) seen requests is_now [] out longer (ask_of flow RequestHead ∷ []) _ asks_now grown refl
       (asked.Head flow (expects head), there, record { head = head; message = message; stands = stands; accepts = accepts; phase = refl; reads = reads })
 
-  head_by : (head : ReadRequest) → head_in (request_over at front) ≡ Some head →
-      Reads request (marks_at (head_in (request_over at front))) (client_bytes at.used front) false requests →
-      longer ≡ out ++ found (or_leaves (client_closed front) [] (look_head terms at.flow (request_over at front) (now_over at.since front) (client_closed front))) →
-      is_now ≡ head_phase terms at.flow (request_over at front) (now_over at.since front) (client_closed front) → LookedAt terms (idle at) front requests is_now [] out longer
+  head_by : (head : ReadRequest) → head_in (request_in at seen) ≡ Some head →
+      Reads request (marks_at (head_in (request_in at seen))) (drop at.used seen.client) false requests →
+      longer ≡ out ++ found (or_leaves seen.closed [] (look_head terms at.flow (request_in at seen) seen.now seen.closed)) →
+      is_now ≡ head_phase terms at.flow (request_in at seen) seen.now seen.closed → LookedAt terms (idle at) seen requests is_now [] out longer
   head_by head stands reads grown there =
-      let P : Option ReadRequest → Type 0 = λ o. Reads request (marks_at o) (client_bytes at.used front) false requests in
-      judged_by head (judged terms.address head) refl stands (subst P stands reads)
-      (grown ∙ ap (λ l. out ++ l) (sym (gives_at terms at.flow (request_over at front) head (now_over at.since front) (client_closed front) stands)))
-      (there ∙ sym (phase_at terms at.flow (request_over at front) head (now_over at.since front) (client_closed front) stands))
+      let P : Option ReadRequest → Type 0 = λ o. Reads request (marks_at o) (drop at.used seen.client) false requests in
+      judged_by head (judged terms.place head) refl stands (subst P stands reads)
+      (grown ∙ ap (λ l. out ++ l) (sym (gives_at terms at.flow (request_in at seen) head seen.now seen.closed stands)))
+      (there ∙ sym (phase_at terms at.flow (request_in at seen) head seen.now seen.closed stands))
 
-  no_head_by : (shut : Bool) → client_closed front ≡ shut → request_over at front ≡ missing → Reads request [] (client_bytes at.used front) false requests →
-      longer ≡ out ++ [] → is_now ≡ unless_left shut ready.Idle → LookedAt terms (idle at) front requests is_now [] out longer
+  no_head_by : (shut : Bool) → seen.closed ≡ shut → request_in at seen ≡ missing → Reads request [] (drop at.used seen.client) false requests →
+      longer ≡ out ++ [] → is_now ≡ unless_left shut ready.Idle → LookedAt terms (idle at) seen requests is_now [] out longer
   no_head_by true shut is reads grown there =
-      at_look terms (idle at) front requests is_now [] out longer [] (Ends []) (rw (shut, is) refl) grown refl (there, tt)
+      at_look terms (idle at) seen requests is_now [] out longer [] (Ends []) (rw (shut, is) refl) grown refl (there, tt)
   no_head_by false shut is reads grown there =
-      at_look terms (idle at) front requests is_now [] out longer [] NotYet (rw (shut, is) refl) grown refl
+      at_look terms (idle at) seen requests is_now [] out longer [] NotYet (rw (shut, is) refl) grown refl
       (ready.Idle, [], there, record { phase = refl; reads = reads }, refl)
 
-  idle_by : (item : Item ReadRequest) → request_over at front ≡ item →
-      Reads request (marks_at (head_in (request_over at front))) (client_bytes at.used front) false requests →
-      longer ≡ out ++ found (or_leaves (client_closed front) [] (look_head terms at.flow (request_over at front) (now_over at.since front) (client_closed front))) →
-      is_now ≡ head_phase terms at.flow (request_over at front) (now_over at.since front) (client_closed front) → LookedAt terms (idle at) front requests is_now [] out longer
+  idle_by : (item : Item ReadRequest) → request_in at seen ≡ item →
+      Reads request (marks_at (head_in (request_in at seen))) (drop at.used seen.client) false requests →
+      longer ≡ out ++ found (or_leaves seen.closed [] (look_head terms at.flow (request_in at seen) seen.now seen.closed)) →
+      is_now ≡ head_phase terms at.flow (request_in at seen) seen.now seen.closed → LookedAt terms (idle at) seen requests is_now [] out longer
   idle_by missing is reads grown there =
-      let P : Item ReadRequest → Type 0 = λ i. Reads request (marks_at (head_in i)) (client_bytes at.used front) false requests in
-      no_head_by (client_closed front) refl is (subst P is reads)
-      (grown ∙ ap (λ l. out ++ l) (gives_missing terms at.flow (request_over at front) (now_over at.since front) (client_closed front) is))
-      (there ∙ ap (λ i. head_phase terms at.flow i (now_over at.since front) (client_closed front)) is)
+      let P : Item ReadRequest → Type 0 = λ i. Reads request (marks_at (head_in i)) (drop at.used seen.client) false requests in
+      no_head_by seen.closed refl is (subst P is reads)
+      (grown ∙ ap (λ l. out ++ l) (gives_missing terms at.flow (request_in at seen) seen.now seen.closed is))
+      (there ∙ ap (λ i. head_phase terms at.flow i seen.now seen.closed) is)
   idle_by (part head body) is reads grown there = head_by head (ap head_in is) reads grown there
   idle_by (complete head body trailers used) is reads grown there = head_by head (ap head_in is) reads grown there
   idle_by (bad_body fault head body) is reads grown there = head_by head (ap head_in is) reads grown there
   idle_by (bad_head fault) is reads grown there =
-      let ends : look terms (idle at) front ≡ Ends (refuses fault false (client_closed front)) = rw is refl in
-      at_look terms (idle at) front requests is_now [] out longer (refuses fault false (client_closed front)) _ ends
-      (grown ∙ ap (λ i. out ++ found (or_leaves (client_closed front) [] (look_head terms at.flow i (now_over at.since front) (client_closed front)))) is) refl
-      (there ∙ ap (λ i. head_phase terms at.flow i (now_over at.since front) (client_closed front)) is, tt)
+      let ends : look terms (idle at) seen ≡ Ends (refuses fault false seen.closed) = rw is refl in
+      at_look terms (idle at) seen requests is_now [] out longer (refuses fault false seen.closed) _ ends
+      (grown ∙ ap (λ i. out ++ found (or_leaves seen.closed [] (look_head terms at.flow i seen.now seen.closed))) is) refl
+      (there ∙ ap (λ i. head_phase terms at.flow i seen.now seen.closed) is, tt)
 
-  pub idle_looked : (index moment : ℕ) (closed : Bool) → index ≡ at.flow → moment ≡ now_over at.since front → closed ≡ client_closed front →
-      Reads request (marks_at (head_in (request_over at front))) (client_bytes at.used front) false requests →
-      longer ≡ out ++ found (or_leaves closed [] (look_head terms index (request_over at front) moment closed)) →
-      is_now ≡ head_phase terms index (request_over at front) moment closed → LookedAt terms (idle at) front requests is_now [] out longer
+  pub idle_looked : (index moment : ℕ) (closed : Bool) → index ≡ at.flow → moment ≡ seen.now → closed ≡ seen.closed →
+      Reads request (marks_at (head_in (request_in at seen))) (drop at.used seen.client) false requests →
+      longer ≡ out ++ found (or_leaves closed [] (look_head terms index (request_in at seen) moment closed)) →
+      is_now ≡ head_phase terms index (request_in at seen) moment closed → LookedAt terms (idle at) seen requests is_now [] out longer
   idle_looked index moment closed flow now shut reads grown there =
-      idle_by (request_over at front) refl reads
-      (grown ∙ (ap (λ n. out ++ found (or_leaves closed [] (look_head terms n (request_over at front) moment closed))) flow
-      ∙ (ap (λ m. out ++ found (or_leaves closed [] (look_head terms at.flow (request_over at front) m closed))) now
-      ∙ ap (λ b. out ++ found (or_leaves b [] (look_head terms at.flow (request_over at front) (now_over at.since front) b))) shut)))
-      (there ∙ (ap (λ n. head_phase terms n (request_over at front) moment closed) flow
-      ∙ (ap (λ m. head_phase terms at.flow (request_over at front) m closed) now
-      ∙ ap (λ b. head_phase terms at.flow (request_over at front) (now_over at.since front) b) shut)))
+      idle_by (request_in at seen) refl reads
+      (grown ∙ (ap (λ n. out ++ found (or_leaves closed [] (look_head terms n (request_in at seen) moment closed))) flow
+      ∙ (ap (λ m. out ++ found (or_leaves closed [] (look_head terms at.flow (request_in at seen) m closed))) now
+      ∙ ap (λ b. out ++ found (or_leaves b [] (look_head terms at.flow (request_in at seen) seen.now b))) shut)))
+      (there ∙ (ap (λ n. head_phase terms n (request_in at seen) moment closed) flow
+      ∙ (ap (λ m. head_phase terms at.flow (request_in at seen) m closed) now
+      ∙ ap (λ b. head_phase terms at.flow (request_in at seen) seen.now b) shut)))

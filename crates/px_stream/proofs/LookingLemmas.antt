@@ -11,12 +11,13 @@ use Rattle.px_read.specs.Laws.{head_in}
 use Rattle.px_read.specs.Reader.{request, State, Reads}
 use Rattle.px_stream.specs.declared.link.Link.{Link as KeptLink}
 use Rattle.px_stream.specs.declared.phase.Phase.{Phase}
-use Rattle.px_stream.specs.declared.phase.Ready.{Ready}
-use Rattle.px_stream.specs.declared.reading.Answer.{Answer}
-use Rattle.px_stream.specs.declared.reading.Progress.{Progress}
+use Rattle.px_stream.specs.declared.phase.Wanted.{Wanted}
+use Rattle.px_stream.specs.declared.reading.FinalHead.{FinalHead}
+use Rattle.px_exchange.specs.declared.body.Progress.{Progress}
 use Rattle.px_stream.specs.declared.numbers.Numbers.{Numbers}
 use Rattle.px_exchange.specs.declared.terms.Terms.{Terms}
-use Rattle.px_stream.specs.Bodies.{HasRead, BodyFound, ReturnFound}
+use Rattle.px_exchange.specs.Bodies.{HasRead}
+use Rattle.px_stream.specs.Bodies.{BodyFound, ReturnFound}
 use Rattle.px_exchange.specs.Finds.{look_head, or_leaves}
 use Rattle.px_stream.specs.Looking.{HeadFound, FoundAtOnce, LookFound, MayLook}
 use Rattle.px_stream.specs.Looks.{answer_gives, answer_phase, body_gives, body_phase, returned_gives, returned_phase}
@@ -45,19 +46,19 @@ besides (Ok next) state P is = (refl, is)
 besides (Err e) state P is = tt
 
 -- by what is looked for
-pub looked_as : {E : Type 0} (result : Result Phase E) (terms : Terms) (numbers : Numbers) (looks known : Ready) (old new : State) (moment : ℕ) (closed : Bool) (out longer : List Command) →
+pub looked_as : {E : Type 0} (result : Result Phase E) (terms : Terms) (numbers : Numbers) (looks known : Wanted) (old new : State) (moment : ℕ) (closed : Bool) (out longer : List Command) →
     looks ≡ known → IfOk result (λ next. LookFound terms numbers known old new moment closed out longer next) → IfOk result (λ next. LookFound terms numbers looks old new moment closed out longer next)
 looked_as result terms numbers looks known old new moment closed out longer is looked =
-    let P : Ready → Type 0 = λ ready. IfOk result (λ next. LookFound terms numbers ready old new moment closed out longer next) in
+    let P : Wanted → Type 0 = λ ready. IfOk result (λ next. LookFound terms numbers ready old new moment closed out longer next) in
     subst P (sym is) looked
 
 -- nothing is given
 pub nothing_given : (state : State) (out : List Command) (there : Phase) → FoundAtOnce state state [] out out there there
 nothing_given state out there = record { same = refl; gives = sym (append-nil out); phase = refl }
 
-pub may_as : (looks known : Ready) (requests : State) → looks ≡ known → MayLook looks requests → MayLook known requests
+pub may_as : (looks known : Wanted) (requests : State) → looks ≡ known → MayLook looks requests → MayLook known requests
 may_as looks known requests is may =
-    let P : Ready → Type 0 = λ ready. MayLook ready requests in
+    let P : Wanted → Type 0 = λ ready. MayLook ready requests in
     subst P is may
 
 -- ---- by what the readers have come to
@@ -76,7 +77,7 @@ return_found (Ok next) flow content body old responses moment closed out longer 
     (record old { responses = responses }, record { got = got; body = body; responses = responses; same = refl; read = read; gives = gives; phase = phase })
 return_found (Err e) flow content body old responses moment closed out longer got read gives phase = tt
 
-pub answer_found : {E : Type 0} (result : Result Phase E) (flow : Flow) (old new : KeptLink) (moment : ℕ) (closed : Bool) (out between longer : List Command) (got : Answer) →
+pub answer_found : {E : Type 0} (result : Result Phase E) (flow : Flow) (old new : KeptLink) (moment : ℕ) (closed : Bool) (out between longer : List Command) (got : FinalHead) →
     ReadsAnswer got (is_http11 flow.request.version) old out new between → OnOk result (longer ≡ between ++ answer_gives flow new got moment closed) →
     IfOk result (λ next. next ≡ answer_phase flow new got moment closed) → IfOk result (λ next. AnswerFound flow old moment closed out longer next)
 answer_found (Ok next) flow old new moment closed out between longer got read gives phase = record { got = got; new = new; between = between; read = read; gives = gives; phase = phase }

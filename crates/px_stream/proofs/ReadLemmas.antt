@@ -1,7 +1,6 @@
 -- What a reader gave and what it has to come, and the item that stands where it reads.
 use Rattle.std.proofs.Common.{◌≡◌, ℕ, Bool, true, false, List, [], ◌∷◌, ◌++◌, length, Some, refl, ap, sym, ◌∙◌, subst, arith, append_assoc}
 use Rattle.std.specs.Prelude.{⊤}
-use Rattle.std.proofs.lemmas.List.{append-nil}
 use Rattle.px_head.specs.Front.{request_front}
 use Rattle.px_head.specs.declared.front.Front.{Front}
 use Rattle.px_head.specs.declared.front.Front.TheVariants as front
@@ -14,22 +13,10 @@ use Rattle.px_read.specs.Reader.{Message, request, reading_of, State, reading_fr
 use Rattle.px_read.specs.declared.head.RequestHead.{RequestHead}
 use Rattle.px_read.specs.declared.part.Part.{Part}
 use Rattle.px_read.specs.declared.part.Part.TheVariants as given
+use Rattle.px_exchange.proofs.BodyLemmas.{come}
 use Rattle.px_stream.specs.Heard.{feeds, shuts}
 
 -- ---- one step of a reader's sender
-
-may_stay : (closed : Bool) → MayFollow closed [] closed
-may_stay false = tt
-may_stay true = (refl, refl)
-
--- all that the bytes tell is what was given and what is to come
-pub come : (message : Message) (told : List Mark) (fed : List ℕ) (closed : Bool) (state : State) (reads : Reads message told fed closed state) →
-    reading_of message closed fed ≡ behind_marks told (length reads.used) (to_come state)
-come message told fed closed state reads =
-    ap (λ l. reading_of message closed l) (sym (append-nil fed))
-    ∙ (reads.reading [] closed (may_stay closed)
-    ∙ (ap (λ l. behind_marks told (length reads.used) (reading_from state.place closed l)) (append-nil state.rest)
-    ∙ ap (λ c. behind_marks told (length reads.used) (reading_from state.place c state.rest)) (sym reads.closed)))
 
 -- it is fed more
 pub fed_on : (message : Message) (told : List Mark) (fed bytes : List ℕ) (state : State) → Reads message told fed false state →

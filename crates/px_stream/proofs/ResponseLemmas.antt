@@ -22,14 +22,15 @@ use Rattle.px_read.specs.declared.head.ResponseHead.{ResponseHead}
 use Rattle.px_read.specs.declared.part.Part.{Part}
 use Rattle.px_read.specs.declared.part.Part.TheVariants as given
 use Rattle.px_stream.specs.declared.link.Link.{Link as KeptLink}
-use Rattle.px_stream.specs.declared.reading.Answer.{Answer}
-use Rattle.px_stream.specs.declared.reading.Answer.TheVariants as answer
+use Rattle.px_stream.specs.declared.reading.FinalHead.{FinalHead}
+use Rattle.px_stream.specs.declared.reading.FinalHead.TheVariants as answer
 use Rattle.px_stream.specs.declared.reading.Came.TheVariants as came
-use Rattle.px_stream.specs.Responses.{came_by, came_of, sends_on, fresh, GaveOne, NextBegun, IsKept, SendsOn, begun, left_of, AnswerCome, ReadsAnswer}
+use Rattle.px_exchange.specs.Texts.{sends_on, interim_command}
+use Rattle.px_stream.specs.Responses.{came_by, came_of, fresh, GaveOne, NextBegun, IsKept, SendsOn, begun, left_of, AnswerCome, ReadsAnswer}
 use Rattle.px_stream.specs.Stands.{Passes, Keeps}
-use Rattle.px_exchange.specs.Texts.{interim_command}
 use Rattle.px_stream.proofs.AnswerLemmas.{here, OfResponse, of_response, StandsThere, stands_there, final_here, nothing_here, interim_length, list_behind}
-use Rattle.px_stream.proofs.ReadLemmas.{come, OfRequest, of_request}
+use Rattle.px_exchange.proofs.BodyLemmas.{come}
+use Rattle.px_stream.proofs.ReadLemmas.{OfRequest, of_request}
 use Rattle.px_stream.proofs.ReturnLemmas.{final_behind, interim_behind}
 
 head_behind : (head : ResponseHead) (body : Body) (f : Finish) → head_in (item_behind head body f) ≡ Some head
@@ -79,12 +80,12 @@ module _ (asked_head : Bool) (number : ℕ) (bytes : List ℕ) (shut : Bool) (se
       let item : head_in (response_item asked_head shut keeps.fed) ≡ Some head = subst P (sym told) (head_behind head (body_of rest) (response_reading asked_head shut keeps.fed).finish) in
       (gave (given.Response head) kept new keeps gives, ap head_in both.0 ∙ item, final, both.1)
 
-  by_interim : (b : Bool) (head : ResponseHead) (kept : KeptLink) (new : State) (got : Answer) → is_interim head ≡ b → Keeps asked_head number bytes shut sent [] kept → IsNext (given.Response head) (to_come kept.responses) →
+  by_interim : (b : Bool) (head : ResponseHead) (kept : KeptLink) (new : State) (got : FinalHead) → is_interim head ≡ b → Keeps asked_head number bytes shut sent [] kept → IsNext (given.Response head) (to_come kept.responses) →
       GaveOne (given.Response head) kept.responses new → came_by b head ≡ came.Final got → AnswerCome got asked_head number bytes shut sent (record kept { responses = new })
   by_interim true head kept new got is keeps next gives same = absurd (let e : came.Interim head ≡ came.Final got = same in cc)
   by_interim false head kept new got is keeps next gives same =
       let e : answer.Head head ≡ got = (let f : came.Final (answer.Head head) ≡ came.Final got = same in cc) in
-      let P : Answer → Type 0 = λ a. AnswerCome a asked_head number bytes shut sent (record kept { responses = new }) in
+      let P : FinalHead → Type 0 = λ a. AnswerCome a asked_head number bytes shut sent (record kept { responses = new }) in
       subst P e (head_is head kept new keeps next gives is)
 
   shape : (kept : KeptLink) (keeps : Keeps asked_head number bytes shut sent [] kept) → OfResponse (to_come kept.responses).marks
@@ -92,19 +93,19 @@ module _ (asked_head : Bool) (number : ℕ) (bytes : List ℕ) (shut : Bool) (se
       let P : Reading → Type 0 = λ r. OfResponse r.marks in
       subst P (come (response asked_head) [] keeps.fed shut kept.responses keeps.reads) (of_response asked_head shut keeps.fed)
 
-  missing_is : (finish : Finish) (kept : KeptLink) (new : State) (got : Answer) → answer.Missing ≡ got → response_told [] finish ≡ missing → Keeps asked_head number bytes shut sent [] (record kept { responses = new }) →
+  missing_is : (finish : Finish) (kept : KeptLink) (new : State) (got : FinalHead) → answer.Missing ≡ got → response_told [] finish ≡ missing → Keeps asked_head number bytes shut sent [] (record kept { responses = new }) →
       ((answer_list asked_head shut bytes).final ≡ response_told [] finish) × ((answer_list asked_head shut bytes).interim ≡ sent) →
       AnswerCome got asked_head number bytes shut sent (record kept { responses = new })
   missing_is finish kept new got same none keeps both =
-      let P : Answer → Type 0 = λ a. AnswerCome a asked_head number bytes shut sent (record kept { responses = new }) in
+      let P : FinalHead → Type 0 = λ a. AnswerCome a asked_head number bytes shut sent (record kept { responses = new }) in
       subst P same (keeps, both.0 ∙ none, both.1)
 
-  pub final_come : (got : Part) (kept : KeptLink) (new : State) (found : Answer) → Keeps asked_head number bytes shut sent [] kept → IsNext got (to_come kept.responses) →
+  pub final_come : (got : Part) (kept : KeptLink) (new : State) (found : FinalHead) → Keeps asked_head number bytes shut sent [] kept → IsNext got (to_come kept.responses) →
       GaveOne got kept.responses new → came_of got ≡ came.Final found → AnswerCome found asked_head number bytes shut sent (record kept { responses = new })
   final_come (given.Response head) kept new found keeps next gives same = by_interim (is_interim head) head kept new found refl keeps next gives same
   final_come (given.Bad fault) kept new found keeps next gives same =
       let e : answer.Bad fault ≡ found = (let f : came.Final (answer.Bad fault) ≡ came.Final found = same in cc) in
-      let P : Answer → Type 0 = λ a. AnswerCome a asked_head number bytes shut sent (record kept { responses = new }) in
+      let P : FinalHead → Type 0 = λ a. AnswerCome a asked_head number bytes shut sent (record kept { responses = new }) in
       let both = nothing_is kept keeps (fails fault) next in
       subst P e (gave (given.Bad fault) kept new keeps gives, both.0, both.1)
   final_come given.More kept new found keeps next gives same =
@@ -351,7 +352,7 @@ less_left sends old kept kept' out longer head new is so_far next gives interim 
     let so = so_far is.asked_head is.number is.bytes is.shut is.sent is.keeps in
     next_left is.asked_head is.number is.bytes is.shut (is.sent ++ so.more) head kept kept' new so.keeps next gives interim begins_next
 
-pub read_answer_come : (sends : Bool) (old kept : KeptLink) (out longer : List Command) (got : Part) (new : State) (found : Answer) → SendsOn sends old out kept longer →
+pub read_answer_come : (sends : Bool) (old kept : KeptLink) (out longer : List Command) (got : Part) (new : State) (found : FinalHead) → SendsOn sends old out kept longer →
     IsNext got (to_come kept.responses) → GaveOne got kept.responses new → came_of got ≡ came.Final found → ReadsAnswer found sends old out (record kept { responses = new }) longer
 read_answer_come sends old kept out longer got new found so_far next gives same = λ asked_head number bytes shut sent keeps.
     let so = so_far asked_head number bytes shut sent keeps in

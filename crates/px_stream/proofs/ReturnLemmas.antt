@@ -5,8 +5,7 @@ use Rattle.std.proofs.lemmas.List.{append-nil, drop-drop}
 use Rattle.px_message.specs.declared.flow.Flow.{Flow}
 use Rattle.px_event.specs.declared.ask.Hook.TheVariants.{ResponseBody}
 use Rattle.px_event.specs.declared.command.Command.{Command}
-use Rattle.px_event.specs.declared.event.Event.{Event}
-use Rattle.px_event.specs.Chain.{Timed, NotYet, Asks, Ends}
+use Rattle.px_event.specs.Chain.{NotYet, Asks, Ends}
 use Rattle.px_read.specs.Chunks.{Reading}
 use Rattle.px_read.specs.Heads.{is_interim}
 use Rattle.px_read.specs.Items.{Body, part, complete, bad_body, body_of, content_in, response_told, Answers, answer_list}
@@ -19,21 +18,21 @@ use Rattle.px_stream.specs.declared.link.Link.{Link as KeptLink}
 use Rattle.px_stream.specs.declared.phase.Asked.TheVariants as asked
 use Rattle.px_stream.specs.declared.phase.Phase.{Phase}
 use Rattle.px_stream.specs.declared.phase.Phase.TheVariants as phase
-use Rattle.px_stream.specs.declared.phase.Ready.TheVariants as ready
-use Rattle.px_stream.specs.declared.reading.Progress.{Progress}
-use Rattle.px_stream.specs.declared.reading.Progress.TheVariants as progress
+use Rattle.px_stream.specs.declared.phase.Wanted.TheVariants as ready
+use Rattle.px_exchange.specs.declared.body.Progress.{Progress}
+use Rattle.px_exchange.specs.declared.body.Progress.TheVariants as progress
 use Rattle.px_exchange.specs.declared.terms.Terms.{Terms}
-use Rattle.px_stream.specs.Bodies.{HasRead, ReturnFound}
-use Rattle.px_stream.specs.Chain.{answers_over, used_server}
+use Rattle.px_exchange.specs.Bodies.{HasRead, content_of}
+use Rattle.px_stream.specs.Bodies.{ReturnFound}
 use Rattle.px_exchange.specs.Flows.{ask_of, with_returned}
 use Rattle.px_exchange.specs.Endings.{closed_message, ends_by_fault, ends_early, without_response}
 use Rattle.px_stream.specs.Found.{LookedAt}
 use Rattle.px_stream.specs.Looks.{returned_gives, returned_phase, where_left}
 use Rattle.px_stream.specs.Phases.{unless_left}
 use Rattle.px_exchange.specs.Requests.{is_head}
-use Rattle.px_stream.specs.Stages.{At, Link, returning}
-use Rattle.px_stream.specs.Stands.{content_of, KeepsBehind, Passes, Keeps, IsLink, IsReturning}
-use Rattle.px_stream.specs.Streams.{client_closed, now_over, server_bytes, server_closed}
+use Rattle.px_chain.specs.Sights.{Sight, answers_in, server_in}
+use Rattle.px_chain.specs.Stages.{At, Sent, ServerSide, busy, response_body}
+use Rattle.px_stream.specs.Stands.{KeepsBehind, Passes, Keeps, IsLink, IsReturning}
 use Rattle.px_stream.proofs.AnswerLemmas.{StandsThere, final_here, stands_there}
 use Rattle.px_stream.proofs.LookLemmas.{at_look}
 
@@ -118,20 +117,20 @@ module _ (asked_head : Bool) (number : ℕ) (bytes : List ℕ) (shut : Bool) (se
       let come = read.come (response asked_head) (answers head ∷ marks) keeps.fed shut keeps.reads in
       (body_of (marks ++ m), item_of marks kept keeps _ (marks ++ m) refl come)
 
-module _ (terms : Terms) (at : At) (flow : Flow) (link : Link) (front : List (Timed Event)) (requests : State) (sent : List ReadResponse) (head : ReadResponse) (final : is_interim head ≡ false)
-    (keeps_rest : KeepsBehind at.used front requests) (out longer : List Command) (is_now : Phase) where
+module _ (terms : Terms) (at : At) (flow : Flow) (side : ServerSide) (how : Sent) (seen : Sight) (requests : State) (sent : List ReadResponse) (head : ReadResponse) (final : is_interim head ≡ false)
+    (keeps_rest : KeepsBehind at.used seen requests) (out longer : List Command) (is_now : Phase) where
   abbrev here_shown : Progress → KeptLink → State → List ℕ → Type 0
-  here_shown = ReturnShown (is_head flow.request.method) link.server (server_bytes link.server link.opened front) (server_closed link.server link.opened front) sent head final
+  here_shown = ReturnShown (is_head flow.request.method) side.server (drop side.used seen.server) seen.shut sent head final
 
-  by_shut : (marks : List Mark) (kept : KeptLink) (content : List ℕ) (shut : Bool) → client_closed front ≡ shut →
-      (answers_over flow.request link front).final ≡ part head (body_of marks) → content ≡ content_of marks → IsLink flow.request link front sent (answers head ∷ marks) kept →
-      longer ≡ out ++ where_left shut (ends_early (without_response flow) closed_message (now_over at.since front) (used_server link front) true) →
-      is_now ≡ unless_left shut (ready.Returning flow kept content) → LookedAt terms (returning at flow link) front requests is_now [] out longer
+  by_shut : (marks : List Mark) (kept : KeptLink) (content : List ℕ) (shut : Bool) → seen.closed ≡ shut →
+      (answers_in flow.request side seen).final ≡ part head (body_of marks) → content ≡ content_of marks → IsLink flow.request side seen sent (answers head ∷ marks) kept →
+      longer ≡ out ++ where_left shut (ends_early (without_response flow) closed_message seen.now (server_in side seen) true) →
+      is_now ≡ unless_left shut (ready.Returning flow kept content) → LookedAt terms (busy at flow (response_body side how)) seen requests is_now [] out longer
   by_shut marks kept content true shut is same is_link grown there =
-      at_look terms (returning at flow link) front requests is_now [] out longer (ends_early (without_response flow) closed_message (now_over at.since front) (used_server link front) true)
-      (Ends (ends_early (without_response flow) closed_message (now_over at.since front) (used_server link front) true)) (rw (shut, is) refl) grown refl (there, tt)
+      at_look terms (busy at flow (response_body side how)) seen requests is_now [] out longer (ends_early (without_response flow) closed_message seen.now (server_in side seen) true)
+      (Ends (ends_early (without_response flow) closed_message seen.now (server_in side seen) true)) (rw (shut, is) refl) grown refl (there, tt)
   by_shut marks kept content false shut is same is_link grown there =
-      at_look terms (returning at flow link) front requests is_now [] out longer [] NotYet (rw (shut, is) refl) grown refl (
+      at_look terms (busy at flow (response_body side how)) seen requests is_now [] out longer [] NotYet (rw (shut, is) refl) grown refl (
         ready.Returning flow kept content,
         sent,
         there,
@@ -139,43 +138,43 @@ module _ (terms : Terms) (at : At) (flow : Flow) (link : Link) (front : List (Ti
         refl,
       )
 
-  by_got : (got : Progress) (kept : KeptLink) (new : State) (content : List ℕ) → link.opened ≤ length front → here_shown got kept new content → ByServer kept.server kept.closed ≡ used_server link front →
-      kept.server ≡ link.server → kept.closed ≡ server_closed link.server link.opened front →
-      longer ≡ out ++ returned_gives flow (record kept { responses = new }) got content (now_over at.since front) (client_closed front) →
-      is_now ≡ returned_phase flow (record kept { responses = new }) got content (now_over at.since front) (client_closed front) →
-      LookedAt terms (returning at flow link) front requests is_now [] out longer
-  by_got progress.Missing kept new content opened (all, is, same, keeps) used server closed grown there =
-      by_shut all (record kept { responses = new }) content (client_closed front) refl is same (record { opened = opened; keeps = keeps })
-      (grown ∙ ap (λ u. out ++ where_left (client_closed front) (ends_early (without_response flow) closed_message (now_over at.since front) u true)) used) there
-  by_got (progress.Bad fault) kept new content opened (body, is) used server closed grown there =
-      at_look terms (returning at flow link) front requests is_now [] out longer (ends_by_fault flow fault (now_over at.since front) (used_server link front) (client_closed front))
-      (Ends (ends_by_fault flow fault (now_over at.since front) (used_server link front) (client_closed front))) (rw is refl)
-      (grown ∙ ap (λ u. out ++ ends_by_fault flow fault (now_over at.since front) u (client_closed front)) used) refl (there, tt)
-  by_got (progress.Whole trailers) kept new content opened (body, size, is, same, rest) used server closed grown there =
-      let told : Flow = with_returned flow body.content trailers (now_over at.since front) in
-      at_look terms (returning at flow link) front requests is_now [] out longer (ask_of told ResponseBody ∷ []) (Asks (ask_of told ResponseBody)) (rw is refl)
-      (grown ∙ ap (λ l. out ++ ask_of (with_returned flow l trailers (now_over at.since front)) ResponseBody ∷ []) same) refl (
+  by_got : (got : Progress) (kept : KeptLink) (new : State) (content : List ℕ) → side.used ≤ length seen.server → here_shown got kept new content → ByServer kept.server kept.closed ≡ server_in side seen →
+      kept.server ≡ side.server → kept.closed ≡ seen.shut →
+      longer ≡ out ++ returned_gives flow (record kept { responses = new }) got content seen.now seen.closed →
+      is_now ≡ returned_phase flow (record kept { responses = new }) got content seen.now seen.closed →
+      LookedAt terms (busy at flow (response_body side how)) seen requests is_now [] out longer
+  by_got progress.Missing kept new content within (all, is, same, keeps) used server closed grown there =
+      by_shut all (record kept { responses = new }) content seen.closed refl is same (record { within = within; keeps = keeps })
+      (grown ∙ ap (λ u. out ++ where_left seen.closed (ends_early (without_response flow) closed_message seen.now u true)) used) there
+  by_got (progress.Bad fault) kept new content within (body, is) used server closed grown there =
+      at_look terms (busy at flow (response_body side how)) seen requests is_now [] out longer (ends_by_fault flow fault seen.now (server_in side seen) seen.closed)
+      (Ends (ends_by_fault flow fault seen.now (server_in side seen) seen.closed)) (rw is refl)
+      (grown ∙ ap (λ u. out ++ ends_by_fault flow fault seen.now u seen.closed) used) refl (there, tt)
+  by_got (progress.Whole trailers) kept new content within (body, size, is, same, rest) used server closed grown there =
+      let told : Flow = with_returned flow body.content trailers seen.now in
+      at_look terms (busy at flow (response_body side how)) seen requests is_now [] out longer (ask_of told ResponseBody ∷ []) (Asks (ask_of told ResponseBody)) (rw is refl)
+      (grown ∙ ap (λ l. out ++ ask_of (with_returned flow l trailers seen.now) ResponseBody ∷ []) same) refl (
         asked.Returned told (record kept { responses = new }),
-        there ∙ ap (λ l. phase.Asked (asked.Returned (with_returned flow l trailers (now_over at.since front)) (record kept { responses = new }))) same,
+        there ∙ ap (λ l. phase.Asked (asked.Returned (with_returned flow l trailers seen.now) (record kept { responses = new }))) same,
         record { kept = record kept { responses = new }; head = head; body = body; trailers = trailers; size = size; stands = is; phase = refl; server = server; closed = closed; rest = rest; keeps = keeps_rest },
       )
 
-pub returning_looked : (terms : Terms) (at : At) (flow : Flow) (link : Link) (front : List (Timed Event)) (requests : State) (sent : List ReadResponse) (old new : KeptLink) (content : List ℕ) (moment : ℕ) (closed : Bool)
-    (out longer : List Command) (is_now : Phase) → moment ≡ now_over at.since front → closed ≡ client_closed front →
-    IsReturning at front requests flow link sent (ready.Returning flow old content) → ReturnFound flow content old new moment closed out longer is_now →
-    LookedAt terms (returning at flow link) front requests is_now [] out longer
-returning_looked terms at flow link front requests sent old new content moment closed out longer is_now now shut is looked =
+pub returning_looked : (terms : Terms) (at : At) (flow : Flow) (side : ServerSide) (how : Sent) (seen : Sight) (requests : State) (sent : List ReadResponse) (old new : KeptLink) (content : List ℕ) (moment : ℕ) (closed : Bool)
+    (out longer : List Command) (is_now : Phase) → moment ≡ seen.now → closed ≡ seen.closed →
+    IsReturning at seen requests flow side sent (ready.Returning flow old content) → ReturnFound flow content old new moment closed out longer is_now →
+    LookedAt terms (busy at flow (response_body side how)) seen requests is_now [] out longer
+returning_looked terms at flow side how seen requests sent old new content moment closed out longer is_now now shut is looked =
     let same : content ≡ content_of is.marks = (let e : ready.Returning flow old content ≡ ready.Returning flow is.kept (content_of is.marks) = is.phase in cc) in
     let kept_is : old ≡ is.kept = (let e : ready.Returning flow old content ≡ ready.Returning flow is.kept (content_of is.marks) = is.phase in cc) in
-    let K : KeptLink → Type 0 = λ k. IsLink flow.request link front sent (answers is.head ∷ is.marks) k in
-    let is_link : IsLink flow.request link front sent (answers is.head ∷ is.marks) old = subst K (sym kept_is) is.is_link in
+    let K : KeptLink → Type 0 = λ k. IsLink flow.request side seen sent (answers is.head ∷ is.marks) k in
+    let is_link : IsLink flow.request side seen sent (answers is.head ∷ is.marks) old = subst K (sym kept_is) is.is_link in
     let keeps = is_link.keeps in
-    let shown = return_shown (is_head flow.request.method) link.server (server_bytes link.server link.opened front) (server_closed link.server link.opened front) sent is.head is.final
+    let shown = return_shown (is_head flow.request.method) side.server (drop side.used seen.server) seen.shut sent is.head is.final
     looked.got is.marks old looked.responses content looked.body keeps same looked.read in
-    let used : ByServer old.server old.closed ≡ used_server link front = rw (keeps.server, keeps.closed) refl in
+    let used : ByServer old.server old.closed ≡ server_in side seen = rw (keeps.server, keeps.closed) refl in
     let P : KeptLink → ℕ → Bool → Type 0 = λ k m b. (longer ≡ out ++ returned_gives flow k looked.got looked.body m b) × (is_now ≡ returned_phase flow k looked.got looked.body m b) in
     let O : KeptLink → Type 0 = λ k. P k moment closed in
     let Q : ℕ → Type 0 = λ m. P (record old { responses = looked.responses }) m closed in
-    let R : Bool → Type 0 = λ b. P (record old { responses = looked.responses }) (now_over at.since front) b in
-    let both : P (record old { responses = looked.responses }) (now_over at.since front) (client_closed front) = subst R shut (subst Q now (subst O looked.same (looked.gives, looked.phase))) in
-    by_got terms at flow link front requests sent is.head is.final is.keeps out longer is_now looked.got old looked.responses looked.body is_link.opened shown used keeps.server keeps.closed both.0 both.1
+    let R : Bool → Type 0 = λ b. P (record old { responses = looked.responses }) seen.now b in
+    let both : P (record old { responses = looked.responses }) seen.now seen.closed = subst R shut (subst Q now (subst O looked.same (looked.gives, looked.phase))) in
+    by_got terms at flow side how seen requests sent is.head is.final is.keeps out longer is_now looked.got old looked.responses looked.body is_link.within shown used keeps.server keeps.closed both.0 both.1

@@ -6,7 +6,7 @@ use Rattle.px_event.specs.declared.reply.Reply.{Reply}
 use Rattle.px_read.specs.Reader.{State}
 use Rattle.px_stream.specs.declared.phase.Asked.{Asked}
 use Rattle.px_stream.specs.declared.phase.Phase.TheVariants as phase
-use Rattle.px_stream.specs.declared.phase.Ready.{Ready}
+use Rattle.px_stream.specs.declared.phase.Wanted.{Wanted}
 use Rattle.px_stream.specs.declared.stream.Stream.{Stream}
 use Rattle.px_stream.specs.Heard.{LinkAgrees, closes_client, ready_takes, requests_take}
 use Rattle.px_stream.specs.Looking.{LookFound, MayLook}
@@ -19,29 +19,29 @@ IsSome (Some x) = ⊤
 IsSome None = ⊥
 
 -- it looked once
-pub record LooksOnce (before after : Stream) (moment : ℕ) (looked : Ready) (out longer : List Command) : Type 0 where
+pub record LooksOnce (before after : Stream) (moment : ℕ) (looked : Wanted) (out longer : List Command) : Type 0 where
   pub terms : after.terms ≡ before.terms
   pub numbers : after.numbers ≡ before.numbers
   pub client : after.client_closed ≡ before.client_closed
   pub looks : LookFound before.terms before.numbers looked before.requests after.requests moment before.client_closed out longer after.phase
 
 -- it took this answer, and is to look for that
-pub record TurnsTo (before after : Stream) (moment : ℕ) (reply : Reply) (awaits : Asked) (looked : Ready) (out longer : List Command) : Type 0 where
+pub record TurnsTo (before after : Stream) (moment : ℕ) (reply : Reply) (awaits : Asked) (looked : Wanted) (out longer : List Command) : Type 0 where
   pub terms : after.terms ≡ before.terms
   pub requests : after.requests ≡ before.requests
   pub client : after.client_closed ≡ before.client_closed
-  pub numbers : after.numbers ≡ behind_ready (behind_asked before.numbers awaits) (asked_leads before.numbers.flow awaits reply)
-  pub gives : longer ≡ out ++ asked_owes before.numbers.flow awaits reply moment before.client_closed
-  pub leads : looked ≡ asked_leads before.numbers.flow awaits reply
+  pub numbers : after.numbers ≡ behind_ready (behind_asked before.numbers awaits) (asked_leads before.terms.place before.numbers.flow awaits reply)
+  pub gives : longer ≡ out ++ asked_owes before.terms.place before.numbers.flow awaits reply moment before.client_closed
+  pub leads : looked ≡ asked_leads before.terms.place before.numbers.flow awaits reply
 
 -- its readers may hear this event, and then look
-pub record MayHear (event : Event) (requests : State) (looked : Ready) : Type 0 where
+pub record MayHear (event : Event) (requests : State) (looked : Wanted) : Type 0 where
   pub open_still : requests.closed ≡ false
   pub agrees : LinkAgrees looked
   pub looks : MayLook (ready_takes event looked) (requests_take event requests)
 
 -- its readers heard this event, and it looked once
-pub record Hears (before after : Stream) (moment : ℕ) (event : Event) (looked : Ready) (out longer : List Command) : Type 0 where
+pub record Hears (before after : Stream) (moment : ℕ) (event : Event) (looked : Wanted) (out longer : List Command) : Type 0 where
   pub terms : after.terms ≡ before.terms
   pub numbers : after.numbers ≡ before.numbers
   pub client : after.client_closed ≡ closes_client event before.client_closed
@@ -51,14 +51,14 @@ pub record Hears (before after : Stream) (moment : ℕ) (event : Event) (looked 
 -- what it does with an event, where no answer is awaited: nothing, where it has ended
 pub data TakesEvent (before after : Stream) (moment : ℕ) (event : Event) (out longer : List Command) : Type 0 where
   ended : is_last before.phase ≡ true → after ≡ before → longer ≡ out → TakesEvent before after moment event out longer
-  hears : (looked : Ready) → before.phase ≡ phase.Ready looked → is_last (phase.Ready looked) ≡ false → Hears before after moment event looked out longer →
+  hears : (looked : Wanted) → before.phase ≡ phase.Ready looked → is_last (phase.Ready looked) ≡ false → Hears before after moment event looked out longer →
       TakesEvent before after moment event out longer
 
 -- It took this answer to what it awaited, and then looked once, for this and with what its reader kept.
-pub record Answers (before after : Stream) (moment : ℕ) (reply : Reply) (awaits : Asked) (looked : Ready) (requests : State) (out longer : List Command) : Type 0 where
+pub record Answers (before after : Stream) (moment : ℕ) (reply : Reply) (awaits : Asked) (looked : Wanted) (requests : State) (out longer : List Command) : Type 0 where
   pub terms : after.terms ≡ before.terms
   pub client : after.client_closed ≡ before.client_closed
-  pub numbers : after.numbers ≡ behind_ready (behind_asked before.numbers awaits) (asked_leads before.numbers.flow awaits reply)
+  pub numbers : after.numbers ≡ behind_ready (behind_asked before.numbers awaits) (asked_leads before.terms.place before.numbers.flow awaits reply)
   pub between : List Command
-  pub owes : between ≡ out ++ asked_owes before.numbers.flow awaits reply moment before.client_closed
+  pub owes : between ≡ out ++ asked_owes before.terms.place before.numbers.flow awaits reply moment before.client_closed
   pub looks : LookFound before.terms after.numbers looked requests after.requests moment before.client_closed between longer after.phase

@@ -3,8 +3,8 @@ use Rattle.std.specs.Prelude.{◌≡◌, ℕ, Bool, true, ◌==◌, if◌then◌
 use Rattle.px_event.specs.declared.event.Event.{Event}
 use Rattle.px_event.specs.declared.event.Event.TheVariants as events
 use Rattle.px_event.specs.declared.side.Side.TheVariants.{Client, Server}
-use Rattle.px_stream.specs.declared.phase.Ready.{Ready}
-use Rattle.px_stream.specs.declared.phase.Ready.TheVariants as ready
+use Rattle.px_stream.specs.declared.phase.Wanted.{Wanted}
+use Rattle.px_stream.specs.declared.phase.Wanted.TheVariants as ready
 use Rattle.px_read.specs.Reader.{State}
 use Rattle.px_stream.specs.declared.link.Link.{Link}
 
@@ -43,18 +43,18 @@ link_takes (events.Closed (Server server)) link = link_closes server link
 link_takes _ link = link
 
 -- what is looked for behind an event
-abbrev pub ready_takes : Event → Ready → Ready
+abbrev pub ready_takes : Event → Wanted → Wanted
 ready_takes event (ready.Answering flow link) = ready.Answering flow (link_takes event link)
 ready_takes event (ready.Returning flow link body) = ready.Returning flow (link_takes event link) body
 ready_takes event looked = looked
 
 -- bytes of a server, and its close, where it is looked for
-abbrev pub ready_hears : ℕ → List ℕ → Ready → Ready
+abbrev pub ready_hears : ℕ → List ℕ → Wanted → Wanted
 ready_hears server bytes (ready.Answering flow link) = ready.Answering flow (link_hears server bytes link)
 ready_hears server bytes (ready.Returning flow link body) = ready.Returning flow (link_hears server bytes link) body
 ready_hears server bytes looked = looked
 
-abbrev pub ready_closes : ℕ → Ready → Ready
+abbrev pub ready_closes : ℕ → Wanted → Wanted
 ready_closes server (ready.Answering flow link) = ready.Answering flow (link_closes server link)
 ready_closes server (ready.Returning flow link body) = ready.Returning flow (link_closes server link) body
 ready_closes server looked = looked
@@ -63,7 +63,7 @@ ready_closes server looked = looked
 abbrev pub Agrees : Link → Type 0
 Agrees link = link.responses.closed ≡ link.closed
 
-abbrev pub LinkAgrees : Ready → Type 0
+abbrev pub LinkAgrees : Wanted → Type 0
 LinkAgrees (ready.Answering flow link) = Agrees link
 LinkAgrees (ready.Returning flow link body) = Agrees link
 LinkAgrees _ = ⊤

@@ -8,8 +8,8 @@ use Rattle.px_stream.specs.declared.phase.Asked.{Asked}
 use Rattle.px_stream.specs.declared.phase.Asked.TheVariants as asked
 use Rattle.px_stream.specs.declared.phase.Phase.{Phase}
 use Rattle.px_stream.specs.declared.phase.Phase.TheVariants as phase
-use Rattle.px_stream.specs.declared.phase.Ready.{Ready}
-use Rattle.px_stream.specs.declared.phase.Ready.TheVariants as ready
+use Rattle.px_stream.specs.declared.phase.Wanted.{Wanted}
+use Rattle.px_stream.specs.declared.phase.Wanted.TheVariants as ready
 use Rattle.px_stream.specs.declared.stream.Stream.{Stream}
 
 -- a server's side has no bytes but its reader's
@@ -17,7 +17,7 @@ abbrev pub link_keeps : Link → ℕ
 link_keeps link = keeps link.responses
 
 -- of the content and of the server's side
-abbrev pub ready_keeps : Ready → ℕ
+abbrev pub ready_keeps : Wanted → ℕ
 ready_keeps ready.Idle = 0
 ready_keeps (ready.Receiving flow given body) = length body
 ready_keeps (ready.Dialling flow) = 0

@@ -1,11 +1,9 @@
 pub mod Bodies
 pub mod Calls
-pub mod Chain
 pub mod Found
 pub mod Heard
 pub mod Kept
 pub mod Law
-pub mod Laws
 pub mod Led
 pub mod Left
 pub mod Looking
@@ -14,10 +12,6 @@ pub mod Phases
 pub mod Rests
 pub mod Responses
 pub mod Sequence
-pub mod Sights
-pub mod Silent
-pub mod Stages
 pub mod Stands
 pub mod StateLaws
-pub mod Streams
 pub mod Turns

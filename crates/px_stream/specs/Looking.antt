@@ -11,14 +11,15 @@ use Rattle.px_stream.specs.declared.link.Link.{Link as KeptLink}
 use Rattle.px_stream.specs.declared.phase.Asked.TheVariants as asked
 use Rattle.px_stream.specs.declared.phase.Phase.{Phase}
 use Rattle.px_stream.specs.declared.phase.Phase.TheVariants as phase
-use Rattle.px_stream.specs.declared.phase.Ready.{Ready}
-use Rattle.px_stream.specs.declared.phase.Ready.TheVariants as ready
+use Rattle.px_stream.specs.declared.phase.Wanted.{Wanted}
+use Rattle.px_stream.specs.declared.phase.Wanted.TheVariants as ready
 use Rattle.px_stream.specs.declared.numbers.Numbers.{Numbers}
 use Rattle.px_exchange.specs.declared.terms.Terms.{Terms}
-use Rattle.px_stream.specs.Bodies.{BodyFound, IsReading, ReturnFound}
-use Rattle.px_exchange.specs.Dials.{address_of}
+use Rattle.px_exchange.specs.Bodies.{IsReading}
+use Rattle.px_stream.specs.Bodies.{BodyFound, ReturnFound}
 use Rattle.px_exchange.specs.Flows.{ask_of, with_end, with_start}
 use Rattle.px_exchange.specs.Finds.{look_head, or_leaves}
+use Rattle.px_exchange.specs.Places.{dialled_for}
 use Rattle.px_stream.specs.Phases.{head_phase, marks_at}
 use Rattle.px_stream.specs.Responses.{AnswerFound, IsKept}
 
@@ -34,11 +35,11 @@ pub record FoundAtOnce (old new : State) (given : List Command) (out longer : Li
   pub gives : longer ≡ out ++ given
   pub phase : next ≡ there
 
-abbrev pub LookFound : Terms → Numbers → Ready → State → State → ℕ → Bool → List Command → List Command → Phase → Type 0
+abbrev pub LookFound : Terms → Numbers → Wanted → State → State → ℕ → Bool → List Command → List Command → Phase → Type 0
 LookFound terms numbers ready.Idle old new moment closed out longer next = HeadFound terms numbers.flow old new moment closed out longer next
 LookFound terms numbers (ready.Receiving flow given body) old new moment closed out longer next = BodyFound flow given body old new moment closed out longer next
 LookFound terms numbers (ready.Dialling flow) old new moment closed out longer next =
-    FoundAtOnce old new (commands.Dial numbers.server (address_of flow.request) None ∷ []) out longer (phase.Asked (asked.Dial flow numbers.server)) next
+    FoundAtOnce old new (commands.Dial numbers.server (dialled_for terms.place flow.request) None ∷ []) out longer (phase.Asked (asked.Dial flow numbers.server)) next
 LookFound terms numbers (ready.Answering flow link) old new moment closed out longer next = (new ≡ old) × AnswerFound flow link moment closed out longer next
 LookFound terms numbers (ready.Returning flow link body) old new moment closed out longer next =
     (new ≡ old) × ((now : KeptLink) × ReturnFound flow body link now moment closed out longer next)
@@ -50,7 +51,7 @@ LookFound terms numbers ready.Finished old new moment closed out longer next = F
 LookFound terms numbers ready.Over old new moment closed out longer next = FoundAtOnce old new [] out longer (phase.Ready ready.Over) next
 
 -- what its readers have to be at
-abbrev pub MayLook : Ready → State → Type 0
+abbrev pub MayLook : Wanted → State → Type 0
 MayLook (ready.Receiving flow given body) requests = IsReading requests
 MayLook (ready.Answering flow link) requests = IsKept link
 MayLook (ready.Returning flow link body) requests = IsReading link.responses

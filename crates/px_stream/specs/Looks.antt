@@ -11,11 +11,11 @@ use Rattle.px_stream.specs.declared.link.Link.{Link as KeptLink}
 use Rattle.px_stream.specs.declared.phase.Asked.TheVariants as asked
 use Rattle.px_stream.specs.declared.phase.Phase.{Phase}
 use Rattle.px_stream.specs.declared.phase.Phase.TheVariants as phase
-use Rattle.px_stream.specs.declared.phase.Ready.TheVariants as ready
-use Rattle.px_stream.specs.declared.reading.Answer.{Answer}
-use Rattle.px_stream.specs.declared.reading.Answer.TheVariants as answer
-use Rattle.px_stream.specs.declared.reading.Progress.{Progress}
-use Rattle.px_stream.specs.declared.reading.Progress.TheVariants as progress
+use Rattle.px_stream.specs.declared.phase.Wanted.TheVariants as ready
+use Rattle.px_stream.specs.declared.reading.FinalHead.{FinalHead}
+use Rattle.px_stream.specs.declared.reading.FinalHead.TheVariants as answer
+use Rattle.px_exchange.specs.declared.body.Progress.{Progress}
+use Rattle.px_exchange.specs.declared.body.Progress.TheVariants as progress
 use Rattle.px_exchange.specs.Flows.{ask_of, response_of, with_answer, with_body, with_returned, with_start}
 use Rattle.px_exchange.specs.Finds.{is_relayed}
 use Rattle.px_exchange.specs.Endings.{closed_message, ends_by_fault, ends_early, without_response}
@@ -57,13 +57,13 @@ abbrev pub relayed_phase : Bool → Flow → KeptLink → ReadResponse → ℕ �
 relayed_phase true flow link head moment = phase.Asked (asked.Answer (with_answer flow (response_of head) moment) link)
 relayed_phase false flow link head moment = is_over
 
-abbrev pub answer_gives : Flow → KeptLink → Answer → ℕ → Bool → List Command
+abbrev pub answer_gives : Flow → KeptLink → FinalHead → ℕ → Bool → List Command
 answer_gives flow link (answer.Head head) moment closed = relays (is_relayed head.code) flow link head moment closed
 answer_gives flow link (answer.Bad fault) moment closed = ends_by_fault flow fault moment (ByServer link.server link.closed) closed
 answer_gives flow link answer.Missing moment closed =
     where_left closed (ends_early flow closed_message moment (ByServer link.server link.closed) true)
 
-abbrev pub answer_phase : Flow → KeptLink → Answer → ℕ → Bool → Phase
+abbrev pub answer_phase : Flow → KeptLink → FinalHead → ℕ → Bool → Phase
 answer_phase flow link (answer.Head head) moment closed = relayed_phase (is_relayed head.code) flow link head moment
 answer_phase flow link (answer.Bad fault) moment closed = is_over
 answer_phase flow link answer.Missing moment closed = unless_left closed (ready.Answering flow link)

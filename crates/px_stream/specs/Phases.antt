@@ -15,30 +15,31 @@ use Rattle.px_stream.specs.declared.link.Link.{Link as KeptLink}
 use Rattle.px_stream.specs.declared.phase.Asked.TheVariants as asked
 use Rattle.px_stream.specs.declared.phase.Phase.{Phase}
 use Rattle.px_stream.specs.declared.phase.Phase.TheVariants as phase
-use Rattle.px_stream.specs.declared.phase.Ready.{Ready}
-use Rattle.px_stream.specs.declared.phase.Ready.TheVariants as ready
+use Rattle.px_stream.specs.declared.phase.Wanted.{Wanted}
+use Rattle.px_stream.specs.declared.phase.Wanted.TheVariants as ready
 use Rattle.px_exchange.specs.declared.taken.Taken.{Taken}
 use Rattle.px_exchange.specs.declared.taken.Taken.TheVariants.{GoesOn, Responds, Kills}
+use Rattle.px_exchange.specs.declared.place.Place.{Place}
 use Rattle.px_exchange.specs.declared.terms.Terms.{Terms}
-use Rattle.px_exchange.specs.Dials.{address_of}
 use Rattle.px_exchange.specs.Endings.{connection_goes_on}
+use Rattle.px_exchange.specs.Places.{dialled_for}
 use Rattle.px_exchange.specs.Requests.{expects, flow_of, is_head, judged}
-use Rattle.px_stream.specs.Stages.{At, Link}
+use Rattle.px_chain.specs.Stages.{At, ServerSide}
 
 -- a flow of this number; nothing else of where it stands is looked at
 abbrev pub numbered : ℕ → At
-numbered index = record { flow = index; dials = 0; used = 0; since = record { events = 0; moment = 0 } }
+numbered index = record { flow = index; dials = 0; used = 0; kept = None }
 
--- a link; what a reply to the hook of a response's head owes does not look at it
-abbrev pub no_link : Link
-no_link = record { server = 0; opened = 0 }
+-- a side; what a reply to the hook of a response's head owes does not look at it
+abbrev pub no_side : ServerSide
+no_side = record { server = 0; used = 0 }
 
 -- nothing more comes
 abbrev pub is_over : Phase
 is_over = phase.Ready ready.Over
 
 -- it waits, unless the client has closed
-abbrev pub unless_left : Bool → Ready → Phase
+abbrev pub unless_left : Bool → Wanted → Phase
 unless_left true looks = is_over
 unless_left false looks = phase.Ready looks
 
@@ -50,10 +51,10 @@ judged_phase terms index head (Accepted message) moment = phase.Asked (asked.Hea
 
 abbrev pub head_phase : Terms → ℕ → Item ReadRequest → ℕ → Bool → Phase
 head_phase terms index missing moment closed = unless_left closed ready.Idle
-head_phase terms index (part head body) moment closed = judged_phase terms index head (judged terms.address head) moment
-head_phase terms index (complete head body trailers used) moment closed = judged_phase terms index head (judged terms.address head) moment
+head_phase terms index (part head body) moment closed = judged_phase terms index head (judged terms.place head) moment
+head_phase terms index (complete head body trailers used) moment closed = judged_phase terms index head (judged terms.place head) moment
 head_phase terms index (bad_head fault) moment closed = is_over
-head_phase terms index (bad_body fault head body) moment closed = judged_phase terms index head (judged terms.address head) moment
+head_phase terms index (bad_body fault head body) moment closed = judged_phase terms index head (judged terms.place head) moment
 
 -- the marks that were given of a head
 abbrev pub marks_at : Option ReadRequest → List Mark
@@ -62,12 +63,12 @@ marks_at (Some head) = asks head ∷ []
 
 -- ---- behind an answer
 
-abbrev pub behind_request_head : Flow → Taken Request → Ready
+abbrev pub behind_request_head : Flow → Taken Request → Wanted
 behind_request_head flow (GoesOn message) = ready.Receiving (record flow { request = message }) None []
 behind_request_head flow (Responds given) = ready.Receiving flow (Some given) []
 behind_request_head flow Kills = ready.Over
 
-abbrev pub behind_request : Flow → Taken Request → Ready
+abbrev pub behind_request : Flow → Taken Request → Wanted
 behind_request flow (GoesOn message) = ready.Dialling (record flow { request = message })
 behind_request flow (Responds given) = ready.GivenHead (record flow { response = Some given })
 behind_request flow Kills = ready.Over
@@ -77,31 +78,31 @@ abbrev pub new_link : ℕ → Bool → KeptLink
 new_link server asked_head =
     record { server = server; asked_head = asked_head; responses = before_all (response asked_head) [] false; closed = false }
 
-abbrev pub connected : Flow → ℕ → Ready
-connected flow server =
-    ready.Answering (record flow { server = Some (address_of flow.request) }) (new_link server (is_head flow.request.method))
+abbrev pub connected : Place → Flow → ℕ → Wanted
+connected place flow server =
+    ready.Answering (record flow { server = Some (dialled_for place flow.request) }) (new_link server (is_head flow.request.method))
 
-abbrev pub behind_dial : Flow → ℕ → Reply → Ready
-behind_dial flow server reply.Dialled = connected flow server
-behind_dial flow server _ = ready.Over
+abbrev pub behind_dial : Place → Flow → ℕ → Reply → Wanted
+behind_dial place flow server reply.Dialled = connected place flow server
+behind_dial place flow server _ = ready.Over
 
-abbrev pub behind_response_head : Flow → KeptLink → Taken Response → Ready
+abbrev pub behind_response_head : Flow → KeptLink → Taken Response → Wanted
 behind_response_head flow link (GoesOn message) = ready.Returning (record flow { response = Some message }) link []
 behind_response_head flow link _ = ready.Over
 
-abbrev pub behind_given_head : Flow → Taken Response → Ready
+abbrev pub behind_given_head : Flow → Taken Response → Wanted
 behind_given_head flow (GoesOn message) = ready.GivenBody (record flow { response = Some message })
 behind_given_head flow _ = ready.Over
 
-abbrev pub behind_flow : Bool → Ready
+abbrev pub behind_flow : Bool → Wanted
 behind_flow true = ready.Finished
 behind_flow false = ready.Over
 
-abbrev pub behind_response : ℕ → Flow → Taken Response → Ready
+abbrev pub behind_response : ℕ → Flow → Taken Response → Wanted
 behind_response index flow (GoesOn message) = behind_flow (connection_goes_on index flow.request message)
 behind_response index flow _ = ready.Over
 
 -- a flow whose response is there
-abbrev pub where_response : Option Response → (Response → Taken Response) → (Taken Response → Ready) → Ready
+abbrev pub where_response : Option Response → (Response → Taken Response) → (Taken Response → Wanted) → Wanted
 where_response None takes leads = ready.Over
 where_response (Some message) takes leads = leads (takes message)

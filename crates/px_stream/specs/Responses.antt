@@ -1,5 +1,5 @@
 -- The head of a final response behind interim ones, as far as it was read.
-use Rattle.std.specs.Prelude.{◌≡◌, ◌+◌, ℕ, Bool, true, false, if◌then◌else◌, List, [], ◌∷◌, ◌++◌, length, map, Some}
+use Rattle.std.specs.Prelude.{◌≡◌, ◌+◌, ℕ, Bool, true, false, List, [], ◌∷◌, ◌++◌, length, Some}
 use Rattle.px_event.specs.declared.command.Command.{Command}
 use Rattle.px_read.specs.Heads.{is_interim}
 use Rattle.px_read.specs.Items.{missing, bad_head, answer_list}
@@ -10,8 +10,8 @@ use Rattle.px_read.specs.declared.head.ResponseHead.{ResponseHead}
 use Rattle.px_read.specs.declared.part.Part.{Part}
 use Rattle.px_read.specs.declared.part.Part.TheVariants as part
 use Rattle.px_stream.specs.declared.link.Link.{Link as KeptLink}
-use Rattle.px_stream.specs.declared.reading.Answer.{Answer}
-use Rattle.px_stream.specs.declared.reading.Answer.TheVariants as answer
+use Rattle.px_stream.specs.declared.reading.FinalHead.{FinalHead}
+use Rattle.px_stream.specs.declared.reading.FinalHead.TheVariants as answer
 use Rattle.px_stream.specs.declared.reading.Came.{Came}
 use Rattle.px_stream.specs.declared.reading.Came.TheVariants as came
 use Rattle.px_message.specs.declared.flow.Flow.{Flow}
@@ -19,7 +19,7 @@ use Rattle.px_stream.specs.declared.phase.Phase.{Phase}
 use Rattle.px_stream.specs.Looks.{answer_gives, answer_phase}
 use Rattle.px_exchange.specs.Requests.{is_http11}
 use Rattle.px_stream.specs.Stands.{Keeps}
-use Rattle.px_exchange.specs.Texts.{interim_command}
+use Rattle.px_exchange.specs.Texts.{sends_on}
 
 -- what a part of a response is here: the head of an interim one, or what there is of the final one
 abbrev pub came_by : Bool → ResponseHead → Came
@@ -30,10 +30,6 @@ abbrev pub came_of : Part → Came
 came_of (part.Response head) = came_by (is_interim head) head
 came_of (part.Bad fault) = came.Final (answer.Bad fault)
 came_of _ = came.Final answer.Missing
-
--- interim responses, where the client knows them
-abbrev pub sends_on : Bool → List ResponseHead → List Command
-sends_on sends heads = if sends then map interim_command heads else []
 
 -- a reader of the next response, of which these bytes have come
 abbrev pub fresh : Bool → List ℕ → Bool → State
@@ -81,7 +77,7 @@ abbrev pub left_of : KeptLink → ℕ
 left_of kept = length kept.responses.rest + begun kept.responses.place
 
 -- what there is of the final response behind all interim ones
-abbrev pub AnswerCome : Answer → Bool → ℕ → List ℕ → Bool → List ResponseHead → KeptLink → Type 0
+abbrev pub AnswerCome : FinalHead → Bool → ℕ → List ℕ → Bool → List ResponseHead → KeptLink → Type 0
 AnswerCome (answer.Head head) asked_head number bytes shut all new =
     Keeps asked_head number bytes shut all (answers head ∷ []) new × (head_in (answer_list asked_head shut bytes).final ≡ Some head) × (is_interim head ≡ false)
     × ((answer_list asked_head shut bytes).interim ≡ all)
@@ -90,18 +86,18 @@ AnswerCome answer.Missing asked_head number bytes shut all new =
 AnswerCome (answer.Bad fault) asked_head number bytes shut all new =
     Keeps asked_head number bytes shut all [] new × ((answer_list asked_head shut bytes).final ≡ bad_head fault) × ((answer_list asked_head shut bytes).interim ≡ all)
 
-pub record AnswerRead (got : Answer) (sends : Bool) (asked_head : Bool) (number : ℕ) (bytes : List ℕ) (shut : Bool) (sent : List ResponseHead) (new : KeptLink) (out longer : List Command) : Type 0 where
+pub record AnswerRead (got : FinalHead) (sends : Bool) (asked_head : Bool) (number : ℕ) (bytes : List ℕ) (shut : Bool) (sent : List ResponseHead) (new : KeptLink) (out longer : List Command) : Type 0 where
   pub more : List ResponseHead
   pub grown : longer ≡ out ++ sends_on sends more
   pub come : AnswerCome got asked_head number bytes shut (sent ++ more) new
 
-abbrev pub ReadsAnswer : Answer → Bool → KeptLink → List Command → KeptLink → List Command → Type 0
+abbrev pub ReadsAnswer : FinalHead → Bool → KeptLink → List Command → KeptLink → List Command → Type 0
 ReadsAnswer got sends old out new longer = (asked_head : Bool) (number : ℕ) (bytes : List ℕ) (shut : Bool) (sent : List ResponseHead) → Keeps asked_head number bytes shut sent [] old →
     AnswerRead got sends asked_head number bytes shut sent new out longer
 
 -- What the head of the final response gives, as far as it was read, and where the flow is then.
 pub record AnswerFound (flow : Flow) (old : KeptLink) (moment : ℕ) (closed : Bool) (out longer : List Command) (found : Phase) : Type 0 where
-  pub got : Answer
+  pub got : FinalHead
   pub new : KeptLink
   pub between : List Command
   pub read : ReadsAnswer got (is_http11 flow.request.version) old out new between

@@ -1,8 +1,8 @@
 -- What a flow did not use of the bytes of its two sides.
 use Rattle.std.specs.Prelude.{◌≡◌, ℕ, ◌+◌, Bool, false, List, [], drop, ⊤}
 use Rattle.px_event.specs.declared.command.Command.{Command}
-use Rattle.px_event.specs.declared.event.Event.{Event}
-use Rattle.px_event.specs.Chain.{Timed, Look, NotYet, Asks, Ends}
+use Rattle.px_event.specs.Chain.{Look, NotYet, Asks, Ends}
+use Rattle.px_message.specs.declared.flow.Flow.{Flow}
 use Rattle.px_message.specs.declared.request.Request.{Request}
 use Rattle.px_read.specs.Items.{Item, complete, Answers}
 use Rattle.px_read.specs.Marks.{Mark}
@@ -12,17 +12,16 @@ use Rattle.px_stream.specs.declared.phase.Asked.{Asked}
 use Rattle.px_stream.specs.declared.phase.Asked.TheVariants as asked
 use Rattle.px_stream.specs.declared.phase.Phase.{Phase}
 use Rattle.px_stream.specs.declared.phase.Phase.TheVariants as phase
-use Rattle.px_stream.specs.declared.phase.Ready.{Ready}
-use Rattle.px_stream.specs.declared.phase.Ready.TheVariants as ready
-use Rattle.px_stream.specs.Chain.{answers_over, request_over}
+use Rattle.px_stream.specs.declared.phase.Wanted.{Wanted}
+use Rattle.px_stream.specs.declared.phase.Wanted.TheVariants as ready
+use Rattle.px_chain.specs.Sights.{Sight, answers_in, request_in}
 use Rattle.px_exchange.specs.Requests.{is_head}
-use Rattle.px_stream.specs.Stages.{At, Link, Stage, idle, receiving, dialling, answering, returning, given_head, given_body, next, over}
+use Rattle.px_chain.specs.Stages.{At, Doing, ServerSide, Stage, busy, idle, next, over, request_body, response_body, response_head}
 use Rattle.px_stream.specs.Stands.{Passes}
-use Rattle.px_stream.specs.Streams.{client_bytes, server_bytes, server_closed}
 
 -- ---- what is kept of the server's side
 
-abbrev pub ready_rest : Ready → List ℕ
+abbrev pub ready_rest : Wanted → List ℕ
 ready_rest (ready.Answering flow link) = link.responses.rest
 ready_rest (ready.Returning flow link body) = link.responses.rest
 ready_rest looked = []
@@ -59,52 +58,66 @@ size_in (complete head body trailers used) = used
 size_in _ = 0
 
 -- those of the client's that are used when its request is whole, and those of a server's when its final response is
-abbrev pub used_by_request : At → List (Timed Event) → ℕ
-used_by_request at front = at.used + size_in (request_over at front)
+abbrev pub used_by_request : At → Sight → ℕ
+used_by_request at seen = at.used + size_in (request_in at seen)
 
 abbrev pub used_by_answers : Answers → ℕ
 used_by_answers answers = answers.used + size_in answers.final
 
-abbrev pub IsLinkUnread : Request → Link → List (Timed Event) → List ℕ → Type 0
-IsLinkUnread message link front rest =
-    IsUnreadAnswer (is_head message.method) (server_bytes link.server link.opened front) (server_closed link.server link.opened front) rest
+-- the bytes of a side that flows before have not used
+abbrev pub side_bytes : ServerSide → Sight → List ℕ
+side_bytes side seen = drop side.used seen.server
+
+abbrev pub IsLinkUnread : Request → ServerSide → Sight → List ℕ → Type 0
+IsLinkUnread message side seen rest = IsUnreadAnswer (is_head message.method) (side_bytes side seen) seen.shut rest
 
 -- the client's bytes, where something is looked for
-abbrev pub ClientWaiting : Stage → List (Timed Event) → List ℕ → Type 0
-ClientWaiting (idle at) front rest = IsUnread request (client_bytes at.used front) false rest
-ClientWaiting (receiving at flow given) front rest = IsUnread request (client_bytes at.used front) false rest
-ClientWaiting (dialling at flow) front rest = rest ≡ client_bytes at.used front
-ClientWaiting (answering at flow link) front rest = rest ≡ client_bytes at.used front
-ClientWaiting (returning at flow link) front rest = rest ≡ client_bytes at.used front
-ClientWaiting (given_head at flow) front rest = rest ≡ client_bytes at.used front
-ClientWaiting (given_body at flow) front rest = rest ≡ client_bytes at.used front
-ClientWaiting (next at) front rest = rest ≡ client_bytes at.used front
-ClientWaiting over front rest = ⊤
+abbrev pub ClientWaitingFor : At → Doing → Sight → List ℕ → Type 0
+ClientWaitingFor at (request_body given) seen rest = IsUnread request (drop at.used seen.client) false rest
+ClientWaitingFor at doing seen rest = rest ≡ drop at.used seen.client
+
+abbrev pub ClientWaiting : Stage → Sight → List ℕ → Type 0
+ClientWaiting (idle at) seen rest = IsUnread request (drop at.used seen.client) false rest
+ClientWaiting (busy at flow doing) seen rest = ClientWaitingFor at doing seen rest
+ClientWaiting (next at) seen rest = rest ≡ drop at.used seen.client
+ClientWaiting over seen rest = ⊤
 
 -- where a question is open: when the body's hook is asked, the request is whole
-abbrev pub ClientAsked : Stage → List (Timed Event) → List ℕ → Type 0
-ClientAsked (receiving at flow given) front rest = rest ≡ client_bytes (used_by_request at front) front
-ClientAsked stage front rest = ClientWaiting stage front rest
+abbrev pub ClientAskedFor : At → Doing → Sight → List ℕ → Type 0
+ClientAskedFor at (request_body given) seen rest = rest ≡ drop (used_by_request at seen) seen.client
+ClientAskedFor at doing seen rest = ClientWaitingFor at doing seen rest
+
+abbrev pub ClientAsked : Stage → Sight → List ℕ → Type 0
+ClientAsked (busy at flow doing) seen rest = ClientAskedFor at doing seen rest
+ClientAsked stage seen rest = ClientWaiting stage seen rest
 
 -- and at the end: behind a finished flow
-abbrev pub ClientLast : Stage → List (Timed Event) → List ℕ → Type 0
-ClientLast (next at) front rest = rest ≡ client_bytes at.used front
-ClientLast stage front rest = ⊤
+abbrev pub ClientLast : Stage → Sight → List ℕ → Type 0
+ClientLast (next at) seen rest = rest ≡ drop at.used seen.client
+ClientLast stage seen rest = ⊤
 
 -- the server's bytes
-abbrev pub ServerWaiting : Stage → List (Timed Event) → List ℕ → Type 0
-ServerWaiting (answering at flow link) front rest = IsLinkUnread flow.request link front rest
-ServerWaiting (returning at flow link) front rest = IsLinkUnread flow.request link front rest
-ServerWaiting stage front rest = rest ≡ []
+abbrev pub ServerWaitingFor : Flow → Doing → Sight → List ℕ → Type 0
+ServerWaitingFor flow (response_head side how) seen rest = IsLinkUnread flow.request side seen rest
+ServerWaitingFor flow (response_body side how) seen rest = IsLinkUnread flow.request side seen rest
+ServerWaitingFor flow doing seen rest = rest ≡ []
 
-abbrev pub ServerAsked : Stage → List (Timed Event) → List ℕ → Type 0
-ServerAsked (answering at flow link) front rest = IsLinkUnread flow.request link front rest
-ServerAsked (returning at flow link) front rest =
-    rest ≡ drop (used_by_answers (answers_over flow.request link front)) (server_bytes link.server link.opened front)
-ServerAsked stage front rest = rest ≡ []
+abbrev pub ServerWaiting : Stage → Sight → List ℕ → Type 0
+ServerWaiting (busy at flow doing) seen rest = ServerWaitingFor flow doing seen rest
+ServerWaiting stage seen rest = rest ≡ []
+
+abbrev pub ServerAskedFor : Flow → Doing → Sight → List ℕ → Type 0
+ServerAskedFor flow (response_head side how) seen rest = IsLinkUnread flow.request side seen rest
+ServerAskedFor flow (response_body side how) seen rest =
+    rest ≡ drop (used_by_answers (answers_in flow.request side seen)) (side_bytes side seen)
+ServerAskedFor flow doing seen rest = rest ≡ []
+
+abbrev pub ServerAsked : Stage → Sight → List ℕ → Type 0
+ServerAsked (busy at flow doing) seen rest = ServerAskedFor flow doing seen rest
+ServerAsked stage seen rest = rest ≡ []
 
 -- What is left of the client's and of the server's bytes, where the walk stopped with this look.
-abbrev pub LeavesRests : Look Command → Stage → List (Timed Event) → List ℕ → List ℕ → Type 0
-LeavesRests NotYet stage front client server = ClientWaiting stage front client × ServerWaiting stage front server
-LeavesRests (Asks ask) stage front client server = ClientAsked stage front client × ServerAsked stage front server
-LeavesRests (Ends owed) stage front client server = ClientLast stage front client × (server ≡ [])
+abbrev pub LeavesRests : Look Command → Stage → Sight → List ℕ → List ℕ → Type 0
+LeavesRests NotYet stage seen client server = ClientWaiting stage seen client × ServerWaiting stage seen server
+LeavesRests (Asks ask) stage seen client server = ClientAsked stage seen client × ServerAsked stage seen server
+LeavesRests (Ends owed) stage seen client server = ClientLast stage seen client × (server ≡ [])

@@ -11,21 +11,29 @@ use Rattle.px_exchange.specs.declared.outcome.Outcome.{Outcome}
 use Rattle.px_exchange.specs.declared.outcome.Outcome.TheVariants as outcomes
 use Rattle.px_stream.specs.declared.phase.Phase.{Phase}
 use Rattle.px_stream.specs.declared.phase.Phase.TheVariants as phase
-use Rattle.px_stream.specs.declared.phase.Ready.{Ready}
-use Rattle.px_stream.specs.declared.phase.Ready.TheVariants as ready
+use Rattle.px_stream.specs.declared.phase.Wanted.{Wanted}
+use Rattle.px_stream.specs.declared.phase.Wanted.TheVariants as ready
 use Rattle.px_stream.specs.declared.stream.Stream.{Stream}
 use Rattle.px_exchange.specs.declared.terms.Terms.{Terms}
-use Rattle.px_stream.specs.Chain.{sequence, http_chain}
-use Rattle.px_stream.specs.Stages.{At, Stage, idle, receiving, dialling, answering, returning, given_head, given_body, next, over}
+use Rattle.px_chain.specs.Chain.{begin, http_chain, sequence}
+use Rattle.px_chain.specs.Sights.{Sight, Standing, sight_over}
+use Rattle.px_chain.specs.Stages.{At, Doing, Stage, busy, connection, idle, next, over, request_body}
 use Rattle.px_stream.specs.Stands.{IsAt, start_of}
 
 -- what a state stands for, where a finished flow leads so
 abbrev pub Stands : (Stage → Stage) → Stream → Stream → List Move → List Command → Type 0
-Stands onward made state moves given = StandsAt (http_chain onward made.terms) (idle (start_of made.numbers)) (IsAt made.terms) state moves given
+Stands onward made state moves given = StandsAt (http_chain onward made.terms) (begin (idle (start_of made.numbers))) (IsAt made.terms) state moves given
 
 -- where the walk over the moves of a flow that was made so stops
-abbrev pub stop_at : (Stage → Stage) → Stream → List Move → Stop Stage Event Reply Command
-stop_at onward made moves = stop_of (http_chain onward made.terms) (idle (start_of made.numbers)) moves
+abbrev pub stop_at : (Stage → Stage) → Stream → List Move → Stop Standing Event Reply Command
+stop_at onward made moves = stop_of (http_chain onward made.terms) (begin (idle (start_of made.numbers))) moves
+
+-- the stage there, and what it sees
+abbrev pub stage_at : (Stage → Stage) → Stream → List Move → Stage
+stage_at onward made moves = (stop_at onward made moves).stage.stage
+
+abbrev pub seen_at : (Stage → Stage) → Stream → List Move → Sight
+seen_at onward made moves = sight_over (stop_at onward made moves).stage (stop_at onward made moves).prefix
 
 -- ---- in sequence
 
@@ -34,33 +42,33 @@ pub record IsCounted (ahead : ℕ) (at : At) : Type 0 where
   pub few : at.flow < 1000000
   pub dials : at.dials ≤ at.flow + ahead
 
+abbrev pub IsFewFor : At → Doing → Type 0
+IsFewFor at (request_body given) = IsCounted 1 at
+IsFewFor at connection = IsCounted 1 at
+IsFewFor at _ = IsCounted 2 at
+
 abbrev pub IsFew : Stage → Type 0
 IsFew (idle at) = IsCounted 1 at
-IsFew (receiving at flow given) = IsCounted 1 at
-IsFew (dialling at flow) = IsCounted 1 at
-IsFew (answering at flow link) = IsCounted 2 at
-IsFew (returning at flow link) = IsCounted 2 at
-IsFew (given_head at flow) = IsCounted 2 at
-IsFew (given_body at flow) = IsCounted 2 at
+IsFew (busy at flow doing) = IsFewFor at doing
 IsFew (next at) = IsCounted 1 at
 IsFew over = ⊤
 
 -- A state that was made on these terms, where the walk over flows in sequence stopped.
-pub record IsInSequence (made : Terms) (state : Stream) (stage : Stage) (front : List (Timed Event)) : Type 0 where
-  pub is_at : IsAt made state stage front
-  pub few : IsFew stage
+pub record IsInSequence (made : Terms) (state : Stream) (place : Standing) (prefix : List (Timed Event)) : Type 0 where
+  pub is_at : IsAt made state place prefix
+  pub few : IsFew place.stage
 
 -- what a state of flows in sequence stands for
 abbrev pub StandsInSequence : Stream → Stream → List Move → List Command → Type 0
 StandsInSequence made state moves given =
-    StandsAt (http_chain sequence made.terms) (idle (start_of made.numbers)) (IsInSequence made.terms) state moves given
+    StandsAt (http_chain sequence made.terms) (begin (idle (start_of made.numbers))) (IsInSequence made.terms) state moves given
 
 -- where a flow is finished the next one is looked for: what was kept behind the one is all that has come of the other
-abbrev pub ready_onward : Ready → Ready
+abbrev pub ready_onward : Wanted → Wanted
 ready_onward ready.Finished = ready.Idle
 ready_onward looked = looked
 
-abbrev pub requests_onward : Ready → State → State
+abbrev pub requests_onward : Wanted → State → State
 requests_onward ready.Finished requests = before_all request requests.rest false
 requests_onward looked requests = requests
 

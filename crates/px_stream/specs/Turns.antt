@@ -4,64 +4,65 @@ use Rattle.px_event.specs.declared.command.Command.{Command}
 use Rattle.px_event.specs.declared.reply.Reply.{Reply}
 use Rattle.px_exchange.specs.declared.ending.Used.{Used}
 use Rattle.px_exchange.specs.declared.ending.Used.TheVariants.{NoServer, ByServer}
+use Rattle.px_exchange.specs.declared.place.Place.{Place}
 use Rattle.px_stream.specs.declared.link.Link.{Link as KeptLink}
 use Rattle.px_stream.specs.declared.phase.Asked.{Asked}
 use Rattle.px_stream.specs.declared.phase.Asked.TheVariants as asked
-use Rattle.px_stream.specs.declared.phase.Ready.{Ready}
-use Rattle.px_stream.specs.declared.phase.Ready.TheVariants as ready
+use Rattle.px_stream.specs.declared.phase.Wanted.{Wanted}
+use Rattle.px_stream.specs.declared.phase.Wanted.TheVariants as ready
 use Rattle.px_exchange.specs.declared.taken.Taken.{Taken}
 use Rattle.px_stream.specs.declared.numbers.Numbers.{Numbers}
 use Rattle.px_message.specs.declared.flow.Flow.{Flow}
 use Rattle.px_message.specs.declared.response.Response.{Response}
 use Rattle.px_exchange.specs.Dials.{dial_owes}
-use Rattle.px_stream.specs.Chain.{turn_response, turn_taken_answer, turn_taken_body, turn_taken_given, turn_taken_head, turn_taken_returned}
-use Rattle.px_stream.specs.Phases.{behind_dial, behind_given_head, behind_request, behind_request_head, behind_response, behind_response_head, no_link, numbered, where_response}
+use Rattle.px_chain.specs.Chain.{turn_response, turn_taken_answer, turn_taken_body, turn_taken_given, turn_taken_head, turn_taken_returned}
+use Rattle.px_stream.specs.Phases.{behind_dial, behind_given_head, behind_request, behind_request_head, behind_response, behind_response_head, no_side, numbered, where_response}
 use Rattle.px_exchange.specs.Replies.{taken_at_request_body, taken_at_request_head, taken_at_response_body, taken_at_response_head}
 
 abbrev pub returned_owes : ℕ → Flow → Used → Reply → ℕ → Bool → List Command
 returned_owes index flow used answer moment closed =
-    (turn_response (numbered index) flow flow.response (λ message. taken_at_response_body message answer)
+    (turn_response flow.response (λ message. taken_at_response_body message answer)
     (λ taken. turn_taken_returned (numbered index) flow taken moment used closed)).owed
 
-abbrev pub returned_leads : ℕ → Flow → Reply → Ready
+abbrev pub returned_leads : ℕ → Flow → Reply → Wanted
 returned_leads index flow answer =
     where_response flow.response (λ message. taken_at_response_body message answer) (λ taken. behind_response index flow taken)
 
-abbrev pub asked_owes : ℕ → Asked → Reply → ℕ → Bool → List Command
-asked_owes index (asked.Head flow expected) answer moment closed =
+abbrev pub asked_owes : Place → ℕ → Asked → Reply → ℕ → Bool → List Command
+asked_owes place index (asked.Head flow expected) answer moment closed =
     (turn_taken_head (numbered 0) flow expected (taken_at_request_head flow.request answer) moment closed).owed
-asked_owes index (asked.Body flow) answer moment closed =
+asked_owes place index (asked.Body flow) answer moment closed =
     (turn_taken_body (numbered 0) flow (taken_at_request_body flow.request answer) moment closed).owed
-asked_owes index (asked.Dial flow server) answer moment closed = dial_owes flow server answer moment closed
-asked_owes index (asked.Answer flow link) answer moment closed =
-    (turn_response (numbered 0) flow flow.response (λ message. taken_at_response_head message answer)
-    (λ taken. turn_taken_answer (numbered 0) flow no_link taken moment (ByServer link.server link.closed) closed)).owed
-asked_owes index (asked.Returned flow link) answer moment closed =
+asked_owes place index (asked.Dial flow server) answer moment closed = dial_owes place flow server answer moment closed
+asked_owes place index (asked.Answer flow link) answer moment closed =
+    (turn_response flow.response (λ message. taken_at_response_head message answer)
+    (λ taken. turn_taken_answer (numbered 0) flow no_side taken moment (ByServer link.server link.closed) closed)).owed
+asked_owes place index (asked.Returned flow link) answer moment closed =
     returned_owes index flow (ByServer link.server link.closed) answer moment closed
-asked_owes index (asked.GivenHead flow) answer moment closed =
-    (turn_response (numbered 0) flow flow.response (λ message. taken_at_response_head message answer)
+asked_owes place index (asked.GivenHead flow) answer moment closed =
+    (turn_response flow.response (λ message. taken_at_response_head message answer)
     (λ taken. turn_taken_given (numbered 0) flow taken moment closed)).owed
-asked_owes index (asked.GivenBody flow) answer moment closed = returned_owes index flow NoServer answer moment closed
+asked_owes place index (asked.GivenBody flow) answer moment closed = returned_owes index flow NoServer answer moment closed
 
-abbrev pub asked_leads : ℕ → Asked → Reply → Ready
-asked_leads index (asked.Head flow expected) answer = behind_request_head flow (taken_at_request_head flow.request answer)
-asked_leads index (asked.Body flow) answer = behind_request flow (taken_at_request_body flow.request answer)
-asked_leads index (asked.Dial flow server) answer = behind_dial flow server answer
-asked_leads index (asked.Answer flow link) answer =
+abbrev pub asked_leads : Place → ℕ → Asked → Reply → Wanted
+asked_leads place index (asked.Head flow expected) answer = behind_request_head flow (taken_at_request_head flow.request answer)
+asked_leads place index (asked.Body flow) answer = behind_request flow (taken_at_request_body flow.request answer)
+asked_leads place index (asked.Dial flow server) answer = behind_dial place flow server answer
+asked_leads place index (asked.Answer flow link) answer =
     where_response flow.response (λ message. taken_at_response_head message answer) (λ taken. behind_response_head flow link taken)
-asked_leads index (asked.Returned flow link) answer = returned_leads index flow answer
-asked_leads index (asked.GivenHead flow) answer =
+asked_leads place index (asked.Returned flow link) answer = returned_leads index flow answer
+asked_leads place index (asked.GivenHead flow) answer =
     where_response flow.response (λ message. taken_at_response_head message answer) (λ taken. behind_given_head flow taken)
-asked_leads index (asked.GivenBody flow) answer = returned_leads index flow answer
+asked_leads place index (asked.GivenBody flow) answer = returned_leads index flow answer
 
 -- ---- by what the reply was taken for, where the flow has a response
 
 abbrev pub answer_owes : Flow → KeptLink → Option (Taken Response) → ℕ → Bool → List Command
 answer_owes flow link None moment closed = []
 answer_owes flow link (Some taken) moment closed =
-    (turn_taken_answer (numbered 0) flow no_link taken moment (ByServer link.server link.closed) closed).owed
+    (turn_taken_answer (numbered 0) flow no_side taken moment (ByServer link.server link.closed) closed).owed
 
-abbrev pub answer_leads : Flow → KeptLink → Option (Taken Response) → Ready
+abbrev pub answer_leads : Flow → KeptLink → Option (Taken Response) → Wanted
 answer_leads flow link None = ready.Over
 answer_leads flow link (Some taken) = behind_response_head flow link taken
 
@@ -69,7 +70,7 @@ abbrev pub given_owes : Flow → Option (Taken Response) → ℕ → Bool → Li
 given_owes flow None moment closed = []
 given_owes flow (Some taken) moment closed = (turn_taken_given (numbered 0) flow taken moment closed).owed
 
-abbrev pub given_leads : Flow → Option (Taken Response) → Ready
+abbrev pub given_leads : Flow → Option (Taken Response) → Wanted
 given_leads flow None = ready.Over
 given_leads flow (Some taken) = behind_given_head flow taken
 
@@ -77,7 +78,7 @@ abbrev pub whole_owes : ℕ → Flow → Option (Taken Response) → ℕ → Use
 whole_owes index flow None moment used closed = []
 whole_owes index flow (Some taken) moment used closed = (turn_taken_returned (numbered index) flow taken moment used closed).owed
 
-abbrev pub whole_leads : ℕ → Flow → Option (Taken Response) → Ready
+abbrev pub whole_leads : ℕ → Flow → Option (Taken Response) → Wanted
 whole_leads index flow None = ready.Over
 whole_leads index flow (Some taken) = behind_response index flow taken
 
@@ -91,6 +92,6 @@ behind_asked numbers (asked.Dial flow server) = record numbers { server = one_on
 behind_asked numbers _ = numbers
 
 -- and a flow's by its end
-abbrev pub behind_ready : Numbers → Ready → Numbers
+abbrev pub behind_ready : Numbers → Wanted → Numbers
 behind_ready numbers ready.Finished = record numbers { flow = one_on numbers.flow }
 behind_ready numbers _ = numbers

@@ -1,8 +1,9 @@
 //! One flow as a layer: what is due of it is the chain of one flow.
-ghost use Rattle.px_stream.specs.Chain.{alone, http_chain};
-ghost use Rattle.px_stream.specs.Stages.{Stage, idle};
+ghost use Rattle.px_chain.proofs.ChainLaws.{settles};
+ghost use Rattle.px_chain.specs.Chain.{alone, begin, http_chain};
+ghost use Rattle.px_chain.specs.Sights.{Standing};
+ghost use Rattle.px_chain.specs.Stages.{idle};
 ghost use Rattle.px_stream.specs.Stands.{IsAt, is_last, start_of};
-ghost use Rattle.px_stream.specs.Laws.{settles};
 ghost use Rattle.px_stream.specs.Law.{awaits_alone, ends_alone, grows_alone};
 
 use crate::Stream;
@@ -11,7 +12,7 @@ use px_text::NoMemory;
 
 impl Layer for Stream {
     ghost use Rattle.std.specs.Prelude.{ℕ, List};
-    ghost use Rattle.px_stream.specs.Chain.{alone};
+    ghost use Rattle.px_chain.specs.Chain.{alone};
     ghost use Rattle.px_stream.specs.Kept.{stream_keeps};
     ghost use Rattle.px_stream.specs.Left.{flow_left};
     ghost use Rattle.px_stream.specs.Sequence.{Stands};
@@ -56,11 +57,11 @@ impl Layer for Stream {
 }
 
 impl Chained for Stream {
-    ghost Stage = { Stage };
+    ghost Stage = { Standing };
 
     ghost chain = { λ made. http_chain alone made.terms };
 
-    ghost start = { λ made. idle (start_of made.numbers) };
+    ghost start = { λ made. begin (idle (start_of made.numbers)) };
 
     ghost is_at = { λ made. IsAt made.terms };
 

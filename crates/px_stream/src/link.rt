@@ -1,11 +1,10 @@
 //! The server's side of a flow: the responses that come on it.
-ghost use Rattle.std.specs.Prelude.{◌≡◌, false, [], ◌++◌, OnOk, IfOk};
-ghost use Rattle.px_read.specs.Heads.{is_interim};
+ghost use Rattle.std.specs.Prelude.{◌≡◌, false, [], OnOk, IfOk};
 ghost use Rattle.px_read.specs.Reader.{before_all, response};
 ghost use Rattle.px_stream.specs.Heard.{link_closes, link_hears};
 
 use px_exchange::ending::Used;
-use px_read::{MessageReader, ResponseHead};
+use px_read::MessageReader;
 use px_text::{Bytes, NoMemory};
 use std::alloc::Global;
 
@@ -16,13 +15,6 @@ pub struct Link {
     pub asked_head: bool,
     pub responses: MessageReader,
     pub closed: bool,
-}
-
-/// An interim response: another one follows it (RFC 9110 section 15.2).
-pub fn is_interim(head: &ResponseHead) -> bool
-    ensures { result ≡ is_interim head.now }
-{
-    head.code / 100 == 1 && head.code != 101
 }
 
 impl Link {

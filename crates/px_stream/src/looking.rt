@@ -2,19 +2,20 @@
 ghost use Rattle.std.specs.Prelude.{◌≡◌, ◌++◌, ◌∷◌, [], None, IfOk, OnOk};
 ghost use Rattle.px_event.specs.declared.ask.Hook.TheVariants.{ResponseHead as AtHead, ResponseBody as AtBody};
 ghost use Rattle.px_event.specs.declared.command.Command.TheVariants as commands;
-ghost use Rattle.px_exchange.specs.Dials.{address_of};
 ghost use Rattle.px_exchange.specs.Flows.{ask_of, with_end, with_start};
 ghost use Rattle.px_exchange.specs.Endings.{closed_message, ends_by_fault, ends_early};
+ghost use Rattle.px_exchange.specs.Places.{dialled_for};
 ghost use Rattle.px_stream.specs.Looking.{LookFound, MayLook};
 ghost use Rattle.px_stream.specs.Phases.{is_over};
 
 use crate::looking::answer::{look_for_answer, look_for_returned};
 use crate::looking::request::{look_for_body, look_for_head};
 use crate::numbers::Numbers;
-use crate::phase::{Asked, Phase, Ready};
+use crate::phase::{Asked, Phase, Wanted};
 use px_event::{Command, Hook};
+use px_exchange::Place;
 use px_exchange::ending::{Used, end_by_fault, end_early};
-use px_exchange::flows::{self, address_of};
+use px_exchange::flows::{self, dialled_for};
 use px_exchange::said::ask;
 use px_exchange::terms::{Now, Terms};
 use px_message::{Fault, Flow};
@@ -30,35 +31,35 @@ pub fn look(
     now: Now,
     numbers: Numbers,
     requests: &mut MessageReader,
-    ready: Ready,
+    ready: Wanted,
     out: &mut Vec<Command>,
 ) -> Result<Phase, NoMemory>
     requires may_look { MayLook ready requests.old }
     ensures looks { IfOk result (λ next. LookFound terms.now numbers ready requests.old requests.new now.moment now.client_closed out.old.items out.new.items next) }
 {
     match ready {
-        Ready::Idle => look_for_head(terms, now, numbers.flow, requests, out),
-        Ready::Receiving { flow, given, body } => {
+        Wanted::Idle => look_for_head(terms, now, numbers.flow, requests, out),
+        Wanted::Receiving { flow, given, body } => {
             look_for_body(now, requests, flow, given, body, out)
         }
-        Ready::Dialling { flow } => dial(numbers.server, flow, out),
-        Ready::Answering { flow, link } => look_for_answer(now, flow, link, out),
-        Ready::Returning { flow, link, body } => look_for_returned(now, flow, link, body, out),
-        Ready::GivenHead { flow } => ask_given_head(now, flow, out),
-        Ready::GivenBody { flow } => ask_given_body(now, flow, out),
-        Ready::Finished => Ok(Phase::Ready(Ready::Finished)),
-        Ready::Over => Ok(Phase::Ready(Ready::Over)),
+        Wanted::Dialling { flow } => dial(&terms.place, numbers.server, flow, out),
+        Wanted::Answering { flow, link } => look_for_answer(now, flow, link, out),
+        Wanted::Returning { flow, link, body } => look_for_returned(now, flow, link, body, out),
+        Wanted::GivenHead { flow } => ask_given_head(now, flow, out),
+        Wanted::GivenBody { flow } => ask_given_body(now, flow, out),
+        Wanted::Finished => Ok(Phase::Ready(Wanted::Finished)),
+        Wanted::Over => Ok(Phase::Ready(Wanted::Over)),
     }
 }
 
-// Dials the server of the request, as its hooks left it.
-fn dial(server: u32, flow: Flow, out: &mut Vec<Command>) -> Result<Phase, NoMemory>
-    ensures gives { OnOk result (out.new.items ≡ out.old.items ++ commands.Dial server (address_of flow.request) None ∷ []) }
+// Dials what the request goes to.
+fn dial(place: &Place, server: u32, flow: Flow, out: &mut Vec<Command>) -> Result<Phase, NoMemory>
+    ensures gives { OnOk result (out.new.items ≡ out.old.items ++ commands.Dial server (dialled_for place.now flow.request) None ∷ []) }
     ensures phase { IfOk result (λ next. next ≡ Phase.Asked (Asked.Dial flow server)) }
 {
     out.push(Command::Dial {
         server,
-        address: address_of(&flow)?,
+        address: dialled_for(place, &flow)?,
         inside: None,
     })?;
     Ok(Phase::Asked(Asked::Dial { flow, server }))
@@ -96,7 +97,7 @@ fn fail(
     ensures phase { IfOk result (λ next. next ≡ is_over) }
 {
     end_by_fault(now, flow, fault, used, out)?;
-    Ok(Phase::Ready(Ready::Over))
+    Ok(Phase::Ready(Wanted::Over))
 }
 
 // Ends the flow by the client's close.
@@ -105,5 +106,5 @@ fn leave(now: Now, flow: Flow, used: Used, out: &mut Vec<Command>) -> Result<Pha
     ensures phase { IfOk result (λ next. next ≡ is_over) }
 {
     end_early(now, flow, b"client closed", used, out)?;
-    Ok(Phase::Ready(Ready::Over))
+    Ok(Phase::Ready(Wanted::Over))
 }

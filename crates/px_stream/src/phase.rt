@@ -1,15 +1,16 @@
 //! Where the present flow stands: what it looks for, or what it asked.
 ghost use Rattle.std.specs.Prelude.{◌≡◌};
-ghost use Rattle.px_stream.specs.Stands.{asked_of, awaited_in, hook_of};
+ghost use Rattle.px_stream.specs.Stands.{asked_of, awaited_in};
 
 use crate::link::Link;
 use px_event::{Ask, Hook};
 use px_exchange::content::Content;
+use px_exchange::flows::hook_of;
 use px_message::{Flow, Response, Shared};
 
 /// What a flow looks for, while no answer is awaited.
 #[derive(Drop)]
-pub enum Ready {
+pub enum Wanted {
     /// The head of a request.
     Idle,
     /// The request's body; a response may be given already.
@@ -69,7 +70,7 @@ pub enum Asked {
 /// Where the present flow stands.
 #[derive(Drop)]
 pub enum Phase {
-    Ready(Ready),
+    Ready(Wanted),
     Asked(Asked),
 }
 
@@ -99,14 +100,5 @@ impl Phase {
             Phase::Asked(asked) => Some(asked.ask()),
             Phase::Ready(_) => None,
         }
-    }
-}
-
-fn hook_of(flow: &Flow, hook: Hook) -> Ask
-    ensures { result ≡ hook_of flow.now hook }
-{
-    Ask::Hook {
-        flow: flow.id.index,
-        hook,
     }
 }

@@ -2,28 +2,28 @@
 //!
 //! Each event goes to the reader of its side, and then the flow looks once: where it finds an ask it waits, and where it
 //! finds the end it says what is owed there. A reply leads to what is looked for next.
-ghost use Rattle.std.specs.Prelude.{◌≡◌, ◌≤◌, ◌<◌, ◌+◌, ◌-◌, ◌^◌, ◌++◌, List, [], false, None, IfOk, OnOk, min};
+ghost use Rattle.std.specs.Prelude.{◌≡◌, ◌≤◌, ◌<◌, ◌+◌, ◌-◌, ◌^◌, List, [], false, None, IfOk, OnOk, min};
 ghost use Rattle.px_event.specs.Layer.{Move, Took, Replied, IsSound, Goes, AsksOnly, MayAnswer};
 ghost use Rattle.px_event.specs.declared.command.Command.{Command as GivenCommand};
 ghost use Rattle.px_read.specs.Reader.{before_all, request};
 ghost use Rattle.px_stream.specs.Calls.{Answers, Hears, IsSome, LooksOnce, MayHear, TakesEvent, TurnsTo};
-ghost use Rattle.px_stream.specs.Chain.{alone, look as look_at};
+ghost use Rattle.px_chain.specs.Chain.{alone, look as look_at};
 ghost use Rattle.px_stream.specs.Heard.{LinkAgrees, closes_client, ready_closes, ready_hears, ready_takes, requests_take};
 ghost use Rattle.px_stream.specs.Kept.{asked_keeps, phase_keeps, ready_keeps, stream_keeps};
 ghost use Rattle.px_stream.specs.Left.{flow_left, sequence_left};
 ghost use Rattle.px_stream.specs.Looking.{MayLook};
 ghost use Rattle.px_exchange.specs.Places.{IsDialled, terms_of};
 ghost use Rattle.px_stream.specs.Rests.{LeavesRests, asked_rest, phase_rest, ready_rest};
-ghost use Rattle.px_stream.specs.Sequence.{Stands, StandsInSequence, is_end, outcome_at, outcome_in, ready_onward, requests_onward, stop_at};
-ghost use Rattle.px_stream.specs.Stages.{Stage};
+ghost use Rattle.px_stream.specs.Sequence.{Stands, StandsInSequence, is_end, outcome_at, outcome_in, ready_onward, requests_onward, seen_at, stage_at};
+ghost use Rattle.px_chain.specs.Stages.{Stage};
 ghost use Rattle.px_stream.specs.Stands.{awaited_in, awaits, is_last};
 ghost use Rattle.px_stream.specs.Turns.{asked_leads, behind_asked, behind_ready};
-ghost use Rattle.px_stream.specs.declared.phase.Ready.{Ready as Looked};
+ghost use Rattle.px_stream.specs.declared.phase.Wanted.{Wanted as Looked};
 
 use crate::link::Link;
 use crate::looking::look;
 use crate::numbers::Numbers;
-use crate::phase::{Asked, Phase, Ready};
+use crate::phase::{Asked, Phase, Wanted};
 use crate::turning::turn;
 use px_event::{Ask, Command, Event, Reply, Rests, Side};
 use px_exchange::terms::{Now, Terms};
@@ -58,20 +58,19 @@ impl Stream {
         next_server: u32,
     ) -> Stream
         requires few { id.index < 1000000 }
-        requires regular { IsDialled place }
+        requires dialled { IsDialled place }
         ensures stands { (onward : Stage → Stage) → Stands onward result result [] [] }
         ensures in_sequence { next_server ≤ id.index + 1 → StandsInSequence result result [] [] }
         ensures terms { result.terms ≡ terms_of id.conv client place }
         ensures numbers { result.numbers ≡ record { flow = id.index; server = next_server } }
         ensures free { awaits result ≡ None }
     {
-        let Place::Fixed { address, .. } = place;
         Stream {
             alloc,
             terms: Terms {
                 conv: id.conv,
                 client,
-                address,
+                place,
             },
             numbers: Numbers {
                 flow: id.index,
@@ -79,7 +78,7 @@ impl Stream {
             },
             requests: MessageReader::request(alloc),
             client_closed: false,
-            phase: Phase::Ready(Ready::Idle),
+            phase: Phase::Ready(Wanted::Idle),
         }
     }
 
@@ -89,11 +88,11 @@ impl Stream {
         ensures phase { result ≡ outcome_in self.now.phase }
         ensures ended { is_last self.now.phase ≡ is_end result }
         ensures of_walk { (onward : Stage → Stage) (made : Stream) (moves : List Move) (given : List GivenCommand) → Stands onward made self.now moves given →
-            result ≡ outcome_at (look_at made.terms (stop_at onward made moves).stage (stop_at onward made moves).front) (stop_at onward made moves).stage }
+            result ≡ outcome_at (look_at made.terms (stage_at onward made moves) (seen_at onward made moves)) (stage_at onward made moves) }
     {
         match &self.phase {
-            Phase::Ready(Ready::Finished) => Outcome::Next,
-            Phase::Ready(Ready::Over) => Outcome::Over,
+            Phase::Ready(Wanted::Finished) => Outcome::Next,
+            Phase::Ready(Wanted::Over) => Outcome::Over,
             Phase::Ready(_) => Outcome::Going,
             Phase::Asked(_) => Outcome::Going,
         }
@@ -173,8 +172,8 @@ impl Stream {
         ensures { result ≡ is_last self.now.phase }
     {
         match &self.phase {
-            Phase::Ready(Ready::Finished) => true,
-            Phase::Ready(Ready::Over) => true,
+            Phase::Ready(Wanted::Finished) => true,
+            Phase::Ready(Wanted::Over) => true,
             Phase::Ready(_) => false,
             Phase::Asked(_) => false,
         }
@@ -184,7 +183,7 @@ impl Stream {
     fn take_ready(
         &mut self,
         moment: u64,
-        ready: Ready,
+        ready: Wanted,
         event: &Event,
         out: &mut Vec<Command>,
     ) -> Result<(), NoMemory>
@@ -207,7 +206,12 @@ impl Stream {
     }
 
     // Looks, where no answer is awaited.
-    fn advance(&mut self, moment: u64, ready: Ready, out: &mut Vec<Command>) -> Result<(), NoMemory>
+    fn advance(
+        &mut self,
+        moment: u64,
+        ready: Wanted,
+        out: &mut Vec<Command>,
+    ) -> Result<(), NoMemory>
         requires { MayLook ready self.old.requests }
         ensures { OnOk result (LooksOnce self.old self.new moment ready out.old.items out.new.items) }
     {
@@ -279,9 +283,9 @@ impl Stream {
         reply: Reply,
         out: &mut Vec<Command>,
     ) -> Result<(), NoMemory>
-        requires { MayLook (asked_leads self.old.numbers.flow asked reply) self.old.requests }
-        ensures { OnOk result (Answers self.old self.new moment reply asked (ready_onward (asked_leads self.old.numbers.flow asked reply))
-            (requests_onward (asked_leads self.old.numbers.flow asked reply) self.old.requests) out.old.items out.new.items) }
+        requires { MayLook (asked_leads self.old.terms.place self.old.numbers.flow asked reply) self.old.requests }
+        ensures { OnOk result (Answers self.old self.new moment reply asked (ready_onward (asked_leads self.old.terms.place self.old.numbers.flow asked reply))
+            (requests_onward (asked_leads self.old.terms.place self.old.numbers.flow asked reply) self.old.requests) out.old.items out.new.items) }
     {
         let turned = self.turn(moment, asked, reply, out)?;
         let ready = self.go_onward(turned)?;
@@ -295,8 +299,8 @@ impl Stream {
         reply: Reply,
         out: &mut Vec<Command>,
     ) -> Result<(), NoMemory>
-        requires { MayLook (asked_leads self.old.numbers.flow asked reply) self.old.requests }
-        ensures { OnOk result (Answers self.old self.new moment reply asked (asked_leads self.old.numbers.flow asked reply) self.old.requests out.old.items out.new.items) }
+        requires { MayLook (asked_leads self.old.terms.place self.old.numbers.flow asked reply) self.old.requests }
+        ensures { OnOk result (Answers self.old self.new moment reply asked (asked_leads self.old.terms.place self.old.numbers.flow asked reply) self.old.requests out.old.items out.new.items) }
     {
         let turned = self.turn(moment, asked, reply, out)?;
         self.advance(moment, turned, out)
@@ -309,19 +313,19 @@ impl Stream {
         asked: Asked,
         reply: Reply,
         out: &mut Vec<Command>,
-    ) -> Result<Ready, NoMemory>
+    ) -> Result<Wanted, NoMemory>
         ensures { IfOk result (λ next. TurnsTo self.old self.new moment reply asked next out.old.items out.new.items) }
     {
         let now = self.now(moment);
         let index = self.numbers.flow;
         self.numbers = count_server(self.numbers, &asked);
-        let ready = turn(now, index, asked, reply, out)?;
+        let ready = turn(&self.terms.place, now, index, asked, reply, out)?;
         self.numbers = count_flow(self.numbers, &ready);
         Ok(ready)
     }
 
     // Where a flow is finished the next one begins: the client's bytes behind it are read as its request.
-    fn go_onward(&mut self, ready: Ready) -> Result<Ready, NoMemory>
+    fn go_onward(&mut self, ready: Wanted) -> Result<Wanted, NoMemory>
         ensures terms { OnOk result (self.new.terms ≡ self.old.terms) }
         ensures numbers { OnOk result (self.new.numbers ≡ self.old.numbers) }
         ensures client { OnOk result (self.new.client_closed ≡ self.old.client_closed) }
@@ -329,18 +333,18 @@ impl Stream {
         ensures ready { IfOk result (λ next. next ≡ ready_onward ready) }
     {
         match ready {
-            Ready::Finished => {
+            Wanted::Finished => {
                 begin_again(self.alloc, &mut self.requests)?;
-                Ok(Ready::Idle)
+                Ok(Wanted::Idle)
             }
-            Ready::Idle => Ok(Ready::Idle),
-            Ready::Receiving { flow, given, body } => Ok(Ready::Receiving { flow, given, body }),
-            Ready::Dialling { flow } => Ok(Ready::Dialling { flow }),
-            Ready::Answering { flow, link } => Ok(Ready::Answering { flow, link }),
-            Ready::Returning { flow, link, body } => Ok(Ready::Returning { flow, link, body }),
-            Ready::GivenHead { flow } => Ok(Ready::GivenHead { flow }),
-            Ready::GivenBody { flow } => Ok(Ready::GivenBody { flow }),
-            Ready::Over => Ok(Ready::Over),
+            Wanted::Idle => Ok(Wanted::Idle),
+            Wanted::Receiving { flow, given, body } => Ok(Wanted::Receiving { flow, given, body }),
+            Wanted::Dialling { flow } => Ok(Wanted::Dialling { flow }),
+            Wanted::Answering { flow, link } => Ok(Wanted::Answering { flow, link }),
+            Wanted::Returning { flow, link, body } => Ok(Wanted::Returning { flow, link, body }),
+            Wanted::GivenHead { flow } => Ok(Wanted::GivenHead { flow }),
+            Wanted::GivenBody { flow } => Ok(Wanted::GivenBody { flow }),
+            Wanted::Over => Ok(Wanted::Over),
         }
     }
 
@@ -354,8 +358,8 @@ impl Stream {
         ensures server { IfOk result (λ left. left.0.server ≡ phase_rest self.phase) }
         ensures flow { IfOk result (λ left. left.1 ≡ None) }
         ensures behind { (onward : Stage → Stage) (made : Stream) (moves : List Move) (given : List GivenCommand) → Stands onward made self moves given →
-            IfOk result (λ left. LeavesRests (look_at made.terms (stop_at onward made moves).stage (stop_at onward made moves).front) (stop_at onward made moves).stage
-            (stop_at onward made moves).front left.0.client left.0.server) }
+            IfOk result (λ left. LeavesRests (look_at made.terms (stage_at onward made moves) (seen_at onward made moves)) (stage_at onward made moves)
+            (seen_at onward made moves) left.0.client left.0.server) }
     {
         let Stream {
             requests,
@@ -378,12 +382,12 @@ fn rest_of_phase(phase: Phase) -> Result<Bytes, NoMemory>
     }
 }
 
-fn rest_of_ready(ready: Ready) -> Result<Bytes, NoMemory>
+fn rest_of_ready(ready: Wanted) -> Result<Bytes, NoMemory>
     ensures { IfOk result (λ rest. rest ≡ ready_rest ready) }
 {
     match ready {
-        Ready::Answering { flow, link } => rest_of_link(flow, link),
-        Ready::Returning { flow, link, .. } => rest_of_link(flow, link),
+        Wanted::Answering { flow, link } => rest_of_link(flow, link),
+        Wanted::Returning { flow, link, .. } => rest_of_link(flow, link),
         other => {
             leave_ready(other);
             Ok(Bytes::empty())
@@ -421,19 +425,19 @@ fn size_of_phase(phase: &Phase) -> usize
     }
 }
 
-fn size_of_ready(ready: &Ready) -> usize
+fn size_of_ready(ready: &Wanted) -> usize
     ensures { result ≡ min (ready_keeps ready.now) (2 ^ 64 - 1) }
 {
     match ready {
-        Ready::Receiving { body, .. } => body.len(),
-        Ready::Answering { link, .. } => link.responses.kept(),
-        Ready::Returning { link, body, .. } => body.len().saturating_add(link.responses.kept()),
-        Ready::Idle => 0,
-        Ready::Dialling { .. } => 0,
-        Ready::GivenHead { .. } => 0,
-        Ready::GivenBody { .. } => 0,
-        Ready::Finished => 0,
-        Ready::Over => 0,
+        Wanted::Receiving { body, .. } => body.len(),
+        Wanted::Answering { link, .. } => link.responses.kept(),
+        Wanted::Returning { link, body, .. } => body.len().saturating_add(link.responses.kept()),
+        Wanted::Idle => 0,
+        Wanted::Dialling { .. } => 0,
+        Wanted::GivenHead { .. } => 0,
+        Wanted::GivenBody { .. } => 0,
+        Wanted::Finished => 0,
+        Wanted::Over => 0,
     }
 }
 
@@ -452,11 +456,11 @@ fn size_of_asked(asked: &Asked) -> usize
 }
 
 // What is looked for, where no answer is awaited.
-fn take_looked(phase: &mut Phase) -> Ready
+fn take_looked(phase: &mut Phase) -> Wanted
     requires { awaited_in phase.old ≡ None }
     ensures { phase.old ≡ Phase.Ready result }
 {
-    match mem::replace(phase, Phase::Ready(Ready::Over)) {
+    match mem::replace(phase, Phase::Ready(Wanted::Over)) {
         Phase::Ready(ready) => ready,
         Phase::Asked(_) => unreachable!(),
     }
@@ -467,7 +471,7 @@ fn take_asked(phase: &mut Phase) -> Asked
     requires { IsSome (awaited_in phase.old) }
     ensures { phase.old ≡ Phase.Asked result }
 {
-    match mem::replace(phase, Phase::Ready(Ready::Over)) {
+    match mem::replace(phase, Phase::Ready(Wanted::Over)) {
         Phase::Asked(asked) => asked,
         Phase::Ready(_) => unreachable!(),
     }
@@ -487,17 +491,17 @@ fn leave(phase: Phase) {
     }
 }
 
-fn leave_ready(ready: Ready) {
+fn leave_ready(ready: Wanted) {
     match ready {
-        Ready::Receiving { flow, .. } => leave_flow(flow),
-        Ready::Dialling { flow } => leave_flow(flow),
-        Ready::Answering { flow, .. } => leave_flow(flow),
-        Ready::Returning { flow, .. } => leave_flow(flow),
-        Ready::GivenHead { flow } => leave_flow(flow),
-        Ready::GivenBody { flow } => leave_flow(flow),
-        Ready::Idle => {}
-        Ready::Finished => {}
-        Ready::Over => {}
+        Wanted::Receiving { flow, .. } => leave_flow(flow),
+        Wanted::Dialling { flow } => leave_flow(flow),
+        Wanted::Answering { flow, .. } => leave_flow(flow),
+        Wanted::Returning { flow, .. } => leave_flow(flow),
+        Wanted::GivenHead { flow } => leave_flow(flow),
+        Wanted::GivenBody { flow } => leave_flow(flow),
+        Wanted::Idle => {}
+        Wanted::Finished => {}
+        Wanted::Over => {}
     }
 }
 
@@ -534,22 +538,22 @@ fn count_server(numbers: Numbers, asked: &Asked) -> Numbers
 }
 
 // And a flow's by its end.
-fn count_flow(numbers: Numbers, ready: &Ready) -> Numbers
+fn count_flow(numbers: Numbers, ready: &Wanted) -> Numbers
     ensures { result ≡ behind_ready numbers ready.now }
 {
     match ready {
-        Ready::Finished => Numbers {
+        Wanted::Finished => Numbers {
             flow: numbers.flow.saturating_add(1),
             server: numbers.server,
         },
-        Ready::Idle => numbers,
-        Ready::Receiving { .. } => numbers,
-        Ready::Dialling { .. } => numbers,
-        Ready::Answering { .. } => numbers,
-        Ready::Returning { .. } => numbers,
-        Ready::GivenHead { .. } => numbers,
-        Ready::GivenBody { .. } => numbers,
-        Ready::Over => numbers,
+        Wanted::Idle => numbers,
+        Wanted::Receiving { .. } => numbers,
+        Wanted::Dialling { .. } => numbers,
+        Wanted::Answering { .. } => numbers,
+        Wanted::Returning { .. } => numbers,
+        Wanted::GivenHead { .. } => numbers,
+        Wanted::GivenBody { .. } => numbers,
+        Wanted::Over => numbers,
     }
 }
 
@@ -566,7 +570,7 @@ fn begin_again(alloc: Global, requests: &mut MessageReader) -> Result<(), NoMemo
 fn hear(
     requests: &mut MessageReader,
     client_closed: &mut bool,
-    ready: &mut Ready,
+    ready: &mut Wanted,
     event: &Event,
 ) -> Result<(), NoMemory>
     requires open_still { requests.old.closed ≡ false }
@@ -598,23 +602,23 @@ fn hear(
     }
 }
 
-fn hear_server(ready: &mut Ready, server: u32, bytes: &Bytes) -> Result<(), NoMemory>
+fn hear_server(ready: &mut Wanted, server: u32, bytes: &Bytes) -> Result<(), NoMemory>
     requires { LinkAgrees ready.old }
     ensures { OnOk result (ready.new ≡ ready_hears server bytes.now ready.old) }
 {
     match ready {
-        Ready::Answering { link, .. } => link.hear(server, bytes),
-        Ready::Returning { link, .. } => link.hear(server, bytes),
+        Wanted::Answering { link, .. } => link.hear(server, bytes),
+        Wanted::Returning { link, .. } => link.hear(server, bytes),
         _ => Ok(()),
     }
 }
 
-fn close_server(ready: &mut Ready, server: u32)
+fn close_server(ready: &mut Wanted, server: u32)
     ensures { ready.new ≡ ready_closes server ready.old }
 {
     match ready {
-        Ready::Answering { link, .. } => link.close(server),
-        Ready::Returning { link, .. } => link.close(server),
+        Wanted::Answering { link, .. } => link.close(server),
+        Wanted::Returning { link, .. } => link.close(server),
         _ => {}
     }
 }

@@ -1,20 +1,20 @@
 //! Looks for the final response: its head, and then its body.
 ghost use Rattle.std.specs.Prelude.{◌≡◌, ◌++◌, IfOk, OnOk};
-ghost use Rattle.px_stream.specs.Bodies.{IsReading, ReturnFound};
+ghost use Rattle.px_exchange.specs.Bodies.{IsReading};
+ghost use Rattle.px_stream.specs.Bodies.{ReturnFound};
 ghost use Rattle.px_exchange.specs.Finds.{is_relayed};
-ghost use Rattle.px_exchange.specs.Requests.{is_http11};
 ghost use Rattle.px_stream.specs.Responses.{AnswerFound, IsKept};
 ghost use Rattle.px_stream.specs.Looks.{answer_gives, answer_phase, relayed_phase, relays, returned_gives, returned_phase};
 ghost use Rattle.px_stream.specs.declared.link.Link.{Link as KeptLink};
 
 use super::{fail, leave};
 use crate::link::Link;
-use crate::phase::{Asked, Phase, Ready};
-use crate::reading::{Answer, Progress, read_answer, read_body};
+use crate::phase::{Asked, Phase, Wanted};
+use crate::reading::{FinalHead, read_answer};
 use px_event::{Command, Hook};
-use px_exchange::asked::is_http11;
+use px_exchange::body::{Progress, read_body};
 use px_exchange::content::Content;
-use px_exchange::flows::{self, response_of, status_of};
+use px_exchange::flows::{self, asks_http11, response_of, status_of};
 use px_exchange::said::ask;
 use px_exchange::terms::Now;
 use px_message::{Fault, Flow};
@@ -37,36 +37,29 @@ pub fn look_for_answer(
     look_at_answer(now, flow, link, answer, out)
 }
 
-// Whether the flow's request is of HTTP/1.1.
-fn asks_http11(flow: &Flow) -> bool
-    ensures { result ≡ is_http11 flow.now.request.version }
-{
-    is_http11(flow.request.get().version)
-}
-
 // What is made of the final response's head, if it has come.
 fn look_at_answer(
     now: Now,
     flow: Flow,
     link: Link,
-    answer: Answer,
+    answer: FinalHead,
     out: &mut Vec<Command>,
 ) -> Result<Phase, NoMemory>
     ensures gives { OnOk result (out.new.items ≡ out.old.items ++ answer_gives flow link answer now.moment now.client_closed) }
     ensures phase { IfOk result (λ next. next ≡ answer_phase flow link answer now.moment now.client_closed) }
 {
     match answer {
-        Answer::Head(head) => relay_head(now, flow, link, head, out),
-        Answer::Bad(fault) => {
+        FinalHead::Head(head) => relay_head(now, flow, link, head, out),
+        FinalHead::Bad(fault) => {
             let used = link.into_used();
             fail(now, flow, fault, used, out)
         }
-        Answer::Missing => {
+        FinalHead::Missing => {
             if now.client_closed {
                 let used = link.into_used();
                 return leave(now, flow, used, out);
             }
-            Ok(Phase::Ready(Ready::Answering { flow, link }))
+            Ok(Phase::Ready(Wanted::Answering { flow, link }))
         }
     }
 }
@@ -140,7 +133,7 @@ fn look_at_returned(
                 let used = link.into_used();
                 return leave(now, flows::without_response(flow), used, out);
             }
-            Ok(Phase::Ready(Ready::Returning { flow, link, body }))
+            Ok(Phase::Ready(Wanted::Returning { flow, link, body }))
         }
     }
 }

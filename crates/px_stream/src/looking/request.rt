@@ -1,13 +1,13 @@
 //! Looks for a request: its head, and then its body.
 ghost use Rattle.std.specs.Prelude.{◌≡◌, ◌++◌, ◌∷◌, ℕ, List, [], false, Some, None, IfOk, OnOk};
 ghost use Rattle.px_event.specs.Chain.{found};
-ghost use Rattle.px_event.specs.declared.ask.Hook.TheVariants.{RequestHead as AtHead, RequestBody as AtBody};
+ghost use Rattle.px_event.specs.declared.ask.Hook.TheVariants.{RequestHead as AtHead};
 ghost use Rattle.px_read.specs.Items.{request_item};
 ghost use Rattle.px_read.specs.Laws.{head_in};
-ghost use Rattle.px_read.specs.Marks.{Mark};
 ghost use Rattle.px_read.specs.declared.head.RequestHead.{RequestHead as ReadHead};
 ghost use Rattle.px_read.specs.Reader.{Reads, request as OfRequest};
-ghost use Rattle.px_stream.specs.Bodies.{BodyFound, IsReading};
+ghost use Rattle.px_exchange.specs.Bodies.{IsReading};
+ghost use Rattle.px_stream.specs.Bodies.{BodyFound};
 ghost use Rattle.px_stream.specs.Looks.{body_gives, body_phase, whole_gives, whole_phase};
 ghost use Rattle.px_exchange.specs.Flows.{ask_of};
 ghost use Rattle.px_exchange.specs.Finds.{look_head, look_judged, or_leaves};
@@ -16,10 +16,10 @@ ghost use Rattle.px_stream.specs.Phases.{head_phase, is_over, judged_phase, mark
 ghost use Rattle.px_exchange.specs.Requests.{expects as expecting, flow_of, judged, is_head as asks_head};
 
 use super::{ask_given_head, fail, leave};
-use crate::phase::{Asked, Phase, Ready};
-use crate::reading::{Progress, read_body};
+use crate::phase::{Asked, Phase, Wanted};
 use px_event::{Command, Hook};
 use px_exchange::asked::{Judged, expects, is_head, judge};
+use px_exchange::body::{Progress, read_body};
 use px_exchange::content::Content;
 use px_exchange::ending::{Used, refuse};
 use px_exchange::flows;
@@ -50,12 +50,12 @@ pub fn look_for_head(
 
 // No head is there.
 fn wait_for_head(now: Now) -> Phase
-    ensures { result ≡ unless_left now.client_closed Ready.Idle }
+    ensures { result ≡ unless_left now.client_closed Wanted.Idle }
 {
     if now.client_closed {
-        Phase::Ready(Ready::Over)
+        Phase::Ready(Wanted::Over)
     } else {
-        Phase::Ready(Ready::Idle)
+        Phase::Ready(Wanted::Idle)
     }
 }
 
@@ -70,7 +70,7 @@ fn refuse_head(
     ensures phase { IfOk result (λ next. next ≡ is_over) }
 {
     refuse(now, fault, asked_head, out)?;
-    Ok(Phase::Ready(Ready::Over))
+    Ok(Phase::Ready(Wanted::Over))
 }
 
 // Judges the head, and asks its hook.
@@ -81,12 +81,12 @@ fn look_at_head(
     head: RequestHead,
     out: &mut Vec<Command>,
 ) -> Result<Phase, NoMemory>
-    ensures gives { OnOk result (out.new.items ≡ out.old.items ++ found (look_judged terms.now index head (judged terms.now.address head) now.moment now.client_closed)) }
-    ensures phase { IfOk result (λ next. next ≡ judged_phase terms.now index head (judged terms.now.address head) now.moment) }
+    ensures gives { OnOk result (out.new.items ≡ out.old.items ++ found (look_judged terms.now index head (judged terms.now.place head) now.moment now.client_closed)) }
+    ensures phase { IfOk result (λ next. next ≡ judged_phase terms.now index head (judged terms.now.place head) now.moment) }
 {
     let asked_head = is_head(head.method.bytes());
     let expected = expects(&head);
-    let judged = judge(now.alloc, &terms.address, head)?;
+    let judged = judge(now.alloc, &terms.place, head)?;
     begin_flow(terms, now, index, judged, asked_head, expected, out)
 }
 
@@ -174,7 +174,7 @@ fn look_at_body(
                 drop(given);
                 return leave(now, flow, Used::NoServer, out);
             }
-            Ok(Phase::Ready(Ready::Receiving { flow, given, body }))
+            Ok(Phase::Ready(Wanted::Receiving { flow, given, body }))
         }
     }
 }

@@ -1,6 +1,6 @@
 use Rattle.std.proofs.Common.{refl}
 use Rattle.px_event.specs.Chain.{walk_from}
-use Rattle.px_stream.specs.Chain.{http_chain}
+use Rattle.px_chain.specs.Chain.{http_chain}
 use Rattle.px_cuts.specs.Cuts.{as_it_is, no_moment, piece_at}
 use Rattle.px_cuts.proofs.PieceLemmas.{all_may_come, any_may_come, equal}
 use Rattle.px_cuts.proofs.CutLemmas.{swap}

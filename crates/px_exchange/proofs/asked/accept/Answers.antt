@@ -5,5 +5,5 @@ use Rattle.px_exchange.proofs.asked.accept.Goals as goal
 
 pub returns : goal.returns
 returns c = λ not_connect.
-    request_eq _ (request_of c.args.address.now c.args.head c.args.path not_connect)
+    request_eq _ (request_of c.args.address c.args.head c.args.path not_connect)
     (search rules) (search rules) (search rules) (search rules) (search rules) (search rules) (search rules) (search rules) (search rules)

@@ -4,10 +4,10 @@ use Rattle.px_event.specs.declared.command.Command.TheVariants as commands
 use Rattle.px_stream.specs.declared.link.Link.{Link as KeptLink}
 use Rattle.px_stream.specs.declared.phase.Asked.TheVariants as asked
 use Rattle.px_stream.specs.declared.phase.Phase.TheVariants as phase
-use Rattle.px_stream.specs.declared.phase.Ready.TheVariants as ready
+use Rattle.px_stream.specs.declared.phase.Wanted.TheVariants as ready
 use Rattle.px_stream.specs.Bodies.{ReturnFound}
-use Rattle.px_exchange.specs.Dials.{address_of}
 use Rattle.px_exchange.specs.Flows.{ask_of, with_end, with_start}
+use Rattle.px_exchange.specs.Places.{dialled_for}
 use Rattle.px_stream.specs.Responses.{AnswerFound}
 use Rattle.px_stream.proofs.LookingLemmas.{head_looked, at_once, besides, looked_as, nothing_given, may_as}
 use Rattle.px_stream.proofs.looking.look.Goals as goal
@@ -38,7 +38,7 @@ returns-in-Dialling c =
     record {
       looks = looked_as c.dial.result c.args.terms.now c.args.numbers c.args.ready (ready.Dialling c.in-Dialling.flow) c.args.requests.now c.args.requests.now c.args.now.moment c.args.now.client_closed
           c.args.out.now.items c.dial.new.out.items c.in-Dialling.is
-          (at_once c.dial.result c.args.requests.now (commands.Dial c.args.numbers.server (address_of c.in-Dialling.flow.request) None ∷ []) c.args.out.now.items c.dial.new.out.items (phase.Asked (asked.Dial c.in-Dialling.flow c.args.numbers.server))
+          (at_once c.dial.result c.args.requests.now (commands.Dial c.args.numbers.server (dialled_for c.args.terms.now.place c.in-Dialling.flow.request) None ∷ []) c.args.out.now.items c.dial.new.out.items (phase.Asked (asked.Dial c.in-Dialling.flow c.args.numbers.server))
           c.dial.ensures.gives c.dial.ensures.phase);
     }
 

@@ -10,66 +10,66 @@ use Rattle.px_stream.proofs.turning.turn.Goals as goal
 
 pub returns-in-Head-clause-gives : goal.returns-in-Head-clause-gives
 returns-in-Head-clause-gives c =
-    owes_as c.turn_head.result c.args.index c.args.asked (asked.Head c.in-Head.flow c.in-Head.expects) c.args.reply c.args.now.moment c.args.now.client_closed c.args.out.now.items c.turn_head.new.out.items c.in-Head.is
+    owes_as c.turn_head.result c.args.place.now c.args.index c.args.asked (asked.Head c.in-Head.flow c.in-Head.expects) c.args.reply c.args.now.moment c.args.now.client_closed c.args.out.now.items c.turn_head.new.out.items c.in-Head.is
     c.turn_head.ensures.gives
 
 pub returns-in-Head-clause-ready : goal.returns-in-Head-clause-ready
-returns-in-Head-clause-ready c = leads_as c.turn_head.result c.args.index c.args.asked (asked.Head c.in-Head.flow c.in-Head.expects) c.args.reply c.in-Head.is
+returns-in-Head-clause-ready c = leads_as c.turn_head.result c.args.place.now c.args.index c.args.asked (asked.Head c.in-Head.flow c.in-Head.expects) c.args.reply c.in-Head.is
     c.turn_head.ensures.ready
 
 pub returns-in-Body-clause-gives : goal.returns-in-Body-clause-gives
 returns-in-Body-clause-gives c =
-    owes_as c.turn_body.result c.args.index c.args.asked (asked.Body c.in-Body.flow) c.args.reply c.args.now.moment c.args.now.client_closed c.args.out.now.items c.turn_body.new.out.items c.in-Body.is
+    owes_as c.turn_body.result c.args.place.now c.args.index c.args.asked (asked.Body c.in-Body.flow) c.args.reply c.args.now.moment c.args.now.client_closed c.args.out.now.items c.turn_body.new.out.items c.in-Body.is
     c.turn_body.ensures.gives
 
 pub returns-in-Body-clause-ready : goal.returns-in-Body-clause-ready
-returns-in-Body-clause-ready c = leads_as c.turn_body.result c.args.index c.args.asked (asked.Body c.in-Body.flow) c.args.reply c.in-Body.is
+returns-in-Body-clause-ready c = leads_as c.turn_body.result c.args.place.now c.args.index c.args.asked (asked.Body c.in-Body.flow) c.args.reply c.in-Body.is
     c.turn_body.ensures.ready
 
 pub returns-in-Dial-clause-gives : goal.returns-in-Dial-clause-gives
 returns-in-Dial-clause-gives c =
-    owes_as c.turn_dial.result c.args.index c.args.asked (asked.Dial c.in-Dial.flow c.in-Dial.server) c.args.reply c.args.now.moment c.args.now.client_closed c.args.out.now.items c.turn_dial.new.out.items c.in-Dial.is
+    owes_as c.turn_dial.result c.args.place.now c.args.index c.args.asked (asked.Dial c.in-Dial.flow c.in-Dial.server) c.args.reply c.args.now.moment c.args.now.client_closed c.args.out.now.items c.turn_dial.new.out.items c.in-Dial.is
     c.turn_dial.ensures.gives
 
 pub returns-in-Dial-clause-ready : goal.returns-in-Dial-clause-ready
-returns-in-Dial-clause-ready c = leads_as c.turn_dial.result c.args.index c.args.asked (asked.Dial c.in-Dial.flow c.in-Dial.server) c.args.reply c.in-Dial.is
+returns-in-Dial-clause-ready c = leads_as c.turn_dial.result c.args.place.now c.args.index c.args.asked (asked.Dial c.in-Dial.flow c.in-Dial.server) c.args.reply c.in-Dial.is
     c.turn_dial.ensures.ready
 
 pub returns-in-Answer-clause-gives : goal.returns-in-Answer-clause-gives
 returns-in-Answer-clause-gives c =
-    owes_as c.turn_answer.result c.args.index c.args.asked (asked.Answer c.in-Answer.flow c.in-Answer.link) c.args.reply c.args.now.moment c.args.now.client_closed c.args.out.now.items c.turn_answer.new.out.items c.in-Answer.is
+    owes_as c.turn_answer.result c.args.place.now c.args.index c.args.asked (asked.Answer c.in-Answer.flow c.in-Answer.link) c.args.reply c.args.now.moment c.args.now.client_closed c.args.out.now.items c.turn_answer.new.out.items c.in-Answer.is
     (owes_same c.turn_answer.result _ _ c.args.out.now.items c.turn_answer.new.out.items (answer_owed c.in-Answer.flow c.in-Answer.link c.in-Answer.flow.response c.args.reply c.args.now.moment c.args.now.client_closed) c.turn_answer.ensures.gives)
 
 pub returns-in-Answer-clause-ready : goal.returns-in-Answer-clause-ready
-returns-in-Answer-clause-ready c = leads_as c.turn_answer.result c.args.index c.args.asked (asked.Answer c.in-Answer.flow c.in-Answer.link) c.args.reply c.in-Answer.is
+returns-in-Answer-clause-ready c = leads_as c.turn_answer.result c.args.place.now c.args.index c.args.asked (asked.Answer c.in-Answer.flow c.in-Answer.link) c.args.reply c.in-Answer.is
     (leads_same c.turn_answer.result _ _ (answer_led c.in-Answer.flow c.in-Answer.link c.in-Answer.flow.response c.args.reply) c.turn_answer.ensures.ready)
 
 pub returns-in-Returned-clause-gives : goal.returns-in-Returned-clause-gives
 returns-in-Returned-clause-gives c =
     let P : Used → Type 0 = λ used. OnOk c.turn_returned.result (c.turn_returned.new.out.items ≡ c.args.out.now.items ++ whole_owes c.args.index c.in-Returned.flow (taken_at_body_of c.in-Returned.flow.response c.args.reply) c.args.now.moment used c.args.now.client_closed) in
-    owes_as c.turn_returned.result c.args.index c.args.asked (asked.Returned c.in-Returned.flow c.in-Returned.link) c.args.reply c.args.now.moment c.args.now.client_closed c.args.out.now.items c.turn_returned.new.out.items c.in-Returned.is
+    owes_as c.turn_returned.result c.args.place.now c.args.index c.args.asked (asked.Returned c.in-Returned.flow c.in-Returned.link) c.args.reply c.args.now.moment c.args.now.client_closed c.args.out.now.items c.turn_returned.new.out.items c.in-Returned.is
     (owes_same c.turn_returned.result _ _ c.args.out.now.items c.turn_returned.new.out.items (whole_owed c.args.index c.in-Returned.flow c.in-Returned.flow.response c.args.reply c.args.now.moment _ c.args.now.client_closed)
     (subst P c.into_used-used.ensures c.turn_returned.ensures.gives))
 
 pub returns-in-Returned-clause-ready : goal.returns-in-Returned-clause-ready
-returns-in-Returned-clause-ready c = leads_as c.turn_returned.result c.args.index c.args.asked (asked.Returned c.in-Returned.flow c.in-Returned.link) c.args.reply c.in-Returned.is
+returns-in-Returned-clause-ready c = leads_as c.turn_returned.result c.args.place.now c.args.index c.args.asked (asked.Returned c.in-Returned.flow c.in-Returned.link) c.args.reply c.in-Returned.is
     (leads_same c.turn_returned.result _ _ (whole_led c.args.index c.in-Returned.flow c.in-Returned.flow.response c.args.reply) c.turn_returned.ensures.ready)
 
 pub returns-in-GivenHead-clause-gives : goal.returns-in-GivenHead-clause-gives
 returns-in-GivenHead-clause-gives c =
-    owes_as c.turn_given_head.result c.args.index c.args.asked (asked.GivenHead c.in-GivenHead.flow) c.args.reply c.args.now.moment c.args.now.client_closed c.args.out.now.items c.turn_given_head.new.out.items c.in-GivenHead.is
+    owes_as c.turn_given_head.result c.args.place.now c.args.index c.args.asked (asked.GivenHead c.in-GivenHead.flow) c.args.reply c.args.now.moment c.args.now.client_closed c.args.out.now.items c.turn_given_head.new.out.items c.in-GivenHead.is
     (owes_same c.turn_given_head.result _ _ c.args.out.now.items c.turn_given_head.new.out.items (given_owed c.in-GivenHead.flow c.in-GivenHead.flow.response c.args.reply c.args.now.moment c.args.now.client_closed) c.turn_given_head.ensures.gives)
 
 pub returns-in-GivenHead-clause-ready : goal.returns-in-GivenHead-clause-ready
-returns-in-GivenHead-clause-ready c = leads_as c.turn_given_head.result c.args.index c.args.asked (asked.GivenHead c.in-GivenHead.flow) c.args.reply c.in-GivenHead.is
+returns-in-GivenHead-clause-ready c = leads_as c.turn_given_head.result c.args.place.now c.args.index c.args.asked (asked.GivenHead c.in-GivenHead.flow) c.args.reply c.in-GivenHead.is
     (leads_same c.turn_given_head.result _ _ (given_led c.in-GivenHead.flow c.in-GivenHead.flow.response c.args.reply) c.turn_given_head.ensures.ready)
 
 pub returns-in-GivenBody-clause-gives : goal.returns-in-GivenBody-clause-gives
 returns-in-GivenBody-clause-gives c =
-    owes_as c.turn_returned-in-GivenBody.result c.args.index c.args.asked (asked.GivenBody c.in-GivenBody.flow) c.args.reply c.args.now.moment c.args.now.client_closed c.args.out.now.items c.turn_returned-in-GivenBody.new.out.items c.in-GivenBody.is
+    owes_as c.turn_returned-in-GivenBody.result c.args.place.now c.args.index c.args.asked (asked.GivenBody c.in-GivenBody.flow) c.args.reply c.args.now.moment c.args.now.client_closed c.args.out.now.items c.turn_returned-in-GivenBody.new.out.items c.in-GivenBody.is
     (owes_same c.turn_returned-in-GivenBody.result _ _ c.args.out.now.items c.turn_returned-in-GivenBody.new.out.items (whole_owed c.args.index c.in-GivenBody.flow c.in-GivenBody.flow.response c.args.reply c.args.now.moment NoServer c.args.now.client_closed)
     c.turn_returned-in-GivenBody.ensures.gives)
 
 pub returns-in-GivenBody-clause-ready : goal.returns-in-GivenBody-clause-ready
-returns-in-GivenBody-clause-ready c = leads_as c.turn_returned-in-GivenBody.result c.args.index c.args.asked (asked.GivenBody c.in-GivenBody.flow) c.args.reply c.in-GivenBody.is
+returns-in-GivenBody-clause-ready c = leads_as c.turn_returned-in-GivenBody.result c.args.place.now c.args.index c.args.asked (asked.GivenBody c.in-GivenBody.flow) c.args.reply c.in-GivenBody.is
     (leads_same c.turn_returned-in-GivenBody.result _ _ (whole_led c.args.index c.in-GivenBody.flow c.in-GivenBody.flow.response c.args.reply) c.turn_returned-in-GivenBody.ensures.ready)

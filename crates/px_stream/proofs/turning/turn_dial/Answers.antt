@@ -6,7 +6,7 @@ use Rattle.px_stream.proofs.turning.turn_dial.Goals as goal
 pub returns-in_default : goal.returns-in_default
 returns-in_default c = record {
   gives = sym (ap (λ l. c.args.out.now.items ++ l)
-      (owes_none c.args.flow c.args.server c.args.reply c.args.now.moment c.args.now.client_closed c.in_default.not-Dialled c.in_default.not-Refused)
+      (owes_none c.args.place.now c.args.flow c.args.server c.args.reply c.args.now.moment c.args.now.client_closed c.in_default.not-Dialled c.in_default.not-Refused)
       ∙ append-nil c.args.out.now.items);
-  ready = sym (leads_none c.args.flow c.args.server c.args.reply c.in_default.not-Dialled c.in_default.not-Refused);
+  ready = sym (leads_none c.args.place.now c.args.flow c.args.server c.args.reply c.in_default.not-Dialled c.in_default.not-Refused);
 }

@@ -1,15 +1,18 @@
 use Rattle.std.proofs.Common.{ℕ, List, sym, subst}
-use Rattle.px_stream.specs.Chain.{look}
+use Rattle.px_chain.specs.Chain.{look}
+use Rattle.px_chain.specs.Sights.{Sight}
+use Rattle.px_chain.specs.Stages.{Stage}
 use Rattle.px_stream.specs.Rests.{LeavesRests, phase_rest}
-use Rattle.px_stream.specs.Sequence.{stop_at}
+use Rattle.px_stream.specs.Sequence.{seen_at, stage_at}
 use Rattle.px_stream.proofs.RestLemmas.{leaves_rests}
 use Rattle.px_stream.proofs.stream.Stream.into_rests.Goals as goal
 
 pub returns-clause-behind : goal.returns-clause-behind
 returns-clause-behind c onward made moves given stands =
-    let stop = stop_at onward made moves in
-    let P : List ℕ → List ℕ → Type 0 = LeavesRests (look made.terms stop.stage stop.front) stop.stage stop.front in
+    let stage : Stage = stage_at onward made moves in
+    let seen : Sight = seen_at onward made moves in
+    let P : List ℕ → List ℕ → Type 0 = LeavesRests (look made.terms stage seen) stage seen in
     let Q : List ℕ → Type 0 = λ client. P client (phase_rest c.args.self.phase) in
     let R : List ℕ → Type 0 = λ server. P c.in_ok-client.client server in
     subst R (sym c.in_ok-server.ensures)
-    (subst Q (sym c.in_ok-client.ensures) (leaves_rests _ made.terms _ _ stop.stage stop.front stands.place.phase))
+    (subst Q (sym c.in_ok-client.ensures) (leaves_rests _ made.terms _ _ stage seen stands.place.is_in.phase))

@@ -1,7 +1,7 @@
 use Rattle.std.proofs.lemmas.Result.{on_ok_weaker}
 use Rattle.px_event.specs.Layer.{Replied}
 use Rattle.px_event.proofs.Steps.{sound_after}
-use Rattle.px_stream.specs.Chain.{alone}
+use Rattle.px_chain.specs.Chain.{alone}
 use Rattle.px_stream.specs.Sequence.{Stands}
 use Rattle.px_stream.specs.Stands.{awaits}
 use Rattle.px_stream.proofs.CallLemmas.{alone_answers, answers_as, is_awaited, resume_alone_asks, resume_alone_goes, resume_alone_left}

@@ -1,7 +1,7 @@
 use Rattle.std.proofs.lemmas.Result.{on_ok_weaker}
 use Rattle.px_event.specs.Layer.{Took}
 use Rattle.px_event.proofs.Steps.{sound_after}
-use Rattle.px_stream.specs.Chain.{alone}
+use Rattle.px_chain.specs.Chain.{alone}
 use Rattle.px_stream.specs.Sequence.{Stands}
 use Rattle.px_stream.proofs.CallLemmas.{alone_hears, take_alone_asks, take_alone_goes, take_alone_left}
 use Rattle.px_stream.proofs.stream.Stream.take_alone.Goals as goal

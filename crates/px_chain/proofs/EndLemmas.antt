@@ -1,0 +1,153 @@
+-- What a reply brings at once, and what is owed at an end: bytes, then the end of a flow, then closes.
+use Rattle.std.proofs.Common.{ℕ, Bool, true, Option, Some, None}
+use Rattle.px_message.specs.declared.flow.Flow.{Flow}
+use Rattle.px_message.specs.declared.request.Request.{Request}
+use Rattle.px_message.specs.declared.response.Response.{Response}
+use Rattle.px_event.specs.declared.command.Command.{Command}
+use Rattle.px_event.specs.declared.reply.Reply.{Reply}
+use Rattle.px_event.specs.Chain.{Timed, Turn}
+use Rattle.px_read.specs.Items.{Item, missing, part, complete, bad_head, bad_body}
+use Rattle.px_read.specs.declared.head.RequestHead.{RequestHead as ReadRequest}
+use Rattle.px_read.specs.declared.head.ResponseHead.{ResponseHead as ReadResponse}
+use Rattle.px_exchange.specs.declared.asked.Judged.{Judged}
+use Rattle.px_exchange.specs.declared.asked.Judged.TheVariants.{Refused, Accepted}
+use Rattle.px_exchange.specs.declared.ending.Used.{Used}
+use Rattle.px_exchange.specs.declared.ending.Used.TheVariants.{NoServer}
+use Rattle.px_exchange.specs.declared.taken.Taken.{Taken}
+use Rattle.px_exchange.specs.declared.taken.Taken.TheVariants.{GoesOn, Responds, Kills}
+use Rattle.px_exchange.specs.declared.place.Place.{Place}
+use Rattle.px_exchange.specs.declared.terms.Terms.{Terms}
+use Rattle.px_chain.specs.Chain.{find, leaving, look, turn, turn_head, turn_judged, turn_taken_head, turn_body, turn_taken_body, turn_dial, turn_answer, turn_answer_head, turn_taken_answer, turn_returned, turn_whole_answer, turn_response, turn_taken_returned, turn_taken_given, used_more}
+use Rattle.px_exchange.specs.Flows.{response_of, with_answer, with_body, with_end, with_returned, with_start}
+use Rattle.px_exchange.specs.Endings.{without_response, killed_message, closed_message, connection_goes_on}
+use Rattle.px_exchange.specs.EndOrder.{EndsInOrder, FoundInOrder}
+use Rattle.px_exchange.specs.Replies.{taken_at_request_body, taken_at_request_head, taken_at_response_body, taken_at_response_head}
+use Rattle.px_exchange.specs.Requests.{expects, flow_of, judged}
+use Rattle.px_chain.specs.Stages.{At, ServerSide, Stage, idle, busy, next, over, request_body, connection, response_head, response_body, given_head, given_body}
+use Rattle.px_exchange.proofs.OrderLemmas.{early_ends, finished_ends, dial_ends, expectation_ends, head_ends, body_ends, answer_ends, returned_ends, leaves_ends}
+use Rattle.px_chain.specs.Sights.{Sight, answers_in, request_in, server_in}
+
+-- ---- what is found
+
+module _ (terms : Terms) where
+  finds_ends : (stage : Stage) (seen : Sight) → FoundInOrder (find terms stage seen)
+  finds_ends (idle at) seen = head_ends terms at.flow (request_in at seen) seen.now seen.closed
+  finds_ends (busy at flow (request_body given)) seen = body_ends flow (request_in at seen) seen.now seen.closed
+  finds_ends (busy at flow connection) seen = tt
+  finds_ends (busy at flow (response_head side how)) seen = answer_ends flow (answers_in flow.request side seen).final seen.now (server_in side seen) seen.closed
+  finds_ends (busy at flow (response_body side how)) seen = returned_ends flow (answers_in flow.request side seen).final seen.now (server_in side seen) seen.closed
+  finds_ends (busy at flow given_head) seen = tt
+  finds_ends (busy at flow given_body) seen = tt
+  finds_ends (next at) seen = tt
+  finds_ends over seen = tt
+
+  leaving_ends : (stage : Stage) (seen : Sight) → EndsInOrder (leaving stage seen)
+  leaving_ends (idle at) seen = tt
+  leaving_ends (busy at flow (request_body given)) seen = early_ends flow closed_message seen.now NoServer true
+  leaving_ends (busy at flow connection) seen = tt
+  leaving_ends (busy at flow (response_head side how)) seen = early_ends flow closed_message seen.now (server_in side seen) true
+  leaving_ends (busy at flow (response_body side how)) seen = early_ends (without_response flow) closed_message seen.now (server_in side seen) true
+  leaving_ends (busy at flow given_head) seen = tt
+  leaving_ends (busy at flow given_body) seen = tt
+  leaving_ends (next at) seen = tt
+  leaving_ends over seen = tt
+
+  -- An end that is found is in order.
+  pub looks_in_order : (stage : Stage) (seen : Sight) → FoundInOrder (look terms stage seen)
+  looks_in_order stage seen = leaves_ends seen.closed (leaving stage seen) (find terms stage seen) (leaving_ends stage seen) (finds_ends stage seen)
+
+  -- ---- replies
+
+  taken_head_ends : (at : At) (flow : Flow) (expected : Bool) (taken : Taken Request) (moment : ℕ) (closed : Bool) → EndsInOrder (turn_taken_head at flow expected taken moment closed).owed
+  taken_head_ends at flow expected (GoesOn message) moment closed = expectation_ends expected
+  taken_head_ends at flow expected (Responds response) moment closed = expectation_ends expected
+  taken_head_ends at flow expected Kills moment closed = early_ends flow killed_message moment NoServer closed
+
+  turn_judged_ends : (at : At) (head : ReadRequest) (made : Judged) (seen : Sight) (answer : Timed Reply) → EndsInOrder (turn_judged terms at head made seen answer).owed
+  turn_judged_ends at head (Refused fault) seen answer = tt
+  turn_judged_ends at head (Accepted message) seen answer =
+      taken_head_ends at (flow_of terms at.flow message seen.now) (expects head) (taken_at_request_head message answer.value) answer.moment seen.closed
+
+  turn_head_ends : (at : At) (item : Item ReadRequest) (seen : Sight) (answer : Timed Reply) → EndsInOrder (turn_head terms at item seen answer).owed
+  turn_head_ends at missing seen answer = tt
+  turn_head_ends at (part head body) seen answer = turn_judged_ends at head (judged terms.place head) seen answer
+  turn_head_ends at (complete head body trailers used) seen answer = turn_judged_ends at head (judged terms.place head) seen answer
+  turn_head_ends at (bad_head fault) seen answer = tt
+  turn_head_ends at (bad_body fault head body) seen answer = turn_judged_ends at head (judged terms.place head) seen answer
+
+  taken_body_ends : (at : At) (flow : Flow) (taken : Taken Request) (moment : ℕ) (closed : Bool) → EndsInOrder (turn_taken_body at flow taken moment closed).owed
+  taken_body_ends at flow (GoesOn message) moment closed = tt
+  taken_body_ends at flow (Responds response) moment closed = tt
+  taken_body_ends at flow Kills moment closed = early_ends flow killed_message moment NoServer closed
+
+  turn_body_ends : (at : At) (flow : Flow) (item : Item ReadRequest) (seen : Sight) (answer : Timed Reply) → EndsInOrder (turn_body at flow item seen answer).owed
+  turn_body_ends at flow missing seen answer = tt
+  turn_body_ends at flow (part head body) seen answer = tt
+  turn_body_ends at flow (complete head body trailers used) seen answer =
+      let asked_flow : Flow = with_body flow body.content trailers seen.now in
+      taken_body_ends (used_more at used) asked_flow (taken_at_request_body asked_flow.request answer.value) answer.moment seen.closed
+  turn_body_ends at flow (bad_head fault) seen answer = tt
+  turn_body_ends at flow (bad_body fault head body) seen answer = tt
+
+  turn_dial_ends : (place : Place) (at : At) (flow : Flow) (answer : Timed Reply) (closed : Bool) → EndsInOrder (turn_dial place at flow answer closed).owed
+  turn_dial_ends place at flow answer closed = dial_ends place flow at.dials answer.value answer.moment closed
+
+  taken_answer_ends : (at : At) (flow : Flow) (side : ServerSide) (taken : Taken Response) (moment : ℕ) (used : Used) (closed : Bool) → EndsInOrder (turn_taken_answer at flow side taken moment used closed).owed
+  taken_answer_ends at flow side (GoesOn message) moment used closed = tt
+  taken_answer_ends at flow side (Responds response) moment used closed = early_ends (without_response flow) killed_message moment used closed
+  taken_answer_ends at flow side Kills moment used closed = early_ends (without_response flow) killed_message moment used closed
+
+  answer_head_ends : (at : At) (flow : Flow) (side : ServerSide) (head : ReadResponse) (seen : Sight) (answer : Timed Reply) → EndsInOrder (turn_answer_head at flow side head seen answer).owed
+  answer_head_ends at flow side head seen answer =
+      taken_answer_ends at (with_answer flow (response_of head) seen.now) side (taken_at_response_head (response_of head) answer.value) answer.moment (server_in side seen) seen.closed
+
+  turn_answer_ends : (at : At) (flow : Flow) (side : ServerSide) (item : Item ReadResponse) (seen : Sight) (answer : Timed Reply) → EndsInOrder (turn_answer at flow side item seen answer).owed
+  turn_answer_ends at flow side missing seen answer = tt
+  turn_answer_ends at flow side (part head body) seen answer = answer_head_ends at flow side head seen answer
+  turn_answer_ends at flow side (complete head body trailers size) seen answer = answer_head_ends at flow side head seen answer
+  turn_answer_ends at flow side (bad_head fault) seen answer = tt
+  turn_answer_ends at flow side (bad_body fault head body) seen answer = answer_head_ends at flow side head seen answer
+
+  taken_returned_ends : (at : At) (flow : Flow) (taken : Taken Response) (moment : ℕ) (used : Used) (closed : Bool) → EndsInOrder (turn_taken_returned at flow taken moment used closed).owed
+  taken_returned_ends at flow (GoesOn message) moment used closed = finished_ends flow message used (connection_goes_on at.flow flow.request message) closed
+  taken_returned_ends at flow (Responds response) moment used closed = early_ends flow killed_message moment used closed
+  taken_returned_ends at flow Kills moment used closed = early_ends flow killed_message moment used closed
+
+  response_ends : (o : Option Response) (takes : Response → Taken Response) (goes : Taken Response → Turn Stage Command) → ((taken : Taken Response) → EndsInOrder (goes taken).owed) →
+      EndsInOrder (turn_response o takes goes).owed
+  response_ends None takes goes ends = tt
+  response_ends (Some message) takes goes ends = ends (takes message)
+
+  whole_answer_ends : (at : At) (flow : Flow) (answer : Timed Reply) (used : Used) (closed : Bool) → EndsInOrder (turn_whole_answer at flow answer used closed).owed
+  whole_answer_ends at flow answer used closed =
+      response_ends flow.response (λ message. taken_at_response_body message answer.value) (λ taken. turn_taken_returned at flow taken answer.moment used closed)
+      (λ taken. taken_returned_ends at flow taken answer.moment used closed)
+
+  turn_returned_ends : (at : At) (flow : Flow) (side : ServerSide) (item : Item ReadResponse) (seen : Sight) (answer : Timed Reply) → EndsInOrder (turn_returned at flow side item seen answer).owed
+  turn_returned_ends at flow side missing seen answer = tt
+  turn_returned_ends at flow side (part head body) seen answer = tt
+  turn_returned_ends at flow side (complete head body trailers size) seen answer =
+      whole_answer_ends at (with_returned flow body.content trailers seen.now) answer (server_in side seen) seen.closed
+  turn_returned_ends at flow side (bad_head fault) seen answer = tt
+  turn_returned_ends at flow side (bad_body fault head body) seen answer = tt
+
+  given_ends : (at : At) (flow : Flow) (taken : Taken Response) (moment : ℕ) (closed : Bool) → EndsInOrder (turn_taken_given at flow taken moment closed).owed
+  given_ends at flow (GoesOn message) moment closed = tt
+  given_ends at flow (Responds response) moment closed = early_ends (without_response flow) killed_message moment NoServer closed
+  given_ends at flow Kills moment closed = early_ends (without_response flow) killed_message moment NoServer closed
+
+  -- What a reply brings is in order.
+  pub turns_in_order : (stage : Stage) (seen : Sight) (answer : Timed Reply) → EndsInOrder (turn terms stage seen answer).owed
+  turns_in_order (idle at) seen answer = turn_head_ends at (request_in at seen) seen answer
+  turns_in_order (busy at flow (request_body given)) seen answer = turn_body_ends at flow (request_in at seen) seen answer
+  turns_in_order (busy at flow connection) seen answer = turn_dial_ends terms.place at flow answer seen.closed
+  turns_in_order (busy at flow (response_head side how)) seen answer = turn_answer_ends at flow side (answers_in flow.request side seen).final seen answer
+  turns_in_order (busy at flow (response_body side how)) seen answer = turn_returned_ends at flow side (answers_in flow.request side seen).final seen answer
+  turns_in_order (busy at flow given_head) seen answer =
+      let asked_flow : Flow = with_start flow seen.now in
+      response_ends asked_flow.response (λ message. taken_at_response_head message answer.value)
+      (λ taken. turn_taken_given at asked_flow taken answer.moment seen.closed)
+      (λ taken. given_ends at asked_flow taken answer.moment seen.closed)
+  turns_in_order (busy at flow given_body) seen answer = whole_answer_ends at (with_end flow seen.now) answer NoServer seen.closed
+  turns_in_order (next at) seen answer = tt
+  turns_in_order over seen answer = tt

@@ -1,0 +1,368 @@
+-- What a conversation owes names the flow of its stage, and what a reply brings asks nothing at once and leads on.
+use Rattle.std.proofs.Common.{◌≡◌, ℕ, ◌+◌, ◌<◌, Bool, true, false, List, [], ◌∷◌, ◌++◌, Option, Some, None, refl, ap, arith, nat_lt}
+use Rattle.std.specs.Prelude.{⊤, ◌&&◌, map}
+use Rattle.std.proofs.lemmas.Bool.{ltb-true}
+use Rattle.px_message.specs.declared.fault.Fault.{Fault}
+use Rattle.px_message.specs.declared.fault.Fault.TheVariants.{BadResponse}
+use Rattle.px_message.specs.declared.flow.Flow.{Flow}
+use Rattle.px_message.specs.declared.flow.FlowId.{FlowId}
+use Rattle.px_message.specs.declared.request.Request.{Request}
+use Rattle.px_message.specs.declared.response.Response.{Response}
+use Rattle.px_message.specs.declared.version.Version.{Version}
+use Rattle.px_message.specs.declared.version.Version.TheVariants as versions
+use Rattle.px_event.specs.declared.command.Command.{Command}
+use Rattle.px_event.specs.declared.reply.Reply.{Reply}
+use Rattle.px_event.specs.declared.reply.Reply.TheVariants as reply
+use Rattle.px_event.specs.Chain.{Timed, Look, NotYet, Asks, Ends, Turn}
+use Rattle.px_read.specs.Items.{Item, missing, part, complete, bad_head, bad_body}
+use Rattle.px_read.specs.declared.head.RequestHead.{RequestHead as ReadRequest}
+use Rattle.px_read.specs.declared.head.ResponseHead.{ResponseHead as ReadResponse}
+use Rattle.px_exchange.specs.declared.asked.Judged.{Judged}
+use Rattle.px_exchange.specs.declared.asked.Judged.TheVariants.{Refused, Accepted}
+use Rattle.px_exchange.specs.declared.ending.Used.{Used}
+use Rattle.px_exchange.specs.declared.ending.Used.TheVariants.{NoServer, ByServer}
+use Rattle.px_exchange.specs.declared.taken.Taken.{Taken}
+use Rattle.px_exchange.specs.declared.taken.Taken.TheVariants.{GoesOn, Responds, Kills}
+use Rattle.px_exchange.specs.declared.terms.Terms.{Terms}
+use Rattle.px_chain.specs.Chain.{dial_leads, find, leaving, look, pass, pass_body, so_far, turn, turn_head, turn_judged, turn_taken_head, turn_body, turn_taken_body, turn_answer, turn_answer_head, turn_taken_answer, turn_returned, turn_whole_answer, turn_response, turn_taken_returned, turn_taken_given, killed, behind_flow, used_more}
+use Rattle.px_exchange.specs.Finds.{or_leaves, look_head, look_judged, look_body, look_answer, look_answer_head, look_returned, is_relayed}
+use Rattle.px_exchange.specs.Texts.{meets_expectation, interim_command, interim_commands}
+use Rattle.px_exchange.specs.Dials.{dial_owes}
+use Rattle.px_exchange.specs.Flows.{response_of, with_answer, with_body, with_end, with_returned, with_start}
+use Rattle.px_exchange.specs.Endings.{shut_server, shut_client, shut_all, shut_unless, without_response, killed_message, closed_message, ends_early, ends_by_fault, refuses, finished, connection_goes_on}
+use Rattle.px_chain.specs.Left.{stage_left}
+use Rattle.px_chain.proofs.Quiet.{AllQuiet, LooksQuiet, IsOf, any_flow, no_flow, id_in, SameFlow, IsBehind, Leads}
+use Rattle.px_exchange.specs.Replies.{taken_at_request_body, taken_at_request_head, taken_at_response_body, taken_at_response_head}
+use Rattle.px_exchange.specs.Requests.{is_head, expects, flow_of, judged}
+use Rattle.px_chain.specs.Stages.{At, ServerSide, Stage, idle, busy, next, over, request_body, connection, response_head, response_body, given_head, given_body, place_of}
+use Rattle.px_chain.specs.Sights.{Sight, answers_in, request_in, server_in}
+
+-- ---- lists
+
+pub all_quiet : (names : FlowId → Type 0) (xs ys : List Command) → AllQuiet names xs → AllQuiet names ys → AllQuiet names (xs ++ ys)
+all_quiet names [] ys all more = more
+all_quiet names (x ∷ xs) ys (here, all) more = (here, all_quiet names xs ys all more)
+
+sends_quiet : (names : FlowId → Type 0) (heads : List ReadResponse) → AllQuiet names (map interim_command heads)
+sends_quiet names [] = tt
+sends_quiet names (head ∷ heads) = (tt, sends_quiet names heads)
+
+interim_by : (names : FlowId → Type 0) (version : Version) (message : Request) (heads : List ReadResponse) → message.version ≡ version → AllQuiet names (interim_commands message heads)
+interim_by names versions.Http10 message heads is = rw is tt
+interim_by names versions.Http11 message heads is = rw is (sends_quiet names heads)
+
+pub interim_quiet : (names : FlowId → Type 0) (message : Request) (heads : List ReadResponse) → AllQuiet names (interim_commands message heads)
+interim_quiet names message heads = interim_by names message.version message heads refl
+
+pub so_far_quiet : (names : FlowId → Type 0) (stage : Stage) (seen : Sight) → AllQuiet names (so_far stage seen)
+so_far_quiet names (idle at) seen = tt
+so_far_quiet names (busy at flow (request_body given)) seen = tt
+so_far_quiet names (busy at flow connection) seen = tt
+so_far_quiet names (busy at flow (response_head side how)) seen = interim_quiet names flow.request _
+so_far_quiet names (busy at flow (response_body side how)) seen = tt
+so_far_quiet names (busy at flow given_head) seen = tt
+so_far_quiet names (busy at flow given_body) seen = tt
+so_far_quiet names (next at) seen = tt
+so_far_quiet names over seen = tt
+
+expectation_quiet : (names : FlowId → Type 0) (expected : Bool) → AllQuiet names (meets_expectation expected)
+expectation_quiet names true = (tt, tt)
+expectation_quiet names false = tt
+
+-- ---- ends
+
+module _ (names : FlowId → Type 0) where
+  client_quiet : (closed : Bool) → AllQuiet names (shut_client closed)
+  client_quiet true = tt
+  client_quiet false = (tt, tt)
+
+  server_quiet : (used : Used) → AllQuiet names (shut_server used)
+  server_quiet NoServer = tt
+  server_quiet (ByServer number true) = tt
+  server_quiet (ByServer number false) = (tt, tt)
+
+  shuts_quiet : (used : Used) (closed : Bool) → AllQuiet names (shut_all used closed)
+  shuts_quiet used closed = all_quiet names (shut_server used) (shut_client closed) (server_quiet used) (client_quiet closed)
+
+  early_quiet : (flow : Flow) (message : List ℕ) (moment : ℕ) (used : Used) (closed : Bool) → names flow.id → AllQuiet names (ends_early flow message moment used closed)
+  early_quiet flow message moment used closed is = (is, shuts_quiet used closed)
+
+  fault_quiet : (flow : Flow) (fault : Fault) (moment : ℕ) (used : Used) (closed : Bool) → names flow.id → AllQuiet names (ends_by_fault flow fault moment used closed)
+  fault_quiet flow fault moment used closed is = (tt, (is, shuts_quiet used closed))
+
+  refuses_quiet : (fault : Fault) (asked_head closed : Bool) → AllQuiet names (refuses fault asked_head closed)
+  refuses_quiet fault asked_head closed = (tt, client_quiet closed)
+
+  unless_quiet : (stays closed : Bool) → AllQuiet names (shut_unless stays closed)
+  unless_quiet true closed = tt
+  unless_quiet false closed = client_quiet closed
+
+  finished_quiet : (flow : Flow) (response : Response) (used : Used) → names flow.id → AllQuiet names (finished flow response used)
+  finished_quiet flow response used is = (tt, (is, server_quiet used))
+
+  -- ---- looks
+
+  module _ (terms : Terms) where
+    judged_quiet : (index : ℕ) (head : ReadRequest) (made : Judged) (moment : ℕ) (closed : Bool) → names (id_in terms index) → LooksQuiet names (look_judged terms index head made moment closed)
+    judged_quiet index head (Refused fault) moment closed is = refuses_quiet fault (is_head head.method) closed
+    judged_quiet index head (Accepted message) moment closed is = (is, refl)
+
+    head_quiet : (index : ℕ) (item : Item ReadRequest) (moment : ℕ) (closed : Bool) → names (id_in terms index) → LooksQuiet names (look_head terms index item moment closed)
+    head_quiet index missing moment closed is = tt
+    head_quiet index (part head body) moment closed is = judged_quiet index head (judged terms.place head) moment closed is
+    head_quiet index (complete head body trailers used) moment closed is = judged_quiet index head (judged terms.place head) moment closed is
+    head_quiet index (bad_head fault) moment closed is = refuses_quiet fault false closed
+    head_quiet index (bad_body fault head body) moment closed is = judged_quiet index head (judged terms.place head) moment closed is
+
+    body_quiet : (flow : Flow) (item : Item ReadRequest) (moment : ℕ) (closed : Bool) → names flow.id → LooksQuiet names (look_body flow item moment closed)
+    body_quiet flow missing moment closed is = tt
+    body_quiet flow (part head body) moment closed is = tt
+    body_quiet flow (complete head body trailers used) moment closed is = (is, refl)
+    body_quiet flow (bad_head fault) moment closed is = tt
+    body_quiet flow (bad_body fault head body) moment closed is = fault_quiet flow fault moment NoServer closed is
+
+    relays_quiet : (flow : Flow) (head : ReadResponse) (moment : ℕ) (used : Used) (closed relays : Bool) → names flow.id → is_relayed head.code ≡ relays →
+        LooksQuiet names (look_answer_head flow head moment used closed)
+    relays_quiet flow head moment used closed true is at = rw at (is, refl)
+    relays_quiet flow head moment used closed false is at = rw at (fault_quiet flow BadResponse moment used closed is)
+
+    answer_quiet : (flow : Flow) (item : Item ReadResponse) (moment : ℕ) (used : Used) (closed : Bool) → names flow.id → LooksQuiet names (look_answer flow item moment used closed)
+    answer_quiet flow missing moment used closed is = tt
+    answer_quiet flow (part head body) moment used closed is = relays_quiet flow head moment used closed (is_relayed head.code) is refl
+    answer_quiet flow (complete head body trailers size) moment used closed is = relays_quiet flow head moment used closed (is_relayed head.code) is refl
+    answer_quiet flow (bad_head fault) moment used closed is = fault_quiet flow fault moment used closed is
+    answer_quiet flow (bad_body fault head body) moment used closed is = relays_quiet flow head moment used closed (is_relayed head.code) is refl
+
+    returned_quiet : (flow : Flow) (item : Item ReadResponse) (moment : ℕ) (used : Used) (closed : Bool) → names flow.id → LooksQuiet names (look_returned flow item moment used closed)
+    returned_quiet flow missing moment used closed is = tt
+    returned_quiet flow (part head body) moment used closed is = tt
+    returned_quiet flow (complete head body trailers size) moment used closed is = (is, refl)
+    returned_quiet flow (bad_head fault) moment used closed is = tt
+    returned_quiet flow (bad_body fault head body) moment used closed is = fault_quiet flow fault moment used closed is
+
+    finds_quiet : (stage : Stage) (seen : Sight) → IsOf terms names stage → LooksQuiet names (find terms stage seen)
+    finds_quiet (idle at) seen is = head_quiet at.flow (request_in at seen) seen.now seen.closed is
+    finds_quiet (busy at flow (request_body given)) seen is = body_quiet flow (request_in at seen) seen.now seen.closed is
+    finds_quiet (busy at flow connection) seen is = tt
+    finds_quiet (busy at flow (response_head side how)) seen is =
+        answer_quiet flow (answers_in flow.request side seen).final seen.now (server_in side seen) seen.closed is
+    finds_quiet (busy at flow (response_body side how)) seen is =
+        returned_quiet flow (answers_in flow.request side seen).final seen.now (server_in side seen) seen.closed is
+    finds_quiet (busy at flow given_head) seen is = (is, refl)
+    finds_quiet (busy at flow given_body) seen is = (is, refl)
+    finds_quiet (next at) seen is = tt
+    finds_quiet over seen is = tt
+
+    leaving_quiet : (stage : Stage) (seen : Sight) → IsOf terms names stage → AllQuiet names (leaving stage seen)
+    leaving_quiet (idle at) seen is = tt
+    leaving_quiet (busy at flow (request_body given)) seen is = early_quiet flow closed_message seen.now NoServer true is
+    leaving_quiet (busy at flow connection) seen is = tt
+    leaving_quiet (busy at flow (response_head side how)) seen is = early_quiet flow closed_message seen.now (server_in side seen) true is
+    leaving_quiet (busy at flow (response_body side how)) seen is = early_quiet (without_response flow) closed_message seen.now (server_in side seen) true is
+    leaving_quiet (busy at flow given_head) seen is = tt
+    leaving_quiet (busy at flow given_body) seen is = tt
+    leaving_quiet (next at) seen is = tt
+    leaving_quiet over seen is = tt
+
+    leaves_quiet : (closed : Bool) (leaves : List Command) (l : Look Command) → AllQuiet names leaves → LooksQuiet names l → LooksQuiet names (or_leaves closed leaves l)
+    leaves_quiet true leaves NotYet quiet is = quiet
+    leaves_quiet false leaves NotYet quiet is = tt
+    leaves_quiet closed leaves (Asks ask) quiet is = is
+    leaves_quiet closed leaves (Ends owed) quiet is = is
+
+    pub looks_quiet : (stage : Stage) (seen : Sight) → IsOf terms names stage → LooksQuiet names (look terms stage seen)
+    looks_quiet stage seen is = leaves_quiet seen.closed (leaving stage seen) (find terms stage seen) (leaving_quiet stage seen is) (finds_quiet stage seen is)
+
+    -- ---- turns
+
+    module _ (flow_now dials count : ℕ) where
+      abbrev Led : Turn Stage Command → Type 0
+      Led turned = Leads terms names flow_now dials count turned
+
+      over_led : (owed : List Command) → AllQuiet names owed → Led (record { owed = owed; stage = over })
+      over_led owed quiet = record { quiet = quiet; is_of = tt; ends_none = tt; behind = tt }
+
+      killed_led : (flow : Flow) (moment : ℕ) (used : Used) (closed : Bool) → names flow.id → Led (killed flow moment used closed)
+      killed_led flow moment used closed is = over_led _ (early_quiet flow killed_message moment used closed is)
+
+      taken_head_led : (at : At) (flow : Flow) (expected : Bool) (taken : Taken Request) (moment : ℕ) (closed : Bool) → SameFlow flow_now dials at → 4 < count → names flow.id →
+          Led (turn_taken_head at flow expected taken moment closed)
+      taken_head_led at flow expected (GoesOn message) moment closed at_flow more is = record { quiet = expectation_quiet names expected; is_of = is; ends_none = expectation_quiet no_flow expected; behind = (at_flow, more) }
+      taken_head_led at flow expected (Responds response) moment closed at_flow more is = record { quiet = expectation_quiet names expected; is_of = is; ends_none = expectation_quiet no_flow expected; behind = (at_flow, more) }
+      taken_head_led at flow expected Kills moment closed at_flow more is = killed_led flow moment NoServer closed is
+
+      judged_led : (at : At) (head : ReadRequest) (made : Judged) (seen : Sight) (answer : Timed Reply) → SameFlow flow_now dials at → 4 < count → names (id_in terms at.flow) →
+          Led (turn_judged terms at head made seen answer)
+      judged_led at head (Refused fault) seen answer at_flow more is = over_led [] tt
+      judged_led at head (Accepted message) seen answer at_flow more is =
+          taken_head_led at (flow_of terms at.flow message seen.now) (expects head) (taken_at_request_head message answer.value) answer.moment seen.closed at_flow more is
+
+      head_led : (at : At) (item : Item ReadRequest) (seen : Sight) (answer : Timed Reply) → SameFlow flow_now dials at → 4 < count → names (id_in terms at.flow) →
+          Led (turn_head terms at item seen answer)
+      head_led at missing seen answer at_flow more is = over_led [] tt
+      head_led at (part head body) seen answer at_flow more is = judged_led at head (judged terms.place head) seen answer at_flow more is
+      head_led at (complete head body trailers used) seen answer at_flow more is = judged_led at head (judged terms.place head) seen answer at_flow more is
+      head_led at (bad_head fault) seen answer at_flow more is = over_led [] tt
+      head_led at (bad_body fault head body) seen answer at_flow more is = judged_led at head (judged terms.place head) seen answer at_flow more is
+
+      taken_body_led : (at : At) (flow : Flow) (taken : Taken Request) (moment : ℕ) (closed : Bool) → SameFlow flow_now dials at → 3 < count → names flow.id →
+          Led (turn_taken_body at flow taken moment closed)
+      taken_body_led at flow (GoesOn message) moment closed at_flow more is = record { quiet = tt; is_of = is; ends_none = tt; behind = (at_flow, more) }
+      taken_body_led at flow (Responds response) moment closed at_flow more is = record { quiet = tt; is_of = is; ends_none = tt; behind = (at_flow, omega arith) }
+      taken_body_led at flow Kills moment closed at_flow more is = killed_led flow moment NoServer closed is
+
+      body_led : (at : At) (flow : Flow) (item : Item ReadRequest) (seen : Sight) (answer : Timed Reply) → SameFlow flow_now dials at → 3 < count → names flow.id →
+          Led (turn_body at flow item seen answer)
+      body_led at flow missing seen answer at_flow more is = over_led [] tt
+      body_led at flow (part head body) seen answer at_flow more is = over_led [] tt
+      body_led at flow (complete head body trailers used) seen answer at_flow more is =
+          let asked_flow : Flow = with_body flow body.content trailers seen.now in
+          taken_body_led (used_more at used) asked_flow (taken_at_request_body asked_flow.request answer.value) answer.moment seen.closed at_flow more is
+      body_led at flow (bad_head fault) seen answer at_flow more is = over_led [] tt
+      body_led at flow (bad_body fault head body) seen answer at_flow more is = over_led [] tt
+
+      dial_led : (at : At) (flow : Flow) (answer : Reply) (moment : ℕ) (closed : Bool) → SameFlow flow_now dials at → 2 < count → names flow.id →
+          Led (record { owed = dial_owes terms.place flow at.dials answer moment closed; stage = dial_leads terms.place at flow answer })
+      dial_led at flow reply.Dialled moment closed at_flow more is =
+          let few = at_flow.1 in record { quiet = (tt, tt); is_of = is; ends_none = (tt, tt); behind = ((at_flow.0, omega arith), more) }
+      dial_led at flow (reply.Refused fault) moment closed at_flow more is = over_led _ (fault_quiet flow fault moment NoServer closed is)
+      dial_led at flow (reply.Go other stream) moment closed at_flow more is = over_led [] tt
+      dial_led at flow (reply.Respond given) moment closed at_flow more is = over_led [] tt
+      dial_led at flow reply.Kill moment closed at_flow more is = over_led [] tt
+      dial_led at flow reply.Discard moment closed at_flow more is = over_led [] tt
+
+      taken_answer_led : (at : At) (flow : Flow) (side : ServerSide) (taken : Taken Response) (moment : ℕ) (used : Used) (closed : Bool) → SameFlow flow_now dials at → 1 < count → names flow.id →
+          Led (turn_taken_answer at flow side taken moment used closed)
+      taken_answer_led at flow side (GoesOn message) moment used closed at_flow more is = record { quiet = tt; is_of = is; ends_none = tt; behind = (at_flow, more) }
+      taken_answer_led at flow side (Responds response) moment used closed at_flow more is = killed_led (without_response flow) moment used closed is
+      taken_answer_led at flow side Kills moment used closed at_flow more is = killed_led (without_response flow) moment used closed is
+
+      answer_head_led : (at : At) (flow : Flow) (side : ServerSide) (head : ReadResponse) (seen : Sight) (answer : Timed Reply) → SameFlow flow_now dials at → 1 < count → names flow.id →
+          Led (turn_answer_head at flow side head seen answer)
+      answer_head_led at flow side head seen answer at_flow more is =
+          taken_answer_led at (with_answer flow (response_of head) seen.now) side (taken_at_response_head (response_of head) answer.value) answer.moment (server_in side seen) seen.closed at_flow more is
+
+      answer_led : (at : At) (flow : Flow) (side : ServerSide) (item : Item ReadResponse) (seen : Sight) (answer : Timed Reply) → SameFlow flow_now dials at → 1 < count → names flow.id →
+          Led (turn_answer at flow side item seen answer)
+      answer_led at flow side missing seen answer at_flow more is = over_led [] tt
+      answer_led at flow side (part head body) seen answer at_flow more is = answer_head_led at flow side head seen answer at_flow more is
+      answer_led at flow side (complete head body trailers size) seen answer at_flow more is = answer_head_led at flow side head seen answer at_flow more is
+      answer_led at flow side (bad_head fault) seen answer at_flow more is = over_led [] tt
+      answer_led at flow side (bad_body fault head body) seen answer at_flow more is = answer_head_led at flow side head seen answer at_flow more is
+
+      last_true : (a b : Bool) → (a && b) ≡ true → b ≡ true
+      last_true true b is = is
+      last_true false b is = absurd (let e : false ≡ true = is in cc)
+
+      finish_by : (at : At) (owed : List Command) (stays : Bool) → (stays ≡ true → at.flow + 1 < 1000000) → AllQuiet names owed → SameFlow flow_now dials at →
+          Led (record { owed = owed; stage = behind_flow stays at })
+      finish_by at owed true few quiet (at_flow, dialled) =
+          let less = few refl in record { quiet = quiet; is_of = tt; ends_none = tt; behind = ((ap (λ n. n + 1) at_flow, dialled), omega arith) }
+      finish_by at owed false few quiet at_flow = over_led owed quiet
+
+      taken_returned_led : (at : At) (flow : Flow) (taken : Taken Response) (moment : ℕ) (used : Used) (closed : Bool) → SameFlow flow_now dials at → names flow.id →
+          Led (turn_taken_returned at flow taken moment used closed)
+      taken_returned_led at flow (GoesOn message) moment used closed at_flow is =
+          let stays : Bool = connection_goes_on at.flow flow.request message in
+          finish_by at (finished flow message used ++ shut_unless stays closed) stays
+          (λ on. ltb-true (at.flow + 1) 1000000 (last_true _ (nat_lt (at.flow + 1) 1000000) on))
+          (all_quiet names (finished flow message used) (shut_unless stays closed) (finished_quiet flow message used is) (unless_quiet stays closed)) at_flow
+      taken_returned_led at flow (Responds response) moment used closed at_flow is = killed_led flow moment used closed is
+      taken_returned_led at flow Kills moment used closed at_flow is = killed_led flow moment used closed is
+
+      response_led : (o : Option Response) (takes : Response → Taken Response) (goes : Taken Response → Turn Stage Command) → ((taken : Taken Response) → Led (goes taken)) →
+          Led (turn_response o takes goes)
+      response_led None takes goes led = over_led [] tt
+      response_led (Some message) takes goes led = led (takes message)
+
+      whole_answer_led : (at : At) (flow : Flow) (answer : Timed Reply) (used : Used) (closed : Bool) → SameFlow flow_now dials at → names flow.id →
+          Led (turn_whole_answer at flow answer used closed)
+      whole_answer_led at flow answer used closed at_flow is =
+          response_led flow.response (λ message. taken_at_response_body message answer.value) (λ taken. turn_taken_returned at flow taken answer.moment used closed)
+          (λ taken. taken_returned_led at flow taken answer.moment used closed at_flow is)
+
+      returned_led : (at : At) (flow : Flow) (side : ServerSide) (item : Item ReadResponse) (seen : Sight) (answer : Timed Reply) → SameFlow flow_now dials at → names flow.id →
+          Led (turn_returned at flow side item seen answer)
+      returned_led at flow side missing seen answer at_flow is = over_led [] tt
+      returned_led at flow side (part head body) seen answer at_flow is = over_led [] tt
+      returned_led at flow side (complete head body trailers size) seen answer at_flow is =
+          whole_answer_led at (with_returned flow body.content trailers seen.now) answer (server_in side seen) seen.closed at_flow is
+      returned_led at flow side (bad_head fault) seen answer at_flow is = over_led [] tt
+      returned_led at flow side (bad_body fault head body) seen answer at_flow is = over_led [] tt
+
+      given_led : (at : At) (flow : Flow) (taken : Taken Response) (moment : ℕ) (closed : Bool) → SameFlow flow_now dials at → 1 < count → names flow.id →
+          Led (turn_taken_given at flow taken moment closed)
+      given_led at flow (GoesOn message) moment closed at_flow more is = record { quiet = tt; is_of = is; ends_none = tt; behind = (at_flow, more) }
+      given_led at flow (Responds response) moment closed at_flow more is = killed_led (without_response flow) moment NoServer closed is
+      given_led at flow Kills moment closed at_flow more is = killed_led (without_response flow) moment NoServer closed is
+
+-- a stage at which something may be asked
+abbrev pub IsGoing : Stage → Type 0
+IsGoing (next at) = ⊥
+IsGoing stage = ⊤
+
+pub turn_led : (terms : Terms) (names : FlowId → Type 0) (stage : Stage) (seen : Sight) (answer : Timed Reply) → IsGoing stage → IsOf terms names stage →
+    Leads terms names (place_of stage).flow (place_of stage).dials (stage_left stage) (turn terms stage seen answer)
+turn_led terms names (idle at) seen answer goes is =
+    head_led names terms at.flow at.dials 5 at (request_in at seen) seen answer (refl, omega arith) (omega arith) is
+turn_led terms names (busy at flow (request_body given)) seen answer goes is =
+    body_led names terms at.flow at.dials 4 at flow (request_in at seen) seen answer (refl, omega arith) (omega arith) is
+turn_led terms names (busy at flow connection) seen answer goes is =
+    dial_led names terms at.flow at.dials 3 at flow answer.value answer.moment seen.closed (refl, omega arith) (omega arith) is
+turn_led terms names (busy at flow (response_head side how)) seen answer goes is =
+    answer_led names terms at.flow at.dials 2 at flow side (answers_in flow.request side seen).final seen answer (refl, omega arith) (omega arith) is
+turn_led terms names (busy at flow (response_body side how)) seen answer goes is =
+    returned_led names terms at.flow at.dials 1 at flow side (answers_in flow.request side seen).final seen answer (refl, omega arith) is
+turn_led terms names (busy at flow given_head) seen answer goes is =
+    let asked_flow : Flow = with_start flow seen.now in
+    response_led names terms at.flow at.dials 2 asked_flow.response (λ message. taken_at_response_head message answer.value)
+    (λ taken. turn_taken_given at asked_flow taken answer.moment seen.closed)
+    (λ taken. given_led names terms at.flow at.dials 2 at asked_flow taken answer.moment seen.closed (refl, omega arith) (omega arith) is)
+turn_led terms names (busy at flow given_body) seen answer goes is =
+    whole_answer_led names terms at.flow at.dials 1 at (with_end flow seen.now) answer NoServer seen.closed (refl, omega arith) is
+turn_led terms names (next at) seen answer goes is = absurd goes
+turn_led terms names over seen answer goes is = over_led names terms 0 0 0 [] tt
+
+-- any number is a stage's own
+is_any : (terms : Terms) (stage : Stage) → IsOf terms any_flow stage
+is_any terms (idle at) = tt
+is_any terms (busy at flow doing) = tt
+is_any terms (next at) = tt
+is_any terms over = tt
+
+-- what a reply brings asks nothing at once
+pub turn_quiet : (terms : Terms) (stage : Stage) (seen : Sight) (answer : Timed Reply) → AllQuiet any_flow (turn terms stage seen answer).owed
+turn_quiet terms (idle at) seen answer = (turn_led terms any_flow (idle at) seen answer tt tt).quiet
+turn_quiet terms (busy at flow doing) seen answer = (turn_led terms any_flow (busy at flow doing) seen answer tt tt).quiet
+turn_quiet terms (next at) seen answer = tt
+turn_quiet terms over seen answer = tt
+
+-- nor does an end that is found
+pub finds_quiet_end : (terms : Terms) (stage : Stage) (seen : Sight) → LooksQuiet any_flow (look terms stage seen)
+finds_quiet_end terms stage seen = looks_quiet any_flow terms stage seen (is_any terms stage)
+
+-- passing stays with the flow
+pass_of_by : (terms : Terms) (names : FlowId → Type 0) (at : At) (flow : Flow) (given : Option Response) (item : Item ReadRequest) (now : ℕ) → names flow.id →
+    IsOf terms names (pass_body at flow given item now)
+pass_of_by terms names at flow None item now is = is
+pass_of_by terms names at flow (Some response) missing now is = is
+pass_of_by terms names at flow (Some response) (part head body) now is = is
+pass_of_by terms names at flow (Some response) (complete head body trailers used) now is = is
+pass_of_by terms names at flow (Some response) (bad_head fault) now is = is
+pass_of_by terms names at flow (Some response) (bad_body fault head body) now is = is
+
+pub pass_of : (terms : Terms) (names : FlowId → Type 0) (stage : Stage) (seen : Sight) → IsOf terms names stage → IsOf terms names (pass stage seen)
+pass_of terms names (idle at) seen is = is
+pass_of terms names (busy at flow (request_body given)) seen is = pass_of_by terms names at flow given (request_in at seen) seen.now is
+pass_of terms names (busy at flow connection) seen is = is
+pass_of terms names (busy at flow (response_head side how)) seen is = is
+pass_of terms names (busy at flow (response_body side how)) seen is = is
+pass_of terms names (busy at flow given_head) seen is = is
+pass_of terms names (busy at flow given_body) seen is = is
+pass_of terms names (next at) seen is = is
+pass_of terms names over seen is = is
+
+-- and where it leads
+pub turn_behind : (terms : Terms) (stage : Stage) (seen : Sight) (answer : Timed Reply) → IsGoing stage →
+    IsBehind (place_of stage).flow (place_of stage).dials (stage_left stage) (turn terms stage seen answer).stage
+turn_behind terms stage seen answer goes = (turn_led terms any_flow stage seen answer goes (is_any terms stage)).behind

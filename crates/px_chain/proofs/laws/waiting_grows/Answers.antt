@@ -1,0 +1,5 @@
+use Rattle.px_chain.proofs.ChainLaws.{so_far_grows}
+use Rattle.px_chain.proofs.laws.waiting_grows.Goals as goal
+
+pub returns : goal.returns
+returns c = so_far_grows

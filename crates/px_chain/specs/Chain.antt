@@ -1,0 +1,284 @@
+-- What is due in a conversation of HTTP/1.1, as a chain of stages (RFC 9110, RFC 9112). What a stage finds, where it goes on
+-- without a reply and what a reply brings are functions of the stage and of what it looks at. A close of the client counts where
+-- nothing else is found in the same sight.
+use Rattle.std.specs.Prelude.{◌≡◌, ℕ, ◌+◌, Bool, true, false, List, [], length, Option, Some, None, ◌++◌}
+use Rattle.px_message.specs.declared.flow.Flow.{Flow}
+use Rattle.px_message.specs.declared.request.Request.{Request}
+use Rattle.px_message.specs.declared.response.Response.{Response}
+use Rattle.px_event.specs.declared.ask.Hook.TheVariants.{ResponseHead, ResponseBody}
+use Rattle.px_event.specs.declared.command.Command.{Command}
+use Rattle.px_event.specs.declared.command.Command.TheVariants as commands
+use Rattle.px_event.specs.declared.event.Event.{Event}
+use Rattle.px_event.specs.declared.reply.Reply.{Reply}
+use Rattle.px_event.specs.declared.reply.Reply.TheVariants as reply
+use Rattle.px_event.specs.Chain.{Timed, Look, Asks, Ends, Turn, Chain}
+use Rattle.px_read.specs.Items.{Item, part, complete, bad_body}
+use Rattle.px_read.specs.declared.head.RequestHead.{RequestHead as ReadRequest}
+use Rattle.px_read.specs.declared.head.ResponseHead.{ResponseHead as ReadResponse}
+use Rattle.px_exchange.specs.declared.asked.Judged.{Judged}
+use Rattle.px_exchange.specs.declared.asked.Judged.TheVariants.{Refused, Accepted}
+use Rattle.px_exchange.specs.declared.ending.Used.{Used}
+use Rattle.px_exchange.specs.declared.ending.Used.TheVariants.{NoServer}
+use Rattle.px_exchange.specs.declared.taken.Taken.{Taken}
+use Rattle.px_exchange.specs.declared.taken.Taken.TheVariants.{GoesOn, Responds, Kills}
+use Rattle.px_exchange.specs.declared.terms.Terms.{Terms}
+use Rattle.px_exchange.specs.declared.place.Place.{Place}
+use Rattle.px_exchange.specs.Dials.{dial_owes}
+use Rattle.px_exchange.specs.Endings.{without_response, killed_message, closed_message, ends_early, connection_goes_on, finished, shut_unless}
+use Rattle.px_exchange.specs.Finds.{or_leaves, look_head, look_body, look_answer, look_returned}
+use Rattle.px_exchange.specs.Flows.{ask_of, with_body, response_of, with_answer, with_end, with_returned, with_start}
+use Rattle.px_exchange.specs.Places.{dialled_for}
+use Rattle.px_exchange.specs.Replies.{taken_at_request_head, taken_at_request_body, taken_at_response_head, taken_at_response_body}
+use Rattle.px_exchange.specs.Requests.{expects, flow_of, judged}
+use Rattle.px_exchange.specs.Texts.{interim_commands, meets_expectation}
+use Rattle.px_chain.specs.Sights.{Sight, Standing, answers_in, request_in, server_in, sight_over}
+use Rattle.px_chain.specs.Stages.{At, Doing, ServerSide, Stage, all_sent, busy, connection, given_body, given_head, idle, next, over, request_body, response_body, response_head}
+use Rattle.px_chain.specs.Streams.{from_here}
+
+-- ---- idle: a request's head
+
+-- the end by a kill: nothing is said to the client
+abbrev pub killed : Flow → ℕ → Used → Bool → Turn Stage Command
+killed flow moment used closed = record { owed = ends_early flow killed_message moment used closed; stage = over }
+
+-- nothing is owed, and the conversation has ended
+abbrev pub stops : Turn Stage Command
+stops = record { owed = []; stage = over }
+
+abbrev pub turn_taken_head : At → Flow → Bool → Taken Request → ℕ → Bool → Turn Stage Command
+turn_taken_head at flow expected (GoesOn request) moment closed =
+    record { owed = meets_expectation expected; stage = busy at (record flow { request = request }) (request_body None) }
+turn_taken_head at flow expected (Responds response) moment closed =
+    record { owed = meets_expectation expected; stage = busy at flow (request_body (Some response)) }
+turn_taken_head at flow expected Kills moment closed = killed flow moment NoServer closed
+
+abbrev pub turn_judged : Terms → At → ReadRequest → Judged → Sight → Timed Reply → Turn Stage Command
+turn_judged terms at head (Refused fault) seen answer = stops
+turn_judged terms at head (Accepted request) seen answer =
+    turn_taken_head at (flow_of terms at.flow request seen.now) (expects head)
+    (taken_at_request_head request answer.value) answer.moment seen.closed
+
+abbrev pub turn_head : Terms → At → Item ReadRequest → Sight → Timed Reply → Turn Stage Command
+turn_head terms at (part head body) seen answer = turn_judged terms at head (judged terms.place head) seen answer
+turn_head terms at (complete head body trailers used) seen answer =
+    turn_judged terms at head (judged terms.place head) seen answer
+turn_head terms at (bad_body fault head body) seen answer =
+    turn_judged terms at head (judged terms.place head) seen answer
+turn_head terms at _ seen answer = stops
+
+-- ---- the request's body
+
+-- the flow stands behind so many bytes more of the client
+abbrev pub used_more : At → ℕ → At
+used_more at used = record at { used = at.used + used }
+
+-- a request that is whole needs no question where a response is given already
+abbrev pub pass_body : At → Flow → Option Response → Item ReadRequest → ℕ → Stage
+pass_body at flow (Some response) (complete head body trailers used) now =
+    busy (used_more at used) (record (with_body flow body.content trailers now) { response = Some response }) given_head
+pass_body at flow given item now = busy at flow (request_body given)
+
+abbrev pub turn_taken_body : At → Flow → Taken Request → ℕ → Bool → Turn Stage Command
+turn_taken_body at flow (GoesOn request) moment closed =
+    record { owed = []; stage = busy at (record flow { request = request }) connection }
+turn_taken_body at flow (Responds response) moment closed =
+    record { owed = []; stage = busy at (record flow { response = Some response }) given_head }
+turn_taken_body at flow Kills moment closed = killed flow moment NoServer closed
+
+-- the request is whole, and the flow has it
+abbrev pub turn_whole : At → Flow → Sight → Timed Reply → Turn Stage Command
+turn_whole at flow seen answer =
+    turn_taken_body at flow (taken_at_request_body flow.request answer.value) answer.moment seen.closed
+
+abbrev pub turn_body : At → Flow → Item ReadRequest → Sight → Timed Reply → Turn Stage Command
+turn_body at flow (complete head body trailers used) seen answer =
+    turn_whole (used_more at used) (with_body flow body.content trailers seen.now) seen answer
+turn_body at flow _ seen answer = stops
+
+-- ---- the connection to its server
+
+-- the side of a server that is new: no flow has used a byte of it
+abbrev pub new_side : ℕ → ServerSide
+new_side server = record { server = server; used = 0 }
+
+abbrev pub dial_leads : Place → At → Flow → Reply → Stage
+dial_leads place at flow reply.Dialled =
+    busy (record at { dials = at.dials + 1 }) (record flow { server = Some (dialled_for place flow.request) })
+    (response_head (new_side at.dials) all_sent)
+dial_leads place at flow _ = over
+
+abbrev pub turn_dial : Place → At → Flow → Timed Reply → Bool → Turn Stage Command
+turn_dial place at flow answer closed =
+    record { owed = dial_owes place flow at.dials answer.value answer.moment closed; stage = dial_leads place at flow answer.value }
+
+-- ---- the head of the final response
+
+abbrev pub turn_taken_answer : At → Flow → ServerSide → Taken Response → ℕ → Used → Bool → Turn Stage Command
+turn_taken_answer at flow side (GoesOn response) moment used closed =
+    record { owed = []; stage = busy at (record flow { response = Some response }) (response_body side all_sent) }
+turn_taken_answer at flow side _ moment used closed = killed (without_response flow) moment used closed
+
+abbrev pub turn_answer_head : At → Flow → ServerSide → ReadResponse → Sight → Timed Reply → Turn Stage Command
+turn_answer_head at flow side head seen answer =
+    turn_taken_answer at (with_answer flow (response_of head) seen.now) side
+    (taken_at_response_head (response_of head) answer.value) answer.moment (server_in side seen) seen.closed
+
+abbrev pub turn_answer : At → Flow → ServerSide → Item ReadResponse → Sight → Timed Reply → Turn Stage Command
+turn_answer at flow side (part head body) seen answer = turn_answer_head at flow side head seen answer
+turn_answer at flow side (complete head body trailers size) seen answer = turn_answer_head at flow side head seen answer
+turn_answer at flow side (bad_body fault head body) seen answer = turn_answer_head at flow side head seen answer
+turn_answer at flow side _ seen answer = stops
+
+-- ---- the response's body
+
+-- where the flow leads
+abbrev pub behind_flow : Bool → At → Stage
+behind_flow true at = next (record at { flow = at.flow + 1 })
+behind_flow false at = over
+
+abbrev pub finish : At → Flow → Response → Used → Bool → Turn Stage Command
+finish at flow response used closed =
+    let stays = connection_goes_on at.flow flow.request response in
+    record { owed = finished flow response used ++ shut_unless stays closed; stage = behind_flow stays at }
+
+abbrev pub turn_taken_returned : At → Flow → Taken Response → ℕ → Used → Bool → Turn Stage Command
+turn_taken_returned at flow (GoesOn response) moment used closed = finish at flow response used closed
+turn_taken_returned at flow _ moment used closed = killed flow moment used closed
+
+-- a flow whose response is there
+abbrev pub turn_response : Option Response → (Response → Taken Response) → (Taken Response → Turn Stage Command) → Turn Stage Command
+turn_response None takes goes = stops
+turn_response (Some response) takes goes = goes (takes response)
+
+abbrev pub turn_whole_answer : At → Flow → Timed Reply → Used → Bool → Turn Stage Command
+turn_whole_answer at flow answer used closed = turn_response flow.response
+    (λ response. taken_at_response_body response answer.value)
+    (λ taken. turn_taken_returned at flow taken answer.moment used closed)
+
+abbrev pub turn_returned : At → Flow → ServerSide → Item ReadResponse → Sight → Timed Reply → Turn Stage Command
+turn_returned at flow side (complete head body trailers size) seen answer =
+    turn_whole_answer at (with_returned flow body.content trailers seen.now) answer (server_in side seen) seen.closed
+turn_returned at flow side _ seen answer = stops
+
+-- ---- a response that was given in place of the server's
+
+abbrev pub turn_taken_given : At → Flow → Taken Response → ℕ → Bool → Turn Stage Command
+turn_taken_given at flow (GoesOn response) moment closed =
+    record { owed = []; stage = busy at (record flow { response = Some response }) given_body }
+turn_taken_given at flow _ moment closed = killed (without_response flow) moment NoServer closed
+
+abbrev pub turn_given_head : At → Flow → Timed Reply → Bool → Turn Stage Command
+turn_given_head at flow answer closed = turn_response flow.response
+    (λ response. taken_at_response_head response answer.value)
+    (λ taken. turn_taken_given at flow taken answer.moment closed)
+
+-- ---- what a stage goes on to without a reply
+
+abbrev pub passes : At → Flow → Doing → Sight → Stage
+passes at flow (request_body given) seen = pass_body at flow given (request_in at seen) seen.now
+passes at flow doing seen = busy at flow doing
+
+abbrev pub pass : Stage → Sight → Stage
+pass (busy at flow doing) seen = passes at flow doing seen
+pass stage seen = stage
+
+-- ---- what it finds, but for the client's close
+
+abbrev pub finds : Place → At → Flow → Doing → Sight → Look Command
+finds place at flow (request_body given) seen = look_body flow (request_in at seen) seen.now seen.closed
+finds place at flow connection seen = Asks (commands.Dial at.dials (dialled_for place flow.request) None)
+finds place at flow (response_head side sent) seen =
+    look_answer flow (answers_in flow.request side seen).final seen.now (server_in side seen) seen.closed
+finds place at flow (response_body side sent) seen =
+    look_returned flow (answers_in flow.request side seen).final seen.now (server_in side seen) seen.closed
+finds place at flow given_head seen = Asks (ask_of (with_start flow seen.now) ResponseHead)
+finds place at flow given_body seen = Asks (ask_of (with_end flow seen.now) ResponseBody)
+
+abbrev pub find : Terms → Stage → Sight → Look Command
+find terms (idle at) seen = look_head terms at.flow (request_in at seen) seen.now seen.closed
+find terms (busy at flow doing) seen = finds terms.place at flow doing seen
+find terms _ seen = Ends []
+
+-- ---- what is owed where the client leaves
+
+abbrev pub leaves : Flow → Doing → Sight → List Command
+leaves flow (request_body given) seen = ends_early flow closed_message seen.now NoServer true
+leaves flow (response_head side sent) seen = ends_early flow closed_message seen.now (server_in side seen) true
+leaves flow (response_body side sent) seen = ends_early (without_response flow) closed_message seen.now (server_in side seen) true
+leaves flow _ seen = []
+
+abbrev pub leaving : Stage → Sight → List Command
+leaving (busy at flow doing) seen = leaves flow doing seen
+leaving _ seen = []
+
+abbrev pub look : Terms → Stage → Sight → Look Command
+look terms stage seen = or_leaves seen.closed (leaving stage seen) (find terms stage seen)
+
+-- ---- what it owes while it waits: the interim responses that have come
+
+abbrev pub waits : Flow → Doing → Sight → List Command
+waits flow (response_head side sent) seen = interim_commands flow.request (answers_in flow.request side seen).interim
+waits flow _ seen = []
+
+abbrev pub so_far : Stage → Sight → List Command
+so_far (busy at flow doing) seen = waits flow doing seen
+so_far _ seen = []
+
+-- ---- what a reply brings
+
+abbrev pub turns : Place → At → Flow → Doing → Sight → Timed Reply → Turn Stage Command
+turns place at flow (request_body given) seen answer = turn_body at flow (request_in at seen) seen answer
+turns place at flow connection seen answer = turn_dial place at flow answer seen.closed
+turns place at flow (response_head side sent) seen answer = turn_answer at flow side (answers_in flow.request side seen).final seen answer
+turns place at flow (response_body side sent) seen answer = turn_returned at flow side (answers_in flow.request side seen).final seen answer
+turns place at flow given_head seen answer = turn_given_head at (with_start flow seen.now) answer seen.closed
+turns place at flow given_body seen answer = turn_whole_answer at (with_end flow seen.now) answer NoServer seen.closed
+
+abbrev pub turn : Terms → Stage → Sight → Timed Reply → Turn Stage Command
+turn terms (idle at) seen answer = turn_head terms at (request_in at seen) seen answer
+turn terms (busy at flow doing) seen answer = turns terms.place at flow doing seen answer
+turn terms stage seen answer = record { owed = []; stage = stage }
+
+-- where a finished flow leads: alone it is the end, in sequence the next flow begins
+abbrev pub alone : Stage → Stage
+alone stage = stage
+
+abbrev pub sequence : Stage → Stage
+sequence (next at) = idle at
+sequence stage = stage
+
+-- ---- the chain
+
+-- where a conversation stands at first
+abbrev pub begin : Stage → Standing
+begin stage = record { stage = stage; since = record { events = 0; moment = 0 }; opened = 0 }
+
+-- how many events had come when the dial of its server was answered: they are counted where a connection is awaited
+abbrev pub opens : Doing → ℕ → ℕ → ℕ
+opens connection opened come = come
+opens _ opened come = opened
+
+abbrev pub opened_by : Stage → ℕ → ℕ → ℕ
+opened_by (busy at flow doing) opened come = opens doing opened come
+opened_by _ opened come = opened
+
+-- A stage that was come to from another over a prefix, by a reply at this moment: it stands from here on.
+abbrev pub stands : Standing → ℕ → List (Timed Event) → Stage → Standing
+stands from moment prefix stage =
+    record { stage = stage; since = from_here moment prefix; opened = opened_by from.stage from.opened (length prefix) }
+
+-- the chain of one flow, or of flows in sequence
+abbrev pub http_chain : (Stage → Stage) → Terms → Chain Standing Event Reply Command
+http_chain onward terms = record {
+  pass = λ place prefix. record { owed = []; stage = record place { stage = pass place.stage (sight_over place prefix) } };
+  look = λ place prefix. look terms place.stage (sight_over place prefix);
+  so_far = λ place prefix. so_far place.stage (sight_over place prefix);
+  turn = λ place prefix answer.
+      let turned = turn terms place.stage (sight_over place prefix) answer in
+      record { owed = turned.owed; stage = stands place answer.moment prefix (onward turned.stage) };
+}
+
+-- the chain is that of one flow, or of flows in sequence
+pub data IsOnward (onward : Stage → Stage) : Type 0 where
+  is_alone : onward ≡ alone → IsOnward onward
+  is_sequence : onward ≡ sequence → IsOnward onward

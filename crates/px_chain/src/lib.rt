@@ -1,0 +1,23 @@
+//! What is due in a conversation of HTTP/1.1: a chain of stages, and its laws. Nothing here runs: `px_stream` is the machine beside
+//! it, and neither knows anything of the other's parts.
+//!
+//! A proxy takes a request from a client, shows it to hooks, sends it to a server, and brings the response back the same way
+//! (RFC 9112 sections 2 and 9, RFC 9110 section 7.6). In `specs/Stages.antt` a conversation is `idle`, where the head of a request is
+//! awaited; `busy` with a flow, awaiting its request's body, the connection to its server, the head of its final response, that
+//! response's body, or the hooks of a response that was given in the server's place; behind a finished flow (`next`); or `over`.
+//!
+//! A stage looks at the joined bytes of the client and of the server's side that it uses, at their closes and at the moment, and at
+//! nothing else: that is its sight (`specs/Sights.antt`). What it finds, where it goes on without a reply, and what a reply brings
+//! are functions of the stage and its sight (`specs/Chain.antt`), in the steps of `px_exchange`. A client that closes ends the flow
+//! where nothing else is found by then.
+//!
+//! So over `GET / HTTP/1.1` CRLF `Host: h` CRLF CRLF, `idle` finds a head and asks its hook; a reply that goes on leads to awaiting
+//! the body, which finds the request whole and asks its hook; then the connection is asked for, which owes the server the request's
+//! text and leads to awaiting the response's head, where nothing is found until the server's bytes begin with a final response.
+//!
+//! `laws` says what follows: what is due only grows, in each view; a server hears nothing before its dial was answered; bytes come
+//! before the end of their flow, and that before closes. Where every reply goes on with the flow as it was asked, `specs/ClosedForm.antt`
+//! says what the servers and the client are sent over whole lists, without stages, and the chain sends that.
+#![tactic(auto)]
+
+pub mod laws;
