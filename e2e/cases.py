@@ -13,6 +13,7 @@ import time
 
 from busy_cases import BUSY_CASES
 from example_cases import examples
+from mode_cases import MODE_CASES
 from option_cases import OPTION_CASES
 from page_cases import PAGE_CASES
 from saving_cases import SAVING_CASES
@@ -277,7 +278,7 @@ def main():
     tally = Tally(sys.argv[1:])
     with Origin() as origin:
         try_with_one_run(tally, origin)
-        for case in BUSY_CASES + OPTION_CASES + PAGE_CASES + SAVING_CASES:
+        for case in BUSY_CASES + OPTION_CASES + MODE_CASES + PAGE_CASES + SAVING_CASES:
             tally.try_case(name_of(case), case)
     for name, case in examples():
         tally.try_case(name, case)

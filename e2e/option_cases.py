@@ -189,8 +189,8 @@ def case_options_that_are_no_toml():
 
 
 def case_options_without_a_good_mode():
-    refused("", 2, "bad options: mode")
-    refused('mode = "regular"\n', 2, "bad options: mode")
+    for mode in ("socks5", "Regular", "regular:http://127.0.0.1", "upstream:", "upstream:https://127.0.0.1"):
+        refused(f'mode = "{mode}"\n', 2, "bad options: mode")
 
 
 def case_unknown_and_wrong_options():

@@ -29,7 +29,7 @@ const NET_FAULT: u8 = 5;
 
 const NET_FAULT_LINE: &str = "network fault\n";
 
-// The status for want of memory.
+// The status when out of memory.
 const NO_MEMORY: u8 = 8;
 
 fn main(rt: HostRuntime) -> ExitCode {

@@ -27,4 +27,4 @@ module _ {S : Type 0} {answers : Answering S} (due : Due) where
           absurd (never w.hook w.flow w.old w.old_files w.new w.new_files draft w.answers_so)
 
   pub none_waits_within : (trace : Trace) → IsServed answers due trace → NeverWaits answers → BeforeEachHeard IsAllAnswered trace
-  none_waits_within trace served never = record { at = λ front rest moment heard is. none_waits front (served.waits.at front rest moment heard is) never }
+  none_waits_within trace served never = record { at = λ prefix rest moment heard is. none_waits prefix (served.waits.at prefix rest moment heard is) never }

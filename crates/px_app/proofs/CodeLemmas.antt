@@ -7,7 +7,7 @@ use Rattle.px_app.specs.declared.status.Status.TheVariants.{Ended, NetFault, Bud
 use Rattle.px_app.specs.Printed.{at_end}
 use Rattle.px_app.specs.Statuses.{code_of}
 
--- the number is that of the end, or that of want of memory
+-- the number is that of the end, or that of out of memory
 pub code_by : (printing : Printing) (status printed : Status) (code : ℕ) → (printed ≡ at_end printing status) ⊎ (printed ≡ NoMemory) → code ≡ code_of printed →
     (code ≡ code_of (at_end printing status)) ⊎ (code ≡ 8)
 code_by printing status printed code (inl is) code_is = inl (code_is ∙ ap code_of is)
@@ -95,7 +95,7 @@ module _ (printing : Printing) (status : Status) (code : ℕ) (is : (code ≡ co
   pub all_codes : (code ≡ 0) ⊎ ((code ≡ 5) ⊎ ((code ≡ 6) ⊎ ((code ≡ 7) ⊎ (code ≡ 8))))
   all_codes = elim is [ inl e ↦ one_of status printing e | inr e ↦ inr (inr (inr (inr e))) ]
 
--- where the run ended well, or not for want of memory, the number is not 8
+-- where the run ended well, or not when out of memory, the number is not 8
 pub not_eight : (code : ℕ) (Q : Type 0) → (code ≡ 0) ⊎ ((code ≢ 8) × Q) → code ≢ 8
 not_eight code Q (inl zero) eight = absurd (omega arith)
 not_eight code Q (inr (other, q)) eight = other eight

@@ -67,7 +67,7 @@ memory_or BudgetSpent = inr (λ (e : BudgetSpent ≡ NoMemory). cc)
 memory_or OutputFailed = inr (λ (e : OutputFailed ≡ NoMemory). cc)
 memory_or NoMemory = inl refl
 
--- a front of all is printed
+-- a prefix of all is printed
 pub printed_part : (status shown : Status) (printing : Printing) (lines : List ℕ) (start mid new : Option (List ℕ)) (old later : ℕ) →
     (status ≢ NoMemory → Has printing lines start mid) → WritesPart lines start mid → (status ≡ NoMemory → new ≡ mid) →
     (Has printing lines start mid → Ends printing (lines ++ line_of (code_of shown)) start new old later shown) → WritesPart (lines ++ line_of (code_of shown)) start new

@@ -26,8 +26,8 @@ use Rattle.px_app.specs.FlowTurns.{PrintsSo, IsFaultTurn, Turns, line_where}
 use Rattle.px_app.specs.Flows.{Fetched, IsBadPlace, HasFlows, at_front, one_more, ListsFile, Shows, lines_of, no_filter, nothing_fetched, file_absent, file_unread, fetched}
 use Rattle.px_app.specs.Lines.{bad_filter, bad_flow_file, cannot_read}
 use Rattle.px_app.specs.Outside.{IsTold, Outside}
-use Rattle.px_app.specs.declared.flows.Turn.{Turn}
-use Rattle.px_app.specs.declared.flows.Turn.TheVariants as turns
+use Rattle.px_app.specs.declared.flows.FlowTurn.{FlowTurn}
+use Rattle.px_app.specs.declared.flows.FlowTurn.TheVariants as turns
 use Rattle.px_app.proofs.PrintLemmas.{whole_part, writes_more, writes_none, writes_part}
 use Rattle.px_app.proofs.ToldLemmas.{told_none, told_nothing}
 
@@ -88,7 +88,7 @@ pub comes_so : (rest next : List ℕ) (came : Option Entry) (entry : Entry) → 
 comes_so rest next came entry is comes = let P : Option Entry → Type 0 = λ o. ComesNext rest (Ok o) next in subst P is comes
 
 -- what a turn came to, after an entry was read and printed so
-pub turned_by : (failed : Type 0) (expression : Expression) (len : ℕ) (rest next : List ℕ) (before after : Option (List ℕ)) (entry : Entry) (turn : Turn) → BeginsWith entry rest next →
+pub turned_by : (failed : Type 0) (expression : Expression) (len : ℕ) (rest next : List ℕ) (before after : Option (List ℕ)) (entry : Entry) (turn : FlowTurn) → BeginsWith entry rest next →
     PrintsSo failed (line_where expression entry.flow) before after turn → Turns failed expression len rest next before after turn
 turned_by failed expression len rest next before after entry turns.Went begins printed = (entry, begins, printed)
 turned_by failed expression len rest next before after entry turns.NotPrinted begins printed = (entry, begins, printed)
@@ -97,7 +97,7 @@ turned_by failed expression len rest next before after entry turns.AtEnd begins 
 turned_by failed expression len rest next before after entry (turns.AtBadPlace at) begins printed = absurd printed
 
 -- and where there is none
-pub turned_at : (failed : Type 0) (expression : Expression) (len offset : ℕ) (rest next : List ℕ) (before : Option (List ℕ)) (turn : Turn) → rest ≢ [] → offset ≡ len - length rest → IsFaultTurn rest offset turn →
+pub turned_at : (failed : Type 0) (expression : Expression) (len offset : ℕ) (rest next : List ℕ) (before : Option (List ℕ)) (turn : FlowTurn) → rest ≢ [] → offset ≡ len - length rest → IsFaultTurn rest offset turn →
     Turns failed expression len rest next before before turn
 turned_at failed expression len offset rest next before turns.Went some same stops = absurd stops
 turned_at failed expression len offset rest next before turns.NotPrinted some same stops = absurd stops
@@ -106,7 +106,7 @@ turned_at failed expression len offset rest next before turns.AtEnd some same st
 turned_at failed expression len offset rest next before (turns.AtBadPlace at) some same stops = (((some, stops.0), stops.1 ∙ same), refl)
 
 -- a turn at a place that has no entry does not go on
-pub never_goes : (rest : List ℕ) (offset : ℕ) (turn : Turn) → IsFaultTurn rest offset turn → turn ≡ turns.Went → ⊥
+pub never_goes : (rest : List ℕ) (offset : ℕ) (turn : FlowTurn) → IsFaultTurn rest offset turn → turn ≡ turns.Went → ⊥
 never_goes rest offset turns.Went stops is = stops
 never_goes rest offset turns.NotPrinted stops is = stops
 never_goes rest offset turns.NoMemory stops is = cc

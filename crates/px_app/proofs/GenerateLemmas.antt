@@ -54,7 +54,7 @@ module _ {S : Type 0} {answers : Answering S} {fails : Failing S} {IsChain : Set
   pub generates_at : {count other : ℕ} {before after : Outside} {status : ℕ} → count ≡ other → Generates answers fails IsChain out count before after status → Generates answers fails IsChain out other before after status
   generates_at {before = before} {after = after} {status = status} same h = subst (λ n. Generates answers fails IsChain out n before after status) same h
 
--- all was printed, but for a sink that failed and want of memory
+-- all was printed, but for a sink that failed and out of memory
 pub complete_by : (failed : Type 0) (status : ℕ) → (status ≡ 0) ⊎ ((status ≡ 7) ⊎ (status ≡ 8)) → (status ≡ 7 → failed) → ¬ failed → (status ≡ 0) ⊎ (status ≡ 8)
 complete_by failed status (inl zero) lost quiet = inl zero
 complete_by failed status (inr (inl seven)) lost quiet = absurd (quiet (lost seven))

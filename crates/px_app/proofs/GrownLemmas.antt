@@ -28,22 +28,22 @@ pub adds_both : (xs ys : List Append) (a b : List ℕ) → AddsUp xs a → AddsU
 adds_both [] ys a b first second = subst (λ l. AddsUp ys (l ++ b)) (sym first) second
 adds_both (put piece ∷ xs) ys a b (more, is, rest) second =
     (more ++ b, ap (λ l. l ++ b) is ∙ append_assoc piece.text more b, adds_both xs ys more b rest second)
-adds_both (lost piece ∷ xs) ys a b (part, more, front, is, rest) second =
-    (part, more ++ b, front, ap (λ l. l ++ b) is ∙ append_assoc part more b, adds_both xs ys more b rest second)
+adds_both (lost piece ∷ xs) ys a b (part, more, prefix, is, rest) second =
+    (part, more ++ b, prefix, ap (λ l. l ++ b) is ∙ append_assoc part more b, adds_both xs ys more b rest second)
 
 -- where all were put it is their texts
 pub adds_all : (pieces : List Piece) (added : List ℕ) → AddsUp (map put pieces) added → added ≡ texts pieces
 adds_all [] added is = is
 adds_all (piece ∷ pieces) added (more, is, rest) = is ∙ ap (λ l. piece.text ++ l) (adds_all pieces more rest)
 
--- and where the last was lost, a front of its text behind them
+-- and where the last was lost, a prefix of its text behind them
 pub adds_lost : (pieces : List Piece) (piece : Piece) (added : List ℕ) → AddsUp (map put pieces ++ lost piece ∷ []) added →
     (part : List ℕ) × IsPrefixOf part piece.text × (added ≡ texts pieces ++ part)
-adds_lost [] piece added (part, more, front, is, rest) = (part, front, is ∙ (ap (λ l. part ++ l) rest ∙ append-nil part))
+adds_lost [] piece added (part, more, prefix, is, rest) = (part, prefix, is ∙ (ap (λ l. part ++ l) rest ∙ append-nil part))
 adds_lost (first ∷ pieces) piece added (more, is, rest) = behind (adds_lost pieces piece more rest)
   where
     behind : ((part : List ℕ) × IsPrefixOf part piece.text × (more ≡ texts pieces ++ part)) → (part : List ℕ) × IsPrefixOf part piece.text × (added ≡ (first.text ++ texts pieces) ++ part)
-    behind (part, front, so) = (part, front, is ∙ (ap (λ l. first.text ++ l) so ∙ sym (append_assoc first.text (texts pieces) part)))
+    behind (part, prefix, so) = (part, prefix, is ∙ (ap (λ l. first.text ++ l) so ∙ sym (append_assoc first.text (texts pieces) part)))
 
 of_flows_both : (to : Option SavesTo) (xs ys : List Append) → AreOfFlows to xs → AreOfFlows to ys → AreOfFlows to (xs ++ ys)
 of_flows_both to [] ys first second = second
@@ -216,20 +216,20 @@ module _ {S : Type 0} (to : Option SavesTo) where
   none_saved reached changes made (stays_cut was next last so_far before still grown) none = no_end was last (sym none ∙ grown)
 
 -- the last of a list, and what is in front of it
-last_of_list : {A : Type 0} (x : A) (xs : List A) → (front : List A) × (last : A) × (x ∷ xs ≡ front ++ last ∷ [])
+last_of_list : {A : Type 0} (x : A) (xs : List A) → (prefix : List A) × (last : A) × (x ∷ xs ≡ prefix ++ last ∷ [])
 last_of_list x [] = ([], x, refl)
 last_of_list {A} x (y ∷ ys) = behind (last_of_list y ys)
   where
-    behind : ((front : List A) × (last : A) × (y ∷ ys ≡ front ++ last ∷ [])) → (front : List A) × (last : A) × (x ∷ y ∷ ys ≡ front ++ last ∷ [])
-    behind (front, last, is) = (x ∷ front, last, ap (λ l. x ∷ l) is)
+    behind : ((prefix : List A) × (last : A) × (y ∷ ys ≡ prefix ++ last ∷ [])) → (prefix : List A) × (last : A) × (x ∷ y ∷ ys ≡ prefix ++ last ∷ [])
+    behind (prefix, last, is) = (x ∷ prefix, last, ap (λ l. x ∷ l) is)
 
 -- what is in front of the last begins with what the whole begins with, where more is behind that
-front_of_was : {A : Type 0} (front : List A) (x : A) (xs was : List A) (last : A) → was ++ last ∷ [] ≡ front ++ x ∷ xs → (more : List A) × (was ≡ front ++ more)
-front_of_was {A} front x xs was last split = by (last_of_list x xs)
+front_of_was : {A : Type 0} (prefix : List A) (x : A) (xs was : List A) (last : A) → was ++ last ∷ [] ≡ prefix ++ x ∷ xs → (more : List A) × (was ≡ prefix ++ more)
+front_of_was {A} prefix x xs was last split = by (last_of_list x xs)
   where
-    by : ((more : List A) × (end : A) × (x ∷ xs ≡ more ++ end ∷ [])) → (more : List A) × (was ≡ front ++ more)
+    by : ((more : List A) × (end : A) × (x ∷ xs ≡ more ++ end ∷ [])) → (more : List A) × (was ≡ prefix ++ more)
     by (more, end, is) =
-        let whole = split ∙ (ap (λ l. front ++ l) is ∙ sym (append_assoc front more (end ∷ []))) in (more, (same_end was (front ++ more) last end whole).0)
+        let whole = split ∙ (ap (λ l. prefix ++ l) is ∙ sym (append_assoc prefix more (end ∷ []))) in (more, (same_end was (prefix ++ more) last end whole).0)
 
 no_middle : {A P : Type 0} (xs : List A) (x : A) (ys : List A) → [] ≡ xs ++ x ∷ ys → P
 no_middle [] x ys e = absurd (cc)
@@ -237,33 +237,33 @@ no_middle (y ∷ xs) x ys e = absurd (cc)
 
 module _ {S : Type 0} (to : Option SavesTo) where
   -- the first changes of a run that saves, with the first of what it appended
-  record FrontSaved (front : List (Change S)) (made : List Append) : Type 0 where
+  record FrontSaved (prefix : List (Change S)) (made : List Append) : Type 0 where
     reached : Printing
     so_far : List Append
     first : IsPrefixOf so_far made
-    saved_so : SavedOver to reached front so_far
+    saved_so : SavedOver to reached prefix so_far
 
-  longer : (front : List (Change S)) (so_far more made : List Append) → made ≡ so_far ++ more → FrontSaved front so_far → FrontSaved front made
-  longer front so_far more made joined f = record {
+  longer : (prefix : List (Change S)) (so_far more made : List Append) → made ≡ so_far ++ more → FrontSaved prefix so_far → FrontSaved prefix made
+  longer prefix so_far more made joined f = record {
     reached = f.reached;
     so_far = f.so_far;
     first = (f.first.0 ++ more, joined ∙ (ap (λ l. l ++ more) f.first.1 ∙ append_assoc f.so_far f.first.0 more));
     saved_so = f.saved_so;
   }
 
-  front_saved : (reached : Printing) (whole front later : List (Change S)) (made : List Append) → SavedOver to reached whole made → whole ≡ front ++ later → FrontSaved front made
-  front_saved reached whole front [] made saved split =
+  front_saved : (reached : Printing) (whole prefix later : List (Change S)) (made : List Append) → SavedOver to reached whole made → whole ≡ prefix ++ later → FrontSaved prefix made
+  front_saved reached whole prefix [] made saved split =
       let P : List (Change S) → Type 0 = λ l. SavedOver to reached l made in
-      record { reached = reached; so_far = made; first = ([], sym (append-nil made)); saved_so = subst P (split ∙ append-nil front) saved }
-  front_saved reached whole front (x ∷ xs) made nothing_yet split = no_middle front x xs split
-  front_saved reached whole front (x ∷ xs) made (all_saved was next last so_far more all before own appends joined puts grown) split =
-      let rest = front_of_was front x xs was last (sym grown ∙ split) in longer front so_far more made joined (front_saved Whole was front rest.0 so_far before rest.1)
-  front_saved reached whole front (x ∷ xs) made (is_cut was next last so_far more all before own appends joined puts grown) split =
-      let rest = front_of_was front x xs was last (sym grown ∙ split) in longer front so_far more made joined (front_saved Whole was front rest.0 so_far before rest.1)
-  front_saved reached whole front (x ∷ xs) made (is_broken was next last so_far more all before own appends joined puts grown) split =
-      let rest = front_of_was front x xs was last (sym grown ∙ split) in longer front so_far more made joined (front_saved Whole was front rest.0 so_far before rest.1)
-  front_saved reached whole front (x ∷ xs) made (stays_cut was next last so_far before still grown) split =
-      let rest = front_of_was front x xs was last (sym grown ∙ split) in front_saved Failed was front rest.0 made before rest.1
+      record { reached = reached; so_far = made; first = ([], sym (append-nil made)); saved_so = subst P (split ∙ append-nil prefix) saved }
+  front_saved reached whole prefix (x ∷ xs) made nothing_yet split = no_middle prefix x xs split
+  front_saved reached whole prefix (x ∷ xs) made (all_saved was next last so_far more all before own appends joined puts grown) split =
+      let rest = front_of_was prefix x xs was last (sym grown ∙ split) in longer prefix so_far more made joined (front_saved Whole was prefix rest.0 so_far before rest.1)
+  front_saved reached whole prefix (x ∷ xs) made (is_cut was next last so_far more all before own appends joined puts grown) split =
+      let rest = front_of_was prefix x xs was last (sym grown ∙ split) in longer prefix so_far more made joined (front_saved Whole was prefix rest.0 so_far before rest.1)
+  front_saved reached whole prefix (x ∷ xs) made (is_broken was next last so_far more all before own appends joined puts grown) split =
+      let rest = front_of_was prefix x xs was last (sym grown ∙ split) in longer prefix so_far more made joined (front_saved Whole was prefix rest.0 so_far before rest.1)
+  front_saved reached whole prefix (x ∷ xs) made (stays_cut was next last so_far before still grown) split =
+      let rest = front_of_was prefix x xs was last (sym grown ∙ split) in front_saved Failed was prefix rest.0 made before rest.1
 
 -- ---- a run
 
@@ -300,17 +300,17 @@ module _ {S : Type 0} (answers : Answering S) (fails : Failing S) (is : S → Ty
       grown_over due course reached made so saved trace last was before
   grown_over due course reached made so saved whole last pending (at_other c trace next now was step before split quiet) =
       grown_over due course reached made so saved trace last pending before
-  grown_over due course reached made so saved whole last pending (at_change front next trace old new was before split) =
+  grown_over due course reached made so saved whole last pending (at_change prefix next trace old new was before split) =
       let one : Change S = change whole old last in
       let P : AnswererState S → Type 0 = λ state. is state.own in
       let Q : List (Change S) → Type 0 = AllAre (KeepsOwn is) in
       let M : AnswererState S → Type 0 = λ first. GrownOver first last made in
       let same = ap (λ c. c.first) split in
       let all = ap (λ c. c.changes) split in
-      let owns = last_is (KeepsOwn is) front.changes one (subst Q all (own_stays (Some to) is reached course.changes made saved)) in
-      let ended = last_saved (Some to) reached front.changes course.changes one made saved all in
-      let k = grown_over due front ended.reached ended.so_far (subst P same so) ended.saved_so whole old pending before in
-      subst M (sym same) (grown_more front.first old last ended.so_far ended.more made ended.joined owns.1 ended.broke k)
+      let owns = last_is (KeepsOwn is) prefix.changes one (subst Q all (own_stays (Some to) is reached course.changes made saved)) in
+      let ended = last_saved (Some to) reached prefix.changes course.changes one made saved all in
+      let k = grown_over due prefix ended.reached ended.so_far (subst P same so) ended.saved_so whole old pending before in
+      subst M (sym same) (grown_more prefix.first old last ended.so_far ended.more made ended.joined owns.1 ended.broke k)
 
   -- where all was said the file has grown by all that was appended
   pub grown_leaving : (due : Due) (first : AnswererState S) (changes : List (Change S)) (reached : Printing) (made : List Append) (IsSaid : Type 0) (files : FilesMeaning) (trace : Trace) →
@@ -318,8 +318,8 @@ module _ {S : Type 0} (answers : Answering S) (fails : Failing S) (is : S → Ty
       Told (Grown to.path made) first.files.contents files.contents
   grown_leaving due first changes reached made IsSaid files trace so saved leaves said =
       let all = leaves.whole said in
-      let P : Course S → Type 0 = λ c. Answers answers due c leaves.front leaves.last leaves.pending in
-      let k = grown_over due (course_from first changes) reached made so saved leaves.front leaves.last leaves.pending (subst P all.2 leaves.answered) in
+      let P : Course S → Type 0 = λ c. Answers answers due c leaves.prefix leaves.last leaves.pending in
+      let k = grown_over due (course_from first changes) reached made so saved leaves.prefix leaves.last leaves.pending (subst P all.2 leaves.answered) in
       subst (λ f. Told (Grown to.path made) first.files.contents f.contents) (sym all.1) k.grown
 
   -- and else by the first of it
@@ -328,7 +328,7 @@ module _ {S : Type 0} (answers : Answering S) (fails : Failing S) (is : S → Ty
       (so_far : List Append) × IsPrefixOf so_far made × Told (Grown to.path so_far) first.files.contents files.contents
   grown_in_part due first changes reached made IsSaid files trace so saved leaves =
       let f = front_saved (Some to) reached changes leaves.made.changes leaves.front_of.later made saved leaves.front_of.split in
-      let k = grown_over due leaves.made f.reached f.so_far (begins_so is (course_from first changes) leaves.made leaves.front_of so) f.saved_so leaves.front leaves.last leaves.pending
+      let k = grown_over due leaves.made f.reached f.so_far (begins_so is (course_from first changes) leaves.made leaves.front_of so) f.saved_so leaves.prefix leaves.last leaves.pending
       leaves.answered in
       let P : AnswererState S → Type 0 = λ s. Told (Grown to.path f.so_far) s.files.contents files.contents in (
         f.so_far,

@@ -242,17 +242,17 @@ own_steps conv (Some last) (steps.Said number what ∷ rest) (here, own) c d lik
 own_steps conv (Some last) (steps.Done flow ∷ rest) (here, own) c d like at =
     still conv (steps.Done flow) c d rest (flow.id.conv == conv) refl (λ x. refl) (own_steps conv (Some last) rest own c d like at)
 
-own_front : (last : Option ℕ) (front rest : Trace) → OwnFrom last (front ++ rest) → OwnFrom last front
+own_front : (last : Option ℕ) (prefix rest : Trace) → OwnFrom last (prefix ++ rest) → OwnFrom last prefix
 own_front last [] rest own = tt
-own_front last (steps.Heard moment what ∷ front) rest own = own_front (number_of (addressed what)) front rest own
-own_front None (steps.Asked number ask ∷ front) rest own = absurd own
-own_front None (steps.Answered number ask reply ∷ front) rest own = absurd own
-own_front None (steps.Said number what ∷ front) rest own = absurd own
-own_front None (steps.Done flow ∷ front) rest own = absurd own
-own_front (Some last) (steps.Asked number ask ∷ front) rest (here, own) = (here, own_front (Some last) front rest own)
-own_front (Some last) (steps.Answered number ask reply ∷ front) rest (here, own) = (here, own_front (Some last) front rest own)
-own_front (Some last) (steps.Said number what ∷ front) rest (here, own) = (here, own_front (Some last) front rest own)
-own_front (Some last) (steps.Done flow ∷ front) rest (here, own) = (here, own_front (Some last) front rest own)
+own_front last (steps.Heard moment what ∷ prefix) rest own = own_front (number_of (addressed what)) prefix rest own
+own_front None (steps.Asked number ask ∷ prefix) rest own = absurd own
+own_front None (steps.Answered number ask reply ∷ prefix) rest own = absurd own
+own_front None (steps.Said number what ∷ prefix) rest own = absurd own
+own_front None (steps.Done flow ∷ prefix) rest own = absurd own
+own_front (Some last) (steps.Asked number ask ∷ prefix) rest (here, own) = (here, own_front (Some last) prefix rest own)
+own_front (Some last) (steps.Answered number ask reply ∷ prefix) rest (here, own) = (here, own_front (Some last) prefix rest own)
+own_front (Some last) (steps.Said number what ∷ prefix) rest (here, own) = (here, own_front (Some last) prefix rest own)
+own_front (Some last) (steps.Done flow ∷ prefix) rest (here, own) = (here, own_front (Some last) prefix rest own)
 
 isolated_now : (due : Due) (trace : Trace) → IsOwn trace → IsIsolated due trace
 isolated_now due trace own conv view =
@@ -262,5 +262,5 @@ isolated_now due trace own conv view =
 -- at every moment
 pub isolated : (due : Due) (trace : Trace) → IsOwn trace → Always (IsIsolated due) trace
 isolated due trace own = record {
-  at = λ front rest is. let P : Trace → Type 0 = IsOwn in isolated_now due front (own_front None front rest (subst P is own));
+  at = λ prefix rest is. let P : Trace → Type 0 = IsOwn in isolated_now due prefix (own_front None prefix rest (subst P is own));
 }

@@ -45,35 +45,35 @@ none_by (Some (conv, news)) more own none = none_of conv more (own conv news ref
 none_heard : (what : Heard) (more : Trace) → IsOfHeard what more → NoneHeard more
 none_heard what more of = none_by (addressed what) more of.own of.none
 
-rests_quiet : (front more : Trace) → NoneHeard more → rests front more ≡ (front ++ more) ∷ []
-rests_quiet front [] none = ap (λ t. t ∷ []) (sym (append-nil front))
-rests_quiet front (steps.Heard moment what ∷ more) none = absurd none
-rests_quiet front (steps.Asked number ask ∷ more) none = rests_quiet (front ++ steps.Asked number ask ∷ []) more none ∙ ap (λ t. t ∷ []) (append_assoc front (steps.Asked number ask ∷ []) more)
-rests_quiet front (steps.Answered number ask reply ∷ more) none =
-    rests_quiet (front ++ steps.Answered number ask reply ∷ []) more none ∙ ap (λ t. t ∷ []) (append_assoc front (steps.Answered number ask reply ∷ []) more)
-rests_quiet front (steps.Said number what ∷ more) none = rests_quiet (front ++ steps.Said number what ∷ []) more none ∙ ap (λ t. t ∷ []) (append_assoc front (steps.Said number what ∷ []) more)
-rests_quiet front (steps.Done flow ∷ more) none = rests_quiet (front ++ steps.Done flow ∷ []) more none ∙ ap (λ t. t ∷ []) (append_assoc front (steps.Done flow ∷ []) more)
+rests_quiet : (prefix more : Trace) → NoneHeard more → rests prefix more ≡ (prefix ++ more) ∷ []
+rests_quiet prefix [] none = ap (λ t. t ∷ []) (sym (append-nil prefix))
+rests_quiet prefix (steps.Heard moment what ∷ more) none = absurd none
+rests_quiet prefix (steps.Asked number ask ∷ more) none = rests_quiet (prefix ++ steps.Asked number ask ∷ []) more none ∙ ap (λ t. t ∷ []) (append_assoc prefix (steps.Asked number ask ∷ []) more)
+rests_quiet prefix (steps.Answered number ask reply ∷ more) none =
+    rests_quiet (prefix ++ steps.Answered number ask reply ∷ []) more none ∙ ap (λ t. t ∷ []) (append_assoc prefix (steps.Answered number ask reply ∷ []) more)
+rests_quiet prefix (steps.Said number what ∷ more) none = rests_quiet (prefix ++ steps.Said number what ∷ []) more none ∙ ap (λ t. t ∷ []) (append_assoc prefix (steps.Said number what ∷ []) more)
+rests_quiet prefix (steps.Done flow ∷ more) none = rests_quiet (prefix ++ steps.Done flow ∷ []) more none ∙ ap (λ t. t ∷ []) (append_assoc prefix (steps.Done flow ∷ []) more)
 
-one_on : (front : Trace) (step : Step) (trace : Trace) (moment : ℕ) (what : Heard) (more : Trace) →
-    rests (front ++ step ∷ []) (trace ++ steps.Heard moment what ∷ more) ≡ rests (front ++ step ∷ []) trace ++ (((front ++ step ∷ []) ++ trace) ++ steps.Heard moment what ∷ more) ∷ [] →
-    rests (front ++ step ∷ []) (trace ++ steps.Heard moment what ∷ more) ≡ rests (front ++ step ∷ []) trace ++ ((front ++ step ∷ trace) ++ steps.Heard moment what ∷ more) ∷ []
-one_on front step trace moment what more is =
-    is ∙ ap (λ t. rests (front ++ step ∷ []) trace ++ (t ++ steps.Heard moment what ∷ more) ∷ []) (append_assoc front (step ∷ []) trace)
+one_on : (prefix : Trace) (step : Step) (trace : Trace) (moment : ℕ) (what : Heard) (more : Trace) →
+    rests (prefix ++ step ∷ []) (trace ++ steps.Heard moment what ∷ more) ≡ rests (prefix ++ step ∷ []) trace ++ (((prefix ++ step ∷ []) ++ trace) ++ steps.Heard moment what ∷ more) ∷ [] →
+    rests (prefix ++ step ∷ []) (trace ++ steps.Heard moment what ∷ more) ≡ rests (prefix ++ step ∷ []) trace ++ ((prefix ++ step ∷ trace) ++ steps.Heard moment what ∷ more) ∷ []
+one_on prefix step trace moment what more is =
+    is ∙ ap (λ t. rests (prefix ++ step ∷ []) trace ++ (t ++ steps.Heard moment what ∷ more) ∷ []) (append_assoc prefix (step ∷ []) trace)
 
 -- one thing heard behind a trace
-rests_on : (front trace : Trace) (moment : ℕ) (what : Heard) (more : Trace) → NoneHeard more →
-    rests front (trace ++ steps.Heard moment what ∷ more) ≡ rests front trace ++ ((front ++ trace) ++ steps.Heard moment what ∷ more) ∷ []
-rests_on front [] moment what more none =
-    ap (λ l. front ∷ l) (rests_quiet (front ++ steps.Heard moment what ∷ []) more none
-    ∙ ap (λ t. t ∷ []) (append_assoc front (steps.Heard moment what ∷ []) more ∙ ap (λ t. t ++ steps.Heard moment what ∷ more) (sym (append-nil front))))
-rests_on front (steps.Heard other heard ∷ trace) moment what more none =
-    ap (λ l. front ∷ l) (rests_on (front ++ steps.Heard other heard ∷ []) trace moment what more none
-    ∙ ap (λ t. rests (front ++ steps.Heard other heard ∷ []) trace ++ (t ++ steps.Heard moment what ∷ more) ∷ []) (append_assoc front (steps.Heard other heard ∷ []) trace))
-rests_on front (steps.Asked number ask ∷ trace) moment what more none = one_on front (steps.Asked number ask) trace moment what more (rests_on (front ++ steps.Asked number ask ∷ []) trace moment what more none)
-rests_on front (steps.Answered number ask reply ∷ trace) moment what more none =
-    one_on front (steps.Answered number ask reply) trace moment what more (rests_on (front ++ steps.Answered number ask reply ∷ []) trace moment what more none)
-rests_on front (steps.Said number said ∷ trace) moment what more none = one_on front (steps.Said number said) trace moment what more (rests_on (front ++ steps.Said number said ∷ []) trace moment what more none)
-rests_on front (steps.Done flow ∷ trace) moment what more none = one_on front (steps.Done flow) trace moment what more (rests_on (front ++ steps.Done flow ∷ []) trace moment what more none)
+rests_on : (prefix trace : Trace) (moment : ℕ) (what : Heard) (more : Trace) → NoneHeard more →
+    rests prefix (trace ++ steps.Heard moment what ∷ more) ≡ rests prefix trace ++ ((prefix ++ trace) ++ steps.Heard moment what ∷ more) ∷ []
+rests_on prefix [] moment what more none =
+    ap (λ l. prefix ∷ l) (rests_quiet (prefix ++ steps.Heard moment what ∷ []) more none
+    ∙ ap (λ t. t ∷ []) (append_assoc prefix (steps.Heard moment what ∷ []) more ∙ ap (λ t. t ++ steps.Heard moment what ∷ more) (sym (append-nil prefix))))
+rests_on prefix (steps.Heard other heard ∷ trace) moment what more none =
+    ap (λ l. prefix ∷ l) (rests_on (prefix ++ steps.Heard other heard ∷ []) trace moment what more none
+    ∙ ap (λ t. rests (prefix ++ steps.Heard other heard ∷ []) trace ++ (t ++ steps.Heard moment what ∷ more) ∷ []) (append_assoc prefix (steps.Heard other heard ∷ []) trace))
+rests_on prefix (steps.Asked number ask ∷ trace) moment what more none = one_on prefix (steps.Asked number ask) trace moment what more (rests_on (prefix ++ steps.Asked number ask ∷ []) trace moment what more none)
+rests_on prefix (steps.Answered number ask reply ∷ trace) moment what more none =
+    one_on prefix (steps.Answered number ask reply) trace moment what more (rests_on (prefix ++ steps.Answered number ask reply ∷ []) trace moment what more none)
+rests_on prefix (steps.Said number said ∷ trace) moment what more none = one_on prefix (steps.Said number said) trace moment what more (rests_on (prefix ++ steps.Said number said ∷ []) trace moment what more none)
+rests_on prefix (steps.Done flow ∷ trace) moment what more none = one_on prefix (steps.Done flow) trace moment what more (rests_on (prefix ++ steps.Done flow ∷ []) trace moment what more none)
 
 rests_of_more : (trace : Trace) (moment : ℕ) (what : Heard) (more : Trace) → NoneHeard more →
     rests_of (trace ++ steps.Heard moment what ∷ more) ≡ rests_of trace ++ (trace ++ steps.Heard moment what ∷ more) ∷ []

@@ -13,8 +13,12 @@ use Rattle.px_core.specs.Course.{Change, Course}
 use Rattle.px_core.specs.Due.{Due, IsServed, IsAllTold, OpenOnesWait}
 use Rattle.px_core.proofs.AnsweredLemmas.{whole_front}
 use Rattle.px_core.proofs.ResultLemmas.{same_some}
-use Rattle.px_http.specs.Fixed.{fixed_due}
-use Rattle.px_options.specs.Mode.{ModeIs, reverse}
+use Rattle.px_exchange.specs.declared.mode.Mode.{Mode}
+use Rattle.px_exchange.specs.declared.mode.Mode.TheVariants as modes
+use Rattle.px_http.specs.Modes.{mode_due}
+use Rattle.px_options.specs.Mode.{regular, reverse, upstream}
+use Rattle.px_options.specs.Values.{Place}
+use Rattle.px_options.specs.View.{mode_view, place}
 use Rattle.px_app.specs.Over.{Reaches, course_from}
 use Rattle.px_app.specs.Own.{IsOwn}
 use Rattle.px_app.specs.Run.{BreaksOff, IsEnd, IsRun, Told}
@@ -33,7 +37,7 @@ not_both false is other = absurd (cc)
 pub leaves_all : {S : Type 0} (answers : Answering S) (fails : Failing S) (due : Due) (course : Course S) (now : AnswererState S) (pending : Pending) (files : FilesMeaning) (trace : Trace) →
     Answers answers due course trace now pending → files ≡ now.files → (W : Type 0) → LeavesFiles answers fails due course W files trace
 leaves_all answers fails due course now pending files trace answered same W = record {
-  front = trace;
+  prefix = trace;
   rest = [];
   split = sym (append-nil trace);
   made = course;
@@ -49,7 +53,7 @@ leaves_all answers fails due course now pending files trace answered same W = re
 pub leaves_part : {S : Type 0} (answers : Answering S) (fails : Failing S) (due : Due) (course : Course S) (files : FilesMeaning) (trace : Trace) (W V : Type 0) →
     LeavesFiles answers fails due course W files trace → (V → W) → LeavesFiles answers fails due course V files trace
 leaves_part answers fails due course files trace W V leaves weaker = record {
-  front = leaves.front;
+  prefix = leaves.prefix;
   rest = leaves.rest;
   split = leaves.split;
   made = leaves.made;
@@ -63,7 +67,7 @@ leaves_part answers fails due course files trace W V leaves weaker = record {
 
 module _ {S : Type 0} (answers : Answering S) (fails : Failing S) (due : Due) (first : AnswererState S) (to : Option SavesTo) (budget : ℕ) (printing : Printing) (files : FilesMeaning)
     (start now : Option (List ℕ)) (trace : Trace) (own : IsOwn trace) where
-  -- want of memory, at any moment
+  -- out of memory, at any moment
   pub memory_run : BreaksOff answers fails due first to files start now trace → IsRun answers fails due first to budget NoMemory printing files start now trace
   memory_run broken = record {
     changes = broken.changes;
@@ -146,18 +150,26 @@ module _ {S : Type 0} (answers : Answering S) (fails : Failing S) (due : Due) (f
       spent = λ _ _ _. inr refl;
     })
 
-same_place : (p q : List ℕ × ℕ) → Some (reverse p) ≡ Some (reverse q) → p ≡ q
-same_place p q e = cc
+same_reverse : (p q : Place) → reverse p ≡ reverse q → p ≡ q
+same_reverse p q is = cc
 
--- the address of a mode is the one that is wanted
-pub same_address : (read wanted : Address) → Some (reverse (read.host, read.port)) ≡ Some (reverse (wanted.host, wanted.port)) → read ≡ wanted
-same_address read wanted is =
-    let same = same_place (read.host, read.port) (wanted.host, wanted.port) is in
-    address_eq read wanted (ap (λ (p : List ℕ × ℕ). p.0) same) (ap (λ (p : List ℕ × ℕ). p.1) same)
+same_upstream : (p q : Place) → upstream p ≡ upstream q → p ≡ q
+same_upstream p q is = cc
 
--- the server of a mode
-pub same_server : (mode : ModeIs) (server wanted : Address) → mode ≡ reverse (server.host, server.port) → Some mode ≡ Some (reverse (wanted.host, wanted.port)) → server ≡ wanted
-same_server mode server wanted is wants = same_address server wanted (ap Some (sym is) ∙ wants)
+same_address : (a b : Address) → place a ≡ place b → a ≡ b
+same_address a b same = address_eq a b (ap (λ (p : Place). p.0) same) (ap (λ (p : Place). p.1) same)
+
+-- a mode is the one that is wanted, where they are seen alike
+pub same_mode : (mode wanted : Mode) → mode_view mode ≡ mode_view wanted → mode ≡ wanted
+same_mode modes.Regular modes.Regular is = refl
+same_mode modes.Regular (modes.Reverse b) is = absurd (let wrong : regular ≡ reverse (place b) = is in cc)
+same_mode modes.Regular (modes.Upstream b) is = absurd (let wrong : regular ≡ upstream (place b) = is in cc)
+same_mode (modes.Reverse a) modes.Regular is = absurd (let wrong : reverse (place a) ≡ regular = is in cc)
+same_mode (modes.Reverse a) (modes.Reverse b) is = ap modes.Reverse (same_address a b (same_reverse (place a) (place b) is))
+same_mode (modes.Reverse a) (modes.Upstream b) is = absurd (let wrong : reverse (place a) ≡ upstream (place b) = is in cc)
+same_mode (modes.Upstream a) modes.Regular is = absurd (let wrong : upstream (place a) ≡ regular = is in cc)
+same_mode (modes.Upstream a) (modes.Reverse b) is = absurd (let wrong : upstream (place a) ≡ reverse (place b) = is in cc)
+same_mode (modes.Upstream a) (modes.Upstream b) is = ap modes.Upstream (same_address a b (same_upstream (place a) (place b) is))
 
 -- what is told is the trace
 pub told_trace : (P : Trace → Type 0) (told : Option Trace) (trace : Trace) → Told P told → told ≡ Some trace → P trace
@@ -181,9 +193,9 @@ pub ended_told : {S : Type 0} {answers : Answering S} {fails : Failing S} {due :
 ended_told {S} {answers} {fails} {due} {first} {to} {budget} {printing} {files} {start} {now} {told} is run =
     subst (λ (s : Status). Told (IsRun answers fails due first to budget s printing files start now) told) is run
 
--- so it is at an address that is the same
-pub at_address : {S : Type 0} {answers : Answering S} {fails : Failing S} {first : AnswererState S} {to : Option SavesTo} {budget : ℕ} {printing : Printing} {files : FilesMeaning} {start now : Option (List ℕ)}
-    {told : Option Trace} {status : Status} (server address : Address) → server ≡ address → Told (IsRun answers fails (fixed_due server) first to budget status printing files start now) told →
-    Told (IsRun answers fails (fixed_due address) first to budget status printing files start now) told
-at_address {S} {answers} {fails} {first} {to} {budget} {printing} {files} {start} {now} {told} {status} server address is run =
-    subst (λ (a : Address). Told (IsRun answers fails (fixed_due a) first to budget status printing files start now) told) is run
+-- so it is in a mode that is the same
+pub in_mode : {S : Type 0} {answers : Answering S} {fails : Failing S} {first : AnswererState S} {to : Option SavesTo} {budget : ℕ} {printing : Printing} {files : FilesMeaning} {start now : Option (List ℕ)}
+    {told : Option Trace} {status : Status} (mode wanted : Mode) → mode ≡ wanted → Told (IsRun answers fails (mode_due mode) first to budget status printing files start now) told →
+    Told (IsRun answers fails (mode_due wanted) first to budget status printing files start now) told
+in_mode {S} {answers} {fails} {first} {to} {budget} {printing} {files} {start} {now} {told} {status} mode wanted is run =
+    subst (λ (m : Mode). Told (IsRun answers fails (mode_due m) first to budget status printing files start now) told) is run

@@ -18,24 +18,24 @@ use Rattle.px_app.specs.declared.printing.Printing.TheVariants.{Whole, Failed}
 use Rattle.px_app.proofs.PrintLemmas.{writes_none, writes_more, writes_part, whole_part, part_longer}
 
 -- the lines of flows, those of others behind them
-lines_more : (front more : List Flow) → flat_map flow_line (front ++ more) ≡ flat_map flow_line front ++ flat_map flow_line more
-lines_more front more = flat_map-append flow_line front more
+lines_more : (prefix more : List Flow) → flat_map flow_line (prefix ++ more) ≡ flat_map flow_line prefix ++ flat_map flow_line more
+lines_more prefix more = flat_map-append flow_line prefix more
 
-lines_one : (front : List Flow) (flow : Flow) → flat_map flow_line (front ++ flow ∷ []) ≡ flat_map flow_line front ++ flow_line flow
-lines_one front flow = lines_more front (flow ∷ []) ∙ ap (λ l. flat_map flow_line front ++ l) (append-nil (flow_line flow))
+lines_one : (prefix : List Flow) (flow : Flow) → flat_map flow_line (prefix ++ flow ∷ []) ≡ flat_map flow_line prefix ++ flow_line flow
+lines_one prefix flow = lines_more prefix (flow ∷ []) ∙ ap (λ l. flat_map flow_line prefix ++ l) (append-nil (flow_line flow))
 
 -- the pieces of flows, those of others behind them
-saved_more : (to : Option SavesTo) (front more : List Flow) → saved to (front ++ more) ≡ saved to front ++ saved to more
-saved_more to front more = flat_map-append (pieces_of to) front more
+saved_more : (to : Option SavesTo) (prefix more : List Flow) → saved to (prefix ++ more) ≡ saved to prefix ++ saved to more
+saved_more to prefix more = flat_map-append (pieces_of to) prefix more
 
-saved_one : (to : Option SavesTo) (front : List Flow) (flow : Flow) → saved to (front ++ flow ∷ []) ≡ saved to front ++ pieces_of to flow
-saved_one to front flow = saved_more to front (flow ∷ []) ∙ ap (λ l. saved to front ++ l) (append-nil (pieces_of to flow))
+saved_one : (to : Option SavesTo) (prefix : List Flow) (flow : Flow) → saved to (prefix ++ flow ∷ []) ≡ saved to prefix ++ pieces_of to flow
+saved_one to prefix flow = saved_more to prefix (flow ∷ []) ∙ ap (λ l. saved to prefix ++ l) (append-nil (pieces_of to flow))
 
-put_more : (to : Option SavesTo) (front more : List Flow) → map put (saved to (front ++ more)) ≡ map put (saved to front) ++ map put (saved to more)
-put_more to front more = ap (map put) (saved_more to front more) ∙ map-append put (saved to front) (saved to more)
+put_more : (to : Option SavesTo) (prefix more : List Flow) → map put (saved to (prefix ++ more)) ≡ map put (saved to prefix) ++ map put (saved to more)
+put_more to prefix more = ap (map put) (saved_more to prefix more) ∙ map-append put (saved to prefix) (saved to more)
 
-put_one : (to : Option SavesTo) (front : List Flow) (flow : Flow) → map put (saved to (front ++ flow ∷ [])) ≡ map put (saved to front) ++ map put (pieces_of to flow)
-put_one to front flow = ap (map put) (saved_one to front flow) ∙ map-append put (saved to front) (pieces_of to flow)
+put_one : (to : Option SavesTo) (prefix : List Flow) (flow : Flow) → map put (saved to (prefix ++ flow ∷ [])) ≡ map put (saved to prefix) ++ map put (pieces_of to flow)
+put_one to prefix flow = ap (map put) (saved_one to prefix flow) ∙ map-append put (saved to prefix) (pieces_of to flow)
 
 --- appends behind appends
 pub appends_more : (to : Option SavesTo) (first : FilesMeaning) (made : List Append) (mid : FilesMeaning) (more : List Append) (last : FilesMeaning) →
@@ -72,7 +72,7 @@ append_kept to old new piece flow is kept = broke_at old piece flow none_made is
 pub saves_none : (to : Option SavesTo) (flow : Flow) (files : FilesMeaning) → pieces_of to flow ≡ [] → Saves to flow (Ok Whole) files files
 saves_none to flow files is = record { made = []; appends = none_made; gives = ap (map put) (sym is) }
 
--- want of memory before any append
+-- out of memory before any append
 pub saves_broke : (to : Option SavesTo) (flow : Flow) (e : NoMemory) (files : FilesMeaning) → Saves to flow (Err e) files files
 saves_broke to flow e files = record { made = []; appends = broke_elsewhere none_made; gives = refl }
 
@@ -94,27 +94,27 @@ pub pieces_none : {A : Type 0} (pieces : List Piece) (path : List ℕ) (given : 
 pieces_none pieces path given is none = is ∙ ap (λ o. map (piece_at path) (texts_in o)) none
 
 -- what stopped stopped within more flows too
-stopped_more : (to : Option SavesTo) (front more : List Flow) (start now : Option (List ℕ)) (made : List Append) → HasStopped to front start now made → HasStopped to (front ++ more) start now made
-stopped_more to front more start now made stopped = record {
-  front = stopped.front;
+stopped_more : (to : Option SavesTo) (prefix more : List Flow) (start now : Option (List ℕ)) (made : List Append) → HasStopped to prefix start now made → HasStopped to (prefix ++ more) start now made
+stopped_more to prefix more start now made stopped = record {
+  prefix = stopped.prefix;
   flow = stopped.flow;
   rest = stopped.rest ++ more;
-  split = ap (λ l. l ++ more) stopped.split ∙ append_assoc stopped.front (stopped.flow ∷ stopped.rest) more;
+  split = ap (λ l. l ++ more) stopped.split ∙ append_assoc stopped.prefix (stopped.flow ∷ stopped.rest) more;
   stops = stopped.stops;
 }
 
 prefix_more : {A : Type 0} (part all more longer : List A) → longer ≡ all ++ more → IsPrefixOf part all → IsPrefixOf part longer
 prefix_more part all more longer is (rest, whole) = (rest ++ more, is ∙ (ap (λ l. l ++ more) whole ∙ append_assoc part rest more))
 
-lines_part : (front more : List Flow) (start now : Option (List ℕ)) → WritesPart (flat_map flow_line front) start now → WritesPart (flat_map flow_line (front ++ more)) start now
-lines_part front more start now part =
+lines_part : (prefix more : List Flow) (start now : Option (List ℕ)) → WritesPart (flat_map flow_line prefix) start now → WritesPart (flat_map flow_line (prefix ++ more)) start now
+lines_part prefix more start now part =
     let P : List ℕ → Type 0 = λ l. WritesPart l start now in
-    subst P (sym (lines_more front more)) (part_longer (flat_map flow_line front) (flat_map flow_line more) start now part)
+    subst P (sym (lines_more prefix more)) (part_longer (flat_map flow_line prefix) (flat_map flow_line more) start now part)
 
-broke_more : (to : Option SavesTo) (front more : List Flow) (start now : Option (List ℕ)) (made : List Append) → Broke to front start now made → Broke to (front ++ more) start now made
-broke_more to front more start now made broke = record {
-  printed = lines_part front more start now broke.printed;
-  put_so_far = prefix_more made (map put (saved to front)) (map put (saved to more)) (map put (saved to (front ++ more))) (put_more to front more) broke.put_so_far;
+broke_more : (to : Option SavesTo) (prefix more : List Flow) (start now : Option (List ℕ)) (made : List Append) → Broke to prefix start now made → Broke to (prefix ++ more) start now made
+broke_more to prefix more start now made broke = record {
+  printed = lines_part prefix more start now broke.printed;
+  put_so_far = prefix_more made (map put (saved to prefix)) (map put (saved to more)) (map put (saved to (prefix ++ more))) (put_more to prefix more) broke.put_so_far;
 }
 
 -- answers that differ
@@ -143,16 +143,16 @@ puts_none to was files sink = record {
 }
 
 --- flows behind flows
-pub puts_more : (to : Option SavesTo) (was mid : Printing) (front more : List Flow) (result : Result Printing NoMemory) (old between new : FilesMeaning) (before half after : Option (List ℕ)) →
-    Puts to was front (Ok mid) old between before half → Puts to mid more result between new half after → Puts to was (front ++ more) result old new before after
-puts_more to was mid front more result old between new before half after first next = record {
+pub puts_more : (to : Option SavesTo) (was mid : Printing) (prefix more : List Flow) (result : Result Printing NoMemory) (old between new : FilesMeaning) (before half after : Option (List ℕ)) →
+    Puts to was prefix (Ok mid) old between before half → Puts to mid more result between new half after → Puts to was (prefix ++ more) result old new before after
+puts_more to was mid prefix more result old between new before half after first next = record {
   made = first.made ++ next.made;
   appends = appends_by_more result to old first.made between next.made new first.appends next.appends;
   goes = λ start earlier made_before came.
       let P : List Flow → Type 0 = λ l. CameOrBroke result to l start after (made_before ++ (first.made ++ next.made)) in
-      let Q : List Append → Type 0 = λ l. CameOrBroke result to ((earlier ++ front) ++ more) start after l in
-      subst P (append_assoc earlier front more) (subst Q (append_assoc made_before first.made next.made)
-      (next.goes start (earlier ++ front) (made_before ++ first.made) (first.goes start earlier made_before came)));
+      let Q : List Append → Type 0 = λ l. CameOrBroke result to ((earlier ++ prefix) ++ more) start after l in
+      subst P (append_assoc earlier prefix more) (subst Q (append_assoc made_before first.made next.made)
+      (next.goes start (earlier ++ prefix) (made_before ++ first.made) (first.goes start earlier made_before came)));
   still = λ failed.
       let a = first.still failed in
       let b = next.still (same_printing mid Failed a.0) in
@@ -160,14 +160,14 @@ puts_more to was mid front more result old between new before half after first n
 }
 
 --- where memory ran out, more flows change nothing
-pub puts_broke : (to : Option SavesTo) (was : Printing) (front more : List Flow) (e : NoMemory) (old new : FilesMeaning) (before after : Option (List ℕ)) →
-    Puts to was front (Err e) old new before after → Puts to was (front ++ more) (Err e) old new before after
-puts_broke to was front more e old new before after first = record {
+pub puts_broke : (to : Option SavesTo) (was : Printing) (prefix more : List Flow) (e : NoMemory) (old new : FilesMeaning) (before after : Option (List ℕ)) →
+    Puts to was prefix (Err e) old new before after → Puts to was (prefix ++ more) (Err e) old new before after
+puts_broke to was prefix more e old new before after first = record {
   made = first.made;
   appends = first.appends;
   goes = λ start earlier made_before came.
       let P : List Flow → Type 0 = λ l. Broke to l start after (made_before ++ first.made) in
-      subst P (append_assoc earlier front more) (broke_more to (earlier ++ front) more start after (made_before ++ first.made) (first.goes start earlier made_before came));
+      subst P (append_assoc earlier prefix more) (broke_more to (earlier ++ prefix) more start after (made_before ++ first.made) (first.goes start earlier made_before came));
   still = λ failed. absurd (not_ok e Failed (first.still failed).0);
 }
 
@@ -190,7 +190,7 @@ puts_line_failed to flow files before after part = record {
   made = [];
   appends = none_made;
   goes = λ start earlier made_before came. record {
-    front = earlier;
+    prefix = earlier;
     flow = flow;
     rest = [];
     split = refl;
@@ -243,7 +243,7 @@ flow_goes to flow (Ok Whole) made before after line gives start earlier made_bef
   ap (λ l. l ++ made) came.1 ∙ (ap (λ l. map put (saved to earlier) ++ l) gives ∙ sym (put_one to earlier flow)),
 )
 flow_goes to flow (Ok Failed) made before after line gives start earlier made_before came = record {
-  front = earlier;
+  prefix = earlier;
   flow = flow;
   rest = [];
   split = refl;
@@ -268,25 +268,25 @@ puts_flow to flow result old new before after line saves = record {
   still = λ failed. absurd (whole_failed failed);
 }
 
--- a run that came so far printed a front of the lines
-stopped_part : (to : Option SavesTo) (front : List Flow) (flow : Flow) (start now : Option (List ℕ)) (made : List Append) → StopsAt to front flow start now made →
-    WritesPart (flat_map flow_line (front ++ flow ∷ [])) start now
-stopped_part to front flow start now made (at_line mid so_far part is) =
+-- a run that came so far printed a prefix of the lines
+stopped_part : (to : Option SavesTo) (prefix : List Flow) (flow : Flow) (start now : Option (List ℕ)) (made : List Append) → StopsAt to prefix flow start now made →
+    WritesPart (flat_map flow_line (prefix ++ flow ∷ [])) start now
+stopped_part to prefix flow start now made (at_line mid so_far part is) =
     let P : List ℕ → Type 0 = λ l. WritesPart l start now in
-    subst P (sym (lines_one front flow)) (writes_part (flat_map flow_line front) (flow_line flow) start mid now so_far part)
-stopped_part to front flow start now made (at_text piece so_far is grown) = whole_part (flat_map flow_line (front ++ flow ∷ [])) start now so_far
+    subst P (sym (lines_one prefix flow)) (writes_part (flat_map flow_line prefix) (flow_line flow) start mid now so_far part)
+stopped_part to prefix flow start now made (at_text piece so_far is grown) = whole_part (flat_map flow_line (prefix ++ flow ∷ [])) start now so_far
 
 -- the flows behind the one at which it stopped
-split_at : (flows front : List Flow) (flow : Flow) (rest : List Flow) → flows ≡ front ++ flow ∷ rest → (front ++ flow ∷ []) ++ rest ≡ flows
-split_at flows front flow rest split = append_assoc front (flow ∷ []) rest ∙ sym split
+split_at : (flows prefix : List Flow) (flow : Flow) (rest : List Flow) → flows ≡ prefix ++ flow ∷ rest → (prefix ++ flow ∷ []) ++ rest ≡ flows
+split_at flows prefix flow rest split = append_assoc prefix (flow ∷ []) rest ∙ sym split
 
 pub came_part : (printing : Printing) (to : Option SavesTo) (flows : List Flow) (start now : Option (List ℕ)) (made : List Append) → Came printing to flows start now made →
     WritesPart (flat_map flow_line flows) start now
 came_part Whole to flows start now made came = whole_part (flat_map flow_line flows) start now came.0
 came_part Failed to flows start now made came =
     let P : List Flow → Type 0 = λ l. WritesPart (flat_map flow_line l) start now in
-    subst P (split_at flows came.front came.flow came.rest came.split)
-    (lines_part (came.front ++ came.flow ∷ []) came.rest start now (stopped_part to came.front came.flow start now made came.stops))
+    subst P (split_at flows came.prefix came.flow came.rest came.split)
+    (lines_part (came.prefix ++ came.flow ∷ []) came.rest start now (stopped_part to came.prefix came.flow start now made came.stops))
 
 pub came_whole : (printing : Printing) (to : Option SavesTo) (flows : List Flow) (start now : Option (List ℕ)) (made : List Append) → printing ≡ Whole → Came printing to flows start now made →
     Writes (flat_map flow_line flows) start now
@@ -344,30 +344,30 @@ pub none_saved : (was : Printing) (flows : List Flow) (result : Result Printing 
     Puts None was flows result old new before after → new ≡ old
 none_saved was flows result old new before after puts = (none_appended_by result old puts.made new puts.appends).1
 
--- a front of what was put of pieces is what was put of a front of them
+-- a front of what was put of pieces is what was put of a prefix of them
 front_put : (pieces : List Piece) (made : List Append) → IsPrefixOf made (map put pieces) → ArePut pieces made
 front_put pieces made (rest, whole) =
     all_put (take (length made) pieces) (drop (length made) pieces, sym (take-append-drop (length made) pieces))
     (sym (take-append_seam made rest) ∙ (ap (take (length made)) (sym whole) ∙ take-map put (length made) pieces))
 
--- the pieces behind those of a front
-saved_split : (to : Option SavesTo) (flows front : List Flow) (flow : Flow) (rest : List Flow) → flows ≡ front ++ flow ∷ rest →
-    saved to flows ≡ (saved to front ++ pieces_of to flow) ++ saved to rest
-saved_split to flows front flow rest split =
-    ap (saved to) (sym (split_at flows front flow rest split)) ∙ (saved_more to (front ++ flow ∷ []) rest ∙ ap (λ l. l ++ saved to rest) (saved_one to front flow))
+-- the pieces behind those of a prefix
+saved_split : (to : Option SavesTo) (flows prefix : List Flow) (flow : Flow) (rest : List Flow) → flows ≡ prefix ++ flow ∷ rest →
+    saved to flows ≡ (saved to prefix ++ pieces_of to flow) ++ saved to rest
+saved_split to flows prefix flow rest split =
+    ap (saved to) (sym (split_at flows prefix flow rest split)) ∙ (saved_more to (prefix ++ flow ∷ []) rest ∙ ap (λ l. l ++ saved to rest) (saved_one to prefix flow))
 
-stopped_put : (to : Option SavesTo) (flows front : List Flow) (flow : Flow) (rest : List Flow) (start now : Option (List ℕ)) (made : List Append) → flows ≡ front ++ flow ∷ rest →
-    StopsAt to front flow start now made → ArePut (saved to flows) made
-stopped_put to flows front flow rest start now made split (at_line mid so_far part is) =
-    all_put (saved to front) (pieces_of to flow ++ saved to rest, saved_split to flows front flow rest split ∙ append_assoc (saved to front) (pieces_of to flow) (saved to rest)) is
-stopped_put to flows front flow rest start now made split (at_text piece so_far is grown) =
-    last_lost (saved to front) piece (saved to rest, saved_split to flows front flow rest split ∙ ap (λ l. (saved to front ++ l) ++ saved to rest) is) grown
+stopped_put : (to : Option SavesTo) (flows prefix : List Flow) (flow : Flow) (rest : List Flow) (start now : Option (List ℕ)) (made : List Append) → flows ≡ prefix ++ flow ∷ rest →
+    StopsAt to prefix flow start now made → ArePut (saved to flows) made
+stopped_put to flows prefix flow rest start now made split (at_line mid so_far part is) =
+    all_put (saved to prefix) (pieces_of to flow ++ saved to rest, saved_split to flows prefix flow rest split ∙ append_assoc (saved to prefix) (pieces_of to flow) (saved to rest)) is
+stopped_put to flows prefix flow rest start now made split (at_text piece so_far is grown) =
+    last_lost (saved to prefix) piece (saved to rest, saved_split to flows prefix flow rest split ∙ ap (λ l. (saved to prefix ++ l) ++ saved to rest) is) grown
 
--- what was appended of flows is of a front of their pieces
+-- what was appended of flows is of a prefix of their pieces
 pub came_put : (printing : Printing) (to : Option SavesTo) (flows : List Flow) (start now : Option (List ℕ)) (made : List Append) → Came printing to flows start now made →
     ArePut (saved to flows) made
 came_put Whole to flows start now made came = all_put (saved to flows) ([], sym (append-nil (saved to flows))) came.1
-came_put Failed to flows start now made came = stopped_put to flows came.front came.flow came.rest start now made came.split came.stops
+came_put Failed to flows start now made came = stopped_put to flows came.prefix came.flow came.rest start now made came.split came.stops
 
 pub broke_put : (to : Option SavesTo) (flows : List Flow) (start now : Option (List ℕ)) (made : List Append) → Broke to flows start now made → ArePut (saved to flows) made
 broke_put to flows start now made broke = front_put (saved to flows) made broke.put_so_far
@@ -384,11 +384,11 @@ came_or_broke_part (Ok printing) to flows start now made came = came_part printi
 came_or_broke_part (Err e) to flows start now made broke = broke.printed
 
 -- one flow more, and memory ran out there
-pub puts_stop : (to : Option SavesTo) (was mid : Printing) (list front : List Flow) (x : Flow) (rest : List Flow) (e : NoMemory) (result : Result Printing NoMemory) (old between new : FilesMeaning)
-    (before half after : Option (List ℕ)) → IsErr result → front ++ x ∷ rest ≡ list → Puts to was front (Ok mid) old between before half → Puts to mid (x ∷ []) (Err e) between new half after →
+pub puts_stop : (to : Option SavesTo) (was mid : Printing) (list prefix : List Flow) (x : Flow) (rest : List Flow) (e : NoMemory) (result : Result Printing NoMemory) (old between new : FilesMeaning)
+    (before half after : Option (List ℕ)) → IsErr result → prefix ++ x ∷ rest ≡ list → Puts to was prefix (Ok mid) old between before half → Puts to mid (x ∷ []) (Err e) between new half after →
     Puts to was list result old new before after
-puts_stop to was mid list front x rest e (Ok printing) old between new before half after is split first next = absurd (cc)
-puts_stop to was mid list front x rest e (Err same) old between new before half after is split first next =
+puts_stop to was mid list prefix x rest e (Ok printing) old between new before half after is split first next = absurd (cc)
+puts_stop to was mid list prefix x rest e (Err same) old between new before half after is split first next =
     let P : List Flow → Type 0 = λ l. Puts to was l (Err e) old new before after in
-    subst P (front_next front x rest list split) (puts_broke to was (front ++ x ∷ []) rest e old new before after
-    (puts_more to was mid front (x ∷ []) (Err e) old between new before half after first next))
+    subst P (front_next prefix x rest list split) (puts_broke to was (prefix ++ x ∷ []) rest e old new before after
+    (puts_more to was mid prefix (x ∷ []) (Err e) old between new before half after first next))

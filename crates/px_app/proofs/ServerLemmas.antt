@@ -53,22 +53,22 @@ none_behind xs ys none = dials_more xs ys ∙ (ap (λ l. dials_in xs ++ l) none 
 -- A chain whose stages know how many servers were dialled: what a stage finds dials the next one or none, and nothing else
 -- dials.
 pub record CountsDials {S E R : Type 0} (chain : Chain S E R Command) (dialled_so : ℕ → S → Type 0) : Type 0 where
-  pub pass : (n : ℕ) (stage : S) (front : List (Timed E)) → dialled_so n stage → (dials_in (chain.pass stage front).owed ≡ []) × dialled_so n (chain.pass stage front).stage
-  pub so_far : (stage : S) (front : List (Timed E)) → dials_in (chain.so_far stage front) ≡ []
-  pub look : (n : ℕ) (stage : S) (front : List (Timed E)) → dialled_so n stage → CountsFrom n (dials_in (found (chain.look stage front)))
-  pub turn : (n : ℕ) (stage : S) (front : List (Timed E)) (ask : Command) (reply : Timed R) → dialled_so n stage → chain.look stage front ≡ Asks ask →
-      (dials_in (chain.turn stage front reply).owed ≡ []) × dialled_so (n + length (dials_in (ask ∷ []))) (chain.turn stage front reply).stage
+  pub pass : (n : ℕ) (stage : S) (prefix : List (Timed E)) → dialled_so n stage → (dials_in (chain.pass stage prefix).owed ≡ []) × dialled_so n (chain.pass stage prefix).stage
+  pub so_far : (stage : S) (prefix : List (Timed E)) → dials_in (chain.so_far stage prefix) ≡ []
+  pub look : (n : ℕ) (stage : S) (prefix : List (Timed E)) → dialled_so n stage → CountsFrom n (dials_in (found (chain.look stage prefix)))
+  pub turn : (n : ℕ) (stage : S) (prefix : List (Timed E)) (ask : Command) (reply : Timed R) → dialled_so n stage → chain.look stage prefix ≡ Asks ask →
+      (dials_in (chain.turn stage prefix reply).owed ≡ []) × dialled_so (n + length (dials_in (ask ∷ []))) (chain.turn stage prefix reply).stage
 
 module _ {S E R : Type 0} (chain : Chain S E R Command) (dialled_so : ℕ → S → Type 0) (law : CountsDials chain dialled_so) where
   -- what was owed before a place counts its dials, and its stage knows them
   abbrev Counted : List Command → S → Type 0
   Counted before stage = CountsFrom 0 (dials_in before) × dialled_so (length (dials_in before)) stage
 
-  passes : (before : List Command) (s : S) (front : List (Timed E)) → Counted before s → Counted (before ++ (chain.pass s front).owed) (chain.pass s front).stage
-  passes before s front (counts, knows) =
-      let on = law.pass (length (dials_in before)) s front knows in
-      let same = none_behind before (chain.pass s front).owed on.0 in
-      let P : List ℕ → Type 0 = λ l. CountsFrom 0 l × dialled_so (length l) (chain.pass s front).stage in
+  passes : (before : List Command) (s : S) (prefix : List (Timed E)) → Counted before s → Counted (before ++ (chain.pass s prefix).owed) (chain.pass s prefix).stage
+  passes before s prefix (counts, knows) =
+      let on = law.pass (length (dials_in before)) s prefix knows in
+      let same = none_behind before (chain.pass s prefix).owed on.0 in
+      let P : List ℕ → Type 0 = λ l. CountsFrom 0 l × dialled_so (length l) (chain.pass s prefix).stage in
       subst P (sym same) (counts, on.1)
 
   abbrev Here : Reached S E Command → Type 0
@@ -89,28 +89,28 @@ module _ {S E R : Type 0} (chain : Chain S E R Command) (dialled_so : ℕ → S 
   there_counted : (w : Stop S E R Command) → Counted w.before w.stage → CountsFrom 0 (dials_in (owed_at chain w))
   there_counted w (counts, knows) =
       let P : List ℕ → Type 0 = CountsFrom 0 in
-      let so_far = chain.so_far w.stage w.front in
-      let ends = found (chain.look w.stage w.front) in
+      let so_far = chain.so_far w.stage w.prefix in
+      let ends = found (chain.look w.stage w.prefix) in
       let same : dials_in (owed_at chain w) ≡ dials_in w.before ++ dials_in ends =
-      dials_more w.before (so_far ++ ends) ∙ ap (λ l. dials_in w.before ++ l) (dials_more so_far ends ∙ ap (λ l. l ++ dials_in ends) (law.so_far w.stage w.front)) in
+      dials_more w.before (so_far ++ ends) ∙ ap (λ l. dials_in w.before ++ l) (dials_more so_far ends ∙ ap (λ l. l ++ dials_in ends) (law.so_far w.stage w.prefix)) in
       let Q : ℕ → Type 0 = λ k. CountsFrom k (dials_in ends) in
-      subst P (sym same) (counts_more 0 (dials_in w.before) (dials_in ends) counts (subst Q (sym (zero-add (length (dials_in w.before)))) (law.look (length (dials_in w.before)) w.stage w.front knows)))
+      subst P (sym same) (counts_more 0 (dials_in w.before) (dials_in ends) counts (subst Q (sym (zero-add (length (dials_in w.before)))) (law.look (length (dials_in w.before)) w.stage w.prefix knows)))
 
-  turned : (before : List Command) (s : S) (front : List (Timed E)) (ask : Command) (reply : Timed R) → Counted before s → chain.look s front ≡ Asks ask →
-      Counted (before ++ (chain.so_far s front ++ ask ∷ (chain.turn s front reply).owed)) (chain.turn s front reply).stage
-  turned before s front ask reply (counts, knows) asks =
+  turned : (before : List Command) (s : S) (prefix : List (Timed E)) (ask : Command) (reply : Timed R) → Counted before s → chain.look s prefix ≡ Asks ask →
+      Counted (before ++ (chain.so_far s prefix ++ ask ∷ (chain.turn s prefix reply).owed)) (chain.turn s prefix reply).stage
+  turned before s prefix ask reply (counts, knows) asks =
       let n = length (dials_in before) in
-      let on = law.turn n s front ask reply knows asks in
+      let on = law.turn n s prefix ask reply knows asks in
       let one = dials_in (ask ∷ []) in
-      let behind : dials_in (ask ∷ (chain.turn s front reply).owed) ≡ one = none_behind (ask ∷ []) (chain.turn s front reply).owed on.0 in
-      let same : dials_in (before ++ (chain.so_far s front ++ ask ∷ (chain.turn s front reply).owed)) ≡ dials_in before ++ one =
-      dials_more before (chain.so_far s front ++ ask ∷ (chain.turn s front reply).owed)
-      ∙ ap (λ l. dials_in before ++ l) (dials_more (chain.so_far s front) (ask ∷ (chain.turn s front reply).owed) ∙ (ap (λ l. l ++ dials_in (ask ∷ (chain.turn s front reply).owed)) (law.so_far s front) ∙ behind)) in
+      let behind : dials_in (ask ∷ (chain.turn s prefix reply).owed) ≡ one = none_behind (ask ∷ []) (chain.turn s prefix reply).owed on.0 in
+      let same : dials_in (before ++ (chain.so_far s prefix ++ ask ∷ (chain.turn s prefix reply).owed)) ≡ dials_in before ++ one =
+      dials_more before (chain.so_far s prefix ++ ask ∷ (chain.turn s prefix reply).owed)
+      ∙ ap (λ l. dials_in before ++ l) (dials_more (chain.so_far s prefix) (ask ∷ (chain.turn s prefix reply).owed) ∙ (ap (λ l. l ++ dials_in (ask ∷ (chain.turn s prefix reply).owed)) (law.so_far s prefix) ∙ behind)) in
       let Q : Look Command → Type 0 = λ l. CountsFrom n (dials_in (found l)) in
-      let P : List ℕ → Type 0 = λ l. CountsFrom 0 l × dialled_so (length l) (chain.turn s front reply).stage in
+      let P : List ℕ → Type 0 = λ l. CountsFrom 0 l × dialled_so (length l) (chain.turn s prefix reply).stage in
       let Z : ℕ → Type 0 = λ k. CountsFrom k one in
-      let R' : ℕ → Type 0 = λ k. dialled_so k (chain.turn s front reply).stage in
-      subst P (sym same) (counts_more 0 (dials_in before) one counts (subst Z (sym (zero-add n)) (subst Q asks (law.look n s front knows))), subst R' (sym (length-append (dials_in before) one)) on.1)
+      let R' : ℕ → Type 0 = λ k. dialled_so k (chain.turn s prefix reply).stage in
+      subst P (sym same) (counts_more 0 (dials_in before) one counts (subst Z (sym (zero-add n)) (subst Q asks (law.look n s prefix knows))), subst R' (sym (length-append (dials_in before) one)) on.1)
 
   walk_by_counted : (l : Look Command) (onward : Command → Stop S E R Command) (stop : Stop S E R Command) →
       ((ask : Command) → l ≡ Asks ask → CountsFrom 0 (dials_in (owed_at chain (onward ask)))) → CountsFrom 0 (dials_in (owed_at chain stop)) →
@@ -125,8 +125,8 @@ module _ {S E R : Type 0} (chain : Chain S E R Command) (dialled_so : ℕ → S 
   walk_counted (r ∷ rs) last before s f es c =
       let here = reach chain last before s f es in
       let at_here = reach_counted last before s f es c in
-      walk_by_counted (chain.look here.stage here.front) _ _
-      (λ ask asks. walk_counted rs r.stamp _ _ here.front here.rest (turned here.before here.stage here.front ask (at_its_step r) at_here asks))
+      walk_by_counted (chain.look here.stage here.prefix) _ _
+      (λ ask asks. walk_counted rs r.stamp _ _ here.prefix here.rest (turned here.before here.stage here.prefix ask (at_its_step r) at_here asks))
       (there_counted (stop_at last here (r ∷ rs)) at_here)
 
 -- the dials that are due are numbered by their order
@@ -190,15 +190,15 @@ counts_at due counts conv (Some peer) moves = counts conv peer moves
 
 within_counts : (due : Due) → CountsDue due → (trace : Trace) → IsWithinDue due trace → CountsServers trace
 within_counts due counts trace within conv =
-    let front = within conv questions tt in
+    let prefix = within conv questions tt in
     let c = calls conv trace in
     let P : List ℕ → Type 0 = CountsFrom 0 in
-    let all : dials_in (due_at due conv c.peer c.moves) ≡ dialled_in trace conv ++ servers_in front.0 =
+    let all : dials_in (due_at due conv c.peer c.moves) ≡ dialled_in trace conv ++ servers_in prefix.0 =
     sym (seen_servers (due_at due conv c.peer c.moves))
-    ∙ (ap servers_in front.1
-    ∙ (flat_map-append atom_server (seen_in questions conv trace) front.0 ∙ ap (λ l. l ++ servers_in front.0) (trace_servers conv trace))) in
-    counts_front 0 (dialled_in trace conv) (servers_in front.0) (subst P all (counts_at due counts conv c.peer c.moves))
+    ∙ (ap servers_in prefix.1
+    ∙ (flat_map-append atom_server (seen_in questions conv trace) prefix.0 ∙ ap (λ l. l ++ servers_in prefix.0) (trace_servers conv trace))) in
+    counts_front 0 (dialled_in trace conv) (servers_in prefix.0) (subst P all (counts_at due counts conv c.peer c.moves))
 
 -- at every moment
 pub always_counts : (due : Due) → CountsDue due → (trace : Trace) → Always (IsWithinDue due) trace → Always CountsServers trace
-always_counts due counts trace within = record { at = λ front rest is. within_counts due counts front (within.at front rest is) }
+always_counts due counts trace within = record { at = λ prefix rest is. within_counts due counts prefix (within.at prefix rest is) }

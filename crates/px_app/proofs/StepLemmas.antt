@@ -247,17 +247,17 @@ pub rests_first : {C : Type 0} (standing : Standing C) (awaited : C → Option A
 rests_first standing awaited number made_due answers state due first to files router start stands =
     record { changes = []; made = []; stands = stands; own = tt; reaches = reaches_first to start }
 
-no_step : (front : Trace) (step : Step) → [] ≡ front ++ step ∷ [] → ⊥
+no_step : (prefix : Trace) (step : Step) → [] ≡ prefix ++ step ∷ [] → ⊥
 no_step [] step e = cc
-no_step (x ∷ front) step e = cc
+no_step (x ∷ prefix) step e = cc
 
 -- before anything was heard
 pub empty_served : {S : Type 0} (answers : Answering S) (due : Due) → IsServed answers due []
 empty_served answers due = record {
   within = always_empty (IsWithinDue due) (λ conv view told. (due_in due view conv [], refl));
   told = before_empty (IsAllTold due);
-  met = always_empty (EndsMet answers due) (λ front conv ask reply e. absurd (no_step front (steps.Answered conv ask reply) e));
-  turns = always_empty EndsInTurn (λ front step e. absurd (no_step front step e));
+  met = always_empty (EndsMet answers due) (λ prefix conv ask reply e. absurd (no_step prefix (steps.Answered conv ask reply) e));
+  turns = always_empty EndsInTurn (λ prefix step e. absurd (no_step prefix step e));
   waits = before_empty (OpenOnesWait answers due);
 }
 

@@ -2,7 +2,7 @@
 use Rattle.std.proofs.Common.{◌≡◌, ◌⊎◌, inl, inr, ℕ, List, [], Option, Some, None, refl, sym, ap, ◌∙◌, subst, arith}
 use Rattle.std.proofs.lemmas.List.{append-nil}
 use Rattle.px_outside.specs.Sink.{Writes, WritesPart}
-use Rattle.px_outside.specs.Net.{Listening, at}
+use Rattle.px_outside.specs.Net.{Listening}
 use Rattle.px_outside.specs.Net as net
 use Rattle.px_app.specs.Outside.{IsTold}
 use Rattle.px_app.specs.Run.{ListensAt}
@@ -22,11 +22,11 @@ pub told_by : (failed : Type 0) (status : ℕ) (text : List ℕ) (start now : Op
 told_by failed status text start now (inl whole) = record { begun = whole_part text start now whole; whole = λ _ _. whole }
 told_by failed status text start now (inr (is, part)) = record { begun = part; whole = λ _ quiet. absurd (quiet is) }
 
--- a beginning, for want of memory
+-- a beginning, when out of memory
 pub told_part : (failed : Type 0) (text : List ℕ) (start now : Option (List ℕ)) → WritesPart text start now → IsTold failed 8 text start now
 told_part failed text start now part = record { begun = part; whole = λ other _. absurd (other refl) }
 
--- nothing of it, for want of memory
+-- nothing of it, when out of memory
 pub told_none : (failed : Type 0) (text : List ℕ) (start now : Option (List ℕ)) → now ≡ start → IsTold failed 8 text start now
 told_none failed text start now same = told_part failed text start now (none_part text start now same)
 
@@ -45,7 +45,7 @@ eight_is BudgetSpent e = absurd (omega arith)
 eight_is OutputFailed e = absurd (omega arith)
 eight_is NoMemory e = refl
 
--- so it is with the program's number, which is 8 where the status is want of memory
+-- so it is with the program's number, which is 8 where the status is out of memory
 pub told_code : (failed : Type 0) (status : Status) (code : ℕ) (text : List ℕ) (start now : Option (List ℕ)) → (status ≡ NoMemory → code ≡ 8) →
     IsTold failed (code_of status) text start now → IsTold failed code text start now
 told_code failed status code text start now memory told = record {

@@ -1,17 +1,19 @@
 -- What a run promises with the words `gen N`.
-use Rattle.std.specs.Prelude.{◌≡◌, ◌≢◌, ◌⊎◌, ℕ, true, List, [], Some, None}
+use Rattle.std.specs.Prelude.{◌≡◌, ◌≢◌, ◌⊎◌, ℕ, true, List, [], None}
 use Rattle.px_event.specs.Trace.{Trace}
 use Rattle.px_outside.specs.Sink.{Writes, WritesPart}
 use Rattle.px_core.specs.Answers.{Answering, Failing}
 use Rattle.px_core.specs.Course.{Change}
+use Rattle.px_exchange.specs.declared.mode.Mode.{Mode}
+use Rattle.px_exchange.specs.declared.mode.Mode.TheVariants as modes
 use Rattle.px_gen.specs.Counts.{counts_in, counts_text}
 use Rattle.px_gen.specs.Heard.{Hears}
 use Rattle.px_gen.specs.Noted.{HasGrownByFront, noted, with_steps}
 use Rattle.px_gen.specs.Rules.{generator_bodies, generator_headers}
 use Rattle.px_gen.specs.Peer.{server as generator_server}
 use Rattle.px_options.specs.Lines as lines
-use Rattle.px_options.specs.Mode.{reverse}
 use Rattle.px_options.specs.Options.{Settings}
+use Rattle.px_options.specs.View.{mode_view}
 use Rattle.px_app.specs.Outside.{Outside}
 use Rattle.px_app.specs.Over.{SavedOver}
 use Rattle.px_app.specs.Promises.{Promises}
@@ -19,7 +21,11 @@ use Rattle.px_app.specs.Saved.{Append}
 use Rattle.px_app.specs.Statuses.{ends_heard}
 use Rattle.px_app.specs.declared.printing.Printing.{Printing}
 
--- the options of a generated run: its header rule and its body rule, and else the defaults
+-- its mode: all requests go to the server of the generator
+abbrev pub generator_mode : Mode
+generator_mode = modes.Reverse generator_server
+
+-- the options of a generated run: its mode, its header rule and its body rule, and else the defaults
 abbrev pub generator_settings : Settings
 generator_settings = record {
   anticache = lines.anticache.default;
@@ -29,7 +35,7 @@ generator_settings = record {
   listen = lines.listen.default;
   map_local = lines.map_local.default;
   map_remote = lines.map_remote.default;
-  mode = Some (reverse (generator_server.host, generator_server.port));
+  mode = mode_view generator_mode;
   modify_body = generator_bodies;
   modify_headers = generator_headers;
   save_stream_file = lines.save_stream_file.default;
@@ -43,13 +49,13 @@ SavesNone changes = (reached : Printing) × (made : List Append) × SavedOver No
 -- A run of so many generated flows, over a network in memory. Another network was told what was asked, answered and finished in it,
 -- and its counts were printed.
 pub record Generates {S : Type 0} (answers : Answering S) (fails : Failing S) (IsChain : Settings → S → Type 0) (out_failed : Type 0) (count : ℕ) (before after : Outside) (status : ℕ) : Type 0 where
-  -- the run, in which what was heard begins the script; it was heard to its end, but for want of memory
+  -- the run, in which what was heard begins the script; it was heard to its end, unless out of memory
   pub run : Trace
   pub hears : Hears count run
   pub ends : status ≢ 8 → ends_heard run ≡ true
   -- where it began, every peer got what was due to it, and nothing was saved
   pub by_chain : run ≢ [] → (chain : S) × (changes : List (Change S)) × IsChain generator_settings chain
-      × Promises answers fails generator_server (record { own = chain; files = before.files }) changes after.files status run × SavesNone changes
+      × Promises answers fails generator_mode (record { own = chain; files = before.files }) changes after.files status run × SavesNone changes
   -- what was told, and nothing else is asked of that network
   pub told : status ≢ 8 → after.trace ≡ with_steps before.trace (noted run)
   pub told_part : HasGrownByFront (noted run) before.trace after.trace

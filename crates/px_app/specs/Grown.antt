@@ -13,7 +13,7 @@ text_in piece = piece.text
 abbrev pub texts : List Piece → List ℕ
 texts pieces = flat_map text_in pieces
 
--- what appends add up to: all of the text of each that was put, and a front of the text of each that was lost
+-- what appends add up to: all of the text of each that was put, and a prefix of the text of each that was lost
 abbrev pub AddsUp : List Append → List ℕ → Type 0
 AddsUp [] added = added ≡ []
 AddsUp (put piece ∷ made) added = (more : List ℕ) × (added ≡ piece.text ++ more) × AddsUp made more

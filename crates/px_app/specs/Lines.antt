@@ -1,7 +1,7 @@
 -- The lines and notes of a run, but for the lines of flows.
-use Rattle.std.specs.Prelude.{ℕ, ◌==◌, if◌then◌else◌, List, [], ◌∷◌, ◌++◌, codes, decimal, Option, Some, None}
+use Rattle.std.specs.Prelude.{ℕ, ◌==◌, if◌then◌else◌, List, [], ◌∷◌, ◌++◌, codes, decimal}
 use Rattle.px_message.specs.Url.{port_suffix}
-use Rattle.px_options.specs.Mode.{ModeIs, reverse}
+use Rattle.px_options.specs.Mode.{ModeIs, regular, reverse, upstream}
 use Rattle.px_options.specs.Values.{Place}
 
 -- where the words have no form
@@ -30,14 +30,20 @@ line_of status =
 unfoldable pub proxy_text : List ℕ → ℕ → List ℕ
 proxy_text host port = codes "listening at " ++ (host ++ (58 ∷ decimal port))
 
--- and to which server their requests go
+-- to which server their requests go
 unfoldable pub server_text : List ℕ → ℕ → List ℕ
 server_text host port = codes ", for http://" ++ (host ++ (port_suffix port ++ (10 ∷ [])))
 
-abbrev pub start_text : Place → Place → List ℕ
-start_text proxy server = proxy_text proxy.0 proxy.1 ++ server_text server.0 server.1
+-- through which proxy they go
+unfoldable pub upstream_text : List ℕ → ℕ → List ℕ
+upstream_text host port = codes ", through http://" ++ (host ++ (port_suffix port ++ (10 ∷ [])))
+
+-- where requests go in a mode, and the line's end
+abbrev pub mode_text : ModeIs → List ℕ
+mode_text regular = 10 ∷ []
+mode_text (reverse server) = server_text server.0 server.1
+mode_text (upstream proxy) = upstream_text proxy.0 proxy.1
 
 -- the note at a run's start
-abbrev pub start_note : Place → Option ModeIs → List ℕ
-start_note proxy None = []
-start_note proxy (Some (reverse server)) = start_text proxy server
+abbrev pub start_note : Place → ModeIs → List ℕ
+start_note proxy mode = proxy_text proxy.0 proxy.1 ++ mode_text mode

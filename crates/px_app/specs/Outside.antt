@@ -26,7 +26,7 @@ outside trace listening contents calls misses faults losses written noted net fi
   noted = noted notes;
 }
 
--- A sink that began so has got a beginning of the text; and all of it, but for want of memory, unless it failed.
+-- A sink that began so has got a beginning of the text; and all of it, unless out of memory, unless it failed.
 pub record IsTold (failed : Type 0) (status : ℕ) (text : List ℕ) (start now : Option (List ℕ)) : Type 0 where
   pub begun : WritesPart text start now
   pub whole : status ≢ 8 → ¬ failed → Writes text start now

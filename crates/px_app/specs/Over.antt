@@ -19,11 +19,11 @@ use Rattle.px_app.specs.Saved.{Append, Appending, ArePut, BrokeAppending, Came, 
 use Rattle.px_app.specs.declared.printing.Printing.{Printing}
 use Rattle.px_app.specs.declared.printing.Printing.TheVariants.{Whole, Failed}
 
--- where a trace rests: behind the last step of each thing heard; these are its fronts that end so
+-- where a trace rests: behind the last step of each thing heard; these are its prefixes that end so
 abbrev pub rests : Trace → Trace → List Trace
-rests front [] = front ∷ []
-rests front (steps.Heard moment what ∷ rest) = front ∷ rests (front ++ steps.Heard moment what ∷ []) rest
-rests front (step ∷ rest) = rests (front ++ step ∷ []) rest
+rests prefix [] = prefix ∷ []
+rests prefix (steps.Heard moment what ∷ rest) = prefix ∷ rests (prefix ++ steps.Heard moment what ∷ []) rest
+rests prefix (step ∷ rest) = rests (prefix ++ step ∷ []) rest
 
 abbrev pub rests_of : Trace → List Trace
 rests_of [] = []
@@ -41,7 +41,7 @@ abbrev pub finished_in : Trace → List Flow
 finished_in trace = flat_map done_of trace
 
 -- The changes of a run that saves, and what they appended in sum: in each of them what is due of the flows that are finished there was
--- appended, up to a write or an append that failed, or to want of memory; behind that nothing is appended.
+-- appended, up to a write or an append that failed, or to out of memory; behind that nothing is appended.
 pub data SavedOver {S : Type 0} (to : Option SavesTo) : Printing → List (Change S) → List Append → Type 0 where
   nothing_yet : SavedOver to Whole [] []
   all_saved : (changes next : List (Change S)) (one : Change S) (made more all : List Append) → SavedOver to Whole changes made → one.new.own ≡ one.old.own →
@@ -62,7 +62,7 @@ pub record Reaches {S : Type 0} (to : Option SavesTo) (reached : Printing) (chan
   pub placed : map behind_of changes ≡ rests_of trace
   pub came : Came reached to (finished_in trace) start now made
 
--- At any moment: a change stands at each rest of a front, and a beginning of the lines is printed.
+-- At any moment: a change stands at each rest of a prefix, and a beginning of the lines is printed.
 pub record ReachesPart {S : Type 0} (to : Option SavesTo) (changes : List (Change S)) (made : List Append) (trace : Trace) (start now : Option (List ℕ)) : Type 0 where
   pub reached : Printing
   pub saved_so : SavedOver to reached changes made

@@ -7,7 +7,7 @@ use Rattle.px_app.specs.declared.printing.Printing.TheVariants.{Whole, Failed}
 use Rattle.px_app.specs.declared.status.Status.{Status}
 use Rattle.px_app.specs.declared.status.Status.TheVariants.{Ended, OutputFailed}
 
--- the sink, which began so, has got the text: all of it, or a front of it where a write failed
+-- the sink, which began so, has got the text: all of it, or a prefix of it where a write failed
 abbrev pub Has : Printing → List ℕ → Option (List ℕ) → Option (List ℕ) → Type 0
 Has Whole text start now = Writes text start now
 Has Failed text start now = WritesPart text start now
@@ -22,7 +22,7 @@ abbrev pub at_end : Printing → Status → Status
 at_end printing Ended = ended_by printing
 at_end printing status = status
 
--- The sink has got the text by a printing that went so before: all of it where the run ended well, and a front where a write
+-- The sink has got the text by a printing that went so before: all of it where the run ended well, and a prefix where a write
 -- failed, which the count of faults shows.
 pub record Ends (before : Printing) (text : List ℕ) (start now : Option (List ℕ)) (old new : ℕ) (status : Status) : Type 0 where
   pub printing : Printing

@@ -1,6 +1,5 @@
 -- What a run promises of its trace, of its status and of what is printed.
 use Rattle.std.specs.Prelude.{◌≡◌, ◌≢◌, ◌⊎◌, ◌<◌, ℕ, true, false, List, ◌++◌, Option}
-use Rattle.px_message.specs.declared.address.Address.{Address}
 use Rattle.px_event.specs.Trace.{Trace, BeforeEachHeard}
 use Rattle.px_outside.specs.Sink.{Writes, WritesPart}
 use Rattle.px_core.specs.Answered.{IsAnswered, LeavesFiles}
@@ -8,7 +7,8 @@ use Rattle.px_core.specs.Answers.{Answering, AnswererState, Failing, FilesMeanin
 use Rattle.px_core.specs.Course.{Change}
 use Rattle.px_core.specs.Due.{IsServed, IsAllTold}
 use Rattle.px_core.specs.Hooks.{IsAllAnswered}
-use Rattle.px_http.specs.Fixed.{fixed_due}
+use Rattle.px_exchange.specs.declared.mode.Mode.{Mode}
+use Rattle.px_http.specs.Modes.{mode_due}
 use Rattle.px_app.specs.Lines.{line_of}
 use Rattle.px_app.specs.Listed.{listed}
 use Rattle.px_app.specs.Over.{Reaches, ReachesPart, course_from}
@@ -18,23 +18,23 @@ use Rattle.px_app.specs.Statuses.{heard_count, ends_heard}
 use Rattle.px_app.specs.declared.printing.Printing.{Printing}
 use Rattle.px_app.specs.declared.printing.Printing.TheVariants.{Whole, Failed}
 
--- The trace of a run whose requests go to this address, whose answerer answers so, which with the files was this at first, and that
+-- The trace of a run in this mode, whose answerer answers so, which with the files was this at first, and that
 -- ended with this status and with these files, where files were changed so beside the answers.
-pub record Promises {S : Type 0} (answers : Answering S) (fails : Failing S) (address : Address) (first : AnswererState S) (changes : List (Change S)) (files : FilesMeaning) (status : ℕ)
+pub record Promises {S : Type 0} (answers : Answering S) (fails : Failing S) (mode : Mode) (first : AnswererState S) (changes : List (Change S)) (files : FilesMeaning) (status : ℕ)
     (trace : Trace) : Type 0 where
   -- At every moment, in each conversation and each view, it has a beginning of what is due, and before each thing heard all of it.
   -- A hook is asked only where none is open in its conversation, and an answer is to the hook that is open.
-  pub served : IsServed answers (fixed_due address) trace
+  pub served : IsServed answers (mode_due mode) trace
   -- From what it was at first the answerer came over the whole trace: it moved at each hook that was asked, once, in the order of the
   -- trace, and at the changes; and a reply that it gave is that hook's answer.
-  pub follows : IsAnswered answers (fixed_due address) (course_from first changes) trace
-  -- and so the files are what its last answer or the last change left; but for want of memory, where more may have been answered than
+  pub follows : IsAnswered answers (mode_due mode) (course_from first changes) trace
+  -- and so the files are what its last answer or the last change left; unless out of memory, where more may have been answered than
   -- the trace has
-  pub leaves : LeavesFiles answers fails (fixed_due address) (course_from first changes) (status ≢ 8) files trace
+  pub leaves : LeavesFiles answers fails (mode_due mode) (course_from first changes) (status ≢ 8) files trace
   -- before each thing heard no hook is open
   pub hooks : BeforeEachHeard IsAllAnswered trace
-  -- and at the end all of it is there and no hook is open, but for want of memory
-  pub whole : status ≢ 8 → IsAllTold (fixed_due address) trace
+  -- and at the end all of it is there and no hook is open, unless out of memory
+  pub whole : status ≢ 8 → IsAllTold (mode_due mode) trace
   pub hooks_whole : status ≢ 8 → IsAllAnswered trace
   -- each step is of the conversation that was heard last
   pub own : IsOwn trace
@@ -68,7 +68,7 @@ pub record EndsSo (most status : ℕ) (trace : Trace) : Type 0 where
   pub spent : 0 < most → heard_count trace ≡ most → ends_heard trace ≡ false → (status ≡ 6) ⊎ (status ≡ 8)
 
 -- What a sink that began so has got: a beginning of the lines of the finished flows with the status's line behind them. It is all
--- of them with status 0, and but for want of memory wherever the sink's faults did not rise.
+-- of them with status 0, and unless out of memory wherever the sink's faults did not rise.
 pub record Prints (sink_failed : Type 0) (status : ℕ) (trace : Trace) (start now : Option (List ℕ)) : Type 0 where
   pub begun : WritesPart (listed trace ++ line_of status) start now
   pub whole : (status ≡ 0) ⊎ ((status ≢ 8) × ¬ sink_failed) → Writes (listed trace ++ line_of status) start now

@@ -121,18 +121,18 @@ AppendsBy (Err e) to first made now = BrokeAppending to first made now
 
 -- A run that printed and saved stopped at a flow: at its line, which was printed in part, or at its text, whose append failed. All of
 -- the flows in front of it stands there, and nothing of those behind it.
-pub data StopsAt (to : Option SavesTo) (front : List Flow) (flow : Flow) (start now : Option (List ℕ)) (made : List Append) : Type 0 where
-  at_line : (mid : Option (List ℕ)) → Writes (flat_map flow_line front) start mid → WritesPart (flow_line flow) mid now →
-      made ≡ map put (saved to front) → StopsAt to front flow start now made
-  at_text : (piece : Piece) → Writes (flat_map flow_line (front ++ flow ∷ [])) start now → pieces_of to flow ≡ piece ∷ [] →
-      made ≡ map put (saved to front) ++ lost piece ∷ [] → StopsAt to front flow start now made
+pub data StopsAt (to : Option SavesTo) (prefix : List Flow) (flow : Flow) (start now : Option (List ℕ)) (made : List Append) : Type 0 where
+  at_line : (mid : Option (List ℕ)) → Writes (flat_map flow_line prefix) start mid → WritesPart (flow_line flow) mid now →
+      made ≡ map put (saved to prefix) → StopsAt to prefix flow start now made
+  at_text : (piece : Piece) → Writes (flat_map flow_line (prefix ++ flow ∷ [])) start now → pieces_of to flow ≡ piece ∷ [] →
+      made ≡ map put (saved to prefix) ++ lost piece ∷ [] → StopsAt to prefix flow start now made
 
 pub record HasStopped (to : Option SavesTo) (flows : List Flow) (start now : Option (List ℕ)) (made : List Append) : Type 0 where
-  pub front : List Flow
+  pub prefix : List Flow
   pub flow : Flow
   pub rest : List Flow
-  pub split : flows ≡ front ++ flow ∷ rest
-  pub stops : StopsAt to front flow start now made
+  pub split : flows ≡ prefix ++ flow ∷ rest
+  pub stops : StopsAt to prefix flow start now made
 
 -- How far a run came with these flows, whose sink began so: all of them are printed and saved, or it stopped.
 abbrev pub Came : Printing → Option SavesTo → List Flow → Option (List ℕ) → Option (List ℕ) → List Append → Type 0
@@ -181,8 +181,8 @@ pub record Saves (to : Option SavesTo) (flow : Flow) (result : Result Printing N
 
 -- The appends made of these pieces, from the first on: each was put, or the last of them was lost.
 pub data ArePut (pieces : List Piece) (made : List Append) : Type 0 where
-  all_put : (front : List Piece) → IsPrefixOf front pieces → made ≡ map put front → ArePut pieces made
-  last_lost : (front : List Piece) (piece : Piece) → IsPrefixOf (front ++ piece ∷ []) pieces → made ≡ map put front ++ lost piece ∷ [] → ArePut pieces made
+  all_put : (prefix : List Piece) → IsPrefixOf prefix pieces → made ≡ map put prefix → ArePut pieces made
+  last_lost : (prefix : List Piece) (piece : Piece) → IsPrefixOf (prefix ++ piece ∷ []) pieces → made ≡ map put prefix ++ lost piece ∷ [] → ArePut pieces made
 
 -- The counts of reads are as they were, and that of failed appends only rose.
 pub record KeepsCounts (first now : FilesMeaning) : Type 0 where

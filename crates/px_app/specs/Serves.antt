@@ -1,15 +1,15 @@
 -- What a run promises with the words `serve OPTIONS`, by what came of the options file.
 use Rattle.std.specs.Prelude.{◌≡◌, ◌≢◌, ◌⊎◌, ℕ, List, [], Option, Some, None, Ok}
 use Rattle.px_event.specs.Trace.{Trace}
-use Rattle.px_message.specs.declared.address.Address.{Address}
 use Rattle.px_outside.specs.Net.{Listening, idle, failed, at}
 use Rattle.px_core.specs.Answers.{Answering, Failing, FilesMeaning}
 use Rattle.px_core.specs.Course.{Change}
+use Rattle.px_exchange.specs.declared.mode.Mode.{Mode}
 use Rattle.px_filter.specs.Expression.{Expression}
 use Rattle.px_map.specs.Reads.{Made}
-use Rattle.px_options.specs.Mode.{reverse}
 use Rattle.px_options.specs.Options.{IsRefused, Says, Settings}
 use Rattle.px_options.specs.Shown.{refusal_line, refusal_note}
+use Rattle.px_options.specs.View.{mode_view}
 use Rattle.px_addons.specs.Mapped.{seen_of}
 use Rattle.px_app.specs.Lines.{cannot_read, start_note}
 use Rattle.px_app.specs.Opened.{Opened, nothing_read, absent, not_read, unjudged, refused, says, reads_of}
@@ -33,7 +33,7 @@ saves_at (Some path) filter = Some (record { path = path; filter = filter })
 abbrev pub saves_of : Settings → Option SavesTo
 saves_of settings = saves_at settings.save_stream_file settings.save_stream_filter
 
--- A run that stopped before it asked anything of the network: with this status, or for want of memory. It printed this line and told
+-- A run that stopped before it asked anything of the network: with this status, or when out of memory. It printed this line and told
 -- this note, and the files are these.
 pub record Stops (net_is_same out_failed notes_failed : Type 0) (code : ℕ) (line note : List ℕ) (files : FilesMeaning) (before after : Outside) (status : ℕ) : Type 0 where
   pub is : (status ≡ code) ⊎ (status ≡ 8)
@@ -44,9 +44,9 @@ pub record Stops (net_is_same out_failed notes_failed : Type 0) (code : ℕ) (li
 
 -- A run that served as these options say, whose hooks this chain answered, and that began with these files.
 pub record Serves {S : Type 0} (answers : Answering S) (fails : Failing S) (net_failed out_failed save_failed notes_failed : Type 0) (settings : Settings) (chain : S) (read : FilesMeaning) (before after : Outside) (status : ℕ) : Type 0 where
-  -- every peer gets what is due to it, and each hook is answered once, at once, by the chain alone; and what is printed and saved
-  pub promises : (address : Address) (trace : Trace) → settings.mode ≡ Some (reverse (address.host, address.port)) → before.trace ≡ Some [] → after.trace ≡ Some trace →
-      (changes : List (Change S)) × Promises answers fails address (record { own = chain; files = read }) changes after.files status trace
+  -- every peer gets what is due to it in the mode of the options, and each hook is answered once, at once, by the chain alone; and what is printed and saved
+  pub promises : (mode : Mode) (trace : Trace) → settings.mode ≡ mode_view mode → before.trace ≡ Some [] → after.trace ≡ Some trace →
+      (changes : List (Change S)) × Promises answers fails mode (record { own = chain; files = read }) changes after.files status trace
       × Outputs (out_failed ⊎ save_failed) (saves_of settings) changes status trace before.written after.written
   -- no file is read but by the chain's answers, none is appended to but where flows are saved, and none is changed else
   pub files : LeavesBehind answers fails (saves_of settings) (record { own = chain; files = read }) after.files

@@ -2,9 +2,8 @@
 //!
 //! The filter is judged first, then the file is read, once. Its entries are gone through from the front, one at a time, and of each flow on
 //! which the filter holds the line is printed in one write; so memory is the file and one flow.
-ghost use Rattle.std.specs.Prelude.{◌≡◌, ◌≤◌, ◌⊎◌, ◌==◌, if◌then◌else◌, ℕ, List, [], None, Ok, Err, IfOk, OnOk, true, false, length};
+ghost use Rattle.std.specs.Prelude.{◌≡◌, ◌≤◌, ◌⊎◌, ◌==◌, if◌then◌else◌, ℕ, List, [], None, Ok, Err, IfOk, true, false};
 ghost use Rattle.px_outside.specs.Count.{Rose};
-ghost use Rattle.px_outside.specs.Sink.{Writes, WritesPart};
 ghost use Rattle.px_filter.specs.Parsing.{parse as parse_text, place_of};
 ghost use Rattle.px_filter.specs.Shown.{shown};
 ghost use Rattle.px_filter.specs.View.{expression};
@@ -33,7 +32,7 @@ const NOT_PRINTED: u8 = 7;
 
 /// What one turn through a file came to.
 #[derive(Clone, Copy, Debug, PartialEq, Eq)]
-pub(crate) enum Turn {
+pub(crate) enum FlowTurn {
     /// A flow was gone past, and its line is printed where the filter holds on it.
     Went,
     /// That was the file's end.
@@ -178,32 +177,37 @@ fn show_flows<S: Sink>(alloc: Global, path: &str, filter: &Filter, bytes: Bytes,
     let mut reader = FlowReader::new(alloc, bytes);
     'flows: loop {
         match show_next(alloc, filter, &mut reader, out) {
-            Turn::Went => {}
-            Turn::AtEnd => return 0,
-            Turn::AtBadPlace(offset) => return refuse_place(alloc, path, offset, out),
-            Turn::NotPrinted => return NOT_PRINTED,
-            Turn::NoMemory => return NO_MEMORY,
+            FlowTurn::Went => {}
+            FlowTurn::AtEnd => return 0,
+            FlowTurn::AtBadPlace(offset) => return refuse_place(alloc, path, offset, out),
+            FlowTurn::NotPrinted => return NOT_PRINTED,
+            FlowTurn::NoMemory => return NO_MEMORY,
         }
     }
 }
 
 // Reads the next flow, and prints it if the filter holds on it.
-fn show_next<S: Sink>(alloc: Global, filter: &Filter, reader: &mut FlowReader, out: &mut S) -> Turn
+fn show_next<S: Sink>(
+    alloc: Global,
+    filter: &Filter,
+    reader: &mut FlowReader,
+    out: &mut S,
+) -> FlowTurn
     requires going { reader.old.fault ≡ None }
     ensures turns { Turns (Rose (S.faults out.old) (S.faults out.new)) (expression filter.now) reader.old.len reader.old.rest reader.new.rest (S.written out.old) (S.written out.new) result }
-    ensures going { result ≡ Turn.Went → reader.new.fault ≡ None }
+    ensures going { result ≡ FlowTurn.Went → reader.new.fault ≡ None }
     ensures len { reader.new.len ≡ reader.old.len }
     ensures later { S.faults out.old ≤ S.faults out.new }
 {
     match reader.next() {
         Ok(Some(entry)) => show_entry(alloc, filter, entry, out),
-        Ok(None) => Turn::AtEnd,
+        Ok(None) => FlowTurn::AtEnd,
         Err(fault) => turn_of(fault),
     }
 }
 
 // Prints the flow of an entry if the filter holds on it, and lets go of it.
-fn show_entry<S: Sink>(alloc: Global, filter: &Filter, entry: Entry, out: &mut S) -> Turn
+fn show_entry<S: Sink>(alloc: Global, filter: &Filter, entry: Entry, out: &mut S) -> FlowTurn
     ensures prints { PrintsSo (Rose (S.faults out.old) (S.faults out.new)) (line_where (expression filter.now) entry.flow) (S.written out.old) (S.written out.new) result }
     ensures later { S.faults out.old ≤ S.faults out.new }
 {
@@ -213,44 +217,44 @@ fn show_entry<S: Sink>(alloc: Global, filter: &Filter, entry: Entry, out: &mut S
 }
 
 // Prints the line of a flow if the filter holds on it.
-fn show_flow<S: Sink>(alloc: Global, filter: &Filter, flow: &Flow, out: &mut S) -> Turn
+fn show_flow<S: Sink>(alloc: Global, filter: &Filter, flow: &Flow, out: &mut S) -> FlowTurn
     ensures prints { PrintsSo (Rose (S.faults out.old) (S.faults out.new)) (line_where (expression filter.now) flow.now) (S.written out.old) (S.written out.new) result }
     ensures later { S.faults out.old ≤ S.faults out.new }
 {
     match filter.matches(flow) {
         Ok(true) => print_line(alloc, flow, out),
-        Ok(false) => Turn::Went,
-        Err(NoMemory) => Turn::NoMemory,
+        Ok(false) => FlowTurn::Went,
+        Err(NoMemory) => FlowTurn::NoMemory,
     }
 }
 
 // Prints the line of a flow, in one write.
-fn print_line<S: Sink>(alloc: Global, flow: &Flow, out: &mut S) -> Turn
+fn print_line<S: Sink>(alloc: Global, flow: &Flow, out: &mut S) -> FlowTurn
     ensures prints { PrintsSo (Rose (S.faults out.old) (S.faults out.new)) (line_of_flow flow.now) (S.written out.old) (S.written out.new) result }
     ensures later { S.faults out.old ≤ S.faults out.new }
 {
     let mut line = Vec::new(alloc);
     if flow_line(alloc, flow, &mut line).is_err() {
-        return Turn::NoMemory;
+        return FlowTurn::NoMemory;
     }
     match out.write(&line) {
-        Ok(()) => Turn::Went,
-        Err(SinkError::Failed) => Turn::NotPrinted,
-        Err(SinkError::NoMemory) => Turn::NoMemory,
+        Ok(()) => FlowTurn::Went,
+        Err(SinkError::Failed) => FlowTurn::NotPrinted,
+        Err(SinkError::NoMemory) => FlowTurn::NoMemory,
     }
 }
 
-// What a fault of the reader is: a bad place, or want of memory.
-fn turn_of(fault: ReadFault) -> Turn
+// What a fault of the reader is: a bad place, or out of memory.
+fn turn_of(fault: ReadFault) -> FlowTurn
     ensures stops { (rest : List ℕ) → IsNoEntry rest fault.cause → IsFaultTurn rest fault.offset result }
 {
     if wants_memory(fault.cause) {
-        return Turn::NoMemory;
+        return FlowTurn::NoMemory;
     }
-    Turn::AtBadPlace(fault.offset)
+    FlowTurn::AtBadPlace(fault.offset)
 }
 
-// Whether the cause of a fault is want of memory.
+// Whether the cause of a fault is out of memory.
 fn wants_memory(cause: ReadCause) -> bool
     ensures told { (rest : List ℕ) → IsNoEntry rest cause → result ≡ false → BeginsWithNone rest }
 {

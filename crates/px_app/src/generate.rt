@@ -10,15 +10,14 @@ ghost use Rattle.px_gen.specs.Script.{script as script_of};
 ghost use Rattle.px_map.specs.View.{local_views};
 ghost use Rattle.px_gen.specs.Counts.{counts_in, counts_text as text_of_counts};
 ghost use Rattle.px_gen.specs.Noted.{HasGrownByFront, noted, with_steps};
-ghost use Rattle.px_gen.specs.Peer.{server as generator_server};
-ghost use Rattle.px_http.specs.Fixed.{fixed_due};
-ghost use Rattle.px_app.specs.Generates.{Generates, generator_settings};
+ghost use Rattle.px_http.specs.Modes.{mode_due};
+ghost use Rattle.px_app.specs.Generates.{Generates, generator_mode, generator_settings};
 ghost use Rattle.px_app.specs.Opened.{AreRulesOf};
 ghost use Rattle.px_app.specs.Outside.{outside};
 ghost use Rattle.px_app.specs.Run.{IsRun, Told};
 
 use crate::printing::Printing;
-use crate::reverse::Conv;
+use crate::serve::Conv;
 use crate::serving::{Serving, serve_all};
 use crate::status::Status;
 use crate::stop::NO_MEMORY;
@@ -28,8 +27,7 @@ use px_event::{Heard, Step};
 use px_gen::{
     Generated, Nowhere, Scripted, counts_of, counts_text, note_all, rules, script, server,
 };
-use px_http::Fixed;
-use px_message::Address;
+use px_http::{Mode, Placed};
 use px_outside::{Files, Net, Sink, SinkError};
 use px_text::NoMemory;
 use std::alloc::Global;
@@ -77,30 +75,30 @@ fn run_script<K: Scripted, N: Net, F: Files, S: Sink, T: Sink>(
         (outside N.trace N.listening F.contents F.calls F.misses F.faults F.losses S.written T.written net.old files.old out.old notes.now)
         (outside N.trace N.listening F.contents F.calls F.misses F.faults F.losses S.written T.written net.new files.new out.new notes.now) result }
 {
-    let Ok((server, script)) = generated_places(alloc, count) else {
+    let Ok((mode, script)) = generated_places(alloc, count) else {
         drop(chain);
         return NO_MEMORY;
     };
     let mut generated = Generated::<K>::new(alloc, script);
-    match serve_generated(alloc, server, chain, &mut generated, files) {
+    match serve_generated(alloc, mode, chain, &mut generated, files) {
         Ok(()) => tell_run(alloc, generated.trace(), net, out),
         Err(NoMemory) => NO_MEMORY,
     }
 }
 
-// Serves the network of a run of generated flows, whose hooks this chain answers, to its end.
+// Serves the network of a run of generated flows in this mode, whose hooks this chain answers, to its end.
 fn serve_generated<K: Scripted, F: Files>(
     alloc: Global,
-    server: Address,
+    mode: Mode,
     chain: Chain,
     generated: &mut Generated<K>,
     files: &mut F,
 ) -> Result<(), NoMemory>
-    ensures ok { ⟦<Generated<K> as Net>⟧.trace generated.old ≡ Some [] → OnOk result ((printing : Printing) × Told (IsRun ⟦<Chain as Answerer>⟧.answers ⟦<Chain as Answerer>⟧.fails (fixed_due server) (record { own = chain; files = files_meaning F.contents F.calls F.misses F.faults F.losses files.old }) None 18446744073709551615 Status.Ended printing (files_meaning F.contents F.calls F.misses F.faults F.losses files.new) None None) (⟦<Generated<K> as Net>⟧.trace generated.new)) }
+    ensures ok { ⟦<Generated<K> as Net>⟧.trace generated.old ≡ Some [] → OnOk result ((printing : Printing) × Told (IsRun ⟦<Chain as Answerer>⟧.answers ⟦<Chain as Answerer>⟧.fails (mode_due mode) (record { own = chain; files = files_meaning F.contents F.calls F.misses F.faults F.losses files.old }) None 18446744073709551615 Status.Ended printing (files_meaning F.contents F.calls F.misses F.faults F.losses files.new) None None) (⟦<Generated<K> as Net>⟧.trace generated.new)) }
     ensures files { FilesAfter ⟦<Chain as Answerer>⟧.answers ⟦<Chain as Answerer>⟧.fails (record { own = chain; files = files_meaning F.contents F.calls F.misses F.faults F.losses files.old }) (files_meaning F.contents F.calls F.misses F.faults F.losses files.new) }
 {
-    let maker = Gates::new(alloc, Fixed::new(alloc, server));
-    let mut serving = Serving::<Conv, Chain, Gates<Fixed>>::new(alloc, chain, maker, None);
+    let maker = Gates::new(alloc, Placed::new(alloc, mode));
+    let mut serving = Serving::<Conv, Chain, Gates<Placed>>::new(alloc, chain, maker, None);
     match serve_all(
         alloc,
         &mut serving,
@@ -115,14 +113,14 @@ fn serve_generated<K: Scripted, F: Files>(
 }
 
 // Where generated requests go, and what is heard of so many flows.
-fn generated_places(alloc: Global, count: u64) -> Result<(Address, Vec<(u64, Heard)>), NoMemory>
+fn generated_places(alloc: Global, count: u64) -> Result<(Mode, Vec<(u64, Heard)>), NoMemory>
     requires small { count ≤ 10000 }
-    ensures server { IfOk result (λ made. made.0 ≡ generator_server) }
+    ensures mode { IfOk result (λ made. made.0 ≡ generator_mode) }
     ensures script { IfOk result (λ made. made.1.items ≡ script_of count) }
 {
     let server = server(alloc)?;
     let script = script(alloc, count)?;
-    Ok((server, script))
+    Ok((Mode::Reverse(server), script))
 }
 
 // The rules of generated runs.

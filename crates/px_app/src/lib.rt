@@ -11,12 +11,12 @@ pub mod laws;
 mod opening;
 mod printing;
 mod program;
-mod reverse;
 mod saving;
+mod serve;
 mod serving;
 mod status;
 mod stop;
 mod words;
 
 pub use program::run;
-pub use reverse::Conv;
+pub use serve::Conv;

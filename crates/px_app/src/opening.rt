@@ -1,5 +1,5 @@
 //! The options file of a run.
-ghost use Rattle.std.specs.Prelude.{◌≡◌, Ok, IfOk, IfErr, List, ℕ, [], ◌∷◌};
+ghost use Rattle.std.specs.Prelude.{Ok, IfOk, IfErr, List, ℕ, [], ◌∷◌};
 ghost use Rattle.px_outside.specs.declared.files.FileCall.TheVariants.{Read as WasRead};
 ghost use Rattle.px_map.specs.Reads.{Made, seen};
 ghost use Rattle.px_options.specs.Options.{Says};

@@ -3,12 +3,12 @@
 //! `run` is the whole program over a network, files, two sinks and addons that are handed in. Each promise is in a clause of it.
 //!
 //! With the words `serve OPTIONS` the options file is read, once and first, and what came of that is told (`specs/Opened.antt`). Where it
-//! says options, what each peer of each conversation was sent is what is due to it by px_http's `fixed_due`, by where its client is and
+//! says options, what each peer of each conversation was sent is what is due to it in the options' mode by px_http's `mode_due`, by where its client is and
 //! the calls that the trace has of the conversation; each hook was answered by the chain of the options' rules and the addons alone;
 //! what is printed is a line of each finished flow of the trace, and the status's line behind them; and each status has its cause in the
 //! trace or in a count of faults (`specs/Serves.antt`). With the words `flows FILE FILTER` the file is read, and the line of each of its flows on
 //! which the filter holds is printed (`specs/Flows.antt`). With the words `gen N` it is a run over what px_gen makes of that number
-//! (`specs/Generates.antt`). Want of memory alone has no cause; after it each peer has got a prefix of what is due, and a front of the
+//! (`specs/Generates.antt`). Out of memory alone has no cause; after it each peer has got a prefix of what is due, and a prefix of the
 //! lines is printed.
 ghost use Rattle.std.specs.Prelude.{◌≡◌, ◌≤◌, ◌⊎◌, ◌++◌, ℕ, List, [], Option, map, option_map};
 ghost use Rattle.std.specs.String.{string_bytes};
@@ -16,9 +16,8 @@ ghost use Rattle.px_outside.specs.Count.{Rose};
 ghost use Rattle.px_outside.specs.Net.{idle};
 ghost use Rattle.px_core.specs.Answers.{files_meaning};
 ghost use Rattle.px_options.specs.Shown.{refusal_line, refusal_note};
-ghost use Rattle.px_options.specs.Mode.{reverse};
 ghost use Rattle.px_filter.specs.View.{expression};
-ghost use Rattle.px_options.specs.View.{mode_view, path_view, settings};
+ghost use Rattle.px_options.specs.View.{path_view, settings};
 ghost use Rattle.px_app.specs.Flows.{Fetched, ListsFile};
 ghost use Rattle.px_app.specs.Generates.{Generates};
 ghost use Rattle.px_app.specs.Lines.{line_of, usage};
@@ -35,16 +34,15 @@ use crate::flows::list_flows;
 use crate::generate::generate;
 use crate::opening::{OpenError, read_file};
 use crate::printing::Printing;
-use crate::reverse::{Ending, serve};
 use crate::saving::Saving;
+use crate::serve::{Ending, serve};
 use crate::status::Status;
 use crate::stop::{NO_MEMORY, Stop, cannot_read, stop_with};
 use crate::words::{flow_count, flow_words, options_path};
 use px_addons::{Addon, Chain, Rules};
 use px_core::Answerer;
 use px_filter::Filter;
-use px_message::Address;
-use px_options::{FilePath, Mode, Options, OptionsError, refusal_line, refusal_note};
+use px_options::{FilePath, Options, OptionsError, refusal_line, refusal_note};
 use px_outside::{Files, Net, Sink};
 use px_text::NoMemory;
 use std::alloc::Global;
@@ -54,8 +52,8 @@ const USAGE: &str = "usage: mitm serve OPTIONS | flows FILE FILTER | gen N\n";
 
 /// Runs the program with these words, and answers the exit status.
 ///
-/// `serve OPTIONS` reads the options file of that path, listens where it says, tells a note of that, serves each connection with the
-/// server that it names by its rules and these addons, and prints a line of each finished flow. `flows FILE FILTER` reads that file of flows
+/// `serve OPTIONS` reads the options file of that path, listens where it says, tells a note of that, serves each connection in the
+/// mode that it names by its rules and these addons, and prints a line of each finished flow. `flows FILE FILTER` reads that file of flows
 /// and prints the line of each on which the filter holds. `gen N` runs N generated flows over a network in memory, tells `net` what was
 /// asked, answered and finished, and prints three counts.
 ///
@@ -222,21 +220,12 @@ fn serve_options<N: Net, F: Files, S: Sink, T: Sink>(
         anticomp,
         stream: None,
     };
-    let server = server_of(mode);
     let chain = Chain::new(rules, addons);
     let saving = saving_of(save_stream_file, save_stream_filter);
     let ending = serve(
-        alloc, &listen, server, chain, saving, net, files, out, notes, events,
+        alloc, &listen, mode, chain, saving, net, files, out, notes, events,
     );
     end(out, ending).code()
-}
-
-// The server that all requests go to.
-fn server_of(mode: Mode) -> Address
-    ensures { mode_view mode ≡ reverse (result.host, result.port) }
-{
-    let Mode::Reverse(server) = mode;
-    server
 }
 
 // Where finished flows are saved, and which.

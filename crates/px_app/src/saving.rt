@@ -1,9 +1,7 @@
 //! Saving finished flows.
-ghost use Rattle.std.specs.Prelude.{◌≡◌, ◌⊎◌, Some, map, option_map, IfOk, IfErr, length};
+ghost use Rattle.std.specs.Prelude.{◌≡◌, Some, map, option_map, IfOk};
 ghost use Rattle.px_filter.specs.View.{expression};
-ghost use Rattle.px_tnet.specs.Written.{IsTooLong};
-ghost use Rattle.px_tnet.specs.declared.error.WriteError.TheVariants as error;
-ghost use Rattle.px_app.specs.Saved.{is_taken, piece_at, pieces_of, saves_to, texts_in, texts_of, tree_of};
+ghost use Rattle.px_app.specs.Saved.{is_taken, piece_at, pieces_of, saves_to, texts_in, texts_of};
 
 use px_filter::Filter;
 use px_flowfile::{Entry, Others, write_flow};

@@ -112,7 +112,7 @@ impl<C: Owes, A: Answerer, M: Maker<C>> Serving<C, A, M> {
     }
 
     /// Works off one thing that the network has just told, and then prints and saves the flows that it finished. After `NoMemory` so it is
-    /// with a front of them.
+    /// with a prefix of them.
     fn take<N: Net, F: Files, S: Sink>(
         &mut self,
         alloc: Global,

@@ -1,18 +1,20 @@
 //! A run that stops before it serves: its line is printed and its note told, and the network is asked nothing.
 ghost use Rattle.std.specs.Prelude.{◌≡◌, ◌≤◌, ◌⊎◌, ◌++◌, IfOk, OnOk, OnErr};
 ghost use Rattle.px_message.specs.Url.{port_suffix};
+ghost use Rattle.px_options.specs.View.{mode_view};
 ghost use Rattle.px_outside.specs.Count.{Rose};
 ghost use Rattle.px_outside.specs.Sink.{Writes, WritesPart};
-ghost use Rattle.px_app.specs.Lines.{cannot_read, proxy_text, server_text, start_text};
+ghost use Rattle.px_app.specs.Lines.{cannot_read, mode_text, proxy_text, server_text, start_note, upstream_text};
 ghost use Rattle.px_app.specs.Outside.{IsTold};
 ghost use Rattle.px_app.specs.Statuses.{stop_code};
 
+use px_http::Mode;
 use px_message::Address;
 use px_outside::{Sink, SinkError};
 use px_text::{NoMemory, push_decimal};
 use std::alloc::Global;
 
-// The status for want of memory.
+// The status when out of memory.
 pub(crate) const NO_MEMORY: u8 = 8;
 
 /// Why a run does not serve.
@@ -96,17 +98,13 @@ pub(crate) fn cannot_read(alloc: Global, path: &str) -> Result<Vec<u8>, NoMemory
     Ok(line)
 }
 
-/// The note at a run's start: where clients connect, and to which server their requests go.
-pub(crate) fn start_text(
-    alloc: Global,
-    proxy: &Address,
-    server: &Address,
-) -> Result<Vec<u8>, NoMemory>
-    ensures { IfOk result (λ text. text.items ≡ start_text (proxy.now.host, proxy.now.port) (server.now.host, server.now.port)) }
+/// The note at a run's start: where clients connect, and where their requests go in this mode.
+pub(crate) fn start_note(alloc: Global, proxy: &Address, mode: &Mode) -> Result<Vec<u8>, NoMemory>
+    ensures { IfOk result (λ text. text.items ≡ start_note (proxy.now.host, proxy.now.port) (mode_view mode.now)) }
 {
     let mut text = Vec::new(alloc);
     push_proxy(proxy.host.bytes(), u64::from(proxy.port), &mut text)?;
-    push_server(server.host.bytes(), server.port, &mut text)?;
+    push_mode(mode, &mut text)?;
     Ok(text)
 }
 
@@ -121,11 +119,36 @@ fn push_proxy(host: &[u8], port: u64, text: &mut Vec<u8>) -> Result<(), NoMemory
     Ok(())
 }
 
+// Where requests go in this mode, and the line's end.
+fn push_mode(mode: &Mode, text: &mut Vec<u8>) -> Result<(), NoMemory>
+    ensures { OnOk result (text.new.items ≡ text.old.items ++ mode_text (mode_view mode.now)) }
+{
+    match mode {
+        Mode::Regular => {
+            text.push(b'\n')?;
+            Ok(())
+        }
+        Mode::Reverse(server) => push_server(server.host.bytes(), server.port, text),
+        Mode::Upstream(proxy) => push_upstream(proxy.host.bytes(), proxy.port, text),
+    }
+}
+
 #[tactic(auto, unfolding(crate::specs::Lines::server_text))]
 fn push_server(host: &[u8], port: u16, text: &mut Vec<u8>) -> Result<(), NoMemory>
     ensures { OnOk result (text.new.items ≡ text.old.items ++ server_text host.now port) }
 {
     text.extend_from_slice(b", for http://")?;
+    text.extend_from_slice(host)?;
+    push_port(port, text)?;
+    text.push(b'\n')?;
+    Ok(())
+}
+
+#[tactic(auto, unfolding(crate::specs::Lines::upstream_text))]
+fn push_upstream(host: &[u8], port: u16, text: &mut Vec<u8>) -> Result<(), NoMemory>
+    ensures { OnOk result (text.new.items ≡ text.old.items ++ upstream_text host.now port) }
+{
+    text.extend_from_slice(b", through http://")?;
     text.extend_from_slice(host)?;
     push_port(port, text)?;
     text.push(b'\n')?;

@@ -3,7 +3,7 @@
 //! `serve OPTIONS` names an options file by its path, `flows FILE FILTER` a file of flows by its path and a filter by its text, and `gen N` a
 //! number from 0 to 10,000 in decimal digits, without a sign or a leading zero. Whatever else stands there has no form, and the program
 //! answers with its usage. So a word is either taken whole or refused, and nothing is guessed.
-ghost use Rattle.std.specs.Prelude.{◌≡◌, ℕ, List, MatchOption, map};
+ghost use Rattle.std.specs.Prelude.{ℕ, List, MatchOption, map};
 ghost use Rattle.std.specs.String.{string_bytes};
 ghost use Rattle.px_app.specs.Words.{IsFlows, IsGen, IsServe};
 

@@ -1,4 +1,4 @@
-pub mod Fixed
+pub mod Modes
 pub mod Names
 pub mod Ordered
 pub mod Silent

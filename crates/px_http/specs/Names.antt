@@ -1,10 +1,9 @@
 -- What is due of a conversation names it alone.
-use Rattle.std.proofs.Common.{◌≡◌, ℕ, List, [], ◌∷◌, refl, ap, sym, subst}
+use Rattle.std.proofs.Common.{◌≡◌, ℕ, List, [], ◌∷◌, refl, ap}
 use Rattle.px_message.specs.declared.flow.FlowId.{FlowId}
 use Rattle.px_event.specs.declared.ask.Ask.TheVariants as asks
 use Rattle.px_event.specs.declared.command.Command.{Command}
 use Rattle.px_event.specs.declared.command.Command.TheVariants as commands
-use Rattle.px_event.specs.declared.event.Event.{Event}
 use Rattle.px_event.specs.declared.reply.Reply.{Reply}
 use Rattle.px_event.specs.Chain.{Timed, Look, NotYet, Asks, Ends, found}
 use Rattle.px_event.specs.Layer.{Move}
@@ -12,11 +11,11 @@ use Rattle.px_event.specs.Stands.{due_by}
 use Rattle.px_core.specs.Conversation.{IsNamed, AllNamed}
 use Rattle.px_core.proofs.ChainNamedLemmas.{StaysNamed, stays_named}
 use Rattle.px_exchange.specs.declared.terms.Terms.{Terms}
-use Rattle.px_stream.specs.Chain.{http_chain, look, pass, sequence, so_far, turn}
-use Rattle.px_stream.proofs.Quiet.{AllQuiet, IsOf, IsAskOf, LooksQuiet}
-use Rattle.px_stream.specs.Stages.{Stage, idle, receiving, dialling, answering, returning, given_head, given_body, next, over}
-use Rattle.px_stream.proofs.QuietLemmas.{looks_quiet, pass_of, so_far_quiet, turn_led}
-use Rattle.px_stream.proofs.TakeLemmas.{pass_owes_nothing}
+use Rattle.px_chain.specs.Chain.{http_chain, look, sequence, so_far, turn}
+use Rattle.px_chain.specs.Sights.{Sight, Standing, sight_over}
+use Rattle.px_chain.proofs.Quiet.{AllQuiet, IsOf, IsAskOf, LooksQuiet}
+use Rattle.px_chain.specs.Stages.{Stage, busy, idle, next, over}
+use Rattle.px_chain.proofs.QuietLemmas.{looks_quiet, pass_of, so_far_quiet, turn_led}
 use Rattle.px_http.specs.declared.conversation.HttpConv.{HttpConv}
 use Rattle.px_http.specs.Stands.{HttpStands, chain_of, start_at}
 
@@ -47,48 +46,37 @@ look_named conv NotYet is = tt
 look_named conv (Asks ask) is = (ask_named conv ask is, tt)
 look_named conv (Ends owed) is = quiet_named conv owed is
 
-pass_named : (conv : ℕ) (stage : Stage) (front : List (Timed Event)) → AllNamed conv (pass stage front).owed
-pass_named conv stage front = let P : List Command → Type 0 = AllNamed conv in subst P (sym (pass_owes_nothing stage front)) tt
-
--- the flow of a stage is the conversation's
-abbrev IsOfIts : Terms → Stage → Type 0
-IsOfIts terms stage = IsOf terms (OfConversation terms.conv) stage
+-- the flow of a place is the conversation's
+abbrev IsOfIts : Terms → Standing → Type 0
+IsOfIts terms place = IsOf terms (OfConversation terms.conv) place.stage
 
 -- and so is the next one
-onward_of : (terms : Terms) (stage : Stage) → IsOfIts terms stage → IsOfIts terms (sequence stage)
+onward_of : (terms : Terms) (stage : Stage) → IsOf terms (OfConversation terms.conv) stage → IsOf terms (OfConversation terms.conv) (sequence stage)
 onward_of terms (idle at) is = is
-onward_of terms (receiving at flow given) is = is
-onward_of terms (dialling at flow) is = is
-onward_of terms (answering at flow link) is = is
-onward_of terms (returning at flow link) is = is
-onward_of terms (given_head at flow) is = is
-onward_of terms (given_body at flow) is = is
+onward_of terms (busy at flow doing) is = is
 onward_of terms (next at) is = refl
 onward_of terms over is = is
 
 -- what a reply owes, and where it leads
-abbrev Turned : Terms → Stage → List (Timed Event) → Timed Reply → Type 0
-Turned terms stage front answer = AllQuiet (OfConversation terms.conv) (turn terms stage front answer).owed × IsOfIts terms (turn terms stage front answer).stage
+abbrev Turned : Terms → Stage → Sight → Timed Reply → Type 0
+Turned terms stage seen answer =
+    AllQuiet (OfConversation terms.conv) (turn terms stage seen answer).owed × IsOf terms (OfConversation terms.conv) (turn terms stage seen answer).stage
 
-turned : (terms : Terms) (stage : Stage) (front : List (Timed Event)) (answer : Timed Reply) → IsOfIts terms stage → Turned terms stage front answer
-turned terms (idle at) front answer is = let led = turn_led terms (OfConversation terms.conv) (idle at) front answer tt is in (led.quiet, led.is_of)
-turned terms (receiving at flow given) front answer is = let led = turn_led terms (OfConversation terms.conv) (receiving at flow given) front answer tt is in (led.quiet, led.is_of)
-turned terms (dialling at flow) front answer is = let led = turn_led terms (OfConversation terms.conv) (dialling at flow) front answer tt is in (led.quiet, led.is_of)
-turned terms (answering at flow link) front answer is = let led = turn_led terms (OfConversation terms.conv) (answering at flow link) front answer tt is in (led.quiet, led.is_of)
-turned terms (returning at flow link) front answer is = let led = turn_led terms (OfConversation terms.conv) (returning at flow link) front answer tt is in (led.quiet, led.is_of)
-turned terms (given_head at flow) front answer is = let led = turn_led terms (OfConversation terms.conv) (given_head at flow) front answer tt is in (led.quiet, led.is_of)
-turned terms (given_body at flow) front answer is = let led = turn_led terms (OfConversation terms.conv) (given_body at flow) front answer tt is in (led.quiet, led.is_of)
-turned terms (next at) front answer is = (tt, tt)
-turned terms over front answer is = (tt, tt)
+turned : (terms : Terms) (stage : Stage) (seen : Sight) (answer : Timed Reply) → IsOf terms (OfConversation terms.conv) stage → Turned terms stage seen answer
+turned terms (idle at) seen answer is = let led = turn_led terms (OfConversation terms.conv) (idle at) seen answer tt is in (led.quiet, led.is_of)
+turned terms (busy at flow doing) seen answer is = let led = turn_led terms (OfConversation terms.conv) (busy at flow doing) seen answer tt is in (led.quiet, led.is_of)
+turned terms (next at) seen answer is = (tt, tt)
+turned terms over seen answer is = (tt, tt)
 
 stays : (terms : Terms) → StaysNamed terms.conv (http_chain sequence terms) (IsOfIts terms)
 stays terms = record {
-  pass = λ stage front is. (pass_named terms.conv stage front, pass_of terms (OfConversation terms.conv) stage front is);
-  look = λ stage front is. look_named terms.conv (look terms stage front) (looks_quiet (OfConversation terms.conv) terms stage front is);
-  so_far = λ stage front is. quiet_named terms.conv (so_far stage front) (so_far_quiet (OfConversation terms.conv) stage front);
-  turn = λ stage front answer is.
-      let led = turned terms stage front answer is in
-      (quiet_named terms.conv (turn terms stage front answer).owed led.0, onward_of terms (turn terms stage front answer).stage led.1);
+  pass = λ place prefix is. (tt, pass_of terms (OfConversation terms.conv) place.stage (sight_over place prefix) is);
+  look = λ place prefix is. look_named terms.conv (look terms place.stage (sight_over place prefix)) (looks_quiet (OfConversation terms.conv) terms place.stage (sight_over place prefix) is);
+  so_far = λ place prefix is. quiet_named terms.conv (so_far place.stage (sight_over place prefix)) (so_far_quiet (OfConversation terms.conv) place.stage (sight_over place prefix));
+  turn = λ place prefix answer is.
+      let turn_there = turn terms place.stage (sight_over place prefix) answer in
+      let led = turned terms place.stage (sight_over place prefix) answer is in
+      (quiet_named terms.conv turn_there.owed led.0, onward_of terms turn_there.stage led.1);
 }
 
 -- What is due names flows of the conversation alone.
@@ -97,4 +85,4 @@ http_names made moves = stays_named made.stream.terms.conv (chain_of made) (IsOf
 
 -- no move changes its number
 pub keeps_number : (made state : HttpConv) (moves : List Move) (given : List Command) → HttpStands made state moves given → state.stream.terms.conv ≡ made.stream.terms.conv
-keeps_number made state moves given stands = ap (λ t. t.conv) stands.place.is_at.terms
+keeps_number made state moves given stands = ap (λ t. t.conv) stands.place.is_at.is_in.terms

@@ -7,7 +7,6 @@ use Rattle.px_message.specs.declared.flow.FlowId.{FlowId}
 use Rattle.px_event.specs.declared.ask.Ask.TheVariants as asks
 use Rattle.px_event.specs.declared.command.Command.{Command}
 use Rattle.px_event.specs.declared.command.Command.TheVariants as commands
-use Rattle.px_event.specs.declared.event.Event.{Event}
 use Rattle.px_event.specs.declared.reply.Reply.{Reply}
 use Rattle.px_event.specs.Chain.{Timed, Look, NotYet, Asks, Ends, found}
 use Rattle.px_event.specs.Layer.{Move}
@@ -18,13 +17,13 @@ use Rattle.px_read.specs.Items.{Item, missing, part, complete, bad_head, bad_bod
 use Rattle.px_read.specs.declared.head.RequestHead.{RequestHead as ReadRequest}
 use Rattle.px_message.specs.declared.response.Response.{Response}
 use Rattle.px_exchange.specs.declared.terms.Terms.{Terms}
-use Rattle.px_stream.specs.Chain.{http_chain, look, pass, pass_body, request_over, sequence, so_far, turn}
+use Rattle.px_chain.specs.Chain.{begin, http_chain, look, pass, pass_body, sequence, so_far, turn}
+use Rattle.px_chain.specs.Sights.{Sight, Standing, request_in, sight_over}
 use Rattle.px_exchange.specs.Finds.{or_leaves}
-use Rattle.px_stream.specs.Left.{stage_left}
-use Rattle.px_stream.proofs.Quiet.{AllQuiet, EndsNone, IsAskOf, IsBehind, IsOf, LooksQuiet, no_flow}
-use Rattle.px_stream.specs.Stages.{At, Stage, idle, receiving, dialling, answering, returning, given_head, given_body, next, over, place_of}
-use Rattle.px_stream.specs.Streams.{client_closed, now_over}
-use Rattle.px_stream.proofs.QuietLemmas.{IsGoing, looks_quiet, so_far_quiet, turn_led}
+use Rattle.px_chain.specs.Left.{stage_left}
+use Rattle.px_chain.proofs.Quiet.{AllQuiet, EndsNone, IsAskOf, IsBehind, IsOf, LooksQuiet, no_flow}
+use Rattle.px_chain.specs.Stages.{At, Doing, Stage, busy, connection, given_body, given_head, idle, next, over, place_of, request_body, response_body, response_head}
+use Rattle.px_chain.proofs.QuietLemmas.{IsGoing, looks_quiet, so_far_quiet, turn_led}
 use Rattle.px_http.specs.declared.conversation.HttpConv.{HttpConv}
 use Rattle.px_http.specs.Stands.{chain_of, start_at}
 
@@ -33,26 +32,23 @@ use Rattle.px_http.specs.Stands.{chain_of, start_at}
 -- the flow of a stage has the index that the stage counts
 abbrev pub is_counted : Stage → Bool
 is_counted (idle at) = true
-is_counted (receiving at flow given) = flow.id.index == at.flow
-is_counted (dialling at flow) = flow.id.index == at.flow
-is_counted (answering at flow link) = flow.id.index == at.flow
-is_counted (returning at flow link) = flow.id.index == at.flow
-is_counted (given_head at flow) = flow.id.index == at.flow
-is_counted (given_body at flow) = flow.id.index == at.flow
+is_counted (busy at flow doing) = flow.id.index == at.flow
 is_counted (next at) = true
 is_counted over = true
 
 -- a stage is past the flows before its own, and the end past all
 abbrev pub is_past : Stage → ℕ → Bool
 is_past (idle at) index = nat_lt index at.flow
-is_past (receiving at flow given) index = nat_lt index at.flow
-is_past (dialling at flow) index = nat_lt index at.flow
-is_past (answering at flow link) index = nat_lt index at.flow
-is_past (returning at flow link) index = nat_lt index at.flow
-is_past (given_head at flow) index = nat_lt index at.flow
-is_past (given_body at flow) index = nat_lt index at.flow
+is_past (busy at flow doing) index = nat_lt index at.flow
 is_past (next at) index = nat_lt index at.flow
 is_past over index = true
+
+-- the same of places
+abbrev pub is_counted_at : Standing → Bool
+is_counted_at place = is_counted place.stage
+
+abbrev pub is_past_at : Standing → ℕ → Bool
+is_past_at place index = is_past place.stage index
 
 abbrev HasIndex : ℕ → FlowId → Type 0
 HasIndex here id = id.index ≡ here
@@ -168,38 +164,22 @@ module _ (here : ℕ) (owed : List Command) where
   ended_by flow index same is = lt-ltb index flow (omega arith)
 
   module _ (terms : Terms) (dials count : ℕ) (quiet : AllQuiet (HasIndex here) owed) where
+    -- the flow goes on
+    goes_on : (at : At) (flow : Flow) (doing : Doing) → at.flow ≡ here → flow.id.index ≡ here → AllQuiet no_flow owed → LeadsPast here owed (busy at flow doing)
+    goes_on at flow doing same is none = record {
+      counted = counted_by flow.id.index at.flow is same;
+      later = λ index less. later_by at.flow index same less;
+      ends = λ index ends. absurd (no_ends index owed none ends);
+    }
+
     leads_past : (stage : Stage) → IsBehind here dials count stage → IsOf terms (HasIndex here) stage → EndsNone stage owed → LeadsPast here owed (sequence stage)
     leads_past (idle at) behind is none = absurd behind
-    leads_past (receiving at flow given) behind is none = record {
-      counted = counted_by flow.id.index at.flow is behind.0.0;
-      later = λ index less. later_by at.flow index behind.0.0 less;
-      ends = λ index ends. absurd (no_ends index owed none ends);
-    }
-    leads_past (dialling at flow) behind is none = record {
-      counted = counted_by flow.id.index at.flow is behind.0.0;
-      later = λ index less. later_by at.flow index behind.0.0 less;
-      ends = λ index ends. absurd (no_ends index owed none ends);
-    }
-    leads_past (answering at flow link) behind is none = record {
-      counted = counted_by flow.id.index at.flow is behind.0.0;
-      later = λ index less. later_by at.flow index behind.0.0 less;
-      ends = λ index ends. absurd (no_ends index owed none ends);
-    }
-    leads_past (returning at flow link) behind is none = record {
-      counted = counted_by flow.id.index at.flow is behind.0.0;
-      later = λ index less. later_by at.flow index behind.0.0 less;
-      ends = λ index ends. absurd (no_ends index owed none ends);
-    }
-    leads_past (given_head at flow) behind is none = record {
-      counted = counted_by flow.id.index at.flow is behind.0.0;
-      later = λ index less. later_by at.flow index behind.0.0 less;
-      ends = λ index ends. absurd (no_ends index owed none ends);
-    }
-    leads_past (given_body at flow) behind is none = record {
-      counted = counted_by flow.id.index at.flow is behind.0.0;
-      later = λ index less. later_by at.flow index behind.0.0 less;
-      ends = λ index ends. absurd (no_ends index owed none ends);
-    }
+    leads_past (busy at flow (request_body given)) behind is none = goes_on at flow (request_body given) behind.0.0 is none
+    leads_past (busy at flow connection) behind is none = goes_on at flow connection behind.0.0 is none
+    leads_past (busy at flow (response_head side how)) behind is none = goes_on at flow (response_head side how) behind.0.0 is none
+    leads_past (busy at flow (response_body side how)) behind is none = goes_on at flow (response_body side how) behind.0.0 is none
+    leads_past (busy at flow given_head) behind is none = goes_on at flow given_head behind.0.0 is none
+    leads_past (busy at flow given_body) behind is none = goes_on at flow given_body behind.0.0 is none
     leads_past (next at) behind is none = record {
       counted = refl;
       later = λ index less. behind_by at.flow index behind.0.0 less;
@@ -213,22 +193,22 @@ module _ (terms : Terms) where
   abbrev Leaves : Stage → List Command → Stage → Type 0
   Leaves = LeavesBehind is_counted is_past
 
-  asked_leaves : (stage : Stage) (front : List (Timed Event)) (ask : Command) (reply : Timed Reply) → IsGoing stage →
-      ((index : ℕ) → is_past stage index ≡ nat_lt index (place_of stage).flow) → IsOf terms (HasIndex (place_of stage).flow) stage → look terms stage front ≡ Asks ask →
-      Leaves stage (so_far stage front ++ ask ∷ (turn terms stage front reply).owed) (sequence (turn terms stage front reply).stage)
-  asked_leaves stage front ask reply goes past is asked =
+  asked_leaves : (stage : Stage) (seen : Sight) (ask : Command) (reply : Timed Reply) → IsGoing stage →
+      ((index : ℕ) → is_past stage index ≡ nat_lt index (place_of stage).flow) → IsOf terms (HasIndex (place_of stage).flow) stage → look terms stage seen ≡ Asks ask →
+      Leaves stage (so_far stage seen ++ ask ∷ (turn terms stage seen reply).owed) (sequence (turn terms stage seen reply).stage)
+  asked_leaves stage seen ask reply goes past is asked =
       let here : ℕ = (place_of stage).flow in
-      let owed : List Command = (turn terms stage front reply).owed in
-      let led = turn_led terms (HasIndex here) stage front reply goes is in
-      let on = leads_past here owed terms (place_of stage).dials (stage_left stage) led.quiet (turn terms stage front reply).stage led.behind led.is_of led.ends_none in
-      let said : AllQuiet no_flow (so_far stage front) = so_far_quiet no_flow stage front in
+      let owed : List Command = (turn terms stage seen reply).owed in
+      let led = turn_led terms (HasIndex here) stage seen reply goes is in
+      let on = leads_past here owed terms (place_of stage).dials (stage_left stage) led.quiet (turn terms stage seen reply).stage led.behind led.is_of led.ends_none in
+      let said : AllQuiet no_flow (so_far stage seen) = so_far_quiet no_flow stage seen in
       let P : Look Command → Type 0 = LooksQuiet (HasIndex here) in
-      let asks_own : IsAskOf (HasIndex here) ask = subst P asked (looks_quiet (HasIndex here) terms stage front is) in
+      let asks_own : IsAskOf (HasIndex here) ask = subst P asked (looks_quiet (HasIndex here) terms stage seen is) in
       record {
-        ordered = ordered_behind (so_far stage front) (ask ∷ owed) said (ask_ordered here ask owed asks_own (quiet_ordered (HasIndex here) owed led.quiet));
-        asks_none = λ index before. none_behind index (so_far stage front) (ask ∷ owed) said
+        ordered = ordered_behind (so_far stage seen) (ask ∷ owed) said (ask_ordered here ask owed asks_own (quiet_ordered (HasIndex here) owed led.quiet));
+        asks_none = λ index before. none_behind index (so_far stage seen) (ask ∷ owed) said
             (ask_none index here ask owed asks_own (ltb-true index here (sym (past index) ∙ before)) (quiet_none (HasIndex here) index owed led.quiet));
-        ends = λ index ends. on.ends index (ask_ends index here ask owed asks_own (ends_behind index (so_far stage front) (ask ∷ owed) said ends));
+        ends = λ index ends. on.ends index (ask_ends index here ask owed asks_own (ends_behind index (so_far stage seen) (ask ∷ owed) said ends));
         keeps = λ index before. on.later index (sym (past index) ∙ before);
         leads = on.counted;
       }
@@ -236,17 +216,12 @@ module _ (terms : Terms) where
   no_ask : (closed : Bool) (ask : Command) → or_leaves closed [] (Ends []) ≡ Asks ask → ⊥
   no_ask closed ask is = let e : Ends [] ≡ Asks ask = is in cc
 
-  turns : (stage : Stage) (front : List (Timed Event)) (ask : Command) → is_counted stage ≡ true → look terms stage front ≡ Asks ask → (reply : Timed Reply) →
-      Leaves stage (so_far stage front ++ ask ∷ (turn terms stage front reply).owed) (sequence (turn terms stage front reply).stage)
-  turns (idle at) front ask is asked reply = asked_leaves (idle at) front ask reply tt (λ index. refl) refl asked
-  turns (receiving at flow given) front ask is asked reply = asked_leaves (receiving at flow given) front ask reply tt (λ index. refl) (eqb-true flow.id.index at.flow is) asked
-  turns (dialling at flow) front ask is asked reply = asked_leaves (dialling at flow) front ask reply tt (λ index. refl) (eqb-true flow.id.index at.flow is) asked
-  turns (answering at flow link) front ask is asked reply = asked_leaves (answering at flow link) front ask reply tt (λ index. refl) (eqb-true flow.id.index at.flow is) asked
-  turns (returning at flow link) front ask is asked reply = asked_leaves (returning at flow link) front ask reply tt (λ index. refl) (eqb-true flow.id.index at.flow is) asked
-  turns (given_head at flow) front ask is asked reply = asked_leaves (given_head at flow) front ask reply tt (λ index. refl) (eqb-true flow.id.index at.flow is) asked
-  turns (given_body at flow) front ask is asked reply = asked_leaves (given_body at flow) front ask reply tt (λ index. refl) (eqb-true flow.id.index at.flow is) asked
-  turns (next at) front ask is asked reply = absurd (no_ask (client_closed front) ask asked)
-  turns over front ask is asked reply = absurd (no_ask (client_closed front) ask asked)
+  turns : (stage : Stage) (seen : Sight) (ask : Command) → is_counted stage ≡ true → look terms stage seen ≡ Asks ask → (reply : Timed Reply) →
+      Leaves stage (so_far stage seen ++ ask ∷ (turn terms stage seen reply).owed) (sequence (turn terms stage seen reply).stage)
+  turns (idle at) seen ask is asked reply = asked_leaves (idle at) seen ask reply tt (λ index. refl) refl asked
+  turns (busy at flow doing) seen ask is asked reply = asked_leaves (busy at flow doing) seen ask reply tt (λ index. refl) (eqb-true flow.id.index at.flow is) asked
+  turns (next at) seen ask is asked reply = absurd (no_ask seen.closed ask asked)
+  turns over seen ask is asked reply = absurd (no_ask seen.closed ask asked)
 
   -- where it stops
   stops_by : (here : ℕ) (l : Look Command) → LooksQuiet (HasIndex here) l → AsksBeforeEnds (found l) × ((index : ℕ) → index < here → AsksNoneOf index (found l))
@@ -254,70 +229,68 @@ module _ (terms : Terms) where
   stops_by here (Asks ask) is = (ask_ordered here ask [] is tt, λ index less. ask_none index here ask [] is less tt)
   stops_by here (Ends owed) is = (quiet_ordered (HasIndex here) owed is, λ index less. quiet_none (HasIndex here) index owed is)
 
-  stops_there : (stage : Stage) (front : List (Timed Event)) → ((index : ℕ) → is_past stage index ≡ nat_lt index (place_of stage).flow) →
-      IsOf terms (HasIndex (place_of stage).flow) stage → LeavesNone is_past stage (so_far stage front ++ found (look terms stage front))
-  stops_there stage front past is =
+  stops_there : (stage : Stage) (seen : Sight) → ((index : ℕ) → is_past stage index ≡ nat_lt index (place_of stage).flow) →
+      IsOf terms (HasIndex (place_of stage).flow) stage → LeavesNone is_past stage (so_far stage seen ++ found (look terms stage seen))
+  stops_there stage seen past is =
       let here : ℕ = (place_of stage).flow in
-      let both = stops_by here (look terms stage front) (looks_quiet (HasIndex here) terms stage front is) in
+      let both = stops_by here (look terms stage seen) (looks_quiet (HasIndex here) terms stage seen is) in
       record {
-        ordered = ordered_behind (so_far stage front) _ (so_far_quiet no_flow stage front) both.0;
-        asks_none = λ index before. none_behind index (so_far stage front) _ (so_far_quiet no_flow stage front)
+        ordered = ordered_behind (so_far stage seen) _ (so_far_quiet no_flow stage seen) both.0;
+        asks_none = λ index before. none_behind index (so_far stage seen) _ (so_far_quiet no_flow stage seen)
             (both.1 index (ltb-true index here (sym (past index) ∙ before)));
       }
 
-  stops : (stage : Stage) (front : List (Timed Event)) → is_counted stage ≡ true → LeavesNone is_past stage (so_far stage front ++ found (look terms stage front))
-  stops (idle at) front is = stops_there (idle at) front (λ index. refl) refl
-  stops (receiving at flow given) front is = stops_there (receiving at flow given) front (λ index. refl) (eqb-true flow.id.index at.flow is)
-  stops (dialling at flow) front is = stops_there (dialling at flow) front (λ index. refl) (eqb-true flow.id.index at.flow is)
-  stops (answering at flow link) front is = stops_there (answering at flow link) front (λ index. refl) (eqb-true flow.id.index at.flow is)
-  stops (returning at flow link) front is = stops_there (returning at flow link) front (λ index. refl) (eqb-true flow.id.index at.flow is)
-  stops (given_head at flow) front is = stops_there (given_head at flow) front (λ index. refl) (eqb-true flow.id.index at.flow is)
-  stops (given_body at flow) front is = stops_there (given_body at flow) front (λ index. refl) (eqb-true flow.id.index at.flow is)
-  stops (next at) front is = stops_there (next at) front (λ index. refl) tt
-  stops over front is = record { ordered = tt; asks_none = λ index before. tt }
+  stops : (stage : Stage) (seen : Sight) → is_counted stage ≡ true → LeavesNone is_past stage (so_far stage seen ++ found (look terms stage seen))
+  stops (idle at) seen is = stops_there (idle at) seen (λ index. refl) refl
+  stops (busy at flow doing) seen is = stops_there (busy at flow doing) seen (λ index. refl) (eqb-true flow.id.index at.flow is)
+  stops (next at) seen is = stops_there (next at) seen (λ index. refl) tt
+  stops over seen is = record { ordered = tt; asks_none = λ index before. tt }
 
   -- where it passes
-  passed_by : (at : At) (flow : Flow) (given : Option Response) (item : Item ReadRequest) (moment : ℕ) (front : List (Timed Event)) →
-      (flow.id.index == at.flow) ≡ true → Leaves (receiving at flow given) [] (pass_body at flow given item moment front)
-  passed_by at flow None item moment front is =
-      record { ordered = tt; asks_none = λ index before. tt; ends = λ index ends. absurd ends; keeps = λ index before. before; leads = is }
-  passed_by at flow (Some response) missing moment front is =
-      record { ordered = tt; asks_none = λ index before. tt; ends = λ index ends. absurd ends; keeps = λ index before. before; leads = is }
-  passed_by at flow (Some response) (part head body) moment front is =
-      record { ordered = tt; asks_none = λ index before. tt; ends = λ index ends. absurd ends; keeps = λ index before. before; leads = is }
-  passed_by at flow (Some response) (complete head body trailers used) moment front is =
-      record { ordered = tt; asks_none = λ index before. tt; ends = λ index ends. absurd ends; keeps = λ index before. before; leads = is }
-  passed_by at flow (Some response) (bad_head fault) moment front is =
-      record { ordered = tt; asks_none = λ index before. tt; ends = λ index ends. absurd ends; keeps = λ index before. before; leads = is }
-  passed_by at flow (Some response) (bad_body fault head body) moment front is =
-      record { ordered = tt; asks_none = λ index before. tt; ends = λ index ends. absurd ends; keeps = λ index before. before; leads = is }
-
   stays : (stage : Stage) → is_counted stage ≡ true → Leaves stage [] stage
   stays stage is =
       record { ordered = tt; asks_none = λ index before. tt; ends = λ index ends. absurd ends; keeps = λ index before. before; leads = is }
 
-  passes : (stage : Stage) (front : List (Timed Event)) → is_counted stage ≡ true → Leaves stage (pass stage front).owed (pass stage front).stage
-  passes (idle at) front is = stays (idle at) is
-  passes (receiving at flow given) front is = passed_by at flow given (request_over at front) (now_over at.since front) front is
-  passes (dialling at flow) front is = stays (dialling at flow) is
-  passes (answering at flow link) front is = stays (answering at flow link) is
-  passes (returning at flow link) front is = stays (returning at flow link) is
-  passes (given_head at flow) front is = stays (given_head at flow) is
-  passes (given_body at flow) front is = stays (given_body at flow) is
-  passes (next at) front is = stays (next at) is
-  passes over front is = stays over is
+  passed_by : (at : At) (flow : Flow) (given : Option Response) (item : Item ReadRequest) (now : ℕ) →
+      (flow.id.index == at.flow) ≡ true → Leaves (busy at flow (request_body given)) [] (pass_body at flow given item now)
+  passed_by at flow None item now is = stays (busy at flow (request_body None)) is
+  passed_by at flow (Some response) missing now is = stays (busy at flow (request_body (Some response))) is
+  passed_by at flow (Some response) (part head body) now is = stays (busy at flow (request_body (Some response))) is
+  passed_by at flow (Some response) (complete head body trailers used) now is =
+      record { ordered = tt; asks_none = λ index before. tt; ends = λ index ends. absurd ends; keeps = λ index before. before; leads = is }
+  passed_by at flow (Some response) (bad_head fault) now is = stays (busy at flow (request_body (Some response))) is
+  passed_by at flow (Some response) (bad_body fault head body) now is = stays (busy at flow (request_body (Some response))) is
+
+  passes : (stage : Stage) (seen : Sight) → is_counted stage ≡ true → Leaves stage [] (pass stage seen)
+  passes (idle at) seen is = stays (idle at) is
+  passes (busy at flow (request_body given)) seen is = passed_by at flow given (request_in at seen) seen.now is
+  passes (busy at flow connection) seen is = stays (busy at flow connection) is
+  passes (busy at flow (response_head side how)) seen is = stays (busy at flow (response_head side how)) is
+  passes (busy at flow (response_body side how)) seen is = stays (busy at flow (response_body side how)) is
+  passes (busy at flow given_head) seen is = stays (busy at flow given_head) is
+  passes (busy at flow given_body) seen is = stays (busy at flow given_body) is
+  passes (next at) seen is = stays (next at) is
+  passes over seen is = stays over is
+
+  -- from stages to places
+  at_places : (place other : Standing) (owed : List Command) → Leaves place.stage owed other.stage → LeavesBehind is_counted_at is_past_at place owed other
+  at_places place other owed leaves =
+      record { ordered = leaves.ordered; asks_none = leaves.asks_none; ends = leaves.ends; keeps = leaves.keeps; leads = leaves.leads }
+
+  stops_at : (place : Standing) (owed : List Command) → LeavesNone is_past place.stage owed → LeavesNone is_past_at place owed
+  stops_at place owed leaves = record { ordered = leaves.ordered; asks_none = leaves.asks_none }
 
   -- Flows in sequence leave their flows behind.
-  pub leaves_flows : LeavesFlows (http_chain sequence terms) is_counted is_past
+  pub leaves_flows : LeavesFlows (http_chain sequence terms) is_counted_at is_past_at
   leaves_flows = record {
-    passes = passes;
-    turns = λ stage front ask is asked reply. turns stage front ask is asked reply;
-    stops = stops;
+    passes = λ place prefix is. at_places place _ [] (passes place.stage (sight_over place prefix) is);
+    turns = λ place prefix ask is asked reply. at_places place _ _ (turns place.stage (sight_over place prefix) ask is asked reply);
+    stops = λ place prefix is. stops_at place _ (stops place.stage (sight_over place prefix) is);
   }
 
   -- What is due of them asks no hook of a flow behind its end.
-  pub ordered_from : (at : At) (moves : List Move) → AsksBeforeEnds (due_by (http_chain sequence terms) (idle at) moves)
-  ordered_from at moves = leaving_ordered (http_chain sequence terms) is_counted is_past leaves_flows (idle at) refl (events_in 1 moves) (replies_in 1 moves)
+  pub ordered_from : (at : At) (moves : List Move) → AsksBeforeEnds (due_by (http_chain sequence terms) (begin (idle at)) moves)
+  ordered_from at moves = leaving_ordered (http_chain sequence terms) is_counted_at is_past_at leaves_flows (begin (idle at)) refl (events_in 1 moves) (replies_in 1 moves)
 
 pub http_ordered : (made : HttpConv) (moves : List Move) → AsksBeforeEnds (due_by (chain_of made) (start_at made) moves)
 http_ordered made moves = ordered_from made.stream.terms _ moves

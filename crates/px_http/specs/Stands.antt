@@ -10,11 +10,11 @@ use Rattle.px_event.specs.Laws.{Settles, SoFarGrows}
 use Rattle.px_event.specs.Layer.{Move, IsSound, Goes}
 use Rattle.px_event.specs.Stands.{StandsAt, AwaitsWhatItAsks, EndsWhereItEnds, stop_of}
 use Rattle.px_event.specs.View.{View, seen_of}
-use Rattle.px_stream.specs.Chain.{http_chain, sequence}
-use Rattle.px_stream.specs.Law.{grows_onward}
-use Rattle.px_stream.specs.Laws.{settles}
+use Rattle.px_chain.specs.Chain.{begin, http_chain, sequence}
+use Rattle.px_chain.proofs.ChainLaws.{settles, so_far_grows}
+use Rattle.px_chain.specs.Sights.{Sight, Standing, sight_over}
 use Rattle.px_stream.specs.Sequence.{IsInSequence, Stands, StandsInSequence}
-use Rattle.px_stream.specs.Stages.{Stage, idle}
+use Rattle.px_chain.specs.Stages.{Stage, idle}
 use Rattle.px_stream.specs.Stands.{is_last, start_of}
 use Rattle.px_stream.specs.Stands as flows
 use Rattle.px_stream.specs.StateLaws.{awaits_what_it_asks, ends_where_it_ends}
@@ -28,18 +28,25 @@ abbrev pub awaits : HttpConv → Option Ask
 awaits state = flows.awaits state.stream
 
 -- the chain of a conversation that was made so, and where its walk over some moves stops
-abbrev pub chain_of : HttpConv → Chain Stage Event Reply Command
+abbrev pub chain_of : HttpConv → Chain Standing Event Reply Command
 chain_of made = http_chain sequence made.stream.terms
 
-abbrev pub start_at : HttpConv → Stage
-start_at made = idle (start_of made.stream.numbers)
+abbrev pub start_at : HttpConv → Standing
+start_at made = begin (idle (start_of made.stream.numbers))
 
-abbrev pub stop_at : HttpConv → List Move → Stop Stage Event Reply Command
+abbrev pub stop_at : HttpConv → List Move → Stop Standing Event Reply Command
 stop_at made moves = stop_of (chain_of made) (start_at made) moves
 
+-- the stage there, and what it sees
+abbrev pub stage_at : HttpConv → List Move → Stage
+stage_at made moves = (stop_at made moves).stage.stage
+
+abbrev pub seen_at : HttpConv → List Move → Sight
+seen_at made moves = sight_over (stop_at made moves).stage (stop_at made moves).prefix
+
 -- what the fields are, where the walk stopped
-abbrev pub is_there : HttpConv → HttpConv → Stage → List (Timed Event) → Type 0
-is_there made state stage front = IsInSequence made.stream.terms state.stream stage front
+abbrev pub is_there : HttpConv → HttpConv → Standing → List (Timed Event) → Type 0
+is_there made state place prefix = IsInSequence made.stream.terms state.stream place prefix
 
 pub stands_there : (made state : HttpConv) (moves : List Move) (given : List Command) → HttpStands made state moves given → StandsAt (chain_of made) (start_at made) (is_there made) state moves given
 stands_there made state moves given stands = record { place = stands.place; used = stands.used; seen = stands.seen; gave = stands.gave }
@@ -48,22 +55,22 @@ pub settles_there : (made : HttpConv) → Settles (chain_of made)
 settles_there made = settles sequence made.stream.terms
 
 pub grows_there : (made : HttpConv) (view : View) → SoFarGrows (chain_of made) (seen_of view)
-grows_there made view = grows_onward sequence made.stream.terms view
+grows_there made view = so_far_grows sequence made.stream.terms view
 
 pub asks_there : (made : HttpConv) → AwaitsWhatItAsks (chain_of made) (is_there made) awaits
 asks_there made =
     let law = awaits_what_it_asks sequence made.stream.terms in
     record {
-      free = λ state stage front ask at is asks. law.free state.stream stage front ask at.is_at is asks;
-      asks = λ state stage front ask at is. law.asks state.stream stage front ask at.is_at is;
+      free = λ state place prefix ask at is asks. law.free state.stream place prefix ask at.is_at is asks;
+      asks = λ state place prefix ask at is. law.asks state.stream place prefix ask at.is_at is;
     }
 
 pub ends_there : (made : HttpConv) → EndsWhereItEnds (chain_of made) (is_there made) (λ state. is_last state.stream.phase)
 ends_there made =
     let law = ends_where_it_ends sequence made.stream.terms in
     record {
-      ends = λ state stage front at last. law.ends state.stream stage front at.is_at last;
-      there = λ state stage front owed at is. law.there state.stream stage front owed at.is_at is;
+      ends = λ state place prefix at last. law.ends state.stream place prefix at.is_at last;
+      there = λ state place prefix owed at is. law.there state.stream place prefix owed at.is_at is;
     }
 
 -- ---- from the flow's machine to the conversation

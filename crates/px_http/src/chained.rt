@@ -1,8 +1,9 @@
 //! What is due of a conversation is a chain of stages, and names this conversation alone.
 ghost use Rattle.px_http.specs.Names.{http_names, keeps_number};
 ghost use Rattle.px_http.specs.Stands.{asks_there, ends_there, grows_there, is_there, settles_there, stands_there};
-ghost use Rattle.px_stream.specs.Chain.{http_chain, sequence};
-ghost use Rattle.px_stream.specs.Stages.{Stage, idle};
+ghost use Rattle.px_chain.specs.Chain.{begin, http_chain, sequence};
+ghost use Rattle.px_chain.specs.Sights.{Standing};
+ghost use Rattle.px_chain.specs.Stages.{idle};
 ghost use Rattle.px_stream.specs.Stands.{start_of};
 
 use crate::HttpConv;
@@ -10,11 +11,11 @@ use px_core::Numbered;
 use px_event::Chained;
 
 impl Chained for HttpConv {
-    ghost Stage = { Stage };
+    ghost Stage = { Standing };
 
     ghost chain = { λ made. http_chain sequence made.stream.terms };
 
-    ghost start = { λ made. idle (start_of made.stream.numbers) };
+    ghost start = { λ made. begin (idle (start_of made.stream.numbers)) };
 
     ghost is_at = { is_there };
 

@@ -2,8 +2,8 @@
 ghost use Rattle.std.specs.Prelude.{◌≡◌, ◌≤◌, ◌<◌, ◌+◌, List, [], None, IfOk};
 ghost use Rattle.px_event.specs.Layer.{Move};
 ghost use Rattle.px_event.specs.declared.command.Command.{Command as GivenCommand};
-ghost use Rattle.px_http.specs.Stands.{HttpStands, awaits, stop_at};
-ghost use Rattle.px_stream.specs.Chain.{look};
+ghost use Rattle.px_http.specs.Stands.{HttpStands, awaits, seen_at, stage_at};
+ghost use Rattle.px_chain.specs.Chain.{look};
 ghost use Rattle.px_exchange.specs.Places.{IsDialled, terms_of};
 ghost use Rattle.px_stream.specs.Rests.{LeavesRests, phase_rest};
 ghost use Rattle.px_stream.specs.Sequence.{is_end, outcome_at, outcome_in};
@@ -36,7 +36,7 @@ impl HttpConv {
     ) -> HttpConv
         requires few { first_flow < 1000000 }
         requires dials { next_server ≤ first_flow + 1 }
-        requires regular { IsDialled place }
+        requires dialled { IsDialled place }
         ensures stands { HttpStands result result [] [] }
         ensures terms { result.stream.terms ≡ terms_of conv client place }
         ensures numbers { result.stream.numbers ≡ record { flow = first_flow; server = next_server } }
@@ -57,7 +57,7 @@ impl HttpConv {
         ensures phase { result ≡ outcome_in self.now.stream.phase }
         ensures ended { is_last self.now.stream.phase ≡ is_end result }
         ensures of_walk { (made : HttpConv) (moves : List Move) (given : List GivenCommand) → HttpStands made self.now moves given →
-            result ≡ outcome_at (look made.stream.terms (stop_at made moves).stage (stop_at made moves).front) (stop_at made moves).stage }
+            result ≡ outcome_at (look made.stream.terms (stage_at made moves) (seen_at made moves)) (stage_at made moves) }
     {
         self.stream.outcome()
     }
@@ -72,7 +72,7 @@ impl HttpConv {
         ensures server { IfOk result (λ left. left.0.server ≡ phase_rest self.stream.phase) }
         ensures flow { IfOk result (λ left. left.1 ≡ None) }
         ensures behind { (made : HttpConv) (moves : List Move) (given : List GivenCommand) → HttpStands made self moves given →
-            IfOk result (λ left. LeavesRests (look made.stream.terms (stop_at made moves).stage (stop_at made moves).front) (stop_at made moves).stage (stop_at made moves).front
+            IfOk result (λ left. LeavesRests (look made.stream.terms (stage_at made moves) (seen_at made moves)) (stage_at made moves) (seen_at made moves)
             left.0.client left.0.server) }
     {
         self.stream.into_rests()

@@ -2,15 +2,14 @@
 //!
 //! It is the chain of one flow with another last step: where a flow is finished and the connection goes on, the next one
 //! begins, and its request is what the client sent behind the former. What is due names this conversation alone, so a
-//! gate before it is a conversation of a router. `Mode` says where requests go.
+//! gate before it is a conversation of a router. `Mode` is px_exchange's, and says where requests go.
 #![tactic(auto)]
 
 mod chained;
 mod conversation;
-mod fixed;
 pub mod laws;
-mod mode;
+mod placed;
 
 pub use conversation::HttpConv;
-pub use fixed::Fixed;
-pub use mode::Mode;
+pub use placed::Placed;
+pub use px_exchange::Mode;

@@ -1,5 +1,5 @@
 -- What is gathered key by key is what the definitions say of the whole table, since its keys ascend.
-use Rattle.std.proofs.Common.{◌≡◌, ℕ, Bool, true, false, List, [], ◌∷◌, bytes_eq, Option, Some, None, Result, Ok, Err, IfOk, IfErr, if◌then◌else◌, String, Global, Less, string_bytes, refl, sym, ap, subst, ◌∙◌}
+use Rattle.std.proofs.Common.{◌≡◌, ℕ, Bool, true, false, List, [], ◌∷◌, bytes_eq, Option, Some, None, Result, Ok, Err, IfErr, if◌then◌else◌, String, Global, Less, string_bytes, refl, sym, ap, subst, ◌∙◌}
 use Rattle.std.proofs.lemmas.Slice.Eq.{bytes_eq-Decides}
 use Rattle.std.specs.List.{AllByRecursion}
 use Rattle.std.specs.List.Sorted.{IsStrictlySortedBy}
@@ -16,17 +16,12 @@ use Rattle.px_options.specs.Keys.{key_of, name_of}
 use Rattle.px_options.specs.Lines as lines
 use Rattle.px_options.specs.Lines.{Line}
 use Rattle.px_options.specs.Mode.{ModeIs}
-use Rattle.px_options.specs.Options.{Settings, first_refusal, options_by, options_of, or_others, refusal_of_key, value_or, why, with_mode}
-use Rattle.px_options.specs.Steps.{defaults, put_at, put_by, put_named}
+use Rattle.px_options.specs.Options.{Settings, defaults, first_refusal, options_by, options_of, or_others, refusal_of_key, value_or, why}
+use Rattle.px_options.specs.Steps.{put_at, put_by, put_named}
 use Rattle.px_options.specs.Values.{Place}
 use Rattle.px_options.specs.declared.error.OptionsError.{OptionsError}
 use Rattle.px_options.specs.declared.key.Key.{Key}
 use Rattle.px_options.specs.declared.key.Key.TheVariants as key
-
--- the first refusal, or else the options
-abbrev told : Option OptionsError → Settings → Result Settings OptionsError
-told (Some e) s = Err e
-told None s = Ok s
 
 -- each option by its line, with what was before as the default
 abbrev settings_from : Settings → Members → Settings
@@ -47,94 +42,94 @@ settings_from s table = record {
 
 -- what is gathered from these members is what they say
 abbrev IsGathered : Members → Type 0
-IsGathered ms = (t : Settings) → gathered ms t ≡ told (first_refusal ms) (settings_from t ms)
+IsGathered ms = (t : Settings) → gathered ms t ≡ options_by (first_refusal ms) (settings_from t ms)
 
 line_more : {A : Type 0} (l : Line A) (a before : A) (o : Option Data) (d : Data) → o ≡ None → Ok a ≡ l.reads d → value_or l a o ≡ value_or l before (Some d)
 line_more l a before o d none is = rw (none, ← is) refl
 
 anticache_more : (d : Data) (ms : Members) (s : Settings) (r : Result Bool OptionsError) → r ≡ lines.anticache.reads d → get_member (name_of key.Anticache) ms ≡ None → IsGathered ms
-    → and_then (gathered ms) (put_by (λ a. record s { anticache = a }) r) ≡ told (or_others (why r) (first_refusal ms)) (settings_from s (member (name_of key.Anticache) d ms))
+    → and_then (gathered ms) (put_by (λ a. record s { anticache = a }) r) ≡ options_by (or_others (why r) (first_refusal ms)) (settings_from s (member (name_of key.Anticache) d ms))
 anticache_more d ms s (Err e) is none ih = refl
 anticache_more d ms s (Ok a) is none ih =
     ih (record s { anticache = a })
-    ∙ ap (λ v. told (first_refusal ms) (record (settings_from s ms) { anticache = v })) (line_more lines.anticache a s.anticache (get_member (name_of key.Anticache) ms) d none is)
+    ∙ ap (λ v. options_by (first_refusal ms) (record (settings_from s ms) { anticache = v })) (line_more lines.anticache a s.anticache (get_member (name_of key.Anticache) ms) d none is)
 
 anticomp_more : (d : Data) (ms : Members) (s : Settings) (r : Result Bool OptionsError) → r ≡ lines.anticomp.reads d → get_member (name_of key.Anticomp) ms ≡ None → IsGathered ms
-    → and_then (gathered ms) (put_by (λ a. record s { anticomp = a }) r) ≡ told (or_others (why r) (first_refusal ms)) (settings_from s (member (name_of key.Anticomp) d ms))
+    → and_then (gathered ms) (put_by (λ a. record s { anticomp = a }) r) ≡ options_by (or_others (why r) (first_refusal ms)) (settings_from s (member (name_of key.Anticomp) d ms))
 anticomp_more d ms s (Err e) is none ih = refl
 anticomp_more d ms s (Ok a) is none ih =
     ih (record s { anticomp = a })
-    ∙ ap (λ v. told (first_refusal ms) (record (settings_from s ms) { anticomp = v })) (line_more lines.anticomp a s.anticomp (get_member (name_of key.Anticomp) ms) d none is)
+    ∙ ap (λ v. options_by (first_refusal ms) (record (settings_from s ms) { anticomp = v })) (line_more lines.anticomp a s.anticomp (get_member (name_of key.Anticomp) ms) d none is)
 
 block_list_more : (d : Data) (ms : Members) (s : Settings) (r : Result (List BlockRule) OptionsError) → r ≡ lines.block_list.reads d → get_member (name_of key.BlockList) ms ≡ None → IsGathered ms
-    → and_then (gathered ms) (put_by (λ a. record s { block_list = a }) r) ≡ told (or_others (why r) (first_refusal ms)) (settings_from s (member (name_of key.BlockList) d ms))
+    → and_then (gathered ms) (put_by (λ a. record s { block_list = a }) r) ≡ options_by (or_others (why r) (first_refusal ms)) (settings_from s (member (name_of key.BlockList) d ms))
 block_list_more d ms s (Err e) is none ih = refl
 block_list_more d ms s (Ok a) is none ih =
     ih (record s { block_list = a })
-    ∙ ap (λ v. told (first_refusal ms) (record (settings_from s ms) { block_list = v })) (line_more lines.block_list a s.block_list (get_member (name_of key.BlockList) ms) d none is)
+    ∙ ap (λ v. options_by (first_refusal ms) (record (settings_from s ms) { block_list = v })) (line_more lines.block_list a s.block_list (get_member (name_of key.BlockList) ms) d none is)
 
 events_more : (d : Data) (ms : Members) (s : Settings) (r : Result ℕ OptionsError) → r ≡ lines.events.reads d → get_member (name_of key.Events) ms ≡ None → IsGathered ms
-    → and_then (gathered ms) (put_by (λ a. record s { events = a }) r) ≡ told (or_others (why r) (first_refusal ms)) (settings_from s (member (name_of key.Events) d ms))
+    → and_then (gathered ms) (put_by (λ a. record s { events = a }) r) ≡ options_by (or_others (why r) (first_refusal ms)) (settings_from s (member (name_of key.Events) d ms))
 events_more d ms s (Err e) is none ih = refl
 events_more d ms s (Ok a) is none ih =
     ih (record s { events = a })
-    ∙ ap (λ v. told (first_refusal ms) (record (settings_from s ms) { events = v })) (line_more lines.events a s.events (get_member (name_of key.Events) ms) d none is)
+    ∙ ap (λ v. options_by (first_refusal ms) (record (settings_from s ms) { events = v })) (line_more lines.events a s.events (get_member (name_of key.Events) ms) d none is)
 
 listen_more : (d : Data) (ms : Members) (s : Settings) (r : Result Place OptionsError) → r ≡ lines.listen.reads d → get_member (name_of key.Listen) ms ≡ None → IsGathered ms
-    → and_then (gathered ms) (put_by (λ a. record s { listen = a }) r) ≡ told (or_others (why r) (first_refusal ms)) (settings_from s (member (name_of key.Listen) d ms))
+    → and_then (gathered ms) (put_by (λ a. record s { listen = a }) r) ≡ options_by (or_others (why r) (first_refusal ms)) (settings_from s (member (name_of key.Listen) d ms))
 listen_more d ms s (Err e) is none ih = refl
 listen_more d ms s (Ok a) is none ih =
     ih (record s { listen = a })
-    ∙ ap (λ v. told (first_refusal ms) (record (settings_from s ms) { listen = v })) (line_more lines.listen a s.listen (get_member (name_of key.Listen) ms) d none is)
+    ∙ ap (λ v. options_by (first_refusal ms) (record (settings_from s ms) { listen = v })) (line_more lines.listen a s.listen (get_member (name_of key.Listen) ms) d none is)
 
 map_local_more : (d : Data) (ms : Members) (s : Settings) (r : Result (List Rule) OptionsError) → r ≡ lines.map_local.reads d → get_member (name_of key.MapLocal) ms ≡ None → IsGathered ms
-    → and_then (gathered ms) (put_by (λ a. record s { map_local = a }) r) ≡ told (or_others (why r) (first_refusal ms)) (settings_from s (member (name_of key.MapLocal) d ms))
+    → and_then (gathered ms) (put_by (λ a. record s { map_local = a }) r) ≡ options_by (or_others (why r) (first_refusal ms)) (settings_from s (member (name_of key.MapLocal) d ms))
 map_local_more d ms s (Err e) is none ih = refl
 map_local_more d ms s (Ok a) is none ih =
     ih (record s { map_local = a })
-    ∙ ap (λ v. told (first_refusal ms) (record (settings_from s ms) { map_local = v })) (line_more lines.map_local a s.map_local (get_member (name_of key.MapLocal) ms) d none is)
+    ∙ ap (λ v. options_by (first_refusal ms) (record (settings_from s ms) { map_local = v })) (line_more lines.map_local a s.map_local (get_member (name_of key.MapLocal) ms) d none is)
 
 map_remote_more : (d : Data) (ms : Members) (s : Settings) (r : Result (List Rule) OptionsError) → r ≡ lines.map_remote.reads d → get_member (name_of key.MapRemote) ms ≡ None → IsGathered ms
-    → and_then (gathered ms) (put_by (λ a. record s { map_remote = a }) r) ≡ told (or_others (why r) (first_refusal ms)) (settings_from s (member (name_of key.MapRemote) d ms))
+    → and_then (gathered ms) (put_by (λ a. record s { map_remote = a }) r) ≡ options_by (or_others (why r) (first_refusal ms)) (settings_from s (member (name_of key.MapRemote) d ms))
 map_remote_more d ms s (Err e) is none ih = refl
 map_remote_more d ms s (Ok a) is none ih =
     ih (record s { map_remote = a })
-    ∙ ap (λ v. told (first_refusal ms) (record (settings_from s ms) { map_remote = v })) (line_more lines.map_remote a s.map_remote (get_member (name_of key.MapRemote) ms) d none is)
+    ∙ ap (λ v. options_by (first_refusal ms) (record (settings_from s ms) { map_remote = v })) (line_more lines.map_remote a s.map_remote (get_member (name_of key.MapRemote) ms) d none is)
 
-mode_more : (d : Data) (ms : Members) (s : Settings) (r : Result (Option ModeIs) OptionsError) → r ≡ lines.mode.reads d → get_member (name_of key.Mode) ms ≡ None → IsGathered ms
-    → and_then (gathered ms) (put_by (λ a. record s { mode = a }) r) ≡ told (or_others (why r) (first_refusal ms)) (settings_from s (member (name_of key.Mode) d ms))
+mode_more : (d : Data) (ms : Members) (s : Settings) (r : Result ModeIs OptionsError) → r ≡ lines.mode.reads d → get_member (name_of key.Mode) ms ≡ None → IsGathered ms
+    → and_then (gathered ms) (put_by (λ a. record s { mode = a }) r) ≡ options_by (or_others (why r) (first_refusal ms)) (settings_from s (member (name_of key.Mode) d ms))
 mode_more d ms s (Err e) is none ih = refl
 mode_more d ms s (Ok a) is none ih =
     ih (record s { mode = a })
-    ∙ ap (λ v. told (first_refusal ms) (record (settings_from s ms) { mode = v })) (line_more lines.mode a s.mode (get_member (name_of key.Mode) ms) d none is)
+    ∙ ap (λ v. options_by (first_refusal ms) (record (settings_from s ms) { mode = v })) (line_more lines.mode a s.mode (get_member (name_of key.Mode) ms) d none is)
 
 modify_body_more : (d : Data) (ms : Members) (s : Settings) (r : Result (List Rule) OptionsError) → r ≡ lines.modify_body.reads d → get_member (name_of key.ModifyBody) ms ≡ None → IsGathered ms
-    → and_then (gathered ms) (put_by (λ a. record s { modify_body = a }) r) ≡ told (or_others (why r) (first_refusal ms)) (settings_from s (member (name_of key.ModifyBody) d ms))
+    → and_then (gathered ms) (put_by (λ a. record s { modify_body = a }) r) ≡ options_by (or_others (why r) (first_refusal ms)) (settings_from s (member (name_of key.ModifyBody) d ms))
 modify_body_more d ms s (Err e) is none ih = refl
 modify_body_more d ms s (Ok a) is none ih =
     ih (record s { modify_body = a })
-    ∙ ap (λ v. told (first_refusal ms) (record (settings_from s ms) { modify_body = v })) (line_more lines.modify_body a s.modify_body (get_member (name_of key.ModifyBody) ms) d none is)
+    ∙ ap (λ v. options_by (first_refusal ms) (record (settings_from s ms) { modify_body = v })) (line_more lines.modify_body a s.modify_body (get_member (name_of key.ModifyBody) ms) d none is)
 
 modify_headers_more : (d : Data) (ms : Members) (s : Settings) (r : Result (List Rule) OptionsError) → r ≡ lines.modify_headers.reads d → get_member (name_of key.ModifyHeaders) ms ≡ None → IsGathered ms
-    → and_then (gathered ms) (put_by (λ a. record s { modify_headers = a }) r) ≡ told (or_others (why r) (first_refusal ms)) (settings_from s (member (name_of key.ModifyHeaders) d ms))
+    → and_then (gathered ms) (put_by (λ a. record s { modify_headers = a }) r) ≡ options_by (or_others (why r) (first_refusal ms)) (settings_from s (member (name_of key.ModifyHeaders) d ms))
 modify_headers_more d ms s (Err e) is none ih = refl
 modify_headers_more d ms s (Ok a) is none ih =
     ih (record s { modify_headers = a })
-    ∙ ap (λ v. told (first_refusal ms) (record (settings_from s ms) { modify_headers = v })) (line_more lines.modify_headers a s.modify_headers (get_member (name_of key.ModifyHeaders) ms) d none is)
+    ∙ ap (λ v. options_by (first_refusal ms) (record (settings_from s ms) { modify_headers = v })) (line_more lines.modify_headers a s.modify_headers (get_member (name_of key.ModifyHeaders) ms) d none is)
 
 save_stream_file_more : (d : Data) (ms : Members) (s : Settings) (r : Result (Option (List ℕ)) OptionsError) → r ≡ lines.save_stream_file.reads d → get_member (name_of key.SaveStreamFile) ms ≡ None → IsGathered ms
-    → and_then (gathered ms) (put_by (λ a. record s { save_stream_file = a }) r) ≡ told (or_others (why r) (first_refusal ms)) (settings_from s (member (name_of key.SaveStreamFile) d ms))
+    → and_then (gathered ms) (put_by (λ a. record s { save_stream_file = a }) r) ≡ options_by (or_others (why r) (first_refusal ms)) (settings_from s (member (name_of key.SaveStreamFile) d ms))
 save_stream_file_more d ms s (Err e) is none ih = refl
 save_stream_file_more d ms s (Ok a) is none ih =
     ih (record s { save_stream_file = a })
-    ∙ ap (λ v. told (first_refusal ms) (record (settings_from s ms) { save_stream_file = v })) (line_more lines.save_stream_file a s.save_stream_file (get_member (name_of key.SaveStreamFile) ms) d none is)
+    ∙ ap (λ v. options_by (first_refusal ms) (record (settings_from s ms) { save_stream_file = v })) (line_more lines.save_stream_file a s.save_stream_file (get_member (name_of key.SaveStreamFile) ms) d none is)
 
 save_stream_filter_more : (d : Data) (ms : Members) (s : Settings) (r : Result (Option Expression) OptionsError) → r ≡ lines.save_stream_filter.reads d → get_member (name_of key.SaveStreamFilter) ms ≡ None → IsGathered ms
-    → and_then (gathered ms) (put_by (λ a. record s { save_stream_filter = a }) r) ≡ told (or_others (why r) (first_refusal ms)) (settings_from s (member (name_of key.SaveStreamFilter) d ms))
+    → and_then (gathered ms) (put_by (λ a. record s { save_stream_filter = a }) r) ≡ options_by (or_others (why r) (first_refusal ms)) (settings_from s (member (name_of key.SaveStreamFilter) d ms))
 save_stream_filter_more d ms s (Err e) is none ih = refl
 save_stream_filter_more d ms s (Ok a) is none ih =
     ih (record s { save_stream_filter = a })
-    ∙ ap (λ v. told (first_refusal ms) (record (settings_from s ms) { save_stream_filter = v })) (line_more lines.save_stream_filter a s.save_stream_filter (get_member (name_of key.SaveStreamFilter) ms) d none is)
+    ∙ ap (λ v. options_by (first_refusal ms) (record (settings_from s ms) { save_stream_filter = v })) (line_more lines.save_stream_filter a s.save_stream_filter (get_member (name_of key.SaveStreamFilter) ms) d none is)
 
 or_named : (b : Bool) (k found : Key) (name : List ℕ) (others : Option Key) → (b ≡ true → name ≡ name_of k) → (if b then Some k else others) ≡ Some found
     → (others ≡ Some found → name ≡ name_of found) → name ≡ name_of found
@@ -165,7 +160,7 @@ named name found is =
 abbrev More : Option Key → Members → Data → Settings → List ℕ → Type 0
 More k ms d s name =
     get_member name ms ≡ None
-    → and_then (gathered ms) (put_at k name d s) ≡ told (or_others (refusal_of_key k name d) (first_refusal ms)) (settings_from s (member name d ms))
+    → and_then (gathered ms) (put_at k name d s) ≡ options_by (or_others (refusal_of_key k name d) (first_refusal ms)) (settings_from s (member name d ms))
 
 by_key : (k : Option Key) (name : List ℕ) (d : Data) (ms : Members) (s : Settings) → key_of name ≡ k → IsGathered ms → More k ms d s name
 by_key None name d ms s is ih = λ none. refl
@@ -200,33 +195,16 @@ no_key k [] h = refl
 no_key k (e ∷ es) h = rw h.0 (no_key k es h.1)
 
 gathered_all : (es : List Entry) (s : Settings) → IsStrictlySortedBy string_cmp (keys_of es)
-    → gathered (members_view es) s ≡ told (first_refusal (members_view es)) (settings_from s (members_view es))
+    → gathered (members_view es) s ≡ options_by (first_refusal (members_view es)) (settings_from s (members_view es))
 unfolding IsStrictlySortedBy
 gathered_all [] s h = refl
 gathered_all (e ∷ es) s h =
     by_key (key_of (string_bytes e.0)) (string_bytes e.0) (view e.1) (members_view es) s refl (λ t. gathered_all es t h.1) (no_key e.0 es h.0)
 
-told_ok : (r : Option OptionsError) (f t : Settings) → told r f ≡ Ok t → options_by r f ≡ with_mode t
-told_ok None f t e = let same : f ≡ t = cc in ap with_mode same
-told_ok (Some e) f t is = absurd (cc)
-
-told_err : (r : Option OptionsError) (f : Settings) (e : OptionsError) → told r f ≡ Err e → options_by r f ≡ Err e
-told_err None f e is = absurd (cc)
-told_err (Some o) f e is = is
-
--- the options of a whole table that was gathered
-pub gathered_ok : (es : List Entry) (s t : Settings) → IsStrictlySortedBy string_cmp (keys_of es) → s ≡ defaults → gathered (members_view es) s ≡ Ok t
-    → options_of (members_view es) ≡ with_mode t
-gathered_ok es s t ordered new is =
-    told_ok (first_refusal (members_view es)) (settings_from defaults (members_view es)) t
-    (sym (gathered_all es defaults ordered) ∙ ap (gathered (members_view es)) (sym new) ∙ is)
-
--- its refusal
-pub gathered_err : (es : List Entry) (s : Settings) (e : OptionsError) → IsStrictlySortedBy string_cmp (keys_of es) → s ≡ defaults → gathered (members_view es) s ≡ Err e
-    → options_of (members_view es) ≡ Err e
-gathered_err es s e ordered new is =
-    told_err (first_refusal (members_view es)) (settings_from defaults (members_view es)) e
-    (sym (gathered_all es defaults ordered) ∙ ap (gathered (members_view es)) (sym new) ∙ is)
+-- what is gathered from a whole table, from the defaults on, is what it says
+pub gathered_says : (es : List Entry) (s : Settings) (said : Result Settings OptionsError) → IsStrictlySortedBy string_cmp (keys_of es) → s ≡ defaults
+    → gathered (members_view es) s ≡ said → options_of (members_view es) ≡ said
+gathered_says es s said ordered new is = sym (gathered_all es defaults ordered) ∙ ap (gathered (members_view es)) (sym new) ∙ is
 
 -- one key more
 pub key_more : (es left : List Entry) (e : Entry) (name : List ℕ) (s t : Settings) → es ≡ e ∷ left → name ≡ string_bytes e.0 → put_named name (view e.1) s ≡ Ok t
@@ -242,11 +220,7 @@ key_refused es left e name s refused is same put =
     ap (λ es. gathered (members_view es) s) is
     ∙ ap (and_then (gathered (members_view left))) (subst (λ n. put_named n (view e.1) s ≡ Err refused) same put)
 
--- what holds of each answer, by what else holds of it
-pub if_ok_as : {A E : Type 0} {P Q : A → Type 0} (r : Result A E) → ((a : A) → P a → Q a) → IfOk r P → IfOk r Q
-if_ok_as (Ok a) turn held = turn a held
-if_ok_as (Err e) turn held = tt
-
+-- what holds of a refusal, by what else holds of it
 pub if_err_as : {A E : Type 0} {P Q : E → Type 0} (r : Result A E) → ((e : E) → P e → Q e) → IfErr r P → IfErr r Q
 if_err_as (Ok a) turn held = tt
 if_err_as (Err e) turn held = turn e held

@@ -1,5 +1,5 @@
 -- The laws.
-use Rattle.std.proofs.Common.{◌≡◌, ◌≢◌, ℕ, ◌+◌, Bool, true, false, List, [], ◌∷◌, Option, Some, None, Result, Ok, Err, IfErr, IfSome, IsErr, if◌then◌else◌, is_some, refl, sym, ap, subst, ◌∙◌}
+use Rattle.std.proofs.Common.{◌≡◌, ◌≢◌, ℕ, ◌+◌, Bool, true, false, List, [], ◌∷◌, Option, Some, None, Result, Ok, Err, IfErr, IfSome, IsErr, refl, sym, ap, subst, ◌∙◌}
 use Rattle.px_filter.specs.Expression.{Expression}
 use Rattle.px_filter.specs.Parsing.{parse}
 use Rattle.px_filter.specs.declared.filter.FilterError.{FilterError}
@@ -173,12 +173,8 @@ first_of_table : (ms : Members) → IfSome (first_refusal ms) OfTable
 first_of_table no_members = tt
 first_of_table (member name d ms) = others_of_table (refusal_of name d) (first_refusal ms) (key_of_table (key_of name) name d) (first_of_table ms)
 
-with_mode_of_table : (b : Bool) (s : Settings) → IfErr (if b then Ok s else Err error.BadMode) OfTable
-with_mode_of_table true s = tt
-with_mode_of_table false s = refl
-
 by_of_table : (r : Option OptionsError) (s : Settings) → IfSome r OfTable → IfErr (options_by r s) OfTable
-by_of_table None s h = with_mode_of_table (is_some s.mode) s
+by_of_table None s h = tt
 by_of_table (Some e) s h = h
 
 pub never : (table : Members) (e : OptionsError) → is_of_table e ≡ false → options_of table ≢ Err e

@@ -4,7 +4,7 @@ use Rattle.px_filter.specs.Expression.{Expression}
 use Rattle.px_map.specs.Block.{BlockRule, block_rule}
 use Rattle.px_rule.specs.Rule.{Rule, body_rule, header_rule}
 use Rattle.toml.specs.Data.{Data}
-use Rattle.px_options.specs.Mode.{ModeIs, mode as mode_text}
+use Rattle.px_options.specs.Mode.{ModeIs, regular, mode as mode_text}
 use Rattle.px_options.specs.Rules.{rules}
 use Rattle.px_options.specs.Save.{file_path, flow_filter}
 use Rattle.px_options.specs.Values.{Place, address, count, truth}
@@ -45,9 +45,8 @@ map_local = line key.MapLocal (rules body_rule) []
 abbrev pub map_remote : Line (List Rule)
 map_remote = line key.MapRemote (rules body_rule) []
 
--- without its key there is no mode
-abbrev pub mode : Line (Option ModeIs)
-mode = line key.Mode mode_text None
+abbrev pub mode : Line ModeIs
+mode = line key.Mode mode_text regular
 
 abbrev pub modify_body : Line (List Rule)
 modify_body = line key.ModifyBody (rules body_rule) []

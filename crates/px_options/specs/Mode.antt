@@ -9,12 +9,20 @@ use Rattle.px_options.specs.declared.key.Key.{Key}
 
 -- where requests go
 pub data ModeIs : Type 0 where
+  -- each where its target says
+  regular : ModeIs
   -- all to this server
   reverse : Place → ModeIs
+  -- all to this proxy
+  upstream : Place → ModeIs
 
 -- the text begins with `reverse:`
 abbrev pub is_reverse : List ℕ → Bool
 is_reverse text = bytes_eq (take 8 text) (codes "reverse:")
+
+-- the text begins with `upstream:`
+abbrev pub is_upstream : List ℕ → Bool
+is_upstream text = bytes_eq (take 9 text) (codes "upstream:")
 
 -- the server alone that a target names: one in absolute form whose path is `/`
 abbrev pub server_in : Form → Option Place
@@ -25,19 +33,27 @@ abbrev pub server_of : Option Form → Option Place
 server_of None = None
 server_of (Some form) = server_in form
 
--- The mode that a text is: `reverse:`, and behind it a URL of the scheme `http` as a request's target has it
+-- What stands behind `reverse:` and `upstream:`: a URL of the scheme `http` as a request's target has it
 -- (RFC 9112 section 3.2.2), of a server alone: `http://HOST`, `http://HOST:PORT`, and one `/` may follow.
+abbrev pub server_at : List ℕ → Option Place
+server_at url = server_of (target_form (codes "GET") url)
+
+-- the mode that a text is: `regular`, or `reverse:` or `upstream:` and the server's URL
 abbrev pub mode_of : List ℕ → Option ModeIs
-mode_of text = if is_reverse text then option_map reverse (server_of (target_form (codes "GET") (drop 8 text))) else None
+mode_of text =
+    if bytes_eq text (codes "regular") then Some regular
+    else if is_reverse text then option_map reverse (server_at (drop 8 text))
+    else if is_upstream text then option_map upstream (server_at (drop 9 text))
+    else None
 
-abbrev pub or_bad_mode : Option ModeIs → Result (Option ModeIs) OptionsError
+abbrev pub or_bad_mode : Option ModeIs → Result ModeIs OptionsError
 or_bad_mode None = Err error.BadMode
-or_bad_mode (Some m) = Ok (Some m)
+or_bad_mode (Some m) = Ok m
 
-abbrev pub mode_in : Key → Option (List ℕ) → Result (Option ModeIs) OptionsError
+abbrev pub mode_in : Key → Option (List ℕ) → Result ModeIs OptionsError
 mode_in key None = wrong key
 mode_in key (Some text) = or_bad_mode (mode_of text)
 
 -- a text that is a mode; a text that is none is a bad mode
-abbrev pub mode : Key → Data → Result (Option ModeIs) OptionsError
+abbrev pub mode : Key → Data → Result ModeIs OptionsError
 mode key d = mode_in key (as_str d)

@@ -1,5 +1,5 @@
 -- The options that a table is, or its refusal; and those that bytes are.
-use Rattle.std.specs.Prelude.{◌≡◌, ◌⊎◌, ℕ, Bool, List, Option, Some, None, Result, Ok, Err, is_some, if◌then◌else◌}
+use Rattle.std.specs.Prelude.{◌≡◌, ◌⊎◌, ℕ, Bool, List, Option, Some, None, Result, Ok, Err}
 use Rattle.std.specs.Str.{IsUtf8}
 use Rattle.px_filter.specs.Expression.{Expression}
 use Rattle.px_map.specs.Block.{BlockRule}
@@ -25,11 +25,28 @@ pub record Settings : Type 0 where
   pub listen : Place
   pub map_local : List Rule
   pub map_remote : List Rule
-  pub mode : Option ModeIs
+  pub mode : ModeIs
   pub modify_body : List Rule
   pub modify_headers : List Rule
   pub save_stream_file : Option (List ℕ)
   pub save_stream_filter : Option Expression
+
+-- every option is its default
+abbrev pub defaults : Settings
+defaults = record {
+  anticache = lines.anticache.default;
+  anticomp = lines.anticomp.default;
+  block_list = lines.block_list.default;
+  events = lines.events.default;
+  listen = lines.listen.default;
+  map_local = lines.map_local.default;
+  map_remote = lines.map_remote.default;
+  mode = lines.mode.default;
+  modify_body = lines.modify_body.default;
+  modify_headers = lines.modify_headers.default;
+  save_stream_file = lines.save_stream_file.default;
+  save_stream_filter = lines.save_stream_filter.default;
+}
 
 -- why a line refuses a value
 abbrev pub why : {A : Type 0} → Result A OptionsError → Option OptionsError
@@ -97,15 +114,11 @@ settings_of table = record {
   save_stream_filter = option_at lines.save_stream_filter table;
 }
 
--- there is a mode
-abbrev pub with_mode : Settings → Result Settings OptionsError
-with_mode settings = if is_some settings.mode then Ok settings else Err error.BadMode
-
 abbrev pub options_by : Option OptionsError → Settings → Result Settings OptionsError
 options_by (Some e) settings = Err e
-options_by None settings = with_mode settings
+options_by None settings = Ok settings
 
--- The options that a table is: the refusal of its first bad key; else `BadMode` without a mode; else each option by its line.
+-- The options that a table is: the refusal of its first bad key, else each option by its line.
 abbrev pub options_of : Members → Result Settings OptionsError
 options_of table = options_by (first_refusal table) (settings_of table)
 
@@ -117,6 +130,6 @@ Says bytes said = (table : Members) × IsUtf8 bytes × (parse_document bytes ≡
 abbrev pub IsNoTable : List ℕ → Type 0
 IsNoTable bytes = IsUtf8 bytes → parse_document bytes ≡ None
 
--- why the bytes are no options file: they are no table, or the table is refused so; want of memory aside
+-- why the bytes are no options file: they are no table, or the table is refused so; out of memory aside
 abbrev pub IsRefused : List ℕ → OptionsError → Type 0
 IsRefused bytes e = ((e ≡ error.BadToml) × IsNoTable bytes) ⊎ Says bytes (Err e)

@@ -11,7 +11,7 @@ use Rattle.px_rule.specs.declared.spec.SpecError.TheVariants as specs
 use Rattle.px_options.specs.declared.error.OptionsError.{OptionsError}
 use Rattle.px_options.specs.declared.error.OptionsError.TheVariants as error
 
--- The line that names what is refused; want of memory is about nothing that a file has. A filter is named as a rule is that stands first
+-- The line that names what is refused; out of memory is about nothing that a file has. A filter is named as a rule is that stands first
 -- in its list.
 unfoldable pub refusal_line : OptionsError → List ℕ
 refusal_line error.BadToml = codes "bad options: toml\n"

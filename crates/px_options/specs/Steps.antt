@@ -9,23 +9,6 @@ use Rattle.px_options.specs.declared.error.OptionsError.TheVariants as error
 use Rattle.px_options.specs.declared.key.Key.{Key}
 use Rattle.px_options.specs.declared.key.Key.TheVariants as key
 
--- every option is its default
-abbrev pub defaults : Settings
-defaults = record {
-  anticache = lines.anticache.default;
-  anticomp = lines.anticomp.default;
-  block_list = lines.block_list.default;
-  events = lines.events.default;
-  listen = lines.listen.default;
-  map_local = lines.map_local.default;
-  map_remote = lines.map_remote.default;
-  mode = lines.mode.default;
-  modify_body = lines.modify_body.default;
-  modify_headers = lines.modify_headers.default;
-  save_stream_file = lines.save_stream_file.default;
-  save_stream_filter = lines.save_stream_filter.default;
-}
-
 abbrev pub put_by : {A : Type 0} → (A → Settings) → Result A OptionsError → Result Settings OptionsError
 put_by put (Err e) = Err e
 put_by put (Ok a) = Ok (put a)

@@ -1,15 +1,14 @@
 -- What the code holds.
-use Rattle.std.specs.Prelude.{ℕ, List, Some, option_map, string_bytes}
+use Rattle.std.specs.Prelude.{ℕ, List, option_map, string_bytes}
+use Rattle.px_exchange.specs.declared.mode.Mode.{Mode}
+use Rattle.px_exchange.specs.declared.mode.Mode.TheVariants as modes
 use Rattle.px_filter.specs.View.{expression}
 use Rattle.px_message.specs.declared.address.Address.{Address}
-use Rattle.px_http.specs.declared.mode.Mode.{Mode}
-use Rattle.px_http.specs.declared.mode.Mode.TheVariants as modes
 use Rattle.px_map.specs.View.{block_views, local_views, remote_views}
 use Rattle.px_rule.specs.View.{body_views, header_views}
-use Rattle.px_options.specs.Mode.{ModeIs, reverse}
+use Rattle.px_options.specs.Mode.{ModeIs, regular, reverse, upstream}
 use Rattle.px_options.specs.Options.{Settings}
 use Rattle.px_options.specs.Values.{Place}
-use Rattle.px_options.specs.declared.draft.Draft.{Draft}
 use Rattle.px_options.specs.declared.file_path.FilePath.{FilePath}
 use Rattle.px_options.specs.declared.options.Options.{Options}
 
@@ -17,26 +16,12 @@ abbrev pub place : Address → Place
 place a = (a.host, a.port)
 
 abbrev pub mode_view : Mode → ModeIs
+mode_view modes.Regular = regular
 mode_view (modes.Reverse a) = reverse (place a)
+mode_view (modes.Upstream a) = upstream (place a)
 
 abbrev pub path_view : FilePath → List ℕ
 path_view p = string_bytes p.text
-
-abbrev pub draft_view : Draft → Settings
-draft_view d = record {
-  anticache = d.anticache;
-  anticomp = d.anticomp;
-  block_list = block_views d.block_list;
-  events = d.events;
-  listen = place d.listen;
-  map_local = local_views d.map_local;
-  map_remote = remote_views d.map_remote;
-  mode = option_map mode_view d.mode;
-  modify_body = body_views d.modify_body;
-  modify_headers = header_views d.modify_headers;
-  save_stream_file = option_map path_view d.save_stream_file;
-  save_stream_filter = option_map expression d.save_stream_filter;
-}
 
 abbrev pub settings : Options → Settings
 settings o = record {
@@ -47,7 +32,7 @@ settings o = record {
   listen = place o.listen;
   map_local = local_views o.map_local;
   map_remote = remote_views o.map_remote;
-  mode = Some (mode_view o.mode);
+  mode = mode_view o.mode;
   modify_body = body_views o.modify_body;
   modify_headers = header_views o.modify_headers;
   save_stream_file = option_map path_view o.save_stream_file;

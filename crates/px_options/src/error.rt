@@ -9,8 +9,7 @@ use px_rule::RuleCause;
 use px_text::{Bytes, NoMemory};
 use std::alloc::{AllocError, AllocFailed, Global};
 
-/// Why bytes are no options file. After `BadToml` the first bad key in rising order of bytes decides; that `mode` is missing is
-/// told last.
+/// Why bytes are no options file. After `BadToml` the first bad key in rising order of bytes decides.
 #[derive(Debug, Drop)]
 pub enum OptionsError {
     /// The bytes are no UTF-8, or no TOML.
@@ -20,7 +19,7 @@ pub enum OptionsError {
     /// The option of this name has a value of another kind, a number out of its range, a text that is no address, or an empty text for a
     /// path.
     WrongKind(Bytes),
-    /// The mode is a text that is no mode, or there is none.
+    /// The mode is a text that is no mode.
     BadMode,
     /// A text in the list of the option `name` is no rule: the first of them, where it stands in the list, from 0, and why.
     BadRule {

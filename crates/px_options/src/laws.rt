@@ -5,14 +5,14 @@ ghost use Rattle.px_rule.specs.Spec.{spec_parts};
 ghost use Rattle.toml.specs.Data.{Data, Members, no_members, member};
 ghost use Rattle.px_options.specs.Keys.{key_of};
 ghost use Rattle.px_options.specs.Laws.{followed};
-ghost use Rattle.px_options.specs.Options.{IsNoTable, Says, Settings, first_refusal, options_of, refusal_of};
+ghost use Rattle.px_options.specs.Options.{IsNoTable, Says, Settings, defaults, first_refusal, options_of, refusal_of};
 ghost use Rattle.px_options.specs.Shown.{behind_parts, separator_length};
 ghost use Rattle.px_options.specs.declared.error.OptionsError.{OptionsError};
 ghost use Rattle.px_options.specs.declared.error.OptionsError.TheVariants as error;
 
-/// A table without keys is refused, since it has no mode.
-pub fn an_empty_table_has_no_mode()
-    ensures { options_of no_members ≡ Err error.BadMode }
+/// A table without keys is every option's default.
+pub fn an_empty_table_is_the_defaults()
+    ensures { options_of no_members ≡ Ok defaults }
 {}
 
 /// The first bad key decides, whatever stands behind it.
@@ -40,7 +40,7 @@ pub fn bytes_say_one_thing()
     ensures none { (bytes : List ℕ) (a : Result Settings OptionsError) → IsNoTable bytes → ¬ (Says bytes a) }
 {}
 
-/// A table is never refused as no TOML, nor for want of memory.
+/// A table is never refused as no TOML, nor when out of memory.
 pub fn a_table_is_a_table()
     ensures toml { (table : Members) → options_of table ≢ Err error.BadToml }
     ensures memory { (table : Members) → options_of table ≢ Err error.NoMemory }

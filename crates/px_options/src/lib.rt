@@ -3,7 +3,7 @@
 //! Each key has a line (`specs/Lines.antt`): its name, what values it takes, which is a function from a value of TOML to what the
 //! option is, or the refusal, and its default. A table is refused by the first of its keys, in rising order of bytes, that has no
 //! line or whose value its line refuses. Otherwise each option is what stands under its key, or its default (`specs/Options.antt`).
-//! `mode` has no default: a table without it that is not refused otherwise is refused for it.
+//! So the empty text is options, of regular mode.
 //!
 //! Which table a text is, is `toml`'s own definition, and so is what a value in it is; two lines of one key are no table. What an
 //! address and a URL are is px_message's (RFC 9112 section 3.2), which texts are rules is px_rule's and px_map's, and which are filters
@@ -15,7 +15,7 @@
 
 mod address;
 mod count;
-mod draft;
+mod defaults;
 mod error;
 mod file_path;
 mod flow_filter;
@@ -37,9 +37,9 @@ pub use error::OptionsError;
 pub use file_path::FilePath;
 pub use laws::{
     a_bad_key_is_refused, a_part_stands_behind_those_in_front, a_table_is_a_table,
-    an_empty_table_has_no_mode, an_unknown_key_is_bad, bytes_say_one_thing,
+    an_empty_table_is_the_defaults, an_unknown_key_is_bad, bytes_say_one_thing,
     the_first_bad_key_decides,
 };
 pub use options::{Options, read_options};
-pub use px_http::Mode;
+pub use px_exchange::Mode;
 pub use shown::{refusal_line, refusal_note};

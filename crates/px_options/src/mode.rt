@@ -3,21 +3,21 @@ ghost use Rattle.std.specs.Prelude.{◌≡◌, ◌⊎◌, ◌≤◌, ◌&&◌, n
 ghost use Rattle.px_message.specs.Target.{form_of, target_form};
 ghost use Rattle.toml.specs.View.{view};
 ghost use Rattle.px_options.specs.Keys.{name_of};
-ghost use Rattle.px_options.specs.Mode.{is_reverse, mode, mode_of, server_of, server_in};
+ghost use Rattle.px_options.specs.Mode.{is_reverse, is_upstream, mode, mode_of, reverse, server_at, server_in, server_of, upstream};
 ghost use Rattle.px_options.specs.View.{mode_view};
 ghost use Rattle.px_options.specs.declared.error.OptionsError.TheVariants as error;
 
 use crate::OptionsError;
 use crate::error::wrong_kind;
 use crate::key::Key;
-use px_http::Mode;
+use px_exchange::Mode;
 use px_message::{Address, Target, TargetError, read_target};
 use std::alloc::Global;
 use toml::Value;
 
 /// The mode that a value is.
 pub(crate) fn read_mode(alloc: Global, key: Key, value: &Value) -> Result<Mode, OptionsError>
-    ensures ok { IfOk result (λ m. mode key (view value.now) ≡ Ok (Some (mode_view m))) }
+    ensures ok { IfOk result (λ m. mode key (view value.now) ≡ Ok (mode_view m)) }
     ensures err { IfErr result (λ e. (e ≡ error.NoMemory) ⊎ (mode key (view value.now) ≡ Err e)) }
 {
     match value.as_str() {
@@ -31,13 +31,16 @@ fn mode_of(alloc: Global, text: &[u8]) -> Result<Mode, OptionsError>
     ensures ok { IfOk result (λ m. mode_of text.now ≡ Some (mode_view m)) }
     ensures err { IfErr result (λ e. (e ≡ error.NoMemory) ⊎ ((e ≡ error.BadMode) × (mode_of text.now ≡ None))) }
 {
-    if !is_reverse(text) {
-        return Err(OptionsError::BadMode);
+    if text == b"regular".as_slice() {
+        return Ok(Mode::Regular);
     }
-    match server_of(alloc, &text[8..]) {
-        Ok(address) => Ok(Mode::Reverse(address)),
-        Err(e) => Err(e),
+    if is_reverse(text) {
+        return reverse_to(alloc, &text[8..]);
     }
+    if is_upstream(text) {
+        return upstream_to(alloc, &text[9..]);
+    }
+    Err(OptionsError::BadMode)
 }
 
 // The text begins with `reverse:`.
@@ -48,10 +51,40 @@ fn is_reverse(text: &[u8]) -> bool
     text.len() >= 8 && &text[..8] == b"reverse:".as_slice()
 }
 
+// The text begins with `upstream:`.
+fn is_upstream(text: &[u8]) -> bool
+    ensures value { result ≡ is_upstream text.now }
+    ensures long { IsTrue result → 9 ≤ length text.now }
+{
+    text.len() >= 9 && &text[..9] == b"upstream:".as_slice()
+}
+
+// Reverse mode to the server that a URL is.
+fn reverse_to(alloc: Global, url: &[u8]) -> Result<Mode, OptionsError>
+    ensures ok { IfOk result (λ m. option_map reverse (server_at url.now) ≡ Some (mode_view m)) }
+    ensures err { IfErr result (λ e. (e ≡ error.NoMemory) ⊎ ((e ≡ error.BadMode) × (option_map reverse (server_at url.now) ≡ None))) }
+{
+    match server_at(alloc, url) {
+        Ok(server) => Ok(Mode::Reverse(server)),
+        Err(e) => Err(e),
+    }
+}
+
+// Upstream mode to the proxy that a URL is.
+fn upstream_to(alloc: Global, url: &[u8]) -> Result<Mode, OptionsError>
+    ensures ok { IfOk result (λ m. option_map upstream (server_at url.now) ≡ Some (mode_view m)) }
+    ensures err { IfErr result (λ e. (e ≡ error.NoMemory) ⊎ ((e ≡ error.BadMode) × (option_map upstream (server_at url.now) ≡ None))) }
+{
+    match server_at(alloc, url) {
+        Ok(proxy) => Ok(Mode::Upstream(proxy)),
+        Err(e) => Err(e),
+    }
+}
+
 // The server that a URL is.
-fn server_of(alloc: Global, url: &[u8]) -> Result<Address, OptionsError>
-    ensures ok { IfOk result (λ a. server_of (target_form (codes "GET") url.now) ≡ Some (a.host, a.port)) }
-    ensures err { IfErr result (λ e. (e ≡ error.NoMemory) ⊎ ((e ≡ error.BadMode) × (server_of (target_form (codes "GET") url.now) ≡ None))) }
+fn server_at(alloc: Global, url: &[u8]) -> Result<Address, OptionsError>
+    ensures ok { IfOk result (λ a. server_at url.now ≡ Some (a.host, a.port)) }
+    ensures err { IfErr result (λ e. (e ≡ error.NoMemory) ⊎ ((e ≡ error.BadMode) × (server_at url.now ≡ None))) }
 {
     match read_target(alloc, b"GET", url) {
         Ok(target) => match server_in(target) {

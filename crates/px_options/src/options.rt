@@ -7,8 +7,8 @@ ghost use Rattle.px_options.specs.declared.error.OptionsError.TheVariants as err
 use crate::OptionsError;
 use crate::file_path::FilePath;
 use crate::table::{options_of, read_table};
+use px_exchange::Mode;
 use px_filter::Filter;
-use px_http::Mode;
 use px_map::{BlockRules, LocalRules, RemoteRules};
 use px_message::Address;
 use px_rule::{BodyRules, HeaderRules};
@@ -43,14 +43,13 @@ pub struct Options {
     pub save_stream_filter: Option<Filter>,
 }
 
-/// The options that the bytes of a file are: one TOML table, an option a key. A key that is not there has its default; `mode` has
-/// none.
+/// The options that the bytes of a file are: one TOML table, an option a key. A key that is not there has its default, so no bytes at
+/// all are options too.
 ///
 /// `BadToml` exactly where the bytes are no UTF-8 or no TOML, in which a key that stands there twice is none. Else the first bad key
 /// in rising order of bytes decides: `UnknownOption` where no option has its name; `WrongKind` where the value is of another kind, a
 /// number out of range, a text that is no address or an empty path; `BadMode` where the mode is a text that is no mode; `BadRule` where
-/// a text of the list is no rule, for the first of them; `BadFilter` where a text is no filter. Without a bad key `BadMode` where there
-/// is no mode. `NoMemory` may come in the place of any answer.
+/// a text of the list is no rule, for the first of them; `BadFilter` where a text is no filter. `NoMemory` may come in the place of any answer.
 pub fn read_options(alloc: Global, bytes: &[u8]) -> Result<Options, OptionsError>
     ensures ok { IfOk result (λ o. Says bytes.now (Ok (settings o))) }
     ensures err { IfErr result (λ e. (e ≡ error.NoMemory) ⊎ IsRefused bytes.now e) }

@@ -13,7 +13,7 @@ use std::str;
 
 /// Appends the line that names what is refused: `bad options: toml` for `BadToml`, `bad options: mode` for `BadMode`,
 /// `bad option NAME` for `UnknownOption` and `WrongKind`, `bad rule NAME INDEX` for `BadRule`, and `bad rule NAME 0` for `BadFilter`, with
-/// a line feed behind it. For want of memory nothing is appended. After `NoMemory` nothing was appended.
+/// a line feed behind it. When out of memory nothing is appended. After `NoMemory` nothing was appended.
 pub fn refusal_line(error: &OptionsError, out: &mut Vec<u8>) -> Result<(), NoMemory>
     ensures ok { OnOk result (out.new.items ≡ out.old.items ++ refusal_line error.now) }
     ensures err { OnErr result (out.new.items ≡ out.old.items) }

@@ -6,11 +6,11 @@ ghost use Rattle.std.specs.String.{string_cmp};
 ghost use Rattle.toml.specs.Parse.{parse_document};
 ghost use Rattle.toml.specs.View.{table_view};
 ghost use Rattle.px_options.specs.Gathered.{gathered};
-ghost use Rattle.px_options.specs.Options.{IsNoTable, options_of, with_mode};
-ghost use Rattle.px_options.specs.View.{draft_view, settings};
+ghost use Rattle.px_options.specs.Options.{IsNoTable, options_of};
+ghost use Rattle.px_options.specs.View.{settings};
 ghost use Rattle.px_options.specs.declared.error.OptionsError.TheVariants as error;
 
-use crate::draft::{Draft, new_draft};
+use crate::defaults::defaults;
 use crate::put::put_named;
 use crate::{Options, OptionsError};
 use std::alloc::Global;
@@ -38,62 +38,24 @@ pub(crate) fn options_of(alloc: Global, table: &Table) -> Result<Options, Option
     ensures ok { IfOk result (λ o. options_of (table_view table.now) ≡ Ok (settings o)) }
     ensures err { IfErr result (λ e. (e ≡ error.NoMemory) ⊎ (options_of (table_view table.now) ≡ Err e)) }
 {
-    let mut draft = new_draft(alloc)?;
-    match gather(alloc, &mut draft, table) {
-        Ok(()) => finish(draft),
+    let mut options = defaults(alloc)?;
+    match gather(alloc, &mut options, table) {
+        Ok(()) => Ok(options),
         Err(e) => Err(e),
     }
 }
 
 // Puts the option of each key of the table, in their order.
-fn gather(alloc: Global, draft: &mut Draft, table: &Table) -> Result<(), OptionsError>
+fn gather(alloc: Global, options: &mut Options, table: &Table) -> Result<(), OptionsError>
     ensures ordered { IsOrdered string_cmp table.now }
-    ensures ok { OnOk result (gathered (table_view table.now) (draft_view draft.old) ≡ Ok (draft_view draft.new)) }
-    ensures err { IfErr result (λ e. (e ≡ error.NoMemory) ⊎ (gathered (table_view table.now) (draft_view draft.old) ≡ Err e)) }
+    ensures ok { OnOk result (gathered (table_view table.now) (settings options.old) ≡ Ok (settings options.new)) }
+    ensures err { IfErr result (λ e. (e ≡ error.NoMemory) ⊎ (gathered (table_view table.now) (settings options.old) ≡ Err e)) }
 {
     for (name, value) in table.iter() {
-        match put_named(alloc, draft, name.as_bytes(), value) {
+        match put_named(alloc, options, name.as_bytes(), value) {
             Ok(()) => {}
             Err(e) => return Err(e),
         }
     }
     Ok(())
-}
-
-// The options, where there is a mode.
-fn finish(draft: Draft) -> Result<Options, OptionsError>
-    ensures ok { IfOk result (λ o. with_mode (draft_view draft) ≡ Ok (settings o)) }
-    ensures err { IfErr result (λ e. with_mode (draft_view draft) ≡ Err e) }
-{
-    let Draft {
-        anticache,
-        anticomp,
-        block_list,
-        events,
-        listen,
-        map_local,
-        map_remote,
-        mode,
-        modify_body,
-        modify_headers,
-        save_stream_file,
-        save_stream_filter,
-    } = draft;
-    match mode {
-        Some(mode) => Ok(Options {
-            anticache,
-            anticomp,
-            block_list,
-            events,
-            listen,
-            map_local,
-            map_remote,
-            mode,
-            modify_body,
-            modify_headers,
-            save_stream_file,
-            save_stream_filter,
-        }),
-        None => Err(OptionsError::BadMode),
-    }
 }

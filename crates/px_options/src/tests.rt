@@ -36,15 +36,18 @@ fn why(cause: &RuleCause) -> &'static str {
 
 #[test]
 fn texts_are_options_or_refused(rt: HostRuntime) {
-    let rows: [(&[u8], &str); 23] = [
+    let rows: [(&[u8], &str); 26] = [
         (b"mode = \"reverse:http://h:81/\"", "options"),
         (b"mode = \"reverse:HTTP://[::1]\"", "options"),
-        (b"", "bad mode"),
+        (b"mode = \"regular\"", "options"),
+        (b"mode = \"upstream:http://h:81/\"", "options"),
+        (b"", "options"),
         (b"=", "no table"),
         (b"events = 1\nevents = 2", "no table"),
         (b"mode = 1", "wrong"),
         (b"mode = \"socks\"", "bad mode"),
         (b"mode = \"reverse:http://h:0\"", "bad mode"),
+        (b"mode = \"upstream:h\"", "bad mode"),
         (b"x = 1", "unknown"),
         (b"mode = \"socks\"\nlisten = \"h\"", "wrong"),
         (b"events = 0", "wrong"),
@@ -54,10 +57,10 @@ fn texts_are_options_or_refused(rt: HostRuntime) {
         (b"modify_body = [\"/(/\"]", "bad pattern"),
         (b"modify_headers = [\"/Server/\", \"\"]", "bad spec"),
         (b"modify_headers = [\"\", 1]", "wrong"),
-        (b"save_stream_file = \"a\"", "bad mode"),
+        (b"save_stream_file = \"a\"", "options"),
         (b"save_stream_file = \"\"", "wrong"),
         (b"save_stream_file = [\"a\"]", "wrong"),
-        (b"save_stream_filter = \"~m GET\"", "bad mode"),
+        (b"save_stream_filter = \"~m GET\"", "options"),
         (b"save_stream_filter = \"~zz\"", "bad filter"),
         (b"save_stream_filter = true", "wrong"),
     ];
@@ -68,7 +71,7 @@ fn texts_are_options_or_refused(rt: HostRuntime) {
 
 #[test]
 fn defaults_are_taken(rt: HostRuntime) {
-    let Ok(options) = read_options(rt.alloc(), b"mode = \"reverse:http://h\"") else {
+    let Ok(options) = read_options(rt.alloc(), b"") else {
         panic!(rt; "no options");
     };
     assert_eq!(rt; options.events, 9_223_372_036_854_775_807);
@@ -76,8 +79,43 @@ fn defaults_are_taken(rt: HostRuntime) {
     assert!(rt; options.listen.host.bytes() == b"127.0.0.1".as_slice());
     assert!(rt; !options.anticache && !options.anticomp);
     assert!(rt; options.save_stream_file.is_none() && options.save_stream_filter.is_none());
-    let Mode::Reverse(address) = &options.mode;
-    assert_eq!(rt; address.port, 80);
+    assert!(rt; options.mode == Mode::Regular);
+}
+
+// The mode that a text says, in a word, and its server's port.
+fn mode_word(alloc: Global, text: &[u8]) -> (&'static str, u16) {
+    match read_options(alloc, text) {
+        Ok(options) => mode_of(&options.mode),
+        Err(e) => (refusal(&e), 0),
+    }
+}
+
+fn mode_of(mode: &Mode) -> (&'static str, u16) {
+    match mode {
+        Mode::Regular => ("regular", 0),
+        Mode::Reverse(server) => ("reverse", server.port),
+        Mode::Upstream(proxy) => ("upstream", proxy.port),
+    }
+}
+
+#[test]
+fn modes_are_read(rt: HostRuntime) {
+    let rows: [(&[u8], &str, u16); 11] = [
+        (b"mode = \"regular\"", "regular", 0),
+        (b"mode = \"reverse:http://h\"", "reverse", 80),
+        (b"mode = \"reverse:http://h:81/\"", "reverse", 81),
+        (b"mode = \"upstream:http://h\"", "upstream", 80),
+        (b"mode = \"upstream:HTTP://[::1]:8081/\"", "upstream", 8081),
+        (b"mode = \"Regular\"", "bad mode", 0),
+        (b"mode = \"regular:\"", "bad mode", 0),
+        (b"mode = \"upstream:http://h/a\"", "bad mode", 0),
+        (b"mode = \"upstream:\"", "bad mode", 0),
+        (b"mode = \"upstream\"", "bad mode", 0),
+        (b"mode = \"http://h\"", "bad mode", 0),
+    ];
+    for (text, want, port) in rows {
+        assert!(rt; mode_word(rt.alloc(), text) == (want, port), "at {text:?}");
+    }
 }
 
 #[test]

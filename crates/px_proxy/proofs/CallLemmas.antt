@@ -25,7 +25,7 @@ use Rattle.px_core.specs.declared.news.News.{News}
 use Rattle.px_core.specs.declared.news.News.TheVariants as news
 use Rattle.px_core.specs.Calls.{Calls, no_calls, number_end, moved, addressed, is_connected, is_dialling, dial_reply, dial_ends, takes, hears_by, hears, dials, calls_on, calls_from, calls}
 use Rattle.px_app.specs.Servers.{server_of, dialled_in}
-use Rattle.px_stream.specs.Silent.{connects, connections}
+use Rattle.px_chain.specs.Silent.{connects, connections}
 use Rattle.px_wire.specs.Taken.{opens, is_opened}
 use Rattle.px_proxy.proofs.DialLemmas.{dialled_joined}
 
@@ -33,7 +33,7 @@ use Rattle.px_proxy.proofs.DialLemmas.{dialled_joined}
 
 -- no answer of a hook is that of a dial
 abbrev pub NoDialAnswered : Trace → Type 0
-NoDialAnswered trace = (front rest : Trace) (conv : ℕ) (ask : Ask) (reply : Reply) → trace ≡ front ++ steps.Answered conv ask reply ∷ rest → connects reply ≡ 0
+NoDialAnswered trace = (prefix rest : Trace) (conv : ℕ) (ask : Ask) (reply : Reply) → trace ≡ prefix ++ steps.Answered conv ask reply ∷ rest → connects reply ≡ 0
 
 abbrev awaits : Option ℕ → ℕ
 awaits None = 0
@@ -122,7 +122,7 @@ from_within conv n c (step ∷ trace) none within =
     let first : Within (calls_on conv c step) (n + length (flat_map server_of (said_in conv step))) =
     step_within conv n c step (λ number ask reply is. none [] trace number ask reply (ap (λ (s : Step). s ∷ trace) is)) within in
     let rest = from_within conv (n + length (flat_map server_of (said_in conv step))) (calls_on conv c step) trace
-    (λ front more number ask reply is. none (step ∷ front) more number ask reply (ap (λ (t : Trace). step ∷ t) is)) first in
+    (λ prefix more number ask reply is. none (step ∷ prefix) more number ask reply (ap (λ (t : Trace). step ∷ t) is)) first in
     let all : length (dialled_in (step ∷ trace) conv) ≡ length (flat_map server_of (said_in conv step)) + length (dialled_in trace conv) =
     ap length (dialled_joined (step ∷ []) trace conv) ∙ (length-append (dialled_in (step ∷ []) conv) (dialled_in trace conv)
     ∙ ap (λ (l : List Said). length (flat_map server_of l) + length (dialled_in trace conv)) (append-nil (said_in conv step))) in

@@ -10,7 +10,7 @@ use Rattle.px_core.specs.Answers.{FilesMeaning}
 use Rattle.px_addons.specs.Chain.{ChainAnswers, reply_by, reply_of}
 use Rattle.px_addons.specs.Moving.{Moves}
 use Rattle.px_addons.specs.declared.rules.Rules.{Rules}
-use Rattle.px_stream.specs.Silent.{connects}
+use Rattle.px_chain.specs.Silent.{connects}
 
 same_reply : (one other : Reply) → answer.Reply one ≡ answer.Reply other → one ≡ other
 same_reply one other e = cc

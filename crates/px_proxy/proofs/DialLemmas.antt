@@ -85,14 +85,14 @@ dial_last trace conv server address =
 
 -- no server is dialled once more
 pub dials_once : (trace : Trace) → Always CountsServers trace → DialsOnce trace
-dials_once trace counts front rest conv server address is =
+dials_once trace counts prefix rest conv server address is =
     let step = steps.Said conv (said.Dial server address) in
     let P : List ℕ → Type 0 = CountsFrom 0 in
-    let all : CountsFrom 0 (dialled_in front conv ++ server ∷ []) =
-    subst P (dial_last front conv server address) (counts.at (front ++ step ∷ []) rest (is ∙ sym (append_assoc front (step ∷ []) rest)) conv) in
-    let number = counts_end 0 (dialled_in front conv) server all in
-    let before : CountsFrom 0 (dialled_in front conv) = counts.at front (step ∷ rest) is conv in
-    opened_is conv server front ∙ counts_below 0 server (dialled_in front conv) before (omega arith)
+    let all : CountsFrom 0 (dialled_in prefix conv ++ server ∷ []) =
+    subst P (dial_last prefix conv server address) (counts.at (prefix ++ step ∷ []) rest (is ∙ sym (append_assoc prefix (step ∷ []) rest)) conv) in
+    let number = counts_end 0 (dialled_in prefix conv) server all in
+    let before : CountsFrom 0 (dialled_in prefix conv) = counts.at prefix (step ∷ rest) is conv in
+    opened_is conv server prefix ∙ counts_below 0 server (dialled_in prefix conv) before (omega arith)
 
 -- a server that was not dialled has a number from the count of dials on
 pub not_dialled : (trace : Trace) (conv server : ℕ) → CountsServers trace → is_opened conv (Server server) trace ≡ false → length (dialled_in trace conv) ≤ server

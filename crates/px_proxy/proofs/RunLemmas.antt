@@ -2,14 +2,14 @@
 use Rattle.std.proofs.Common.{◌≡◌, ◌⊎◌, inl, inr, ◌∙◌, sym, arith, ℕ, List, [], Bool, true, false, subst, Option, Some}
 use Rattle.px_event.specs.Trace.{Trace}
 use Rattle.px_core.specs.Answers.{Answering, Failing}
-use Rattle.px_http.specs.Fixed.{fixed_due}
-use Rattle.px_http.specs.Silent.{fixed_silent}
+use Rattle.px_http.specs.Modes.{mode_due}
+use Rattle.px_http.specs.Silent.{mode_silent}
 use Rattle.px_options.specs.Options.{Settings}
 use Rattle.px_app.specs.Opened.{Opened, nothing_read, absent, not_read, unjudged, refused, says}
 use Rattle.px_app.specs.Outside.{Outside}
 use Rattle.px_app.specs.Serves.{ServesFile}
 use Rattle.px_app.specs.Statuses.{ends_heard}
-use Rattle.px_app.proofs.HttpServers.{fixed_counts}
+use Rattle.px_app.proofs.HttpServers.{mode_counts}
 use Rattle.px_app.proofs.ServerLemmas.{always_counts}
 use Rattle.px_proxy.specs.TakenDue.{IsTakenBy}
 use Rattle.px_proxy.proofs.TakenDueLemmas.{ConnectsNone, always_taken}
@@ -42,10 +42,10 @@ module _ {S : Type 0} (answers : Answering S) (fails : Failing S) where
   taken_by none IsChain same net out save notes path not_read before after status steps obeys h = tt
   taken_by none IsChain same net out save notes path (unjudged bytes) before after status steps obeys h = tt
   taken_by none IsChain same net out save notes path (refused bytes why) before after status steps obeys h = tt
-  taken_by none IsChain same net out save notes path (says bytes settings) before after status steps obeys h = λ address list wants fresh told.
-      let served = (h.runs.1.2.promises address (steps_of list) wants fresh (steps list told)).1.served in
-      always_taken answers none (fixed_due address) (fixed_silent address) list (obeys list told)
-      (always_counts (fixed_due address) (fixed_counts address) (steps_of list) served.within) served.met served.within
+  taken_by none IsChain same net out save notes path (says bytes settings) before after status steps obeys h = λ mode list wants fresh told.
+      let served = (h.runs.1.2.promises mode (steps_of list) wants fresh (steps list told)).1.served in
+      always_taken answers none (mode_due mode) (mode_silent mode) list (obeys list told)
+      (always_counts (mode_due mode) (mode_counts mode) (steps_of list) served.within) served.met served.within
 
   -- the statuses of an end come only where the end was heard
   pub ends_by_end : (IsChain : Settings → S → Type 0) (same net out save notes : Type 0) (path : List ℕ) (opened : Opened) (before after : Outside) (status : ℕ) →

@@ -19,7 +19,7 @@ use Rattle.px_core.specs.Due.{Due, due_at, due_in, IsWithinDue, EndsMet}
 use Rattle.px_core.specs.Answers.{Answering, FilesMeaning}
 use Rattle.px_core.specs.declared.answerer.Answer.TheVariants as answer
 use Rattle.px_app.specs.Servers.{dialled_in, CountsServers}
-use Rattle.px_stream.specs.Silent.{connects, connections, NoAnswer}
+use Rattle.px_chain.specs.Silent.{connects, connections, NoAnswer}
 use Rattle.px_proxy.specs.TakenDue.{TakesWhatIsDue, AlwaysTakesWhatIsDue}
 use Rattle.px_proxy.proofs.SentLemmas.{seen_is_sent}
 use Rattle.px_proxy.proofs.DialLemmas.{dials_once, not_dialled}
@@ -33,10 +33,10 @@ use Rattle.px_wire.proofs.TakenLemmas.{steps_joined, front_obeys, taken_is_sent}
 abbrev pub IsSilent : Due → Type 0
 IsSilent due = (conv : ℕ) (peer : Address) (server : ℕ) (moves : List Move) → NoAnswer server moves → bytes_in (seen_of (line (Server server)) (due conv peer moves)) ≡ []
 
--- ---- fronts
+-- ---- prefixes
 
-pub front_always : (P : Trace → Type 0) (front rest : Trace) → Always P (front ++ rest) → Always P front
-front_always P front rest all = record { at = λ first more is. all.at first (more ++ rest) (ap (λ (t : Trace). t ++ rest) is ∙ append_assoc first more rest) }
+pub front_always : (P : Trace → Type 0) (prefix rest : Trace) → Always P (prefix ++ rest) → Always P prefix
+front_always P prefix rest all = record { at = λ first more is. all.at first (more ++ rest) (ap (λ (t : Trace). t ++ rest) is ∙ append_assoc first more rest) }
 
 pub always_all : (P : Trace → Type 0) (trace : Trace) → Always P trace → P trace
 always_all P trace all = all.at trace [] (sym (append-nil trace))
@@ -47,9 +47,9 @@ ConnectsNone {S} answers = (hook : Hook) (flow : Flow) (old : S) (old_files : Fi
     answers hook flow old old_files new new_files (answer.Reply reply) → connects reply ≡ 0
 
 no_dial_answered : {S : Type 0} (answers : Answering S) → ConnectsNone answers → (due : Due) (trace : Trace) → Always (EndsMet answers due) trace → NoDialAnswered trace
-no_dial_answered answers none due trace met front rest conv ask reply is =
+no_dial_answered answers none due trace met prefix rest conv ask reply is =
     let step = steps.Answered conv ask reply in
-    let m = met.at (front ++ step ∷ []) rest (is ∙ sym (append_assoc front (step ∷ []) rest)) front conv ask reply refl in
+    let m = met.at (prefix ++ step ∷ []) rest (is ∙ sym (append_assoc prefix (step ∷ []) rest)) prefix conv ask reply refl in
     none m.hook m.flow m.old m.old_files m.new m.new_files reply m.answers_so
 
 -- ---- nothing is sent to a side that was not opened
@@ -80,9 +80,9 @@ module _ {S : Type 0} (answers : Answering S) (none_connects : ConnectsNone answ
 
   always_sends : (trace : Trace) → Always CountsServers trace → Always (EndsMet answers due) trace → Always (IsWithinDue due) trace → Always SendsToOpened trace
   always_sends trace counts going within = record {
-    at = λ front rest is.
+    at = λ prefix rest is.
         (let Q : Trace → Type 0 = Always (EndsMet answers due) in
-        sends_to_opened front (counts.at front rest is) (no_dial_answered answers none_connects due front (front_always (EndsMet answers due) front rest (subst Q is going))) (within.at front rest is));
+        sends_to_opened prefix (counts.at prefix rest is) (no_dial_answered answers none_connects due prefix (front_always (EndsMet answers due) prefix rest (subst Q is going))) (within.at prefix rest is));
   }
 
   -- ---- what was taken
@@ -96,13 +96,13 @@ module _ {S : Type 0} (answers : Answering S) (none_connects : ConnectsNone answ
 
   -- what the wire took for each side begins what is due to it, after each call
   pub always_taken : (list : Calls) → Obeys list → Always CountsServers (steps_of list) → Always (EndsMet answers due) (steps_of list) → Always (IsWithinDue due) (steps_of list) → AlwaysTakesWhatIsDue due list
-  always_taken list obeys counts going within front rest is =
-      let joined : steps_of list ≡ steps_of front ++ steps_of rest = ap steps_of is ∙ steps_joined front rest in
+  always_taken list obeys counts going within prefix rest is =
+      let joined : steps_of list ≡ steps_of prefix ++ steps_of rest = ap steps_of is ∙ steps_joined prefix rest in
       let O : Calls → Type 0 = Obeys in
       let C : Trace → Type 0 = Always CountsServers in
       let G : Trace → Type 0 = Always (EndsMet answers due) in
       let W : Trace → Type 0 = Always (IsWithinDue due) in
-      taken_due front (front_obeys front rest (subst O is obeys))
-      (front_always CountsServers (steps_of front) (steps_of rest) (subst C joined counts))
-      (front_always (EndsMet answers due) (steps_of front) (steps_of rest) (subst G joined going))
-      (front_always (IsWithinDue due) (steps_of front) (steps_of rest) (subst W joined within))
+      taken_due prefix (front_obeys prefix rest (subst O is obeys))
+      (front_always CountsServers (steps_of prefix) (steps_of rest) (subst C joined counts))
+      (front_always (EndsMet answers due) (steps_of prefix) (steps_of rest) (subst G joined going))
+      (front_always (IsWithinDue due) (steps_of prefix) (steps_of rest) (subst W joined within))

@@ -1,13 +1,13 @@
 -- What a wire took, against what is due.
 use Rattle.std.specs.Prelude.{◌≡◌, ℕ, [], ◌++◌, Option, Some}
 use Rattle.px_text.specs.Prefix.{IsPrefixOf}
-use Rattle.px_message.specs.declared.address.Address.{Address}
 use Rattle.px_event.specs.Trace.{Trace}
 use Rattle.px_event.specs.View.{bytes_in, line}
 use Rattle.px_event.specs.declared.side.Side.{Side}
 use Rattle.px_core.specs.Due.{Due, due_in}
-use Rattle.px_http.specs.Fixed.{fixed_due}
-use Rattle.px_options.specs.Mode.{reverse}
+use Rattle.px_exchange.specs.declared.mode.Mode.{Mode}
+use Rattle.px_http.specs.Modes.{mode_due}
+use Rattle.px_options.specs.View.{mode_view}
 use Rattle.px_app.specs.Opened.{Opened, nothing_read, absent, not_read, unjudged, refused, says}
 use Rattle.px_wire.specs.Calls.{Calls, steps_of}
 use Rattle.px_wire.specs.Taken.{taken_for}
@@ -18,7 +18,7 @@ TakesWhatIsDue due list = (conv : ℕ) (side : Side) → IsPrefixOf (taken_for c
 
 -- so it is at every moment: after each of the calls
 abbrev pub AlwaysTakesWhatIsDue : Due → Calls → Type 0
-AlwaysTakesWhatIsDue due list = (front : Calls) (rest : Calls) → list ≡ front ++ rest → TakesWhatIsDue due front
+AlwaysTakesWhatIsDue due list = (prefix : Calls) (rest : Calls) → list ≡ prefix ++ rest → TakesWhatIsDue due prefix
 
 -- Where the options file was opened so, and the wire, which had told no step before, made these calls: what it took is what is due by the
 -- options.
@@ -29,4 +29,4 @@ IsTakenBy not_read steps told = Unit {0}
 IsTakenBy (unjudged bytes) steps told = Unit {0}
 IsTakenBy (refused bytes why) steps told = Unit {0}
 IsTakenBy (says bytes settings) steps told =
-    (address : Address) (list : Calls) → settings.mode ≡ Some (reverse (address.host, address.port)) → steps ≡ Some [] → told ≡ Some list → AlwaysTakesWhatIsDue (fixed_due address) list
+    (mode : Mode) (list : Calls) → settings.mode ≡ mode_view mode → steps ≡ Some [] → told ≡ Some list → AlwaysTakesWhatIsDue (mode_due mode) list

@@ -6,7 +6,7 @@ ghost use Rattle.px_gate.specs.Gate.{GateStands};
 ghost use Rattle.px_http.specs.Stands.{HttpStands, awaits};
 
 use crate::diagram::{Diagram, Heed};
-use crate::replies::{Turn, is_wait, reply_at, reply_of};
+use crate::replies::{ReplyTurn, is_wait, reply_at, reply_of};
 use crate::told::{Told, show};
 use px_event::{Ask, Command, Event, Heard, Hook, Reply, Side};
 use px_gate::{Gate, GateError};
@@ -22,7 +22,7 @@ use std::alloc::Global;
 #[derive(Drop)]
 struct Player<'a> {
     gate: Gate<HttpConv>,
-    turns: &'a [Turn],
+    turns: &'a [ReplyTurn],
     asked: Vec<Hook>,
     moment: u64,
     step: u64,
@@ -37,15 +37,37 @@ pub(crate) fn play_conversation(
     alloc: Global,
     number: usize,
     diagram: &Diagram,
-    turns: &[Turn],
+    turns: &[ReplyTurn],
     cut: Cut,
 ) -> Result<String, Trouble> {
-    let mut player = match new_player(alloc, diagram, turns) {
-        Ok(player) => player,
-        Err(error) => return Err(error.in_line(number)),
-    };
-    play_lines(alloc, &mut player, diagram.script.as_slice(), cut)?;
-    match end_of(player, diagram.asked.outcome) {
+    match new_player(alloc, diagram, turns) {
+        Ok(player) => play_all(alloc, number, player, diagram, cut),
+        Err(error) => Err(error.in_line(number)),
+    }
+}
+
+// What comes of the lines of the diagram.
+fn play_all(
+    alloc: Global,
+    number: usize,
+    player: Player<'_>,
+    diagram: &Diagram,
+    cut: Cut,
+) -> Result<String, Trouble>
+    requires { IsSound (GateStands HttpStands awaits) player.gate }
+{
+    let mut player = player;
+    match play_lines(alloc, &mut player, diagram.script.as_slice(), cut) {
+        Ok(()) => end_played(player, number, diagram.asked.outcome),
+        Err(trouble) => {
+            drop(player);
+            Err(trouble)
+        }
+    }
+}
+
+fn end_played(player: Player<'_>, number: usize, outcome: bool) -> Result<String, Trouble> {
+    match end_of(player, outcome) {
         Ok(came) => Ok(came),
         Err(error) => Err(error.in_line(number)),
     }
@@ -55,7 +77,7 @@ pub(crate) fn play_conversation(
 fn new_player<'a>(
     alloc: Global,
     diagram: &Diagram,
-    turns: &'a [Turn],
+    turns: &'a [ReplyTurn],
 ) -> Result<Player<'a>, RowError>
     ensures { IfOk result (λ player. IsSound (GateStands HttpStands awaits) player.gate) }
 {

@@ -9,13 +9,17 @@ use std::alloc::Global;
 
 /// A hook, and the reply to it.
 #[derive(Debug, Drop)]
-pub(crate) struct Turn {
+pub(crate) struct ReplyTurn {
     pub(crate) hook: Hook,
     pub(crate) reply: String,
 }
 
 /// The replies of the diagram, played at the hook of this name, if any.
-pub(crate) fn hooks_of(alloc: Global, diagram: &Diagram, at: &str) -> Result<Vec<Turn>, Trouble> {
+pub(crate) fn hooks_of(
+    alloc: Global,
+    diagram: &Diagram,
+    at: &str,
+) -> Result<Vec<ReplyTurn>, Trouble> {
     let mut turns = Vec::new(alloc);
     for line in &diagram.hooks {
         let turn = match turn_of(line) {
@@ -34,17 +38,17 @@ pub(crate) fn hooks_of(alloc: Global, diagram: &Diagram, at: &str) -> Result<Vec
     Ok(turns)
 }
 
-fn turn_of(line: &HookLine) -> Result<Turn, RowError> {
+fn turn_of(line: &HookLine) -> Result<ReplyTurn, RowError> {
     let hook = hook_of(line.hook.as_str())?;
-    Ok(Turn {
+    Ok(ReplyTurn {
         hook,
         reply: line.reply.clone()?,
     })
 }
 
-fn turn_at(name: &str, reply: &String) -> Result<Turn, RowError> {
+fn turn_at(name: &str, reply: &String) -> Result<ReplyTurn, RowError> {
     let hook = hook_of(name)?;
-    Ok(Turn {
+    Ok(ReplyTurn {
         hook,
         reply: reply.clone()?,
     })
@@ -61,7 +65,7 @@ fn hook_of(name: &str) -> Result<Hook, RowError> {
 }
 
 /// The reply to the hook, where these were answered: the n-th of a hook is the n-th ask of it.
-pub(crate) fn reply_at<'a>(turns: &'a [Turn], asked: &[Hook], hook: Hook) -> &'a str {
+pub(crate) fn reply_at<'a>(turns: &'a [ReplyTurn], asked: &[Hook], hook: Hook) -> &'a str {
     let mut left = count_of(asked, hook);
     for turn in turns {
         if turn.hook == hook {

@@ -1,16 +1,16 @@
 use Rattle.std.proofs.Common.{◌≡◌, Some, refl, sym, ap, subst}
 use Rattle.px_event.specs.Trace.{Trace}
-use Rattle.px_http.specs.Fixed.{fixed_due}
+use Rattle.px_http.specs.Modes.{mode_due}
 use Rattle.px_core.proofs.AnswerLemmas.{kept_after}
 use Rattle.px_addons.proofs.RunLemmas.{keeps_files}
 use Rattle.px_gen.specs.Generated.{GeneratedState}
 use Rattle.px_gen.specs.Heard.{Hears}
-use Rattle.px_gen.specs.Peer.{server as generator_server}
+use Rattle.px_app.specs.Generates.{generator_mode}
 use Rattle.px_app.specs.declared.status.Status.TheVariants.{Ended, NoMemory}
 use Rattle.px_app.proofs.AtOnceLemmas.{none_waits, none_waits_within}
 use Rattle.px_app.proofs.ChainLemmas.{chain_never_waits}
 use Rattle.px_app.proofs.GenerateLemmas.{complete_by, nothing_told}
-use Rattle.px_app.proofs.RunLemmas.{at_address, leaves_part, told_trace}
+use Rattle.px_app.proofs.RunLemmas.{in_mode, leaves_part, told_trace}
 use Rattle.px_app.proofs.generate.run_script.Goals as goal
 
 pub returns-in_default : goal.returns-in_default
@@ -25,7 +25,7 @@ pub returns-in-Ok-serve_generated : goal.returns-in-Ok-serve_generated
 returns-in-Ok-serve_generated g c =
     let steps : Trace = c.trace.result.now in
     let begun = c.in-Ok-serve_generated.ensures.ok (ap (λ (s : GeneratedState). Some s.trace) c.new-generated.ensures.new) in
-    let run = told_trace _ _ steps (at_address c.in-Ok.server generator_server c.in-Ok.ensures.server begun.1) (ap Some (sym c.trace.ensures.trace)) in
+    let run = told_trace _ _ steps (in_mode c.in-Ok.mode generator_mode c.in-Ok.ensures.mode begun.1) (ap Some (sym c.trace.ensures.trace)) in
     record {
       run = steps;
       hears =
@@ -40,9 +40,9 @@ returns-in-Ok-serve_generated g c =
           served = run.served;
           follows = run.follows;
           leaves = leaves_part _ _ _ _ _ steps _ _ run.leaves (λ other (e : Ended ≡ NoMemory). absurd (cc));
-          hooks = none_waits_within (fixed_due generator_server) steps run.served (λ hook flow old old_files new new_files draft is. chain_never_waits _ _ _ hook flow _ _ old_files _ _ new_files draft is);
+          hooks = none_waits_within (mode_due generator_mode) steps run.served (λ hook flow old old_files new new_files draft is. chain_never_waits _ _ _ hook flow _ _ old_files _ _ new_files draft is);
           whole = λ other. run.whole (λ (e : Ended ≡ NoMemory). absurd (cc));
-          hooks_whole = λ other. none_waits (fixed_due generator_server) steps (run.waits (λ (e : Ended ≡ NoMemory). absurd (cc)))
+          hooks_whole = λ other. none_waits (mode_due generator_mode) steps (run.waits (λ (e : Ended ≡ NoMemory). absurd (cc)))
               (λ hook flow old old_files new new_files draft is. chain_never_waits _ _ _ hook flow _ _ old_files _ _ new_files draft is);
           own = run.own;
         },

@@ -1,7 +1,7 @@
 use Rattle.std.proofs.Common.{◌∙◌, [], None, ap, refl}
-use Rattle.px_message.specs.declared.address.Address.{Address}
-use Rattle.px_http.specs.declared.fixed.Fixed.{Fixed}
-use Rattle.px_http.specs.Fixed.{fixed_due}
+use Rattle.px_exchange.specs.declared.mode.Mode.{Mode}
+use Rattle.px_http.specs.declared.placed.Placed.{Placed}
+use Rattle.px_http.specs.Modes.{mode_due}
 use Rattle.px_core.specs.Answers.{files_meaning}
 use Rattle.px_core.specs.declared.gates.Gates.{Gates}
 use Rattle.px_app.specs.Over.{course_from}
@@ -13,7 +13,7 @@ use Rattle.px_app.proofs.generate.serve_generated.Goals as goal
 
 pub serve_all-requires : goal.serve_all-requires
 serve_all-requires g c =
-    let due = fixed_due c.new-serving.result.maker.layers.address in
+    let due = mode_due c.new-serving.result.maker.layers.mode in
     let files = files_meaning g.F.Files.contents g.F.Files.calls g.F.Files.misses g.F.Files.faults g.F.Files.losses c.args.files.now in
     let rests = c.new-serving.ensures.rests due files None in
     record {
@@ -23,13 +23,13 @@ serve_all-requires g c =
 
 pub returns-in-Ended-clause-ok : goal.returns-in-Ended-clause-ok
 returns-in-Ended-clause-ok g c = λ empty.
-    let there = ap (λ (m : Gates Fixed). m.layers.address) c.new-serving.ensures.maker ∙ (ap (λ (f : Fixed). f.address) c.new-maker.ensures ∙ c.new.ensures) in
+    let there = ap (λ (m : Gates Placed). m.layers.mode) c.new-serving.ensures.maker ∙ (ap (λ (p : Placed). p.mode) c.new-maker.ensures ∙ c.new.ensures) in
     let files = files_meaning g.F.Files.contents g.F.Files.calls g.F.Files.misses g.F.Files.faults g.F.Files.losses c.args.files.now in (
       c.serve_all.new.serving.printing,
       ended_told c.in-Ended.is
-          (run_saving _ _ (fixed_due c.args.server) _ _ _ _ _ None None _ c.new-serving.ensures.saving
-          (c.serve_all.ensures.run (fixed_due c.args.server) _ None (λ conv peer moves. ap (λ (a : Address). fixed_due a conv peer moves) there)
-          (c.new-serving.ensures.rests (fixed_due c.args.server) files None) empty)),
+          (run_saving _ _ (mode_due c.args.mode) _ _ _ _ _ None None _ c.new-serving.ensures.saving
+          (c.serve_all.ensures.run (mode_due c.args.mode) _ None (λ conv peer moves. ap (λ (m : Mode). mode_due m conv peer moves) there)
+          (c.new-serving.ensures.rests (mode_due c.args.mode) files None) empty)),
     )
 
 pub returns-in-Ended-clause-files : goal.returns-in-Ended-clause-files

@@ -1,21 +1,19 @@
-use Rattle.std.proofs.Common.{◌≡◌, ◌⊎◌, inl, inr, ℕ, ◌++◌, refl, sym, subst, Some}
+use Rattle.std.proofs.Common.{◌≡◌, ◌⊎◌, inl, inr, ℕ, ◌++◌, refl, sym, subst}
 use Rattle.px_outside.specs.Sink.{Writes, WritesPart}
-use Rattle.px_http.specs.Fixed.{fixed_due}
+use Rattle.px_http.specs.Modes.{mode_due}
 use Rattle.px_addons.specs.declared.rules.Rules.{Rules}
 use Rattle.px_options.specs.View.{settings}
 use Rattle.px_outside.specs.Count.{Rose}
-use Rattle.px_options.specs.Mode.{ModeIs}
-use Rattle.px_app.specs.Lines.{line_of, start_note}
-use Rattle.px_app.specs.Serves.{saves_of, where_listening}
+use Rattle.px_app.specs.Lines.{line_of}
+use Rattle.px_app.specs.Serves.{saves_of}
 use Rattle.px_app.specs.Listed.{listed}
 use Rattle.px_app.specs.Opened.{AreRulesOf}
-use Rattle.px_app.specs.Outside.{IsTold}
 use Rattle.px_app.proofs.CodeLemmas.{code_by, zero_says, five_says, six_says, seven_says, ended_either, ended_gives, spent_gives, memory_gives, other_says, all_codes, complete_by, not_eight, ended_or}
 use Rattle.px_app.proofs.EndLemmas.{printed_part, printed_whole}
 use Rattle.px_app.proofs.AtOnceLemmas.{none_waits, none_waits_within}
 use Rattle.px_app.proofs.ChainLemmas.{chain_keeps_losses, chain_never_waits}
 use Rattle.px_app.proofs.OutputLemmas.{first_later, has_of, leaves_at, outputs_at}
-use Rattle.px_app.proofs.RunLemmas.{leaves_part, listens_where_heard, at_address, same_server, told_trace}
+use Rattle.px_app.proofs.RunLemmas.{leaves_part, listens_where_heard, in_mode, same_mode, told_trace}
 use Rattle.px_app.proofs.ToldLemmas.{told_code}
 use Rattle.px_app.proofs.program.serve_options.Goals as goal
 
@@ -43,17 +41,17 @@ returns g c = (
     c.new-chain.ensures.addons,
   ),
   record {
-    promises = λ address trace wants empty tells.
+    promises = λ mode trace wants empty tells.
         let is = code_by c.serve-ending.result.printing c.serve-ending.result.status c.end.result c.code.result c.end.ensures.status c.code.ensures.code in
-        let run = told_trace _ _ trace (at_address c.server_of-server.result address (same_server _ c.server_of-server.result address c.server_of-server.ensures wants) (c.serve-ending.ensures.run empty)) tells in (
+        let run = told_trace _ _ trace (in_mode c.args.options.mode mode (same_mode c.args.options.mode mode wants) (c.serve-ending.ensures.run empty)) tells in (
           run.changes,
           record {
             served = run.served;
             follows = run.follows;
             leaves = leaves_part _ _ _ _ _ trace _ _ run.leaves (λ other. other_says c.serve-ending.result.printing c.serve-ending.result.status c.code.result is other);
-            hooks = none_waits_within (fixed_due address) trace run.served (λ hook flow old old_files new new_files draft is. chain_never_waits _ _ _ hook flow _ _ old_files _ _ new_files draft is);
+            hooks = none_waits_within (mode_due mode) trace run.served (λ hook flow old old_files new new_files draft is. chain_never_waits _ _ _ hook flow _ _ old_files _ _ new_files draft is);
             whole = λ other. run.whole (other_says c.serve-ending.result.printing c.serve-ending.result.status c.code.result is other);
-            hooks_whole = λ other. none_waits (fixed_due address) trace (run.waits (other_says c.serve-ending.result.printing c.serve-ending.result.status c.code.result is other))
+            hooks_whole = λ other. none_waits (mode_due mode) trace (run.waits (other_says c.serve-ending.result.printing c.serve-ending.result.status c.code.result is other))
                 (λ hook flow old old_files new new_files draft is. chain_never_waits _ _ _ hook flow _ _ old_files _ _ new_files draft is);
             own = run.own;
           },
@@ -121,9 +119,6 @@ returns g c = (
         };
     notes =
         let is = code_by c.serve-ending.result.printing c.serve-ending.result.status c.end.result c.code.result c.end.ensures.status c.code.ensures.code in
-        let P : ModeIs → Type 0 = λ m. IsTold (Rose (g.T.Sink.faults c.args.notes.now) (g.T.Sink.faults c.serve-ending.new.notes)) c.code.result
-        (where_listening (g.N.Net.listening c.serve-ending.new.net) (start_note (c.args.options.listen.host, c.args.options.listen.port) (Some m))) (g.T.Sink.written c.args.notes.now) (g.T.Sink.written c.serve-ending.new.notes) in
-        subst P (sym c.server_of-server.ensures)
-        (told_code _ _ c.code.result _ _ _ (λ eight. memory_gives c.serve-ending.result.printing c.serve-ending.result.status c.code.result is eight) c.serve-ending.ensures.notes);
+        told_code _ _ c.code.result _ _ _ (λ eight. memory_gives c.serve-ending.result.printing c.serve-ending.result.status c.code.result is eight) c.serve-ending.ensures.notes;
   },
 )

@@ -1,8 +1,8 @@
-use Rattle.px_http.specs.Silent.{fixed_nothing_yet, fixed_silent}
+use Rattle.px_http.specs.Silent.{mode_nothing_yet, mode_silent}
 use Rattle.px_http.proofs.laws.servers_hear_nothing_early.Goals as goal
 
 pub returns-clause-silent : goal.returns-clause-silent
-returns-clause-silent c = λ address conv peer server moves none. fixed_silent address conv peer server moves none
+returns-clause-silent c = λ mode conv peer server moves none. mode_silent mode conv peer server moves none
 
 pub returns-clause-before_all : goal.returns-clause-before_all
-returns-clause-before_all c = λ address conv peer. fixed_nothing_yet address conv peer
+returns-clause-before_all c = λ mode conv peer. mode_nothing_yet mode conv peer

@@ -5,7 +5,7 @@ use Rattle.px_app.proofs.printing.Printing.put_flows.Goals as goal
 
 pub loop-flow-init : goal.loop-flow-init
 loop-flow-init g c = record {
-  front = [];
+  prefix = [];
   split = c.into_iter-flow-iterator.ensures.into_iter_gives.0;
   puts = puts_none _ c.args.self _ _;
   failed = λ first losing bound bound_losses rose. rose;
@@ -16,17 +16,17 @@ loop-flow-init g c = record {
 pub returns-in_err-printing-clause-puts : goal.returns-in_err-printing-clause-puts
 returns-in_err-printing-clause-puts g c =
     let before = c.loop-flow.invariant in
-    puts_stop _ c.args.self c.loop-flow.printing c.args.flows.items before.front c.in-Some.flow c.next.new.self.rest.items c.in_err-printing.field-0.0 c.from_residual.result _ _ _ _ _ _
-    c.from_residual.ensures.0 (rest_is before.front _ _ c.args.flows.items c.in-Some.ensures.steps.0 before.split) before.puts c.in_err-printing.ensures.puts
+    puts_stop _ c.args.self c.loop-flow.printing c.args.flows.items before.prefix c.in-Some.flow c.next.new.self.rest.items c.in_err-printing.field-0.0 c.from_residual.result _ _ _ _ _ _
+    c.from_residual.ensures.0 (rest_is before.prefix _ _ c.args.flows.items c.in-Some.ensures.steps.0 before.split) before.puts c.in_err-printing.ensures.puts
 
 pub loop-flow-preserved : goal.loop-flow-preserved
 loop-flow-preserved g c =
     let before = c.loop-flow.invariant in
     let x = c.in-Some.flow in
     record {
-      front = before.front ++ x ∷ [];
-      split = front_next before.front x c.next.new.self.rest.items c.args.flows.items (rest_is before.front _ _ c.args.flows.items c.in-Some.ensures.steps.0 before.split);
-      puts = puts_more _ c.args.self c.loop-flow.printing before.front (c.in-Some.flow ∷ []) (Ok c.in_ok-printing.printing) _ _ _ _ _ _ before.puts c.in_ok-printing.ensures.puts;
+      prefix = before.prefix ++ x ∷ [];
+      split = front_next before.prefix x c.next.new.self.rest.items c.args.flows.items (rest_is before.prefix _ _ c.args.flows.items c.in-Some.ensures.steps.0 before.split);
+      puts = puts_more _ c.args.self c.loop-flow.printing before.prefix (c.in-Some.flow ∷ []) (Ok c.in_ok-printing.printing) _ _ _ _ _ _ before.puts c.in_ok-printing.ensures.puts;
       failed = λ first losing bound bound_losses rose. c.in_ok-printing.ensures.failed first losing (le_trans bound before.later) (le_trans bound_losses before.later_losses) (before.failed first losing bound bound_losses rose);
       later = le_trans before.later c.in_ok-printing.ensures.later;
       later_losses = le_trans before.later_losses c.in_ok-printing.ensures.later_losses;

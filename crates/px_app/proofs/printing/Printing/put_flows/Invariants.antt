@@ -9,9 +9,9 @@ use Rattle.px_app.proofs.printing.Printing.put_flows.Given as goal
 -- the flows in front are printed and saved
 abbrev pub invariant-loop-flow : goal.invariant-loop-flow
 invariant-loop-flow g l = record {
-  front : List Flow;
-  split : front ++ l.flow-iterator.rest.items ≡ l.fn.flows.items;
-  puts : Puts (saves_to_of (option_copied l.fn.saving)) l.fn.self front (Ok l.printing) (files_meaning g.F.Files.contents g.F.Files.calls g.F.Files.misses g.F.Files.faults g.F.Files.losses l.fn.files)
+  prefix : List Flow;
+  split : prefix ++ l.flow-iterator.rest.items ≡ l.fn.flows.items;
+  puts : Puts (saves_to_of (option_copied l.fn.saving)) l.fn.self prefix (Ok l.printing) (files_meaning g.F.Files.contents g.F.Files.calls g.F.Files.misses g.F.Files.faults g.F.Files.losses l.fn.files)
       (files_meaning g.F.Files.contents g.F.Files.calls g.F.Files.misses g.F.Files.faults g.F.Files.losses l.files) (g.S.Sink.written l.fn.out) (g.S.Sink.written l.out);
   failed : (first losing : ℕ) → first ≤ g.S.Sink.faults l.fn.out → losing ≤ g.F.Files.losses l.fn.files → (l.fn.self ≡ Failed → Rose first (g.S.Sink.faults l.fn.out) ⊎ Rose losing (g.F.Files.losses l.fn.files)) →
       l.printing ≡ Failed → Rose first (g.S.Sink.faults l.out) ⊎ Rose losing (g.F.Files.losses l.files);

@@ -1,4 +1,4 @@
-use Rattle.px_stream.specs.Chain.{sequence}
+use Rattle.px_chain.specs.Chain.{sequence}
 use Rattle.px_http.specs.Stands.{flow_stands}
 use Rattle.px_http.proofs.conversation.HttpConv.into_rests.Goals as goal
 

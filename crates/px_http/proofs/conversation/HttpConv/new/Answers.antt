@@ -3,8 +3,8 @@ use Rattle.px_http.proofs.conversation.HttpConv.new.Goals as goal
 pub new-requires-clause-few : goal.new-requires-clause-few
 new-requires-clause-few c = c.requires.few
 
-pub new-requires-clause-regular : goal.new-requires-clause-regular
-new-requires-clause-regular c = c.requires.regular
+pub new-requires-clause-dialled : goal.new-requires-clause-dialled
+new-requires-clause-dialled c = c.requires.dialled
 
 pub returns-clause-stands : goal.returns-clause-stands
 returns-clause-stands c = c.new.ensures.in_sequence c.requires.dials

@@ -1,7 +1,7 @@
 use Rattle.std.proofs.Common.{◌∙◌, Err, [], ap, refl, le_refl}
-use Rattle.px_message.specs.declared.address.Address.{Address}
-use Rattle.px_http.specs.declared.fixed.Fixed.{Fixed}
-use Rattle.px_http.specs.Fixed.{fixed_due}
+use Rattle.px_exchange.specs.declared.mode.Mode.{Mode}
+use Rattle.px_http.specs.declared.placed.Placed.{Placed}
+use Rattle.px_http.specs.Modes.{mode_due}
 use Rattle.px_core.specs.Answers.{AnswererState, files_meaning}
 use Rattle.px_core.specs.declared.gates.Gates.{Gates}
 use Rattle.px_app.specs.Over.{course_from, goes_none}
@@ -10,18 +10,18 @@ use Rattle.px_app.proofs.EndLemmas.{not_failed}
 use Rattle.px_app.proofs.GoesLemmas.{leaves_whole}
 use Rattle.px_app.proofs.StepLemmas.{begun_first, leaves_from, leaves_saving, run_saving}
 use Rattle.px_app.proofs.ToldLemmas.{begun_not, begun_told}
-use Rattle.px_app.proofs.reverse.serve.Goals as goal
+use Rattle.px_app.proofs.serve.serve.Goals as goal
 
 pub returns-in-Err-clause-run : goal.returns-in-Err-clause-run
 returns-in-Err-clause-run g c = λ empty.
-    begun_first g.A.Answerer.answers g.A.Answerer.fails (fixed_due c.args.server) _ (saves_to_of c.args.saving) c.args.budget _ c.in-Err.status _ (c.in-Err.ensures.trace ∙ empty) c.in-Err.ensures.err
+    begun_first g.A.Answerer.answers g.A.Answerer.fails (mode_due c.args.mode) _ (saves_to_of c.args.saving) c.args.budget _ c.in-Err.status _ (c.in-Err.ensures.trace ∙ empty) c.in-Err.ensures.err
 
 pub returns-in-Err-clause-files : goal.returns-in-Err-clause-files
 returns-in-Err-clause-files g c = leaves_whole g.A.Answerer.answers g.A.Answerer.fails (saves_to_of c.args.saving) _ _ goes_none
 
 pub serve_all-status-requires : goal.serve_all-status-requires
 serve_all-status-requires g c =
-    let due = fixed_due c.new-serving.result.maker.layers.address in
+    let due = mode_due c.new-serving.result.maker.layers.mode in
     let files = files_meaning g.F.Files.contents g.F.Files.calls g.F.Files.misses g.F.Files.faults g.F.Files.losses c.args.files.now in
     let first : AnswererState g.A.Answerer.State = record { own = g.A.Answerer.state c.args.answerer; files = files } in
     let rests = c.new-serving.ensures.rests due files (g.S.Sink.written c.args.out.now) in
@@ -29,12 +29,12 @@ serve_all-status-requires g c =
 
 pub returns-clause-run : goal.returns-clause-run
 returns-clause-run g c = λ empty.
-    let there = ap (λ (m : Gates Fixed). m.layers.address) c.new-serving.ensures.maker ∙ (ap (λ (f : Fixed). f.address) c.new-maker.ensures ∙ c.new.ensures) in
+    let there = ap (λ (m : Gates Placed). m.layers.mode) c.new-serving.ensures.maker ∙ (ap (λ (p : Placed). p.mode) c.new-maker.ensures ∙ c.new.ensures) in
     let files = files_meaning g.F.Files.contents g.F.Files.calls g.F.Files.misses g.F.Files.faults g.F.Files.losses c.args.files.now in
     let start = g.S.Sink.written c.args.out.now in
-    run_saving g.A.Answerer.answers g.A.Answerer.fails (fixed_due c.args.server) _ c.args.budget _ _ _ start _ _ c.new-serving.ensures.saving
-    (c.serve_all-status.ensures.run (fixed_due c.args.server) _ start (λ conv peer moves. ap (λ (a : Address). fixed_due a conv peer moves) there)
-    (c.new-serving.ensures.rests (fixed_due c.args.server) files start) (c.in_default.ensures.trace ∙ empty))
+    run_saving g.A.Answerer.answers g.A.Answerer.fails (mode_due c.args.mode) _ c.args.budget _ _ _ start _ _ c.new-serving.ensures.saving
+    (c.serve_all-status.ensures.run (mode_due c.args.mode) _ start (λ conv peer moves. ap (λ (m : Mode). mode_due m conv peer moves) there)
+    (c.new-serving.ensures.rests (mode_due c.args.mode) files start) (c.in_default.ensures.trace ∙ empty))
 
 pub returns-clause-failed : goal.returns-clause-failed
 returns-clause-failed g c = λ failed.
