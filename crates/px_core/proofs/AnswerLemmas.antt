@@ -96,7 +96,7 @@ module _ {S : Type 0} (answers : Answering S) (fails : Failing S) (is : S → Ty
   kept_leaving due course Whole files trace so own moved l =
       let P : AnswererState S → Type 0 = λ first. goes first.files files in
       let k = kept_over due l.made (begins_so is course l.made l.front_of so) (made_are (KeepsOwn is) course l.made l.front_of own)
-      (made_are (MovesFiles goes) course l.made l.front_of moved) l.front l.last l.pending l.answered in
+      (made_are (MovesFiles goes) course l.made l.front_of moved) l.prefix l.last l.pending l.answered in
       subst P l.front_of.same (keeps.on l.made.first.files l.last.files files k.goes_so (kept_after l.last files k.so l.after))
 
 -- where no answer and no failure changes files, they are as they were

@@ -69,9 +69,9 @@ quiet_behind conv ask question (commands.Done flow ∷ given) last turn =
     let r = quiet_behind conv ask question given last turn in record { quiet = (tt, r.quiet); asked = r.asked }
 quiet_behind conv ask question (commands.Ask other flow ∷ given) last (none, turn) = absurd (no_ask ask none)
 
-nothing_before : (front rest : List Step) → [] ≡ front ++ rest → front ≡ []
+nothing_before : (prefix rest : List Step) → [] ≡ prefix ++ rest → prefix ≡ []
 nothing_before [] rest e = refl
-nothing_before (x ∷ front) rest e = absurd (cc)
+nothing_before (x ∷ prefix) rest e = absurd (cc)
 
 -- what is due does not change where a command is told
 told_due : (due : Due) (conv : ℕ) (trace : Trace) (command : Command) → due_in due flows conv (trace ++ step_of conv command ∷ []) ≡ due_in due flows conv trace
@@ -82,16 +82,16 @@ about_on : (due : Due) (conv : ℕ) (trace : Trace) (command : Command) (questio
 about_on due conv trace command None it = tt
 about_on due conv trace command (Some question) (earlier, last) = (earlier, told_due due conv trace command ∙ last)
 
--- a course is a front of itself
+-- a course is a prefix of itself
 pub whole_front : {S : Type 0} (course : Course S) → IsFrontOf course course
 whole_front course = record { same = refl; later = []; split = sym (append-nil course.changes) }
 
 -- and so is what it was before its last changes
-pub front_on : {S : Type 0} (course between front : Course S) → IsFrontOf course between → IsFrontOf between front → IsFrontOf course front
-front_on course between front a b = record {
+pub front_on : {S : Type 0} (course between prefix : Course S) → IsFrontOf course between → IsFrontOf between prefix → IsFrontOf course prefix
+front_on course between prefix a b = record {
   same = b.same ∙ a.same;
   later = b.later ++ a.later;
-  split = a.split ∙ (ap (λ l. l ++ a.later) b.split ∙ append_assoc front.changes b.later a.later);
+  split = a.split ∙ (ap (λ l. l ++ a.later) b.split ∙ append_assoc prefix.changes b.later a.later);
 }
 
 module _ {S : Type 0} (answers : Answering S) (due : Due) where
@@ -99,44 +99,44 @@ module _ {S : Type 0} (answers : Answering S) (due : Due) where
   answered_whole course trace now pending a = record { made = course; front_of = whole_front course; last = now; pending = pending; answered = a }
 
   -- one step less
-  less : (course : Course S) (front rest whole trace : Trace) (step : Step) → IsAnswered answers due course whole → whole ≡ trace ++ step ∷ [] → whole ≡ front ++ rest →
-      ((most : Trace) → trace ≡ front ++ most → IsAnswered answers due course front) → IsAnswered answers due course front
-  less course front rest whole trace step all is split before = by (front_of_more trace step front rest (sym is ∙ split))
+  less : (course : Course S) (prefix rest whole trace : Trace) (step : Step) → IsAnswered answers due course whole → whole ≡ trace ++ step ∷ [] → whole ≡ prefix ++ rest →
+      ((most : Trace) → trace ≡ prefix ++ most → IsAnswered answers due course prefix) → IsAnswered answers due course prefix
+  less course prefix rest whole trace step all is split before = by (front_of_more trace step prefix rest (sym is ∙ split))
     where
-      by : IsFrontOfMore trace step front rest → IsAnswered answers due course front
+      by : IsFrontOfMore trace step prefix rest → IsAnswered answers due course prefix
       by (inl h) = let P : Trace → Type 0 = IsAnswered answers due course in subst P (is ∙ sym h.0) all
       by (inr h) = before h.0 h.1
 
   -- one change less
-  later_course : (course made : Course S) (front : Trace) → IsFrontOf course made → IsAnswered answers due made front → IsAnswered answers due course front
-  later_course course made front first a =
+  later_course : (course made : Course S) (prefix : Trace) → IsFrontOf course made → IsAnswered answers due made prefix → IsAnswered answers due course prefix
+  later_course course made prefix first a =
       record { made = a.made; front_of = front_on course made a.made first a.front_of; last = a.last; pending = a.pending; answered = a.answered }
 
-  -- a front of a trace that is answered is answered, by the changes that were made there
-  pub front_answered : (course : Course S) (front rest whole : Trace) (now : AnswererState S) (pending : Pending) → whole ≡ front ++ rest → Answers answers due course whole now pending →
-      IsAnswered answers due course front
-  front_answered course front rest whole now pending split (at_first c none) =
+  -- a prefix of a trace that is answered is answered, by the changes that were made there
+  pub front_answered : (course : Course S) (prefix rest whole : Trace) (now : AnswererState S) (pending : Pending) → whole ≡ prefix ++ rest → Answers answers due course whole now pending →
+      IsAnswered answers due course prefix
+  front_answered course prefix rest whole now pending split (at_first c none) =
       let P : Trace → Type 0 = IsAnswered answers due course in
-      subst P (sym (nothing_before front rest split)) (answered_whole course [] now pending (at_first course none))
-  front_answered course front rest whole now pending split (at_hook c trace next old new was conv hook flow given earlier before is free last so) =
-      less course front rest whole trace (steps.Asked conv (asks.Hook flow.id.index hook))
+      subst P (sym (nothing_before prefix rest split)) (answered_whole course [] now pending (at_first course none))
+  front_answered course prefix rest whole now pending split (at_hook c trace next old new was conv hook flow given earlier before is free last so) =
+      less course prefix rest whole trace (steps.Asked conv (asks.Hook flow.id.index hook))
       (answered_whole course whole now pending (at_hook course trace whole old now was conv hook flow given earlier before is free last so)) is split
-      (λ most e. front_answered course front most trace old was e before)
-  front_answered course front rest whole now pending split (at_reply c trace next state was conv ask reply before is given) =
-      less course front rest whole trace (steps.Answered conv ask reply)
+      (λ most e. front_answered course prefix most trace old was e before)
+  front_answered course prefix rest whole now pending split (at_reply c trace next state was conv ask reply before is given) =
+      less course prefix rest whole trace (steps.Answered conv ask reply)
       (answered_whole course whole now pending (at_reply course trace whole now was conv ask reply before is given)) is split
-      (λ most e. front_answered course front most trace now was e before)
-  front_answered course front rest whole now pending split (at_other c trace next state was step before is quiet) =
-      less course front rest whole trace step
+      (λ most e. front_answered course prefix most trace now was e before)
+  front_answered course prefix rest whole now pending split (at_other c trace next state was step before is quiet) =
+      less course prefix rest whole trace step
       (answered_whole course whole now pending (at_other course trace whole now pending step before is quiet)) is split
-      (λ most e. front_answered course front most trace now pending e before)
-  front_answered course front rest whole now pending split (at_change made next trace old new was before is) =
+      (λ most e. front_answered course prefix most trace now pending e before)
+  front_answered course prefix rest whole now pending split (at_change made next trace old new was before is) =
       let one : Change S = change whole old now in
       let first : IsFrontOf course made = record { same = sym (ap (λ c. c.first) is); later = one ∷ []; split = ap (λ c. c.changes) is } in
-      later_course course made front first (front_answered made front rest whole old pending split before)
+      later_course course made prefix first (front_answered made prefix rest whole old pending split before)
 
-  pub answered_front : (course : Course S) (front rest whole : Trace) → whole ≡ front ++ rest → IsAnswered answers due course whole → IsAnswered answers due course front
-  answered_front course front rest whole split a = later_course course a.made front a.front_of (front_answered a.made front rest whole a.last a.pending split a.answered)
+  pub answered_front : (course : Course S) (prefix rest whole : Trace) → whole ≡ prefix ++ rest → IsAnswered answers due course whole → IsAnswered answers due course prefix
+  answered_front course prefix rest whole split a = later_course course a.made prefix a.front_of (front_answered a.made prefix rest whole a.last a.pending split a.answered)
 
 module _ {S : Type 0} (answers : Answering S) (due : Due) (course : Course S) where
   -- steps that ask nothing and answer nothing
@@ -201,7 +201,7 @@ module _ {S : Type 0} (answers : Answering S) (due : Due) (course : Course S) wh
         let Q : Option Question → Type 0 = IsAbout due conv trace in
         let here : IsAbout due conv trace (Some q) = subst Q same it in
         let to : IsToAsk answers due course pending conv draft now (trace ++ steps.Asked conv ask ∷ map (step_of conv) given) q = record {
-          front = trace;
+          prefix = trace;
           behind = map (step_of conv) given;
           is = sym (append_assoc trace (steps.Asked conv ask ∷ []) (map (step_of conv) given));
           quiet = r.quiet;
@@ -218,19 +218,19 @@ module _ {S : Type 0} (answers : Answering S) (due : Due) (course : Course S) wh
         Answers answers due course trace new (with_pending conv (Some (record { ask = question.ask; answer = given })) t.follows.pending)
     asked_on was old new trace question given named so t =
         let ask : Ask = asks.Hook question.flow.id.index question.hook in
-        let front = t.front in
+        let prefix = t.prefix in
         let over = with_pending conv (Some (record { ask = question.ask; answer = given })) t.follows.pending in
-        let P : Ask → Type 0 = λ a. Answers answers due course (front ++ steps.Asked conv a ∷ []) new (with_pending conv (Some (record { ask = a; answer = given })) t.follows.pending) in
+        let P : Ask → Type 0 = λ a. Answers answers due course (prefix ++ steps.Asked conv a ∷ []) new (with_pending conv (Some (record { ask = a; answer = given })) t.follows.pending) in
         let Q : Trace → Type 0 = λ l. Answers answers due course l new over in
-        subst Q (sym t.is) (over_quiet (front ++ steps.Asked conv question.ask ∷ []) t.behind new over
-        (subst P (sym named) (at_hook course front (front ++ steps.Asked conv ask ∷ []) old new t.follows.pending conv question.hook question.flow given t.earlier t.follows.answered refl
+        subst Q (sym t.is) (over_quiet (prefix ++ steps.Asked conv question.ask ∷ []) t.behind new over
+        (subst P (sym named) (at_hook course prefix (prefix ++ steps.Asked conv ask ∷ []) old new t.follows.pending conv question.hook question.flow given t.earlier t.follows.answered refl
         (t.follows.here ∙ ap (λ h. waiting h was) t.free) (t.last ∙ ap (λ a. t.earlier ++ about a question.flow ∷ []) named) so))
         t.quiet)
 
     open_now : (was : Option Draft) (old : AnswererState S) (trace : Trace) (question : Question) → IsToAsk answers due course pending conv was old trace question →
         open_hook conv trace ≡ Some question.ask
     open_now was old trace question t =
-        ap (open_hook conv) t.is ∙ (hook_quiet conv (t.front ++ steps.Asked conv question.ask ∷ []) t.behind t.quiet ∙ hook_asked conv t.front question.ask)
+        ap (open_hook conv) t.is ∙ (hook_quiet conv (t.prefix ++ steps.Asked conv question.ask ∷ []) t.behind t.quiet ∙ hook_asked conv t.prefix question.ask)
 
     -- a draft, with which the hook waits
     pub follows_wait : (was : Option Draft) (draft : Draft) (old new : AnswererState S) (trace : Trace) (question : Question) → question.ask ≡ asks.Hook question.flow.id.index question.hook →

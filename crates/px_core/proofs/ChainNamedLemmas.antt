@@ -11,17 +11,17 @@ use Rattle.px_core.specs.Conversation.{IsNamed, AllNamed}
 
 -- each part owes only asks and ends of flows of the conversation of this number
 pub record OwesNamed {S E R : Type 0} (conv : ℕ) (chain : Chain S E R Command) : Type 0 where
-  pub pass : (stage : S) (front : List (Timed E)) → AllNamed conv (chain.pass stage front).owed
-  pub look : (stage : S) (front : List (Timed E)) → AllNamed conv (found (chain.look stage front))
-  pub so_far : (stage : S) (front : List (Timed E)) → AllNamed conv (chain.so_far stage front)
-  pub turn : (stage : S) (front : List (Timed E)) (reply : Timed R) → AllNamed conv (chain.turn stage front reply).owed
+  pub pass : (stage : S) (prefix : List (Timed E)) → AllNamed conv (chain.pass stage prefix).owed
+  pub look : (stage : S) (prefix : List (Timed E)) → AllNamed conv (found (chain.look stage prefix))
+  pub so_far : (stage : S) (prefix : List (Timed E)) → AllNamed conv (chain.so_far stage prefix)
+  pub turn : (stage : S) (prefix : List (Timed E)) (reply : Timed R) → AllNamed conv (chain.turn stage prefix reply).owed
 
 -- Each part at the stages of this kind does, and no part leads to another stage.
 pub record StaysNamed {S E R : Type 0} (conv : ℕ) (chain : Chain S E R Command) (kind : S → Type 0) : Type 0 where
-  pub pass : (stage : S) (front : List (Timed E)) → kind stage → AllNamed conv (chain.pass stage front).owed × kind (chain.pass stage front).stage
-  pub look : (stage : S) (front : List (Timed E)) → kind stage → AllNamed conv (found (chain.look stage front))
-  pub so_far : (stage : S) (front : List (Timed E)) → kind stage → AllNamed conv (chain.so_far stage front)
-  pub turn : (stage : S) (front : List (Timed E)) (reply : Timed R) → kind stage → AllNamed conv (chain.turn stage front reply).owed × kind (chain.turn stage front reply).stage
+  pub pass : (stage : S) (prefix : List (Timed E)) → kind stage → AllNamed conv (chain.pass stage prefix).owed × kind (chain.pass stage prefix).stage
+  pub look : (stage : S) (prefix : List (Timed E)) → kind stage → AllNamed conv (found (chain.look stage prefix))
+  pub so_far : (stage : S) (prefix : List (Timed E)) → kind stage → AllNamed conv (chain.so_far stage prefix)
+  pub turn : (stage : S) (prefix : List (Timed E)) (reply : Timed R) → kind stage → AllNamed conv (chain.turn stage prefix reply).owed × kind (chain.turn stage prefix reply).stage
 
 named_append : (conv : ℕ) (xs ys : List Command) → AllNamed conv xs → AllNamed conv ys → AllNamed conv (xs ++ ys)
 named_append conv [] ys all more = more
@@ -46,7 +46,7 @@ module _ {S E R : Type 0} (conv : ℕ) (chain : Chain S E R Command) (kind : S �
       (reach_named last (before ++ (chain.pass s f).owed) (chain.pass s f).stage (f ++ worked_off last e ∷ []) es here on.1) (here, on.1)
 
   there_named : (w : Stop S E R Command) → AllNamed conv w.before → kind w.stage → AllNamed conv (owed_at chain w)
-  there_named w all is = named_append conv w.before _ all (named_append conv (chain.so_far w.stage w.front) _ (named.so_far w.stage w.front is) (named.look w.stage w.front is))
+  there_named w all is = named_append conv w.before _ all (named_append conv (chain.so_far w.stage w.prefix) _ (named.so_far w.stage w.prefix is) (named.look w.stage w.prefix is))
 
   asked_named : (l : Look Command) (ask : Command) → l ≡ Asks ask → AllNamed conv (found l) → IsNamed conv ask
   asked_named l ask is all = let Q : Look Command → Type 0 = λ k. AllNamed conv (found k) in let one : AllNamed conv (found (Asks ask)) = subst Q is all in one.0
@@ -63,14 +63,14 @@ module _ {S E R : Type 0} (conv : ℕ) (chain : Chain S E R Command) (kind : S �
       let here = reach_named last before s f es all is in there_named (stop_at last (reach chain last before s f es) []) here.0 here.1
   walk_named (r ∷ rs) last before s f es all is =
       let here = reach chain last before s f es in
-      let on = chain.turn here.stage here.front (at_its_step r) in
-      let so_far = chain.so_far here.stage here.front in
+      let on = chain.turn here.stage here.prefix (at_its_step r) in
+      let so_far = chain.so_far here.stage here.prefix in
       let at_here = reach_named last before s f es all is in
-      let turned = named.turn here.stage here.front (at_its_step r) at_here.1 in
-      walk_by_named (chain.look here.stage here.front) _ _
-      (λ ask asks. walk_named rs r.stamp (here.before ++ (so_far ++ ask ∷ on.owed)) on.stage here.front here.rest
-      (named_append conv here.before _ at_here.0 (named_append conv so_far (ask ∷ on.owed) (named.so_far here.stage here.front at_here.1)
-      (asked_named (chain.look here.stage here.front) ask asks (named.look here.stage here.front at_here.1), turned.0))) turned.1)
+      let turned = named.turn here.stage here.prefix (at_its_step r) at_here.1 in
+      walk_by_named (chain.look here.stage here.prefix) _ _
+      (λ ask asks. walk_named rs r.stamp (here.before ++ (so_far ++ ask ∷ on.owed)) on.stage here.prefix here.rest
+      (named_append conv here.before _ at_here.0 (named_append conv so_far (ask ∷ on.owed) (named.so_far here.stage here.prefix at_here.1)
+      (asked_named (chain.look here.stage here.prefix) ask asks (named.look here.stage here.prefix at_here.1), turned.0))) turned.1)
       (there_named (stop_at last here (r ∷ rs)) at_here.0 at_here.1)
 
 -- what is due from a stage of the kind names the conversation
@@ -83,9 +83,9 @@ pub all_named : {S : Type 0} (conv : ℕ) (chain : Chain S Event Reply Command) 
 all_named {S} conv chain start named moves =
     let kind : S → Type 0 = λ s. Unit {0} in
     let stays : StaysNamed conv chain kind = record {
-      pass = λ stage front is. (named.pass stage front, tt);
-      look = λ stage front is. named.look stage front;
-      so_far = λ stage front is. named.so_far stage front;
-      turn = λ stage front reply is. (named.turn stage front reply, tt);
+      pass = λ stage prefix is. (named.pass stage prefix, tt);
+      look = λ stage prefix is. named.look stage prefix;
+      so_far = λ stage prefix is. named.so_far stage prefix;
+      turn = λ stage prefix reply is. (named.turn stage prefix reply, tt);
     } in
     stays_named conv chain kind start stays tt moves

@@ -33,9 +33,9 @@ quiet_alone conv (steps.Answered number ask reply) quiet = absurd quiet
 quiet_alone conv (steps.Said number what) quiet = tt
 quiet_alone conv (steps.Done flow) quiet = tt
 
-no_end : (front : Trace) (step : Step) → [] ≡ front ++ step ∷ [] → ⊥
+no_end : (prefix : Trace) (step : Step) → [] ≡ prefix ++ step ∷ [] → ⊥
 no_end [] step e = cc
-no_end (s ∷ front) step e = cc
+no_end (s ∷ prefix) step e = cc
 
 none_given : (given : GivenTo) → None ≡ Some given → ⊥
 none_given given e = cc
@@ -60,9 +60,9 @@ module _ (gives : Hook → Flow → Answer → Type 0) (due : Due) where
   kind_grown : (trace next : Trace) (step : Step) (conv : ℕ) (ask : Ask) (given : Answer) → next ≡ trace ++ step ∷ [] → LeavesAlone conv step →
       IsOfKind gives due trace conv ask given → IsOfKind gives due next conv ask given
   kind_grown trace next step conv ask given is apart k = record {
-    front = k.front;
+    prefix = k.prefix;
     rest = k.rest ++ step ∷ [];
-    split = is ∙ (ap (λ t. t ++ step ∷ []) k.split ∙ append_assoc k.front (steps.Asked conv ask ∷ k.rest) (step ∷ []));
+    split = is ∙ (ap (λ t. t ++ step ∷ []) k.split ∙ append_assoc k.prefix (steps.Asked conv ask ∷ k.rest) (step ∷ []));
     alone = alone_more conv k.rest step k.alone apart;
     hook = k.hook;
     flow = k.flow;
@@ -85,8 +85,8 @@ module _ (gives : Hook → Flow → Answer → Type 0) (due : Due) where
   quiet_so trace (steps.Done flow) quiet = tt
 
   ends_so : (trace : Trace) (step : Step) → IsSo trace step → EndsOfKind gives due (trace ++ step ∷ [])
-  ends_so trace step so front conv ask reply e =
-      let last = last_step trace front step (steps.Answered conv ask reply) e in
+  ends_so trace step so prefix conv ask reply e =
+      let last = last_step trace prefix step (steps.Answered conv ask reply) e in
       let P : Trace → Type 0 = λ t. IsSo t (steps.Answered conv ask reply) in
       let Q : Step → Type 0 = IsSo trace in
       subst P (sym last.0) (subst Q (sym last.1) so)
@@ -111,7 +111,7 @@ module _ {S : Type 0} (answers : Answering S) (due : Due) (is : S → Type 0) (g
       let ask : Ask = asks.Hook flow.id.index hook in
       let now : GivenTo = record { ask = ask; answer = given } in
       let here : IsOfKind gives due next conv ask given = record {
-        front = trace;
+        prefix = trace;
         rest = [];
         split = split;
         alone = tt;
@@ -147,7 +147,7 @@ module _ {S : Type 0} (answers : Answering S) (due : Due) (is : S → Type 0) (g
   kept course begins stay trace now pending (at_first c none) = record {
     so = begins;
     given = λ conv g e. absurd (none_given g e);
-    of_kind = always_empty (EndsOfKind gives due) (λ front conv ask reply e. absurd (no_end front (steps.Answered conv ask reply) e));
+    of_kind = always_empty (EndsOfKind gives due) (λ prefix conv ask reply e. absurd (no_end prefix (steps.Answered conv ask reply) e));
   }
   kept course begins stay whole now pending (at_hook c trace next old new was conv hook flow given earlier before split free last so) =
       hook_kept trace whole old now was conv hook flow given earlier split last so (kept course begins stay trace old was before)
@@ -170,5 +170,5 @@ module _ {S : Type 0} (answers : Answering S) (due : Due) (is : S → Type 0) (g
   -- with the first changes of a course
   pub kept_in : (course made : Course S) → IsFrontOf course made → is course.first.own → AllAre (KeepsOwn is) course.changes → (trace : Trace) (now : AnswererState S) (pending : Pending) →
       Answers answers due made trace now pending → Kept trace now pending
-  kept_in course made front begins stay trace now pending a =
-      kept made (begins_so is course made front begins) (made_are (KeepsOwn is) course made front stay) trace now pending a
+  kept_in course made prefix begins stay trace now pending a =
+      kept made (begins_so is course made prefix begins) (made_are (KeepsOwn is) course made prefix stay) trace now pending a

@@ -83,15 +83,15 @@ module _ {S E R : Type 0} (chain : Chain S E R Command) (is_stage : S → Bool) 
   walk_past : (rs : List (Stamped R)) (last : Stamp) (before : List Command) (s : S) (f : List (Timed E)) (es : List (Stamped E)) → IsPast before s →
       AsksBeforeEnds (owed_at chain (walk chain rs last before s f es))
   walk_past [] last before s f es at =
-      let here = reach chain last before s f es in stop_past here.before here.stage here.front (reach_past last before s f es at)
+      let here = reach chain last before s f es in stop_past here.before here.stage here.prefix (reach_past last before s f es at)
   walk_past (r ∷ rs) last before s f es at =
       let here = reach chain last before s f es in
       let there = reach_past last before s f es at in
-      let turn = chain.turn here.stage here.front (at_its_step r) in
-      walk_by_past (chain.look here.stage here.front) _ _
-      (λ ask is. walk_past rs r.stamp (here.before ++ (chain.so_far here.stage here.front ++ ask ∷ turn.owed)) turn.stage here.front here.rest
-      (on here.before (chain.so_far here.stage here.front ++ ask ∷ turn.owed) here.stage turn.stage there (leaves.turns here.stage here.front ask there.leads is (at_its_step r))))
-      (stop_past here.before here.stage here.front there)
+      let turn = chain.turn here.stage here.prefix (at_its_step r) in
+      walk_by_past (chain.look here.stage here.prefix) _ _
+      (λ ask is. walk_past rs r.stamp (here.before ++ (chain.so_far here.stage here.prefix ++ ask ∷ turn.owed)) turn.stage here.prefix here.rest
+      (on here.before (chain.so_far here.stage here.prefix ++ ask ∷ turn.owed) here.stage turn.stage there (leaves.turns here.stage here.prefix ask there.leads is (at_its_step r))))
+      (stop_past here.before here.stage here.prefix there)
 
   -- What is due has no ask of a flow behind its end.
   pub leaving_ordered : (start : S) → is_stage start ≡ true → (events : List (Stamped E)) (replies : List (Stamped R)) → AsksBeforeEnds (due chain start events replies)

@@ -58,9 +58,9 @@ ordered_front (about ask flow ∷ xs) ys ordered = ordered_front xs ys ordered
 pub in_order : (due : Due) → ((conv : ℕ) (peer : Address) (moves : List Move) → AsksBeforeEnds (due conv peer moves)) →
     (trace : Trace) → IsWithinDue due trace → IsInOrder trace
 in_order due ordered trace within conv =
-    let front = within conv course tt in
+    let prefix = within conv course tt in
     let P : List Atom → Type 0 = HooksBeforeEnds in
-    ordered_front (seen_in course conv trace) front.0 (subst P front.1 (here (calls conv trace).peer))
+    ordered_front (seen_in course conv trace) prefix.0 (subst P prefix.1 (here (calls conv trace).peer))
   where
     here : (at : Option Address) → HooksBeforeEnds (seen_of course (due_at due conv at (calls_of conv trace)))
     here None = tt

@@ -23,8 +23,8 @@ use Rattle.px_core.specs.declared.answerer.Draft.{Draft}
 use Rattle.px_core.specs.declared.held.Held.{Held}
 use Rattle.px_core.specs.declared.news.News.{News}
 use Rattle.px_core.specs.declared.news.News.TheVariants as news
-use Rattle.px_core.specs.declared.table.Place.{Place}
-use Rattle.px_core.specs.declared.table.Place.TheVariants as place
+use Rattle.px_core.specs.declared.table.Entry.{Entry}
+use Rattle.px_core.specs.declared.table.Entry.TheVariants as place
 use Rattle.px_core.specs.declared.table.Table.{Table}
 use Rattle.px_core.specs.Answered.{nothing_pending, at_first, at_other}
 use Rattle.px_core.specs.Answers.{Answering, AnswererState}
@@ -153,7 +153,7 @@ over_next due conv trace next w grown sees hook = record {
 }
 
 -- a number that is not under the key that changed
-pub same_found : {X : Type 0} (before after : slab.Slab X) (was now : Option Place) (key : ℕ) → now ≡ was → ((k : ℕ) → k ≢ key → slab.get after k ≡ slab.get before k) →
+pub same_found : {X : Type 0} (before after : slab.Slab X) (was now : Option Entry) (key : ℕ) → now ≡ was → ((k : ℕ) → k ≢ key → slab.get after k ≡ slab.get before k) →
     (was ≡ Some (place.Live key) → ⊥) → found_by after now ≡ found_by before was
 same_found before after None now key same others not = ap (found_by after) same
 same_found before after (Some place.Ended) now key same others not = ap (found_by after) same
@@ -211,8 +211,8 @@ module _ {C : Type 0} (standing : Standing C) (awaited : C → Option Ask) (numb
     served = record {
       within = always_empty (IsWithinDue due) (λ conv view told. (due_in due view conv [], refl));
       told = before_empty (IsAllTold due);
-      met = always_empty (EndsMet answers due) (λ front conv ask reply e. absurd (no_end front (steps.Answered conv ask reply) e));
-      turns = always_empty EndsInTurn (λ front step e. absurd (no_end front step e));
+      met = always_empty (EndsMet answers due) (λ prefix conv ask reply e. absurd (no_end prefix (steps.Answered conv ask reply) e));
+      turns = always_empty EndsInTurn (λ prefix step e. absurd (no_end prefix step e));
       waits = before_empty (OpenOnesWait answers due);
     };
     pending = nothing_pending;
@@ -220,9 +220,9 @@ module _ {C : Type 0} (standing : Standing C) (awaited : C → Option Ask) (numb
     drafts = λ conv. refl;
   }
     where
-      no_end : (front : List Step) (step : Step) → [] ≡ front ++ step ∷ [] → ⊥
+      no_end : (prefix : List Step) (step : Step) → [] ≡ prefix ++ step ∷ [] → ⊥
       no_end [] step e = cc
-      no_end (x ∷ front) step e = cc
+      no_end (x ∷ prefix) step e = cc
 
   module _ (gave : (made state : C) (moves : List Move) (given : List Command) → standing made state moves given →
       (view : View) → seen_of view given ≡ seen_of view (made_due made moves))
@@ -300,7 +300,7 @@ module _ {C : Type 0} (standing : Standing C) (awaited : C → Option Ask) (numb
           (λ conv view told. next_within due conv trace (trace ++ steps.Heard moment heard ∷ []) (found table conv) (stands.at conv) (heard_grown conv trace moment heard) view told (seen_heard view conv trace moment heard));
       told = before_heard (IsAllTold due) trace moment heard stands.served.told (all_told due table trace stands);
       met = always_more (EndsMet answers due) trace (steps.Heard moment heard) stands.served.met
-          (λ front conv ask reply e. absurd (no_answer_heard moment conv heard ask reply (last_step trace front (steps.Heard moment heard) (steps.Answered conv ask reply) e).1));
+          (λ prefix conv ask reply e. absurd (no_answer_heard moment conv heard ask reply (last_step trace prefix (steps.Heard moment heard) (steps.Answered conv ask reply) e).1));
       turns = always_more EndsInTurn trace (steps.Heard moment heard) stands.served.turns (ends_in_turn trace (steps.Heard moment heard) tt);
       waits = before_heard (OpenOnesWait answers due) trace moment heard stands.served.waits (open_ones_wait due table trace stands);
     }

@@ -43,14 +43,14 @@ pub all_tellable : (conv : ℕ) (list : List Step) → AllOf conv list → AllTe
 all_tellable conv [] all = tt
 all_tellable conv (step ∷ list) (here, all) = (tellable_one conv step here, all_tellable conv list all)
 
--- a front of a served trace is served
+-- a prefix of a served trace is served
 pub served_front : {S : Type 0} (answers : Answering S) (due : Due) (trace rest : Trace) → IsServed answers due (trace ++ rest) → IsServed answers due trace
 served_front answers due trace rest served = record {
-  within = record { at = λ front back e. served.within.at front (back ++ rest) (ap (λ l. l ++ rest) e ∙ append_assoc front back rest) };
-  told = record { at = λ front back moment what e. served.told.at front (back ++ rest) moment what (ap (λ l. l ++ rest) e ∙ append_assoc front (steps.Heard moment what ∷ back) rest) };
-  met = record { at = λ front back e. served.met.at front (back ++ rest) (ap (λ l. l ++ rest) e ∙ append_assoc front back rest) };
-  turns = record { at = λ front back e. served.turns.at front (back ++ rest) (ap (λ l. l ++ rest) e ∙ append_assoc front back rest) };
-  waits = record { at = λ front back moment what e. served.waits.at front (back ++ rest) moment what (ap (λ l. l ++ rest) e ∙ append_assoc front (steps.Heard moment what ∷ back) rest) };
+  within = record { at = λ prefix back e. served.within.at prefix (back ++ rest) (ap (λ l. l ++ rest) e ∙ append_assoc prefix back rest) };
+  told = record { at = λ prefix back moment what e. served.told.at prefix (back ++ rest) moment what (ap (λ l. l ++ rest) e ∙ append_assoc prefix (steps.Heard moment what ∷ back) rest) };
+  met = record { at = λ prefix back e. served.met.at prefix (back ++ rest) (ap (λ l. l ++ rest) e ∙ append_assoc prefix back rest) };
+  turns = record { at = λ prefix back e. served.turns.at prefix (back ++ rest) (ap (λ l. l ++ rest) e ∙ append_assoc prefix back rest) };
+  waits = record { at = λ prefix back moment what e. served.waits.at prefix (back ++ rest) moment what (ap (λ l. l ++ rest) e ∙ append_assoc prefix (steps.Heard moment what ∷ back) rest) };
 }
 
 module _ {C : Type 0} (standing : Standing C) (awaited : C → Option Ask) (number : C → ℕ) (made_due : C → List Move → List Command) {S : Type 0} (answers : Answering S) where
@@ -88,39 +88,39 @@ module _ {C : Type 0} (standing : Standing C) (awaited : C → Option Ask) (numb
       by None is = let P : Trace → Type 0 = AllTellable in subst P (sym (same ∙ (r.none is).0)) tt
       by (Some (conv, news)) is = let P : Trace → Type 0 = AllTellable in subst P (sym same) (all_tellable conv r.more (r.own conv news is))
 
-tellable_behind : (front : List Step) (x : Step) (rest : List Step) → AllTellable (front ++ x ∷ rest) → IsTellable x
+tellable_behind : (prefix : List Step) (x : Step) (rest : List Step) → AllTellable (prefix ++ x ∷ rest) → IsTellable x
 tellable_behind [] x rest (here, all) = here
-tellable_behind (y ∷ front) x rest (here, all) = tellable_behind front x rest all
+tellable_behind (y ∷ prefix) x rest (here, all) = tellable_behind prefix x rest all
 
-pub tellable_at : (front : List Step) (x : Step) (rest list : List Step) → front ++ x ∷ rest ≡ list → AllTellable list → IsTellable x
-tellable_at front x rest list split all = let P : List Step → Type 0 = AllTellable in tellable_behind front x rest (subst P (sym split) all)
+pub tellable_at : (prefix : List Step) (x : Step) (rest list : List Step) → prefix ++ x ∷ rest ≡ list → AllTellable list → IsTellable x
+tellable_at prefix x rest list split all = let P : List Step → Type 0 = AllTellable in tellable_behind prefix x rest (subst P (sym split) all)
 
 -- what is left begins with what comes next
-pub rest_is : {A : Type 0} (front rest next list : List A) → rest ≡ next → front ++ rest ≡ list → front ++ next ≡ list
-rest_is front rest next list is split = ap (λ l. front ++ l) (sym is) ∙ split
+pub rest_is : {A : Type 0} (prefix rest next list : List A) → rest ≡ next → prefix ++ rest ≡ list → prefix ++ next ≡ list
+rest_is prefix rest next list is split = ap (λ l. prefix ++ l) (sym is) ∙ split
 
 -- it moves from those that are left to those that are done
-pub front_next : {A : Type 0} (front : List A) (x : A) (rest list : List A) → front ++ x ∷ rest ≡ list → (front ++ x ∷ []) ++ rest ≡ list
-front_next front x rest list split = append_assoc front (x ∷ []) rest ∙ split
+pub front_next : {A : Type 0} (prefix : List A) (x : A) (rest list : List A) → prefix ++ x ∷ rest ≡ list → (prefix ++ x ∷ []) ++ rest ≡ list
+front_next prefix x rest list split = append_assoc prefix (x ∷ []) rest ∙ split
 
 -- some of the steps were told, and the flows that those before finish were handed on
-pub told_taken : (now : Option Trace) (list front : List Step) (x : Step) (rest : List Step) (trace : Trace) (before after : List Flow) → front ++ x ∷ rest ≡ list →
-    (now ≡ Some (trace ++ front)) ⊎ (now ≡ Some ((trace ++ front) ++ x ∷ [])) → after ≡ before ++ flat_map done_of front →
+pub told_taken : (now : Option Trace) (list prefix : List Step) (x : Step) (rest : List Step) (trace : Trace) (before after : List Flow) → prefix ++ x ∷ rest ≡ list →
+    (now ≡ Some (trace ++ prefix)) ⊎ (now ≡ Some ((trace ++ prefix) ++ x ∷ [])) → after ≡ before ++ flat_map done_of prefix →
     ToldPart list trace now before after
-told_taken now list front x rest trace before after split (inl told) taken = record {
-  given = front;
-  front = (x ∷ rest, sym split);
+told_taken now list prefix x rest trace before after split (inl told) taken = record {
+  given = prefix;
+  prefix = (x ∷ rest, sym split);
   is = told;
-  taken = flat_map done_of front;
-  handed = ([], sym (append-nil (flat_map done_of front)));
+  taken = flat_map done_of prefix;
+  handed = ([], sym (append-nil (flat_map done_of prefix)));
   grown = taken;
 }
-told_taken now list front x rest trace before after split (inr told) taken = record {
-  given = front ++ x ∷ [];
-  front = (rest, sym (front_next front x rest list split));
-  is = told ∙ ap Some (append_assoc trace front (x ∷ []));
-  taken = flat_map done_of front;
-  handed = (flat_map done_of (x ∷ []), flat_map-append done_of front (x ∷ []));
+told_taken now list prefix x rest trace before after split (inr told) taken = record {
+  given = prefix ++ x ∷ [];
+  prefix = (rest, sym (front_next prefix x rest list split));
+  is = told ∙ ap Some (append_assoc trace prefix (x ∷ []));
+  taken = flat_map done_of prefix;
+  handed = (flat_map done_of (x ∷ []), flat_map-append done_of prefix (x ∷ []));
   grown = taken;
 }
 
@@ -132,7 +132,7 @@ pub at_err : {T E P Q : Type 0} (result : Result T E) (all : P → Q) → OnErr 
 at_err (Ok t) all p = tt
 at_err (Err e) all p = all p
 
--- a front of the steps was told
+-- a prefix of the steps was told
 pub served_part : {S : Type 0} (answers : Answering S) (due : Due) (trace list : Trace) (now : Option Trace) (before after : List Flow) → IsServed answers due (trace ++ list) →
     ToldPart list trace now before after → Tells (IsServed answers due) trace now
 served_part answers due trace list now before after served t = record {
@@ -140,7 +140,7 @@ served_part answers due trace list now before after served t = record {
   is = t.is;
   holds =
       let P : Trace → Type 0 = IsServed answers due in
-      served_front answers due (trace ++ t.given) t.front.0 (subst P (ap (λ l. trace ++ l) t.front.1 ∙ sym (append_assoc trace t.given t.front.0)) served);
+      served_front answers due (trace ++ t.given) t.prefix.0 (subst P (ap (λ l. trace ++ l) t.prefix.1 ∙ sym (append_assoc trace t.given t.prefix.0)) served);
 }
 
 pub served_none : {S : Type 0} (answers : Answering S) (due : Due) (trace : Trace) (now : Option Trace) → IsServed answers due trace → now ≡ Some trace → Tells (IsServed answers due) trace now
@@ -155,8 +155,8 @@ answered_part answers due course trace list now before after all t = record {
   more = t.given;
   is = t.is;
   holds =
-      answered_front answers due course (trace ++ t.given) t.front.0 (trace ++ list)
-      (ap (λ l. trace ++ l) t.front.1 ∙ sym (append_assoc trace t.given t.front.0)) all;
+      answered_front answers due course (trace ++ t.given) t.prefix.0 (trace ++ list)
+      (ap (λ l. trace ++ l) t.prefix.1 ∙ sym (append_assoc trace t.given t.prefix.0)) all;
 }
 
 -- and over what was heard where no step was told
@@ -177,15 +177,15 @@ answered_none answers due course trace moment what now a is =
       });
     }
 
-pub done_next : (front : List Step) (x : Step) → flat_map done_of (front ++ x ∷ []) ≡ flat_map done_of front ++ done_of x
-done_next front x = flat_map-append done_of front (x ∷ []) ∙ ap (λ l. flat_map done_of front ++ l) (append-nil (done_of x))
+pub done_next : (prefix : List Step) (x : Step) → flat_map done_of (prefix ++ x ∷ []) ≡ flat_map done_of prefix ++ done_of x
+done_next prefix x = flat_map-append done_of prefix (x ∷ []) ∙ ap (λ l. flat_map done_of prefix ++ l) (append-nil (done_of x))
 
 pub done_behind : (trace list : Trace) (moment : ℕ) (what : Heard) → flat_map done_of ((trace ++ steps.Heard moment what ∷ []) ++ list) ≡ flat_map done_of trace ++ flat_map done_of list
 done_behind trace list moment what =
     flat_map-append done_of (trace ++ steps.Heard moment what ∷ []) list
     ∙ ap (λ l. l ++ flat_map done_of list) (flat_map-append done_of trace (steps.Heard moment what ∷ []) ∙ append-nil (flat_map done_of trace))
 
--- of the flows that were finished before, and of those that these steps finish, a front was handed on
+-- of the flows that were finished before, and of those that these steps finish, a prefix was handed on
 pub handed_part : (trace list : Trace) (moment : ℕ) (what : Heard) (now : Option Trace) (before after : List Flow) → before ≡ flat_map done_of trace →
     ToldPart list (trace ++ steps.Heard moment what ∷ []) now before after →
     Tells (λ told. IsPrefixOf after (flat_map done_of told)) (trace ++ steps.Heard moment what ∷ []) now
@@ -213,19 +213,19 @@ handed_none trace moment what now taken same is = record {
   );
 }
 
-own_front : (conv : ℕ) (front rest : List Step) → AllOf conv (front ++ rest) → AllOf conv front
+own_front : (conv : ℕ) (prefix rest : List Step) → AllOf conv (prefix ++ rest) → AllOf conv prefix
 own_front conv [] rest all = tt
-own_front conv (x ∷ front) rest (here, all) = (here, own_front conv front rest all)
+own_front conv (x ∷ prefix) rest (here, all) = (here, own_front conv prefix rest all)
 
-none_front : (front rest : List Step) → front ++ rest ≡ [] → front ≡ []
+none_front : (prefix rest : List Step) → prefix ++ rest ≡ [] → prefix ≡ []
 none_front [] rest e = refl
-none_front (x ∷ front) rest e = absurd (cc)
+none_front (x ∷ prefix) rest e = absurd (cc)
 
--- a front of steps of the conversation that was heard
-pub front_of_heard : (what : Heard) (front list : List Step) → IsPrefixOf front list → IsOfHeard what list → IsOfHeard what front
-front_of_heard what front list (rest, whole) of = record {
-  own = λ conv news is. let P : List Step → Type 0 = AllOf conv in own_front conv front rest (subst P whole (of.own conv news is));
-  none = λ no. none_front front rest (sym whole ∙ of.none no);
+-- a prefix of steps of the conversation that was heard
+pub front_of_heard : (what : Heard) (prefix list : List Step) → IsPrefixOf prefix list → IsOfHeard what list → IsOfHeard what prefix
+front_of_heard what prefix list (rest, whole) of = record {
+  own = λ conv news is. let P : List Step → Type 0 = AllOf conv in own_front conv prefix rest (subst P whole (of.own conv news is));
+  none = λ no. none_front prefix rest (sym whole ∙ of.none no);
 }
 
 same_conv : (p q : ℕ × News) → Some p ≡ Some q → p.0 ≡ q.0
@@ -304,11 +304,11 @@ tells_none what trace now is = record {
   own = record { own = λ conv news some. tt; none = λ no. refl };
 }
 
--- all were told, or a front of them
+-- all were told, or a prefix of them
 pub tells_by : {T E : Type 0} (result : Result T E) (what : Heard) (trace list : Trace) (now : Option Trace) (before after : List Flow) → IsOfHeard what list →
     OnOk result (now ≡ Some (trace ++ list)) → OnErr result (ToldPart list trace now before after) → TellsOfHeard what trace now
 tells_by (Ok t) what trace list now before after of all part = record { more = list; is = all; own = of }
-tells_by (Err e) what trace list now before after of all part = record { more = part.given; is = part.is; own = front_of_heard what part.given list part.front of }
+tells_by (Err e) what trace list now before after of all part = record { more = part.given; is = part.is; own = front_of_heard what part.given list part.prefix of }
 
 -- a router that stands for what is told came there by its answers
 pub tells_answered : {C : Type 0} (standing : Standing C) (awaited : C → Option Ask) (number : C → ℕ) (made_due : C → List Move → List Command) {S : Type 0} (answers : Answering S)
@@ -329,7 +329,7 @@ leaves_told standing awaited number made_due answers fails due course now files 
   more = t.more;
   is = t.is;
   holds = record {
-    front = trace;
+    prefix = trace;
     rest = steps.Heard moment what ∷ t.more;
     split = append_assoc trace (steps.Heard moment what ∷ []) t.more;
     made = course;

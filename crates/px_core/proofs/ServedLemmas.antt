@@ -29,25 +29,25 @@ use Rattle.px_core.proofs.HookLemmas.{turn_is, turn_on}
 use Rattle.px_core.proofs.SideLemmas.{servers_along}
 
 -- the last elements of two equal lists
-last_in : (x y : Step) (trace front : Trace) → IsFrontOfMore trace x front (y ∷ []) → (front ≡ trace) × (y ≡ x)
-last_in x y trace front (inl h) = absurd (let no : y ∷ [] ≡ [] = h.1 in cc)
-last_in x y trace front (inr h) = by h.0 h.1 h.2
+last_in : (x y : Step) (trace prefix : Trace) → IsFrontOfMore trace x prefix (y ∷ []) → (prefix ≡ trace) × (y ≡ x)
+last_in x y trace prefix (inl h) = absurd (let no : y ∷ [] ≡ [] = h.1 in cc)
+last_in x y trace prefix (inr h) = by h.0 h.1 h.2
   where
-    by : (most : List Step) → trace ≡ front ++ most → y ∷ [] ≡ most ++ x ∷ [] → (front ≡ trace) × (y ≡ x)
-    by [] whole is = (sym (append-nil front) ∙ sym whole, cc)
+    by : (most : List Step) → trace ≡ prefix ++ most → y ∷ [] ≡ most ++ x ∷ [] → (prefix ≡ trace) × (y ≡ x)
+    by [] whole is = (sym (append-nil prefix) ∙ sym whole, cc)
     by (m ∷ most) whole is = absurd (none most (cc))
       where
         none : (most : List Step) → [] ≡ most ++ x ∷ [] → ⊥
         none [] e = cc
         none (n ∷ most) e = cc
 
-pub last_step : (trace front : Trace) (x y : Step) → trace ++ x ∷ [] ≡ front ++ y ∷ [] → (front ≡ trace) × (y ≡ x)
-last_step trace front x y e = last_in x y trace front (front_of_more trace x front (y ∷ []) e)
+pub last_step : (trace prefix : Trace) (x y : Step) → trace ++ x ∷ [] ≡ prefix ++ y ∷ [] → (prefix ≡ trace) × (y ≡ x)
+last_step trace prefix x y e = last_in x y trace prefix (front_of_more trace x prefix (y ∷ []) e)
 
 -- a trace that ends with a step in its turn
 pub ends_in_turn : (trace : Trace) (step : Step) → IsInTurn trace step → EndsInTurn (trace ++ step ∷ [])
-ends_in_turn trace step turn front other e =
-    let last = last_step trace front step other e in
+ends_in_turn trace step turn prefix other e =
+    let last = last_step trace prefix step other e in
     let P : Trace → Type 0 = λ t. IsInTurn t other in
     let Q : Step → Type 0 = IsInTurn trace in
     subst P (sym last.0) (subst Q (sym last.1) turn)
@@ -105,8 +105,8 @@ module _ {S : Type 0} (answers : Answering S) (due : Due) where
   -- a trace that ends with an answer that is met
   pub ends_met : (conv : ℕ) (trace : Trace) (ask : Ask) (reply : Reply) → IsMet answers due trace conv ask reply →
       EndsMet answers due (trace ++ steps.Answered conv ask reply ∷ [])
-  ends_met conv trace ask reply met front number other answer e =
-      let last = last_step trace front (steps.Answered conv ask reply) (steps.Answered number other answer) e in
+  ends_met conv trace ask reply met prefix number other answer e =
+      let last = last_step trace prefix (steps.Answered conv ask reply) (steps.Answered number other answer) e in
       let parts = answered number conv other ask answer reply last.1 in
       let P : Trace → Type 0 = λ t. IsMet answers due t number other answer in
       let Q : ℕ → Type 0 = λ k. IsMet answers due trace k other answer in
@@ -118,8 +118,8 @@ module _ {S : Type 0} (answers : Answering S) (due : Due) where
       answered a b x y r s e = (cc, cc, cc)
 
   pub ends_told : (conv : ℕ) (trace : Trace) (command : Command) → EndsMet answers due (trace ++ step_of conv command ∷ [])
-  ends_told conv trace command front number ask reply e =
-      absurd (no_answer conv number ask reply command (last_step trace front (step_of conv command) (steps.Answered number ask reply) e).1)
+  ends_told conv trace command prefix number ask reply e =
+      absurd (no_answer conv number ask reply command (last_step trace prefix (step_of conv command) (steps.Answered number ask reply) e).1)
 
   module _ {C : Type 0} (standing : Standing C) (awaited : C → Option Ask) (number : C → ℕ) (made_due : C → List Move → List Command)
       (gave : (made state : C) (moves : List Move) (given : List Command) → standing made state moves given →

@@ -5,7 +5,7 @@ use Rattle.std.specs.BTreeMap as tree
 use Rattle.std.specs.BTreeMap.{BTreeMap}
 use Rattle.std.specs.Map.{lookup}
 use Rattle.std.specs.Ordering.{nat_cmp}
-use Rattle.px_core.specs.declared.table.Place.TheVariants as place
+use Rattle.px_core.specs.declared.table.Entry.TheVariants as place
 use Rattle.px_core.specs.declared.table.Table.{Table}
 use Rattle.px_core.specs.Router.{placed, place_of, PutsPlace}
 use Rattle.px_core.specs.Runs.{has}

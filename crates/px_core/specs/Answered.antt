@@ -70,17 +70,17 @@ pub record IsAnswered {S : Type 0} (answers : Answering S) (due : Due) (course :
   pub answered : Answers answers due made trace last pending
 
 -- What files mean at the end of a trace that came by this course. All that was answered stands in the trace, all changes were made, and the
--- files are what the last answer or change left; or, where that is not said, behind some front of the trace more was answered than the
+-- files are what the last answer or change left; or, where that is not said, behind some prefix of the trace more was answered than the
 -- trace has, and the last of it may have run out of memory.
 pub record LeavesFiles {S : Type 0} (answers : Answering S) (fails : Failing S) (due : Due) (course : Course S) (Whole : Type 0) (files : FilesMeaning)
     (trace : Trace) : Type 0 where
-  pub front : Trace
+  pub prefix : Trace
   pub rest : Trace
-  pub split : trace ≡ front ++ rest
+  pub split : trace ≡ prefix ++ rest
   pub made : Course S
   pub front_of : IsFrontOf course made
   pub last : AnswererState S
   pub pending : Pending
-  pub answered : Answers answers due made front last pending
+  pub answered : Answers answers due made prefix last pending
   pub after : FilesAfter answers fails last files
   pub whole : Whole → (rest ≡ []) × (files ≡ last.files) × (made ≡ course)

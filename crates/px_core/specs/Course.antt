@@ -33,10 +33,10 @@ AllAre Is [] = Unit {0}
 AllAre Is (change ∷ changes) = Is change × AllAre Is changes
 
 -- a course of which the other has the changes first
-pub record IsFrontOf {S : Type 0} (course front : Course S) : Type 0 where
-  pub same : front.first ≡ course.first
+pub record IsFrontOf {S : Type 0} (course prefix : Course S) : Type 0 where
+  pub same : prefix.first ≡ course.first
   pub later : List (Change S)
-  pub split : course.changes ≡ front.changes ++ later
+  pub split : course.changes ≡ prefix.changes ++ later
 
 -- own states that are so become such ones
 abbrev pub KeepsOwn : {S : Type 0} → (S → Type 0) → Change S → Type 0

@@ -58,8 +58,8 @@ pub record IsMet {S : Type 0} (answers : Answering S) (due : Due) (trace : Trace
 
 -- so is the answer with which the trace ends, where it ends with one
 abbrev pub EndsMet : {S : Type 0} → Answering S → Due → Trace → Type 0
-EndsMet answers due trace = (front : Trace) (conv : ℕ) (ask : Ask) (reply : Reply) →
-    trace ≡ front ++ steps.Answered conv ask reply ∷ [] → IsMet answers due front conv ask reply
+EndsMet answers due trace = (prefix : Trace) (conv : ℕ) (ask : Ask) (reply : Reply) →
+    trace ≡ prefix ++ steps.Answered conv ask reply ∷ [] → IsMet answers due prefix conv ask reply
 
 -- A hook that is not answered in this trace waits: with this draft the answerer may let it wait, about the flow with which it
 -- was asked last.

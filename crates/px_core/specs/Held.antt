@@ -164,14 +164,14 @@ pub record Follows {S : Type 0} (answers : Answering S) (due : Due) (course : Co
 -- behind that no hook was asked or answered.
 pub record IsToAsk {S : Type 0} (answers : Answering S) (due : Due) (course : Course S) (before : Pending) (conv : ℕ) (draft : Option Draft) (now : AnswererState S)
     (trace : Trace) (question : Question) : Type 0 where
-  pub front : Trace
+  pub prefix : Trace
   pub behind : List Step
-  pub is : trace ≡ (front ++ steps.Asked conv question.ask ∷ []) ++ behind
+  pub is : trace ≡ (prefix ++ steps.Asked conv question.ask ∷ []) ++ behind
   pub quiet : NoneAnswers behind
-  pub follows : Follows answers due course before conv draft now front
-  pub free : open_hook conv front ≡ None
+  pub follows : Follows answers due course before conv draft now prefix
+  pub free : open_hook conv prefix ≡ None
   pub earlier : List Atom
-  pub last : due_in due flows conv front ≡ earlier ++ about question.ask question.flow ∷ []
+  pub last : due_in due flows conv prefix ≡ earlier ++ about question.ask question.flow ∷ []
 
 -- it came so far, or where a question is open is still to be asked it
 abbrev pub FollowsTo : {S : Type 0} → Answering S → Due → Course S → Pending → ℕ → Option Draft → AnswererState S → Trace → Option Question → Type 0

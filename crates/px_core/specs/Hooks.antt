@@ -30,7 +30,7 @@ IsInTurn trace _ = Unit {0}
 
 -- so is the step with which the trace ends
 abbrev pub EndsInTurn : Trace → Type 0
-EndsInTurn trace = (front : Trace) (step : Step) → trace ≡ front ++ step ∷ [] → IsInTurn front step
+EndsInTurn trace = (prefix : Trace) (step : Step) → trace ≡ prefix ++ step ∷ [] → IsInTurn prefix step
 
 -- in no conversation is a hook open
 abbrev pub IsAllAnswered : Trace → Type 0

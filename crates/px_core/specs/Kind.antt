@@ -46,18 +46,18 @@ AllLeaveAlone conv (step ∷ rest) = LeavesAlone conv step × AllLeaveAlone conv
 -- An answer behind this trace is to the hook that was asked last in the conversation and that no step behind answers; it is of this
 -- kind for the flow with which the hook was asked, as it was due there.
 pub record IsOfKind (gives : Hook → Flow → Answer → Type 0) (due : Due) (trace : Trace) (conv : ℕ) (ask : Ask) (given : Answer) : Type 0 where
-  pub front : Trace
+  pub prefix : Trace
   pub rest : Trace
-  pub split : trace ≡ front ++ steps.Asked conv ask ∷ rest
+  pub split : trace ≡ prefix ++ steps.Asked conv ask ∷ rest
   pub alone : AllLeaveAlone conv rest
   pub hook : Hook
   pub flow : Flow
   pub asked : ask ≡ asks.Hook flow.id.index hook
   pub earlier : List Atom
-  pub last : due_in due flows conv front ≡ earlier ++ about ask flow ∷ []
+  pub last : due_in due flows conv prefix ≡ earlier ++ about ask flow ∷ []
   pub gives_so : gives hook flow given
 
 -- where the trace ends with an answer, it is such a one
 abbrev pub EndsOfKind : (Hook → Flow → Answer → Type 0) → Due → Trace → Type 0
-EndsOfKind gives due trace = (front : Trace) (conv : ℕ) (ask : Ask) (reply : Reply) →
-    trace ≡ front ++ steps.Answered conv ask reply ∷ [] → IsOfKind gives due front conv ask (answer.Reply reply)
+EndsOfKind gives due trace = (prefix : Trace) (conv : ℕ) (ask : Ask) (reply : Reply) →
+    trace ≡ prefix ++ steps.Answered conv ask reply ∷ [] → IsOfKind gives due prefix conv ask (answer.Reply reply)

@@ -58,8 +58,8 @@ pub record LeavesNone {S : Type 0} (past : S → ℕ → Bool) (here : S) (owed 
 -- A chain that leaves its flows behind: `is_stage` is the test which stages a walk can come to, as those whose flow has the
 -- number that they count, and `past` the test which flows such a stage is past.
 pub record LeavesFlows {S E R : Type 0} (chain : Chain S E R Command) (is_stage : S → Bool) (past : S → ℕ → Bool) : Type 0 where
-  pub passes : (s : S) (front : List (Timed E)) → is_stage s ≡ true →
-      LeavesBehind is_stage past s (chain.pass s front).owed (chain.pass s front).stage
-  pub turns : (s : S) (front : List (Timed E)) (ask : Command) → is_stage s ≡ true → chain.look s front ≡ Asks ask → (reply : Timed R) →
-      LeavesBehind is_stage past s (chain.so_far s front ++ ask ∷ (chain.turn s front reply).owed) (chain.turn s front reply).stage
-  pub stops : (s : S) (front : List (Timed E)) → is_stage s ≡ true → LeavesNone past s (chain.so_far s front ++ found (chain.look s front))
+  pub passes : (s : S) (prefix : List (Timed E)) → is_stage s ≡ true →
+      LeavesBehind is_stage past s (chain.pass s prefix).owed (chain.pass s prefix).stage
+  pub turns : (s : S) (prefix : List (Timed E)) (ask : Command) → is_stage s ≡ true → chain.look s prefix ≡ Asks ask → (reply : Timed R) →
+      LeavesBehind is_stage past s (chain.so_far s prefix ++ ask ∷ (chain.turn s prefix reply).owed) (chain.turn s prefix reply).stage
+  pub stops : (s : S) (prefix : List (Timed E)) → is_stage s ≡ true → LeavesNone past s (chain.so_far s prefix ++ found (chain.look s prefix))

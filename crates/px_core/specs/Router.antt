@@ -16,8 +16,8 @@ use Rattle.px_core.specs.declared.answerer.Draft.{Draft}
 use Rattle.px_core.specs.declared.held.Held.{Held}
 use Rattle.px_core.specs.declared.news.News.{News}
 use Rattle.px_core.specs.declared.news.News.TheVariants as news
-use Rattle.px_core.specs.declared.table.Place.{Place}
-use Rattle.px_core.specs.declared.table.Place.TheVariants as place
+use Rattle.px_core.specs.declared.table.Entry.{Entry}
+use Rattle.px_core.specs.declared.table.Entry.TheVariants as place
 use Rattle.px_core.specs.declared.router.Router.{Router}
 use Rattle.px_core.specs.declared.table.Table.{Table}
 use Rattle.px_core.specs.Answered.{Pending, Answers}
@@ -41,23 +41,23 @@ abbrev pub found_at : {X : Type 0} → Option X → Found X
 found_at None = lost
 found_at (Some held) = live held
 
-abbrev pub found_by : {X : Type 0} → slab.Slab X → Option Place → Found X
+abbrev pub found_by : {X : Type 0} → slab.Slab X → Option Entry → Found X
 found_by held None = unknown
 found_by held (Some place.Ended) = over
 found_by held (Some (place.Live key)) = found_at (slab.get held key)
 
 -- it has ended, or is live under this key, if there is one
-abbrev pub placed : Bool → Option ℕ → Option Place
+abbrev pub placed : Bool → Option ℕ → Option Entry
 placed true key = Some place.Ended
 placed false None = None
 placed false (Some key) = Some (place.Live key)
 
 -- It has ended where the runs have its number; else it is where the map of live ones says.
-abbrev pub place_of : {C : Type 0} → Table C → ℕ → Option Place
+abbrev pub place_of : {C : Type 0} → Table C → ℕ → Option Entry
 place_of table conv = placed (has table.ended conv) (tree.get nat_cmp table.keys conv)
 
 -- this number's place is so from then on, and that of each other is what it was
-pub record PutsPlace {C : Type 0} (before after : Table C) (conv : ℕ) (now : Option Place) : Type 0 where
+pub record PutsPlace {C : Type 0} (before after : Table C) (conv : ℕ) (now : Option Entry) : Type 0 where
   pub here : place_of after conv ≡ now
   pub others : (other : ℕ) → conv ≢ other → place_of after other ≡ place_of before other
 
@@ -141,7 +141,7 @@ module _ {C : Type 0} (standing : Standing C) (awaited : C → Option Ask) (numb
 
     -- it stands for something, unless memory ran out
     abbrev pub IsRouted : {A : Type 0} → Router C A → Type 0
-    IsRouted router = router.spent ≡ false → IsTabled router.table
+    IsRouted router = router.poisoned ≡ false → IsTabled router.table
 
     -- News that the conversation under this key took.
     pub record HearsAt (ended : C → Bool) (conv moment : ℕ) (what : News) (key : ℕ) (before after : Table C) (old new : AnswererState S) (over_now : Bool) (out new_out : List Step) : Type 0 where

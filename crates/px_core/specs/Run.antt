@@ -50,7 +50,7 @@ done_of _ = []
 -- some of these steps were told, as far as memory sufficed, and of the flows that those finish some were handed on
 pub record ToldPart (list : List Step) (trace : Trace) (told : Option Trace) (before after : List Flow) : Type 0 where
   pub given : List Step
-  pub front : IsPrefixOf given list
+  pub prefix : IsPrefixOf given list
   pub is : told ≡ Some (trace ++ given)
   pub taken : List Flow
   pub handed : IsPrefixOf taken (flat_map done_of given)

@@ -2,7 +2,7 @@
 //!
 //! Within a step the trace lags behind the conversation: it gave commands that are not told yet. So `Within` says where it
 //! stands with the commands that are still to be told, and each step that is told takes one of them. An answer stands in
-//! the trace before what it causes; so each front of the steps has no more than is due by the calls in that front.
+//! the trace before what it causes; so each prefix of the steps has no more than is due by the calls in that prefix.
 ghost use Rattle.std.specs.Prelude.{◌≡◌, ◌<◌, true, ◌++◌, ◌∷◌, [], ℕ, None, Some, OnOk, IfOk, map};
 ghost use Rattle.px_event.specs.Layer.{IsSound, IsNews, MayAnswer, Took, Replied};
 ghost use Rattle.px_event.specs.declared.ask.Ask.TheVariants.{Hook as AsksHook, Dial as AsksDial};

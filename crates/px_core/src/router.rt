@@ -19,7 +19,7 @@ ghost use Rattle.px_core.specs.Router.{found, HoldsNoEnded, is_known, kept_in, I
 use crate::held::{Call, Held};
 use crate::news::{News, news_of};
 use crate::runs::Runs;
-use crate::table::{Place, Table};
+use crate::table::{Entry, Table};
 use crate::{Answerer, Owes};
 use px_event::{Event, Heard, Step};
 use px_outside::Files;
@@ -32,7 +32,7 @@ pub struct Router<C, A> {
     alloc: Global,
     answerer: A,
     table: Table<C>,
-    spent: bool,
+    poisoned: bool,
 }
 
 impl<C: Owes, A: Answerer> Router<C, A> {
@@ -48,7 +48,7 @@ impl<C: Owes, A: Answerer> Router<C, A> {
             alloc,
             answerer,
             table: Table::new(alloc),
-            spent: false,
+            poisoned: false,
         }
     }
 
@@ -64,11 +64,11 @@ impl<C: Owes, A: Answerer> Router<C, A> {
         ensures { result ≡ kept_in C.kept (found self.now.table conv) }
     {
         match self.table.place(conv) {
-            Some(Place::Live(key)) => match self.table.live.get(key) {
+            Some(Entry::Live(key)) => match self.table.live.get(key) {
                 Some(held) => held.conversation.kept(),
                 None => 0,
             },
-            Some(Place::Ended) | None => 0,
+            Some(Entry::Ended) | None => 0,
         }
     }
 
@@ -88,17 +88,17 @@ impl<C: Owes, A: Answerer> Router<C, A> {
         requires stands { C.stands conversation conversation [] [] }
         requires free { C.awaited conversation ≡ None }
         ensures admits { OnOk result (Admits C.stands C.awaited C.number C.due A.answers conv moment conversation self.old.table self.new.table (state_of A.state F.contents F.calls F.misses F.faults F.losses self.old.answerer files.old) (state_of A.state F.contents F.calls F.misses F.faults F.losses self.new.answerer files.new) out.old.items out.new.items) }
-        ensures spent { self.old.spent ≡ true → IsErr result }
-        ensures err { OnErr result ((self.new.spent ≡ true) × (out.new.items ≡ out.old.items)) }
-        ensures ok { OnOk result (self.new.spent ≡ false) }
+        ensures poisoned { self.old.poisoned ≡ true → IsErr result }
+        ensures err { OnErr result ((self.new.poisoned ≡ true) × (out.new.items ≡ out.old.items)) }
+        ensures ok { OnOk result (self.new.poisoned ≡ false) }
         ensures files { FilesAfter A.answers A.fails (state_of A.state F.contents F.calls F.misses F.faults F.losses self.old.answerer files.old) (files_meaning F.contents F.calls F.misses F.faults F.losses files.new) }
         ensures given { OnOk result (ByAnswers A.answers (state_of A.state F.contents F.calls F.misses F.faults F.losses self.old.answerer files.old) (state_of A.state F.contents F.calls F.misses F.faults F.losses self.new.answerer files.new)) }
         ensures goes_on { HoldsNoEnded C.ended self.old.table → OnOk result (HoldsNoEnded C.ended self.new.table) }
     {
-        if self.spent {
+        if self.poisoned {
             return Err(NoMemory);
         }
-        self.spent = true;
+        self.poisoned = true;
         let mut steps = Vec::new(self.alloc);
         let call = Call {
             alloc: self.alloc,
@@ -107,7 +107,7 @@ impl<C: Owes, A: Answerer> Router<C, A> {
         };
         self.begin(call, conversation, files, &mut steps)?;
         out.append(&mut steps)?;
-        self.spent = false;
+        self.poisoned = false;
         Ok(())
     }
 
@@ -124,30 +124,30 @@ impl<C: Owes, A: Answerer> Router<C, A> {
         requires sound { IsRouted C.stands C.awaited C.number C.due A.answers self.old }
         requires begins { BeginsNone self.old heard }
         ensures routes { OnOk result (Routes C.stands C.awaited C.number C.due A.answers moment heard self.old.table self.new.table (state_of A.state F.contents F.calls F.misses F.faults F.losses self.old.answerer files.old) (state_of A.state F.contents F.calls F.misses F.faults F.losses self.new.answerer files.new) out.old.items out.new.items) }
-        ensures spent { self.old.spent ≡ true → IsErr result }
-        ensures err { OnErr result ((self.new.spent ≡ true) × (out.new.items ≡ out.old.items)) }
-        ensures ok { OnOk result (self.new.spent ≡ false) }
+        ensures poisoned { self.old.poisoned ≡ true → IsErr result }
+        ensures err { OnErr result ((self.new.poisoned ≡ true) × (out.new.items ≡ out.old.items)) }
+        ensures ok { OnOk result (self.new.poisoned ≡ false) }
         ensures files { FilesAfter A.answers A.fails (state_of A.state F.contents F.calls F.misses F.faults F.losses self.old.answerer files.old) (files_meaning F.contents F.calls F.misses F.faults F.losses files.new) }
         ensures given { OnOk result (ByAnswers A.answers (state_of A.state F.contents F.calls F.misses F.faults F.losses self.old.answerer files.old) (state_of A.state F.contents F.calls F.misses F.faults F.losses self.new.answerer files.new)) }
         ensures goes_on { HoldsNoEnded C.ended self.old.table → OnOk result (HoldsNoEnded C.ended self.new.table) }
     {
-        if self.spent {
+        if self.poisoned {
             return Err(NoMemory);
         }
-        self.spent = true;
+        self.poisoned = true;
         let mut steps = Vec::new(self.alloc);
         self.hear(moment, heard, files, &mut steps)?;
         out.append(&mut steps)?;
-        self.spent = false;
+        self.poisoned = false;
         Ok(())
     }
 
     /// Memory ran out where the router could not see it: it answers so for ever.
-    pub(crate) fn spend(&mut self)
-        ensures spent { self.new.spent ≡ true }
+    pub(crate) fn poison(&mut self)
+        ensures poisoned { self.new.poisoned ≡ true }
         ensures table { self.new.table ≡ self.old.table }
     {
-        self.spent = true;
+        self.poisoned = true;
     }
 
     /// Hands what was heard to its conversation.
@@ -161,7 +161,7 @@ impl<C: Owes, A: Answerer> Router<C, A> {
         requires sound { IsTabled C.stands C.awaited C.number C.due A.answers self.old.table }
         requires begins { BeginsNone self.old heard }
         ensures routes { OnOk result (Routes C.stands C.awaited C.number C.due A.answers moment heard self.old.table self.new.table (state_of A.state F.contents F.calls F.misses F.faults F.losses self.old.answerer files.old) (state_of A.state F.contents F.calls F.misses F.faults F.losses self.new.answerer files.new) steps.old.items steps.new.items) }
-        ensures spent { self.new.spent ≡ self.old.spent }
+        ensures poisoned { self.new.poisoned ≡ self.old.poisoned }
         ensures files { FilesAfter A.answers A.fails (state_of A.state F.contents F.calls F.misses F.faults F.losses self.old.answerer files.old) (files_meaning F.contents F.calls F.misses F.faults F.losses files.new) }
         ensures given { OnOk result (ByAnswers A.answers (state_of A.state F.contents F.calls F.misses F.faults F.losses self.old.answerer files.old) (state_of A.state F.contents F.calls F.misses F.faults F.losses self.new.answerer files.new)) }
         ensures goes_on { HoldsNoEnded C.ended self.old.table → OnOk result (HoldsNoEnded C.ended self.new.table) }
@@ -191,13 +191,13 @@ impl<C: Owes, A: Answerer> Router<C, A> {
         requires begins { (peer : PeerAddress) → news ≡ News.Begun peer → is_known self.old call.conv ≡ true }
         requires news { IsHeardNews news }
         ensures hands { OnOk result (Hands C.stands C.awaited C.number C.due A.answers call.conv call.moment news self.old.table self.new.table (state_of A.state F.contents F.calls F.misses F.faults F.losses self.old.answerer files.old) (state_of A.state F.contents F.calls F.misses F.faults F.losses self.new.answerer files.new) steps.old.items steps.new.items) }
-        ensures spent { self.new.spent ≡ self.old.spent }
+        ensures poisoned { self.new.poisoned ≡ self.old.poisoned }
         ensures files { FilesAfter A.answers A.fails (state_of A.state F.contents F.calls F.misses F.faults F.losses self.old.answerer files.old) (files_meaning F.contents F.calls F.misses F.faults F.losses files.new) }
         ensures given { OnOk result (ByAnswers A.answers (state_of A.state F.contents F.calls F.misses F.faults F.losses self.old.answerer files.old) (state_of A.state F.contents F.calls F.misses F.faults F.losses self.new.answerer files.new)) }
         ensures goes_on { HoldsNoEnded C.ended self.old.table → OnOk result (HoldsNoEnded C.ended self.new.table) }
     {
         match self.table.place(call.conv) {
-            Some(Place::Live(key)) => {
+            Some(Entry::Live(key)) => {
                 let over = self.hear_at(call, key, news, files, steps)?;
                 if over {
                     self.table.end(call.conv, key)
@@ -205,7 +205,7 @@ impl<C: Owes, A: Answerer> Router<C, A> {
                     Ok(())
                 }
             }
-            Some(Place::Ended) => Ok(()),
+            Some(Entry::Ended) => Ok(()),
             None => Ok(()),
         }
     }
@@ -222,7 +222,7 @@ impl<C: Owes, A: Answerer> Router<C, A> {
         requires held { IsAtKey C.stands C.awaited C.number C.due call.conv key self.old.table }
         requires news { IsHeardNews news }
         ensures hears { IfOk result (λ over. HearsAt C.stands C.awaited C.number C.due A.answers C.ended call.conv call.moment news key self.old.table self.new.table (state_of A.state F.contents F.calls F.misses F.faults F.losses self.old.answerer files.old) (state_of A.state F.contents F.calls F.misses F.faults F.losses self.new.answerer files.new) over steps.old.items steps.new.items) }
-        ensures spent { self.new.spent ≡ self.old.spent }
+        ensures poisoned { self.new.poisoned ≡ self.old.poisoned }
         ensures files { FilesAfter A.answers A.fails (state_of A.state F.contents F.calls F.misses F.faults F.losses self.old.answerer files.old) (files_meaning F.contents F.calls F.misses F.faults F.losses files.new) }
         ensures given { OnOk result (ByAnswers A.answers (state_of A.state F.contents F.calls F.misses F.faults F.losses self.old.answerer files.old) (state_of A.state F.contents F.calls F.misses F.faults F.losses self.new.answerer files.new)) }
     {
@@ -247,7 +247,7 @@ impl<C: Owes, A: Answerer> Router<C, A> {
         requires stands { C.stands conversation conversation [] [] }
         requires free { C.awaited conversation ≡ None }
         ensures admits { OnOk result (Admits C.stands C.awaited C.number C.due A.answers call.conv call.moment conversation self.old.table self.new.table (state_of A.state F.contents F.calls F.misses F.faults F.losses self.old.answerer files.old) (state_of A.state F.contents F.calls F.misses F.faults F.losses self.new.answerer files.new) steps.old.items steps.new.items) }
-        ensures spent { self.new.spent ≡ self.old.spent }
+        ensures poisoned { self.new.poisoned ≡ self.old.poisoned }
         ensures files { FilesAfter A.answers A.fails (state_of A.state F.contents F.calls F.misses F.faults F.losses self.old.answerer files.old) (files_meaning F.contents F.calls F.misses F.faults F.losses files.new) }
         ensures given { OnOk result (ByAnswers A.answers (state_of A.state F.contents F.calls F.misses F.faults F.losses self.old.answerer files.old) (state_of A.state F.contents F.calls F.misses F.faults F.losses self.new.answerer files.new)) }
         ensures goes_on { HoldsNoEnded C.ended self.old.table → OnOk result (HoldsNoEnded C.ended self.new.table) }

@@ -8,7 +8,7 @@ ghost use Rattle.std.specs.Ordering.{nat_cmp};
 ghost use Rattle.std.specs.BTreeMap.{get as entry_of};
 ghost use Rattle.slab.specs.Slab.{get as held_under, Updates as UpdatesHeld};
 ghost use Rattle.px_core.specs.Router.{place_of, PutsPlace};
-ghost use Rattle.px_core.specs.declared.table.Place.TheVariants.{Live as IsLiveUnder, Ended as HasEnded};
+ghost use Rattle.px_core.specs.declared.table.Entry.TheVariants.{Live as IsLiveUnder, Ended as HasEnded};
 
 use crate::held::Held;
 use crate::runs::Runs;
@@ -19,7 +19,7 @@ use std::collections::BTreeMap;
 
 /// Where the conversation of a number is.
 #[derive(Clone, Copy, Debug, PartialEq, Eq)]
-pub enum Place {
+pub enum Entry {
     /// It is live, under this key.
     Live(usize),
     /// It has ended.
@@ -48,14 +48,14 @@ impl<C: Drop> Table<C> {
     }
 
     /// Where the conversation of this number is, if it was admitted.
-    pub(crate) fn place(&self, conv: u32) -> Option<Place>
+    pub(crate) fn place(&self, conv: u32) -> Option<Entry>
         ensures place { result ≡ place_of self.now conv }
     {
         if self.ended.has(conv) {
-            return Some(Place::Ended);
+            return Some(Entry::Ended);
         }
         match self.keys.get(&conv) {
-            Some(key) => Some(Place::Live(*key)),
+            Some(key) => Some(Entry::Live(*key)),
             None => None,
         }
     }

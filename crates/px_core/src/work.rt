@@ -1,6 +1,6 @@
 //! One thing heard, worked off.
 //!
-//! The steps of a call are said and noted one by one, so the network may fail within them. Each front of them is served,
+//! The steps of a call are said and noted one by one, so the network may fail within them. Each prefix of them is served,
 //! since an answer stands before what it causes; so the promise holds in every exit.
 ghost use Rattle.std.specs.Prelude.{◌≡◌, ◌≢◌, ◌++◌, ◌∷◌, ◌⊎◌, ℕ, Some, None, true, false, [], List, IfOk, IfSome, IsErr, OnOk, OnErr};
 ghost use Rattle.std.specs.List.{flat_map};
@@ -34,7 +34,7 @@ use std::alloc::Global;
 /// answers made of them, each from the state that the one before left.
 ///
 /// `NoMemory` where memory ran out: in the router, the maker, the network or the taker. The trace is served all the same,
-/// the flows that were handed on are a front of those that it finishes, and the router is spent: it answers want of memory
+/// the flows that were handed on are a prefix of those that it finishes, and the router is poisoned: it answers out of memory
 /// for ever, and no step is said or noted and no flow handed on from then on.
 pub fn work_off<C: Owes, A: Answerer, M: Maker<C>, F: Files, N: Net, T: Taker>(
     alloc: Global,
@@ -66,8 +66,8 @@ pub fn work_off<C: Owes, A: Answerer, M: Maker<C>, F: Files, N: Net, T: Taker>(
         OnErr result (Tells (λ told. IsPrefixOf (T.taken taker.new) (flat_map done_of told)) (trace ++ WasHeard moment heard ∷ []) (N.trace net.new)) }
     ensures follows { (due : Due) (course : Course A.State) (trace : Trace) → IsDueOf (M.due maker.old) due → RouterStands C.stands C.awaited C.number C.due A.answers A.state due course (files_meaning F.contents F.calls F.misses F.faults F.losses files.old) router.old trace →
         N.trace net.old ≡ Some (trace ++ WasHeard moment heard ∷ []) → Tells (IsAnswered A.answers due course) (trace ++ WasHeard moment heard ∷ []) (N.trace net.new) }
-    ensures spent { OnErr result (router.new.spent ≡ true) }
-    ensures again { router.old.spent ≡ true → IsErr result × (N.trace net.new ≡ N.trace net.old) × (T.taken taker.new ≡ T.taken taker.old) }
+    ensures poisoned { OnErr result (router.new.poisoned ≡ true) }
+    ensures again { router.old.poisoned ≡ true → IsErr result × (N.trace net.new ≡ N.trace net.old) × (T.taken taker.new ≡ T.taken taker.old) }
     ensures files { FilesAfter A.answers A.fails (state_of A.state F.contents F.calls F.misses F.faults F.losses router.old.answerer files.old) (files_meaning F.contents F.calls F.misses F.faults F.losses files.new) }
     ensures given { OnOk result (ByAnswers A.answers (state_of A.state F.contents F.calls F.misses F.faults F.losses router.old.answerer files.old) (state_of A.state F.contents F.calls F.misses F.faults F.losses router.new.answerer files.new)) }
     ensures leaves { (due : Due) (course : Course A.State) (trace : Trace) → IsDueOf (M.due maker.old) due → RouterStands C.stands C.awaited C.number C.due A.answers A.state due course (files_meaning F.contents F.calls F.misses F.faults F.losses files.old) router.old trace →
@@ -78,7 +78,7 @@ pub fn work_off<C: Owes, A: Answerer, M: Maker<C>, F: Files, N: Net, T: Taker>(
     match follow(alloc, router, maker, files, net, taker, moment, heard) {
         Ok(()) => Ok(()),
         Err(NoMemory) => {
-            router.spend();
+            router.poison();
             Err(NoMemory)
         }
     }
@@ -116,7 +116,7 @@ fn follow<C: Owes, A: Answerer, M: Maker<C>, F: Files, N: Net, T: Taker>(
         OnErr result (Tells (IsAnswered A.answers due course) (trace ++ WasHeard moment heard ∷ []) (N.trace net.new)) }
     ensures taken_part { (trace : Trace) → N.trace net.old ≡ Some (trace ++ WasHeard moment heard ∷ []) → T.taken taker.old ≡ flat_map done_of trace →
         OnErr result (Tells (λ told. IsPrefixOf (T.taken taker.new) (flat_map done_of told)) (trace ++ WasHeard moment heard ∷ []) (N.trace net.new)) }
-    ensures again { router.old.spent ≡ true → IsErr result × (N.trace net.new ≡ N.trace net.old) × (T.taken taker.new ≡ T.taken taker.old) }
+    ensures again { router.old.poisoned ≡ true → IsErr result × (N.trace net.new ≡ N.trace net.old) × (T.taken taker.new ≡ T.taken taker.old) }
     ensures files { FilesAfter A.answers A.fails (state_of A.state F.contents F.calls F.misses F.faults F.losses router.old.answerer files.old) (files_meaning F.contents F.calls F.misses F.faults F.losses files.new) }
     ensures given { OnOk result (ByAnswers A.answers (state_of A.state F.contents F.calls F.misses F.faults F.losses router.old.answerer files.old) (state_of A.state F.contents F.calls F.misses F.faults F.losses router.new.answerer files.new)) }
     ensures goes_on { HoldsNoEnded C.ended router.old.table → OnOk result (HoldsNoEnded C.ended router.new.table) }
@@ -140,7 +140,7 @@ fn route<C: Owes, A: Answerer, M: Maker<C>, F: Files>(
     ensures tellable { IfOk result (λ steps. AllTellable steps.items) }
     ensures own { IfOk result (λ steps. IsOfHeard heard steps.items) }
     ensures others { OnOk result (KeepsOthers heard router.old router.new) }
-    ensures spent { router.old.spent ≡ true → IsErr result }
+    ensures poisoned { router.old.poisoned ≡ true → IsErr result }
     ensures due { (number : ℕ) (at : PeerAddress) (moves : List Move) → M.due maker.new number at moves ≡ M.due maker.old number at moves }
     ensures files { FilesAfter A.answers A.fails (state_of A.state F.contents F.calls F.misses F.faults F.losses router.old.answerer files.old) (files_meaning F.contents F.calls F.misses F.faults F.losses files.new) }
     ensures given { OnOk result (ByAnswers A.answers (state_of A.state F.contents F.calls F.misses F.faults F.losses router.old.answerer files.old) (state_of A.state F.contents F.calls F.misses F.faults F.losses router.new.answerer files.new)) }
@@ -171,7 +171,7 @@ fn begin<C: Owes, A: Answerer, M: Maker<C>, F: Files>(
         RouterStands C.stands C.awaited C.number C.due A.answers A.state due course (files_meaning F.contents F.calls F.misses F.faults F.losses files.new) router.new ((trace ++ WasHeard moment heard.now ∷ []) ++ steps.items)) }
     ensures own { IfOk result (λ steps. AllOf conv steps.items) }
     ensures others { (other : ℕ) → conv ≢ other → OnOk result (found router.new.table other ≡ found router.old.table other) }
-    ensures spent { router.old.spent ≡ true → IsErr result }
+    ensures poisoned { router.old.poisoned ≡ true → IsErr result }
     ensures due { (number : ℕ) (at : PeerAddress) (moves : List Move) → M.due maker.new number at moves ≡ M.due maker.old number at moves }
     ensures files { FilesAfter A.answers A.fails (state_of A.state F.contents F.calls F.misses F.faults F.losses router.old.answerer files.old) (files_meaning F.contents F.calls F.misses F.faults F.losses files.new) }
     ensures given { OnOk result (ByAnswers A.answers (state_of A.state F.contents F.calls F.misses F.faults F.losses router.old.answerer files.old) (state_of A.state F.contents F.calls F.misses F.faults F.losses router.new.answerer files.new)) }

@@ -33,7 +33,7 @@ fn push_line(flow: &Flow, line: &mut Vec<u8>) -> Result<(), NoMemory>
     Ok(())
 }
 
-fn push_id(id: FlowId, line: &mut Vec<u8>) -> Result<(), NoMemory>
+pub(crate) fn push_id(id: FlowId, line: &mut Vec<u8>) -> Result<(), NoMemory>
     ensures { OnOk result (line.new.items ≡ line.old.items ++ id_text id) }
 {
     push_decimal(line, u64::from(id.conv))?;

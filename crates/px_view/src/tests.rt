@@ -1,7 +1,10 @@
-//! Printed lines.
+//! Printed lines, and an operator's lines.
 ghost use Rattle.std.specs.Prelude.{◌≡◌, IfOk};
 
-use crate::flow_line;
+use crate::{
+    CommandError, Desk, Line, OperatorAnswer, Order, answer_line, flow_line, read_command,
+    show_text,
+};
 use px_message::{
     Body, Fields, Flow, FlowError, FlowId, Host, Name, Path, Replayed, Request, Response, Shared,
     Status, Times, Value, Version,
@@ -130,5 +133,105 @@ fn a_flow_that_ended_early(rt: HostRuntime) -> Result<(), Fail> {
     };
     let flow = flow(alloc, request(alloc, b"*")?, None, Some(error))?;
     assert!(rt; is_line(alloc, &flow, b"7.12 GET http://h:81 - - error: killed\n")?);
+    Ok(())
+}
+
+fn is_shown(alloc: Global, flow: &Flow, text: &[u8]) -> Result<bool, Fail> {
+    let mut out = Vec::new(alloc);
+    show_text(flow, &mut out)?;
+    Ok(out.as_slice() == text)
+}
+
+#[test]
+fn what_is_shown_of_a_whole_flow(rt: HostRuntime) -> Result<(), Fail> {
+    let alloc = rt.alloc();
+    let response = response(alloc, b"hello", false)?;
+    let flow = flow(alloc, request(alloc, b"/\xE9\"")?, Some(response), None)?;
+    let line =
+        "{\"code\":200,\"error\":null,\"id\":\"7.12\",\"marked\":false,\"method\":\"GET\",\"url\":\"http://h:81/é\\\"\"}\n";
+    assert!(rt; is_shown(alloc, &flow, line.as_bytes())?);
+    Ok(())
+}
+
+#[test]
+fn what_is_shown_of_a_flow_that_ended_early(rt: HostRuntime) -> Result<(), Fail> {
+    let alloc = rt.alloc();
+    let error = FlowError {
+        msg: Bytes::copied(alloc, b"\x01")?,
+        moment: 1,
+    };
+    let flow = flow(alloc, request(alloc, b"*")?, None, Some(error))?;
+    let line =
+        "{\"code\":null,\"error\":\"\\u0001\",\"id\":\"7.12\",\"marked\":false,\"method\":\"GET\",\"url\":\"http://h:81\"}\n";
+    assert!(rt; is_shown(alloc, &flow, line.as_bytes())?);
+    Ok(())
+}
+
+fn is_order(alloc: Global, line: &[u8], order: Order) -> bool {
+    read_command(alloc, line).is_ok_and(|it| it == order)
+}
+
+fn is_refused(alloc: Global, line: &[u8], error: CommandError) -> bool {
+    read_command(alloc, line).is_err_and(|it| it == error)
+}
+
+#[test]
+fn commands(rt: HostRuntime) -> Result<(), Fail> {
+    let alloc = rt.alloc();
+    let id = FlowId { conv: 7, index: 12 };
+    assert!(rt; is_order(alloc, b"list", Order::List));
+    assert!(rt; is_order(alloc, b"show 7.12", Order::Show(id)));
+    assert!(rt; is_refused(alloc, b"show  7.12", CommandError::UnknownCommand));
+    assert!(rt; is_refused(alloc, b"show 7.012", CommandError::BadNumber));
+    Ok(())
+}
+
+fn is_text(lines: &[Line], at: usize, text: &[u8]) -> bool {
+    match lines.get(at) {
+        Some(Line::Text(line)) => line.as_slice() == text,
+        _ => false,
+    }
+}
+
+fn hear(desk: &mut Desk, conv: u32, bytes: &[u8], lines: &mut Vec<Line>) -> Result<(), Fail> {
+    desk.take(conv, bytes, lines)?;
+    Ok(())
+}
+
+#[test]
+fn lines_of_two_connections(rt: HostRuntime) -> Result<(), Fail> {
+    let alloc = rt.alloc();
+    let mut desk = Desk::new(alloc);
+    let mut lines = Vec::new(alloc);
+    hear(&mut desk, 1, b"li", &mut lines)?;
+    hear(&mut desk, 2, b"quit\n", &mut lines)?;
+    hear(&mut desk, 1, b"st\r\n\nsh", &mut lines)?;
+    assert!(rt; is_text(&lines, 0, b"quit"));
+    assert!(rt; is_text(&lines, 1, b"list"));
+    assert!(rt; is_text(&lines, 2, b""));
+    assert!(rt; lines.len() == 3);
+    Ok(())
+}
+
+#[test]
+fn a_line_that_is_too_long(rt: HostRuntime) -> Result<(), Fail> {
+    let alloc = rt.alloc();
+    let mut desk = Desk::new(alloc);
+    let mut lines = Vec::new(alloc);
+    hear(&mut desk, 1, &[b'a'; 1023], &mut lines)?;
+    assert!(rt; lines.is_empty());
+    hear(&mut desk, 1, b"a\nlist\n", &mut lines)?;
+    assert!(rt; lines.len() == 1 && lines.get(0) == Some(&Line::TooLong));
+    Ok(())
+}
+
+#[test]
+fn answers(rt: HostRuntime) -> Result<(), Fail> {
+    let alloc = rt.alloc();
+    let mut out = Vec::new(alloc);
+    let id = FlowId { conv: 7, index: 12 };
+    answer_line(OperatorAnswer::Waiting(id), &mut out)?;
+    answer_line(OperatorAnswer::End, &mut out)?;
+    assert!(rt; out.as_slice() == b"7.12 waiting\nend\n".as_slice());
     Ok(())
 }

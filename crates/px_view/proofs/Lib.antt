@@ -1,0 +1,4 @@
+pub mod CommandLemmas
+pub mod DeskLemmas
+pub mod IdLemmas
+pub mod LineLemmas

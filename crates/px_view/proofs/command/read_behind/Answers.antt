@@ -1,0 +1,19 @@
+use Rattle.std.proofs.Common.{◌∷◌, ap, inr}
+use Rattle.px_view.specs.Commands.{order_of_words}
+use Rattle.px_view.proofs.CommandLemmas.{words_none, more_words, ok_by, err_by}
+use Rattle.px_view.proofs.command.read_behind.Goals as goal
+
+pub returns-in-None-clause-ok : goal.returns-in-None-clause-ok
+returns-in-None-clause-ok c =
+    ok_by _ _ c.read_pair.result
+    (ap (λ words. order_of_words (c.args.word.now ∷ words)) (words_none c.args.rest.now c.blank_in.result c.blank_in.ensures c.in-None.is))
+    c.read_pair.ensures.ok
+
+pub returns-in-None-clause-refused : goal.returns-in-None-clause-refused
+returns-in-None-clause-refused c =
+    err_by _ _ c.read_pair.result
+    (ap (λ words. order_of_words (c.args.word.now ∷ words)) (words_none c.args.rest.now c.blank_in.result c.blank_in.ensures c.in-None.is))
+    c.read_pair.ensures.refused
+
+pub returns-in-Some-clause-refused : goal.returns-in-Some-clause-refused
+returns-in-Some-clause-refused c = inr (more_words c.args.word.now c.args.rest.now c.blank_in.result c.in-Some.field-0 c.blank_in.ensures c.in-Some.is)

@@ -1,0 +1,23 @@
+-- Lines and what they are, row by row.
+use Rattle.std.specs.Prelude.{◌≡◌, [], codes, Ok, Err}
+use Rattle.px_core.specs.declared.operation.Operation.TheVariants as operation
+use Rattle.px_view.specs.declared.command.Order.TheVariants as order
+use Rattle.px_view.specs.declared.command.CommandError.TheVariants as error
+use Rattle.px_view.specs.Commands.{order_of}
+
+pub record RowsHold : Type 0 where
+  pub list : order_of (codes "list") ≡ Ok order.List
+  pub quit : order_of (codes "quit") ≡ Ok order.Quit
+  pub other_word : order_of (codes "lst") ≡ Err error.UnknownCommand
+  pub no_word : order_of [] ≡ Err error.UnknownCommand
+  pub word_more : order_of (codes "list x") ≡ Err error.UnknownCommand
+  pub show : order_of (codes "show 1.2") ≡ Ok (order.Show record { conv = 1; index = 2 })
+  pub kill : order_of (codes "kill 0.4294967295") ≡ Ok (order.Act (operation.Kill record { conv = 0; index = 4294967295 }))
+  pub drop_word : order_of (codes "drop a") ≡ Ok (order.Act (operation.DropAddon (codes "a")))
+  pub two_spaces : order_of (codes "show  1.2") ≡ Err error.UnknownCommand
+  pub no_number : order_of (codes "show") ≡ Err error.UnknownCommand
+  pub one_number : order_of (codes "show 1") ≡ Err error.BadNumber
+  pub three_numbers : order_of (codes "show 1.2.3") ≡ Err error.BadNumber
+  pub leading_zero : order_of (codes "show 00.0") ≡ Err error.BadNumber
+  pub sign : order_of (codes "show +1.2") ≡ Err error.BadNumber
+  pub too_large : order_of (codes "show 4294967296.0") ≡ Err error.BadNumber
