@@ -90,7 +90,7 @@ fn earlier(unclosed: Option<usize>, read: Result<Tree, FilterError>) -> Result<T
 }
 
 impl FilterError {
-    /// The place of the token that it is about; 0 for want of memory, which is about none.
+    /// The place of the token that it is about; 0 when out of memory, which is about none.
     pub fn place(&self) -> usize
         ensures { result ≡ place_of self.now }
     {

@@ -7,7 +7,7 @@
 //! grammar itself stands beside it as a relation (`Grammar.antt`), and it derives exactly what is read.
 //!
 //! A text that is no filter has one refusal: what reading meets first, or a parenthesis that is not closed and stands before that
-//! (`Parsing.antt`). `Filter::parse` answers exactly that, with its place; want of memory is free.
+//! (`Parsing.antt`). `Filter::parse` answers exactly that, with its place; out of memory is free.
 //!
 //! An expression holds on a flow by the table of operators, by recursion on the expression (`Holds.antt`): each operator with a pattern has
 //! a list of texts in which the pattern is looked for, and that it is found there is `regex`'s own statement (`Pattern.antt`). A pattern is

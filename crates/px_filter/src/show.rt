@@ -10,7 +10,7 @@ use crate::lexing::behind_bytes;
 use px_text::NoMemory;
 
 /// Appends two lines: the text, and a `^` under the place of its refusal. Columns are characters; of a text of several lines it
-/// is the one with the place. Want of memory is about no place and is shown at 0. After `NoMemory` nothing is appended.
+/// is the one with the place. Out of memory is about no place and is shown at 0. After `NoMemory` nothing is appended.
 pub fn show_refusal(text: &str, error: &FilterError, out: &mut Vec<u8>) -> Result<(), NoMemory>
     ensures ok { OnOk result (out.new.items ≡ out.old.items ++ specs.shown text.now (place_of error.now)) }
     ensures err { OnErr result (out.new.items ≡ out.old.items) }

@@ -14,7 +14,7 @@ use Rattle.px_flowfile.specs.declared.fault.ReadCause.TheVariants as cause
 abbrev pub BeginsWith : Entry → List ℕ → List ℕ → Type 0
 BeginsWith entry text behind = (t : Tree) × IsItem most_deep t text behind × Loads t entry.flow (others_view entry.others)
 
--- why a text does not begin with an entry: it begins with no tree, or with one that is no flow; want of memory aside
+-- why a text does not begin with an entry: it begins with no tree, or with one that is no flow; out of memory aside
 abbrev pub IsNoEntry : List ℕ → ReadCause → Type 0
 IsNoEntry text (cause.Tnet e) = (e ≡ tnet.NoMemory) ⊎ IsRefused most_deep text e
 IsNoEntry text (cause.Flow e) = (e ≡ error.NoMemory) ⊎ ((t : Tree) × (behind : List ℕ) × IsItem most_deep t text behind × IsNoFlow t e)

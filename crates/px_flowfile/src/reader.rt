@@ -35,7 +35,7 @@ impl FlowReader {
     }
 
     /// The next entry, or nothing exactly at the end of the file, where no fault comes. A place that has no entry is a fault, with the
-    /// number of bytes in front of it; it is answered again for ever, want of memory too.
+    /// number of bytes in front of it; it is answered again for ever, out of memory too.
     pub fn next(&mut self) -> Result<Option<Entry>, ReadFault>
         ensures again { IfSome self.old.fault (λ fault. (result ≡ Err fault) × (self.new ≡ self.old)) }
         ensures ok { self.old.fault ≡ None → IfOk result (λ r. ComesNext self.old.rest (Ok r) self.new.rest) }

@@ -35,7 +35,7 @@ pub err_behind : {E : Type 0} (result : Result (Unit {0}) E) (a b old middle new
 err_behind (Ok _) a b old middle new first second = tt
 err_behind (Err _) a b old middle new first second = adds_second a b old middle new first second
 
--- where the first part's writing ends for want of memory
+-- where the first part's writing ends when out of memory
 pub err_first : {E : Type 0} (result : Result (Unit {0}) E) (a b old new : List ℕ) → AddsPrefixOf a old new →
     OnErr result (AddsPrefixOf (a ++ b) old new)
 err_first (Ok _) a b old new h = tt

@@ -42,7 +42,7 @@ FeedsBy None old bytes left frames result new =
 abbrev pub Feeds : Reading → List ℕ → ℕ → List Frame → Result ⊤ FrameError → Reading → Type 0
 Feeds old bytes left frames result new = FeedsBy old.failed old bytes left frames result new
 
--- want of memory promises nothing
+-- out of memory promises nothing
 abbrev pub UnlessNoMemory : Result ⊤ FrameError → Type 0 → Type 0
 UnlessNoMemory (Err error.NoMemory) fact = ⊤
 UnlessNoMemory result fact = fact

@@ -48,7 +48,7 @@ fn one_text(alloc: Global, text: &str) -> Result<Vec<String>, NoMemory>
     Ok(texts)
 }
 
-// Texts that are rules are refused for want of memory alone.
+// Texts that are rules are refused when out of memory alone.
 fn no_memory(error: RuleError) -> NoMemory
     requires { error.cause ≡ causes.NoMemory }
 {

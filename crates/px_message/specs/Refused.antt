@@ -1,4 +1,4 @@
--- Why a name, a value and a path are refused: the bytes come back, and are none; want of memory says nothing of them.
+-- Why a name, a value and a path are refused: the bytes come back, and are none; out of memory says nothing of them.
 use Rattle.std.specs.Prelude.{◌≡◌, ℕ, List, false}
 use Rattle.httparse.specs.Grammar.{is_token}
 use Rattle.px_message.specs.Path.{is_path}

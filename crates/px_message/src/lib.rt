@@ -3,7 +3,7 @@
 //!
 //! A value is right by its type: a `Name` is a token, a `Value` has no CR, LF or NUL, a `Host` is one that an authority
 //! may have, a `Path` has no blank and no control byte. So whatever is written from these types is read back as one
-//! message. A constructor that refuses hands its bytes back, but for want of memory; the refusal is exact in both
+//! message. A constructor that refuses hands its bytes back, unless out of memory; the refusal is exact in both
 //! directions.
 //!
 //! Copies share what they hold: the bytes of names, values, paths and bodies, and a list of fields as a whole until one of

@@ -4,7 +4,7 @@ use Rattle.px_filter.specs.declared.filter.FilterError.TheVariants as error
 use Rattle.px_rule.specs.declared.cause.RuleCause.{RuleCause}
 use Rattle.px_rule.specs.declared.cause.RuleCause.TheVariants as causes
 
--- want of memory is a cause of its own
+-- out of memory is a cause of its own
 abbrev pub filter_cause : FilterError → RuleCause
 filter_cause error.NoMemory = causes.NoMemory
 filter_cause other = causes.Filter other

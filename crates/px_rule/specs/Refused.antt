@@ -1,4 +1,4 @@
--- Why texts are refused; want of memory says nothing of them.
+-- Why texts are refused; out of memory says nothing of them.
 use Rattle.std.specs.Prelude.{◌≡◌, ℕ, List, false}
 use Rattle.px_rule.specs.Pattern.{is_pattern}
 use Rattle.px_rule.specs.declared.replacing.ReplacingError.{ReplacingError}

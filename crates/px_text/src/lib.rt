@@ -1,4 +1,4 @@
-//! Small text: the shared byte list that every type above holds, and the want of memory that every call above may answer.
+//! Small text: the shared byte list that every type above holds, and the error of a call that is out of memory.
 //!
 //! Each call equals its definition in `specs/`. Numbers are decimal or hexadecimal digits without a sign (RFC 9110
 //! section 8.6, RFC 9112 section 7.1); letters are compared as ASCII (RFC 9110 section 5.1).

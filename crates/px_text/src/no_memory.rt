@@ -1,4 +1,4 @@
-//! Want of memory: an answer of its own, merged with no other.
+//! Out of memory: an answer of its own, merged with no other.
 use std::alloc::{AllocError, AllocFailed};
 
 /// Memory ran out. It says nothing of the input.
