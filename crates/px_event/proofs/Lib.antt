@@ -8,6 +8,5 @@ pub mod Seen
 pub mod StampLemmas
 pub mod Steps
 pub mod Stops
-pub mod SumLemmas
 pub mod TraceLemmas
 pub mod Walk

@@ -4,6 +4,5 @@ pub mod Laws
 pub mod Layer
 pub mod Stamps
 pub mod Stands
-pub mod Sum
 pub mod Trace
 pub mod View

@@ -2,11 +2,10 @@
 //!
 //! They need one thing of a chain, that passing settles at once (`Settles`), and growth one thing more (`SoFarGrows`).
 //! Neither speaks of bytes or of a protocol, so a chain of any protocol gets the laws for these two premises.
-ghost use Rattle.std.specs.Prelude.{◌≡◌, ◌≢◌, ℕ, List, [], ◌∷◌, ◌++◌, Option};
+ghost use Rattle.std.specs.Prelude.{◌≡◌, ◌≢◌, ℕ, List, [], ◌∷◌, ◌++◌};
 ghost use Rattle.px_text.specs.Prefix.{IsPrefixOf};
 ghost use Rattle.px_event.specs.Chain.{Chain, Stamped, Asks, Ends, walk_from, due};
 ghost use Rattle.px_event.specs.Laws.{Settles, SoFarGrows, with_events, with_replies, Stopped, waiting_values};
-ghost use Rattle.px_event.specs.Sum.{HandsOver, sum_of};
 ghost use Rattle.px_event.specs.View.{Atom, View, bytes_in, line, seen_of};
 ghost use Rattle.px_event.specs.declared.event.Event.{Event as TakenEvent};
 ghost use Rattle.px_event.specs.declared.reply.Reply.{Reply as GivenReply};
@@ -65,12 +64,4 @@ pub fn nothing_is_due_past_the_end<Stage>()
         (events more : List (Stamped TakenEvent)) (replies further : List (Stamped GivenReply)) (owed : List GivenCommand) →
         chain.look (walk_from chain start events replies).stage (walk_from chain start events replies).prefix ≡ Ends owed →
         due chain start (events ++ more) (replies ++ further) ≡ due chain start events replies }
-{}
-
-/// A sum of two chains, where the one hands over to the other, keeps the laws that both keep: so all of these laws hold of it.
-pub fn sums_keep_the_laws<Stage, Next>()
-    ensures settles { (chain : Chain Stage TakenEvent GivenReply GivenCommand) (other : Chain Next TakenEvent GivenReply GivenCommand) (hands : Stage → Option Next) →
-        Settles chain → Settles other → Settles (sum_of chain other hands) }
-    ensures grows { (chain : Chain Stage TakenEvent GivenReply GivenCommand) (other : Chain Next TakenEvent GivenReply GivenCommand) (hands : Stage → Option Next) (view : View) →
-        HandsOver chain hands → SoFarGrows chain (seen_of view) → SoFarGrows other (seen_of view) → SoFarGrows (sum_of chain other hands) (seen_of view) }
 {}
