@@ -1,17 +1,20 @@
 //! The bytes that a reader was fed and has not used.
 //!
 //! A piece that comes when nothing waits is kept as it is, shared with who fed it, and so is what a head leaves of it: no
-//! byte is moved. What waits when more comes, or when no head stands in it, is copied into a buffer of the reader's own.
+//! byte is moved. What waits when more comes, or when no head stands in it, is copied into a buffer of the reader's own. A piece
+//! that is used up is let go of, so that none keeps the memory of who fed it for nothing (`specs/Held.antt`, `IsNeeded`).
 ghost use Rattle.std.specs.Prelude.{◌≡◌, ◌≤◌, ◌++◌, [], IfOk, OnErr, OnOk, drop, length};
+ghost use Rattle.px_head.specs.Held.{IsNeeded, bytes_of};
 
 use crate::buffer::Buffer;
 use px_text::{Bytes, NoMemory};
 use std::alloc::Global;
 use std::marker::Model;
 
-/// Where the bytes are: in a piece that was fed, or in a buffer.
+/// Where the bytes are: there are none, or they are in a piece that was fed, or in a buffer.
 #[derive(Debug, Drop)]
 pub enum Waiting {
+    Nothing,
     Shared(Bytes),
     Own(Buffer),
 }
@@ -25,11 +28,13 @@ pub struct Held {
 
 impl Model for Held {
     ghost use Rattle.std.specs.Prelude.{List, ℕ};
-    ghost use Rattle.px_head.specs.Held.{bytes_of};
+    ghost use Rattle.px_head.specs.Held.{IsNeeded, bytes_of};
 
     ghost Value = { List ℕ };
 
     ghost view = { λ h. bytes_of h.waiting };
+
+    ghost invariant = { λ h. IsNeeded h.waiting };
 }
 
 impl Held {
@@ -39,7 +44,7 @@ impl Held {
     {
         Held {
             alloc,
-            waiting: Waiting::Shared(Bytes::empty()),
+            waiting: Waiting::Nothing,
         }
     }
 
@@ -53,14 +58,12 @@ impl Held {
         ensures ok { OnOk result (self.new ≡ self.old ++ bytes.now) }
         ensures err { OnErr result (self.new ≡ self.old) }
     {
-        match &mut self.waiting {
-            Waiting::Own(buffer) => buffer.feed(bytes),
-            Waiting::Shared(front) => {
-                let buffer = Buffer::joined(self.alloc, front.as_slice(), bytes)?;
-                self.waiting = Waiting::Own(buffer);
-                Ok(())
-            }
+        if let Waiting::Own(buffer) = &mut self.waiting {
+            return buffer.feed(bytes);
         }
+        let buffer = Buffer::joined(self.alloc, self.as_slice(), bytes)?;
+        self.waiting = Waiting::Own(buffer);
+        Ok(())
     }
 
     /// Adds bytes behind the others: shared, where there are no others.
@@ -71,8 +74,7 @@ impl Held {
         if self.len() > 0 {
             return self.feed(bytes.as_slice());
         }
-        let shared = bytes.try_clone()?;
-        self.waiting = Waiting::Shared(shared);
+        self.waiting = share(bytes)?;
         Ok(())
     }
 
@@ -81,6 +83,7 @@ impl Held {
         ensures { result.now ≡ self.now }
     {
         match &self.waiting {
+            Waiting::Nothing => &[],
             Waiting::Shared(bytes) => bytes.as_slice(),
             Waiting::Own(buffer) => buffer.as_slice(),
         }
@@ -91,18 +94,26 @@ impl Held {
         ensures { result ≡ length self.now }
     {
         match &self.waiting {
+            Waiting::Nothing => 0,
             Waiting::Shared(bytes) => bytes.len(),
             Waiting::Own(buffer) => buffer.len(),
         }
     }
 
-    /// Uses so many bytes.
+    /// Uses so many bytes. A piece of which all are used is held no more.
     pub fn skip(&mut self, count: usize)
         requires { count ≤ length self.old }
         ensures { self.new ≡ drop count self.old }
     {
         match &mut self.waiting {
-            Waiting::Shared(bytes) => bytes.advance(count),
+            Waiting::Nothing => {}
+            Waiting::Shared(bytes) => {
+                if count < bytes.len() {
+                    bytes.advance(count);
+                } else {
+                    self.waiting = Waiting::Nothing;
+                }
+            }
             Waiting::Own(buffer) => buffer.skip(count),
         }
     }
@@ -119,8 +130,20 @@ impl Held {
         ensures { IfOk result (λ rest. rest ≡ self) }
     {
         match self.waiting {
+            Waiting::Nothing => Ok(Bytes::empty()),
             Waiting::Shared(bytes) => Ok(bytes),
             Waiting::Own(buffer) => buffer.into_bytes(),
         }
     }
+}
+
+// The piece, shared; nothing of one that has no bytes.
+fn share(piece: &Bytes) -> Result<Waiting, NoMemory>
+    ensures bytes { IfOk result (λ waiting. bytes_of waiting ≡ piece.now) }
+    ensures needed { IfOk result (λ waiting. IsNeeded waiting) }
+{
+    if piece.is_empty() {
+        return Ok(Waiting::Nothing);
+    }
+    Ok(Waiting::Shared(piece.try_clone()?))
 }

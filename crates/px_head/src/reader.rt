@@ -15,8 +15,8 @@ use std::marker::Model;
 /// far these bytes were searched for the end of a head.
 ///
 /// A search goes on where the last one stopped, so a head costs a small multiple of its bytes, in whatever pieces it comes.
-/// Behind `Partial` it holds no piece that others share, and its buffer has at most twice as many bytes as `unused` tells. After
-/// `NoMemory` it is as it was before the call.
+/// A piece that others share is held only while bytes of it wait, and none behind `Partial`; its buffer has at most twice as
+/// many bytes as `unused` tells. After `NoMemory` it is as it was before the call.
 #[derive(Debug, Drop)]
 pub struct HeadReader {
     held: Held,

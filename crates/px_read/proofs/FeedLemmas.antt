@@ -221,7 +221,7 @@ feed_fails refused bytes at parts now after BadChunk fits on w s =
     let t = subst (λ (c : Chunking). Steps c (drop at bytes) (Err BadChunk) after) w.2 s in
     record { added = w.1; answer = refl; state = t.1 }
 
--- the same, where out of memory promises nothing
+-- the same, where nothing is promised once out of memory
 pub feed_stops : (before : Chunking) (bytes : List ℕ) (at : ℕ) (parts : List ChunkPart) (now after : Chunking) (error : ChunkError)
     → at ≤ length bytes → UnlessNoMemory {A = ChunkStep} (Err error) (IsOpen now) → Feeds before bytes at parts now
     → UnlessNoMemory {A = ChunkStep} (Err error) (Steps now (drop at bytes) (Err error) after) → Fed before bytes parts (Err error) after

@@ -11,12 +11,12 @@ use Rattle.px_head.specs.declared.front.Front.{Front}
 use Rattle.px_head.specs.declared.front.Front.TheVariants as front
 use Rattle.px_head.specs.declared.front.Kind.TheVariants as kind
 use Rattle.px_head.proofs.FrontLemmas.{front-stays, used-within}
-use Rattle.px_message.specs.Length.{request_length, response_length}
+use Rattle.px_message.specs.Length.{response_length}
 use Rattle.px_message.specs.declared.length.Length.{Length}
 use Rattle.px_message.specs.declared.length.Length.TheVariants as lengths
 use Rattle.px_message.specs.declared.fault.Fault.{Fault}
 use Rattle.px_message.specs.declared.fault.Fault.TheVariants.{BadHead, TooLong}
-use Rattle.px_read.specs.Heads.{code_of, request_head, response_head}
+use Rattle.px_read.specs.Heads.{code_of, request_body_length, request_head, response_head}
 use Rattle.px_read.specs.Marks.{Mark, asks, answers, byte}
 use Rattle.px_read.specs.Chunks.{Finish, goes_on, whole, fails, Reading, chunked_reading}
 use Rattle.px_read.specs.Readings.{only, behind_bytes, behind_head, counted_reading, closing_reading, body_reading, request_body, request_behind, request_reading, as_response, response_body, response_behind, response_reading}
@@ -135,11 +135,11 @@ request_by laws bytes more front.BadHead at =
 request_by laws bytes more (front.Stands raw used) at =
     let later : request_front (bytes ++ more) ≡ front.Stands raw used = front-stays kind.Request bytes more (λ e. cc) ∙ at in
     let within = used-within kind.Request bytes raw used at in
-    let body = request_body_grows laws (request_length raw.pairs) (drop used bytes) more in
+    let body = request_body_grows laws (request_body_length raw.first raw.pairs) (drop used bytes) more in
     let same = sym (drop-append-le used bytes more within.1) in
     subst (λ (f : Front). Grows (request_behind (front.Stands raw used) bytes) (request_behind f (bytes ++ more))) (sym later)
     (grows_behind_head (asks (request_head raw)) used _ _
-    (subst (λ (rest : List ℕ). Grows (request_body (request_length raw.pairs) (drop used bytes)) (request_body (request_length raw.pairs) rest)) same body))
+    (subst (λ (rest : List ℕ). Grows (request_body (request_body_length raw.first raw.pairs) (drop used bytes)) (request_body (request_body_length raw.first raw.pairs) rest)) same body))
 
 pub request_grows : ChunkLaws → (bytes more : List ℕ) → Grows (request_reading bytes) (request_reading (bytes ++ more))
 request_grows laws bytes more = request_by laws bytes more (request_front bytes) refl

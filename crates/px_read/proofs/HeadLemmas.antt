@@ -12,12 +12,12 @@ use Rattle.px_head.specs.declared.front.Kind.{Kind}
 use Rattle.px_head.specs.declared.front.Kind.TheVariants as kind
 use Rattle.px_head.specs.declared.front.Refusal.{Refusal}
 use Rattle.px_head.proofs.FrontLemmas.{front-stays, used-within, request_parts_valid, response_parts_valid}
-use Rattle.px_message.specs.Length.{request_length, response_length}
+use Rattle.px_message.specs.Length.{response_length}
 use Rattle.px_message.specs.declared.length.Length.{Length}
 use Rattle.px_message.specs.declared.length.Length.TheVariants as lengths
 use Rattle.px_message.specs.declared.fault.Fault.{Fault}
 use Rattle.px_message.specs.declared.fault.Fault.TheVariants.{BadHead, TooLong, BadResponse, ServerClosed}
-use Rattle.px_read.specs.Heads.{code_of, request_head, response_head}
+use Rattle.px_read.specs.Heads.{code_of, request_body_length, request_head, response_head}
 use Rattle.px_read.specs.Marks.{asks, answers}
 use Rattle.px_read.specs.Chunks.{goes_on, fails, Reading}
 use Rattle.px_read.specs.Readings.{only, body_reading, request_body, request_behind, request_reading, as_response, response_body, response_behind, response_reading}
@@ -151,11 +151,11 @@ regroup n rest more = sym (append_assoc (take n rest) (drop n rest) more) ∙ ap
 
 request_tells : (bytes : List ℕ) (raw : RawHead) (used : ℕ) (closed : Bool) → request_front bytes ≡ fronts.Stands raw used
     → Tells (asks (request_head raw) ∷ []) (state_at (at_head request) bytes closed)
-    (state_at (request_place (request_length raw.pairs)) (drop used bytes) closed)
+    (state_at (request_place (request_body_length raw.first raw.pairs)) (drop used bytes) closed)
 request_tells bytes raw used closed at =
     let within = used-within kind.Request bytes raw used at in
     let head = asks (request_head raw) ∷ [] in
-    let framing = request_length raw.pairs in
+    let framing = request_body_length raw.first raw.pairs in
     taken head (at_head request) (request_place framing) used bytes closed (λ more later follows.
     ap request_reading (regroup used bytes more)
     ∙ ap (λ (f : Front). request_behind f (bytes ++ more)) (stays kind.Request bytes more (fronts.Stands raw used) (λ e. cc) at)
@@ -165,9 +165,9 @@ request_tells bytes raw used closed at =
 
 pub request-gives : (old new : Reader) (raw : RawHead) (rest : List ℕ) (closed : Bool) → Finds kind.Request old new raw → rest ≡ new.rest
     → IsTurn (state_at (at_head request) old.rest closed) (part.Request (request_head raw))
-    (state_at (request_place (request_length raw.pairs)) rest closed)
+    (state_at (request_place (request_body_length raw.first raw.pairs)) rest closed)
 request-gives old new raw rest closed f left =
-    subst (λ (rest : List ℕ). IsTurn (state_at (at_head request) old.rest closed) (part.Request (request_head raw)) (state_at (request_place (request_length raw.pairs)) rest closed))
+    subst (λ (rest : List ℕ). IsTurn (state_at (at_head request) old.rest closed) (part.Request (request_head raw)) (state_at (request_place (request_body_length raw.first raw.pairs)) rest closed))
     (sym (left ∙ f.left)) (turn-gives _ _ (part.Request (request_head raw)) (request_tells old.rest raw f.used closed f.at) (omega arith) refl tt)
 
 -- ---- responses

@@ -8,11 +8,11 @@ use Rattle.px_head.specs.declared.front.Front.{Front}
 use Rattle.px_head.specs.declared.front.Front.TheVariants as front
 use Rattle.px_head.specs.declared.front.Kind.TheVariants as kind
 use Rattle.px_head.proofs.FrontLemmas.{used-within}
-use Rattle.px_message.specs.Length.{request_length, response_length}
+use Rattle.px_message.specs.Length.{response_length}
 use Rattle.px_message.specs.declared.length.Length.{Length}
 use Rattle.px_message.specs.declared.length.Length.TheVariants as lengths
 use Rattle.px_message.specs.declared.fault.Fault.{Fault}
-use Rattle.px_read.specs.Heads.{code_of}
+use Rattle.px_read.specs.Heads.{code_of, request_body_length}
 use Rattle.px_read.specs.Marks.{Mark, asks, answers, begins, byte, ends}
 use Rattle.px_read.specs.Chunks.{Finish, goes_on, whole, fails, Reading}
 use Rattle.px_read.specs.Readings.{behind_bytes, counted_reading, closing_reading, body_reading, request_body, request_behind, request_reading, response_finish, response_body, response_behind, response_reading}
@@ -28,7 +28,7 @@ pub record Carries {H : Type 0} (before after : Item H) : Type 0 where
   pub head : (head : H) → head_in before ≡ Some head → head_in after ≡ Some head
   pub stays : is_decided before ≡ true → after ≡ before
 
-head_behind : {H : Type 0} (head : H) (body : Body) (f : Finish) → head_in (item_behind head body f) ≡ Some head
+pub head_behind : {H : Type 0} (head : H) (body : Body) (f : Finish) → head_in (item_behind head body f) ≡ Some head
 head_behind head body goes_on = refl
 head_behind head body (whole trailers used) = refl
 head_behind head body (fails fault) = refl
@@ -163,7 +163,7 @@ request_within_by laws bytes front.TooLong at trailers used e = absurd (let g = 
 request_within_by laws bytes front.BadHead at trailers used e = absurd (let g = e in cc)
 request_within_by laws bytes (front.Stands raw taken) at trailers used e =
     let within = used-within kind.Request bytes raw taken at in
-    let body = request_body_within laws (request_length raw.pairs) (drop taken bytes) in
+    let body = request_body_within laws (request_body_length raw.first raw.pairs) (drop taken bytes) in
     let all = behind_within taken (length (drop taken bytes)) _ within.0 body trailers used e in
     let left = length-drop taken bytes in
     let fits = within.1 in (all.0, omega (arith, all.1, left, fits))

@@ -1,6 +1,7 @@
 pub mod AnswerLemmas
 pub mod BodyLemmas
 pub mod ChunkedLemmas
+pub mod ConnectLemmas
 pub mod CutLemmas
 pub mod FeedLemmas
 pub mod GrowthLemmas
@@ -17,6 +18,7 @@ pub mod SizeLemmas
 pub mod StepLemmas
 pub mod TrailerLemmas
 pub mod TrailerTurnLemmas
+pub mod TunnelLemmas
 pub mod TurnLemmas
 pub mod ValidLemmas
 pub mod WholeLemmas

@@ -1,8 +1,9 @@
 -- Where the requests of a stream end: behind a CONNECT or before a refused one, whatever follows.
 use Rattle.std.proofs.Common.{ℕ, zero, suc, ◌+◌, ◌≤◌, ◌≡◌, ◌≢◌, Bool, true, false, List, [], ◌∷◌, ◌++◌, length, drop, refl, sym, ap, ◌∙◌, subst, arith, Some, None, length-append, drop-drop}
 use Rattle.std.proofs.lemmas.List.{drop-append-le}
+use Rattle.px_read.specs.Heads.{asks_tunnel}
 use Rattle.px_read.specs.Items.{Body, Item, missing, part, complete, bad_head, bad_body, request_item}
-use Rattle.px_read.specs.Requests.{Requests, asks_tunnel, is_connect, requests_on, requests_behind, requests_within, has_ended}
+use Rattle.px_read.specs.Requests.{Requests, is_connect, requests_on, requests_behind, requests_within, has_ended}
 use Rattle.px_read.specs.declared.head.RequestHead.{RequestHead}
 use Rattle.px_read.proofs.ItemLemmas.{request_carries, request_used}
 use Rattle.px_read.proofs.LawLemmas.{chunk_laws}

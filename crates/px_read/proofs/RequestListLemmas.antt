@@ -2,8 +2,9 @@
 use Rattle.std.proofs.Common.{ℕ, zero, suc, ◌+◌, ◌≤◌, ◌≡◌, Bool, true, false, Some, List, [], ◌∷◌, ◌++◌, length, drop, refl, sym, ap, ◌∙◌, subst, arith, length-drop}
 use Rattle.std.proofs.lemmas.List.{drop-append-le}
 use Rattle.px_text.specs.Prefix.{IsPrefixOf}
+use Rattle.px_read.specs.Heads.{asks_tunnel}
 use Rattle.px_read.specs.Items.{Body, Item, missing, part, complete, bad_head, bad_body, request_item}
-use Rattle.px_read.specs.Requests.{Requests, asks_tunnel, requests_on, requests_behind, requests_within}
+use Rattle.px_read.specs.Requests.{Requests, requests_on, requests_behind, requests_within}
 use Rattle.px_read.specs.declared.head.RequestHead.{RequestHead}
 use Rattle.px_read.proofs.ItemLemmas.{request_carries, request_used}
 use Rattle.px_read.proofs.LawLemmas.{chunk_laws}

@@ -16,7 +16,7 @@ use Rattle.px_read.specs.ChunkTurns.{IsTurn, Turns}
 use Rattle.px_read.proofs.HearLemmas.{finish_stays}
 use Rattle.px_read.proofs.SizeLemmas.{hear_one, content_heard}
 
--- ---- out of memory
+-- ---- once out of memory
 
 pub want_of_memory : (place : ChunkPlace) (bytes line : List ℕ) (result : Result ChunkTurn ChunkError)
     → IsErrAnd result (λ e. e ≡ NoMemory) → Turns place bytes line result

@@ -10,11 +10,11 @@ use Rattle.px_head.specs.declared.raw.RawHead.{RawHead}
 use Rattle.px_head.specs.declared.front.Front.{Front}
 use Rattle.px_head.specs.declared.front.Front.TheVariants as front
 use Rattle.px_head.proofs.FrontLemmas.{request_parts_valid, response_parts_valid, trailer_parts_valid}
-use Rattle.px_message.specs.Length.{request_length, response_length}
+use Rattle.px_message.specs.Length.{response_length}
 use Rattle.px_message.specs.declared.length.Length.{Length}
 use Rattle.px_message.specs.declared.length.Length.TheVariants as lengths
 use Rattle.px_message.specs.declared.fault.Fault.{Fault}
-use Rattle.px_read.specs.Heads.{code_of, request_head, response_head}
+use Rattle.px_read.specs.Heads.{code_of, request_body_length, request_head, response_head}
 use Rattle.px_read.specs.Chunks.{ChunkPlace, in_line, in_content, at_cr, at_lf, in_trailers, broken, Finish, goes_on, whole, fails, trailers_finish, place_finish, hear_all}
 use Rattle.px_read.specs.Readings.{behind_bytes, body_reading, counted_reading, closing_reading, request_body, request_behind, response_finish, response_body, response_behind}
 use Rattle.px_read.specs.Items.{Body, complete, body_of, item_behind, request_told, request_item, response_told, response_item}
@@ -100,9 +100,9 @@ request_by bytes front.Nothing at head body trailers used e = absurd (let g = e 
 request_by bytes front.TooLong at head body trailers used e = absurd (let g = e in cc)
 request_by bytes front.BadHead at head body trailers used e = absurd (let g = e in cc)
 request_by bytes (front.Stands raw taken) at head body trailers used e =
-    let read = request_body (request_length raw.pairs) (drop taken bytes) in
+    let read = request_body (request_body_length raw.first raw.pairs) (drop taken bytes) in
     let found = behind_valid (request_head raw) (body_of read.marks) taken read.finish
-    (request_valid (request_length raw.pairs) (drop taken bytes)) head body trailers used e in
+    (request_valid (request_body_length raw.first raw.pairs) (drop taken bytes)) head body trailers used e in
     let parts = request_parts_valid bytes raw taken at in
     subst (λ (h : RequestHead). IsValidRequest h trailers) found.0
     ((parts.target.1, parts.target.2), record { pairs = parts.pairs; few = parts.few }, found.1)

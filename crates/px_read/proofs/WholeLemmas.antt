@@ -15,7 +15,7 @@ use Rattle.px_message.specs.declared.fault.Fault.{Fault}
 use Rattle.px_message.specs.declared.request.Request.{Request}
 use Rattle.px_message.specs.declared.response.Response.{Response}
 use Rattle.px_message.proofs.SettleLemmas.{whole_request-stays, whole_response-stays}
-use Rattle.px_read.specs.Heads.{code_of, is_interim, request_head, response_head}
+use Rattle.px_read.specs.Heads.{code_of, is_interim, request_body_length, request_head, response_head}
 use Rattle.px_read.specs.Marks.{Mark, byte}
 use Rattle.px_read.specs.Chunks.{Finish, goes_on, whole, fails, Reading}
 use Rattle.px_read.specs.Readings.{behind_bytes, body_reading, counted_reading, request_body, request_behind, response_finish, response_body, response_behind}
@@ -23,6 +23,7 @@ use Rattle.px_read.specs.Items.{Body, complete, content_in, body_of, item_behind
 use Rattle.px_read.specs.Whole.{IsReadRequest, IsReadResponse}
 use Rattle.px_read.specs.declared.head.RequestHead.{RequestHead}
 use Rattle.px_read.specs.declared.head.ResponseHead.{ResponseHead}
+use Rattle.px_read.proofs.ConnectLemmas.{length_by_fields}
 
 content_bytes : (bytes : List ℕ) → flat_map content_in (map byte bytes) ≡ bytes
 content_bytes [] = refl
@@ -84,18 +85,18 @@ request_fits (Ok framing) bytes trailers used e = body_fits framing false bytes 
 
 request_by : (bytes : List ℕ) (f : Front) (head : RequestHead) (body : Body) (trailers : List (List ℕ × List ℕ)) (used : ℕ)
     → request_told (request_behind f bytes).marks (request_behind f bytes).finish ≡ complete head body trailers used
-    → Fits (request_length head.fields) body.content trailers
+    → Fits (request_body_length head.method head.fields) body.content trailers
 request_by bytes front.Nothing head body trailers used e = absurd (let g = e in cc)
 request_by bytes front.TooLong head body trailers used e = absurd (let g = e in cc)
 request_by bytes front.BadHead head body trailers used e = absurd (let g = e in cc)
 request_by bytes (front.Stands raw taken) head body trailers used e =
-    let read = request_body (request_length raw.pairs) (drop taken bytes) in
-    let found = behind_fits (request_head raw) read.marks (request_length raw.pairs) taken read.finish
-    (request_fits (request_length raw.pairs) (drop taken bytes)) head body trailers used e in
-    subst (λ (h : RequestHead). Fits (request_length h.fields) body.content trailers) found.0 found.1
+    let read = request_body (request_body_length raw.first raw.pairs) (drop taken bytes) in
+    let found = behind_fits (request_head raw) read.marks (request_body_length raw.first raw.pairs) taken read.finish
+    (request_fits (request_body_length raw.first raw.pairs) (drop taken bytes)) head body trailers used e in
+    subst (λ (h : RequestHead). Fits (request_body_length h.method h.fields) body.content trailers) found.0 found.1
 
 pub request-fits : (bytes : List ℕ) (head : RequestHead) (body : Body) (trailers : List (List ℕ × List ℕ)) (used : ℕ)
-    → request_item bytes ≡ complete head body trailers used → Fits (request_length head.fields) body.content trailers
+    → request_item bytes ≡ complete head body trailers used → Fits (request_body_length head.method head.fields) body.content trailers
 request-fits bytes head body trailers used e = request_by bytes (request_front bytes) head body trailers used e
 
 -- ---- responses
@@ -179,8 +180,10 @@ final-behind asked_head closed bytes = final_within (length bytes) asked_head cl
 pub read_request-whole : (bytes : List ℕ) (request : Request) → IsReadRequest bytes request → IsWholeRequest request
 read_request-whole bytes request r =
     let fits = request-fits bytes r.head r.body request.trailers r.used r.whole in
+    let size : request_body_length r.head.method r.head.fields ≡ request_length request.fields =
+    (λ i. request_body_length (sym r.method i) (sym r.fields i)) ∙ length_by_fields request.method request.fields request.not_connect in
     subst (λ (l : List ℕ). Fits (request_length request.fields) l request.trailers) (sym r.content)
-    (subst (λ (l : List (List ℕ × List ℕ)). Fits (request_length l) r.body.content request.trailers) (sym r.fields) fits)
+    (subst (λ (framing : Result Length Fault). Fits framing r.body.content request.trailers) size fits)
 
 pub read_request-stays : (bytes : List ℕ) (request : Request) → IsReadRequest bytes request → settled_request request ≡ request
 read_request-stays bytes request r = whole_request-stays request (read_request-whole bytes request r)

@@ -65,7 +65,7 @@ pub record IsStep (place : ChunkPlace) (bytes : List ℕ) (step : ChunkStep) (af
   pub uses : UsesFor step.part (length bytes) step.used
   pub gives : Gives place bytes step.used step.part after
 
--- a step from each reader; out of memory promises nothing
+-- a step from each reader; once out of memory nothing is promised
 abbrev pub Steps : Chunking → List ℕ → Result ChunkStep ChunkError → Chunking → Type 0
 Steps (reads place) bytes (Ok step) after = IsStep place bytes step after
 Steps (reads place) bytes (Err BadChunk) after = IsRefusal place bytes × (after ≡ refused)
@@ -114,7 +114,7 @@ Added (reads place) bytes parts = AreTold (chunks_from place bytes) parts
 Added (ended trailers) bytes parts = parts ≡ []
 Added refused bytes parts = parts ≡ []
 
--- a fact on each answer but out of memory
+-- a fact on each answer; once out of memory there is none
 abbrev pub UnlessNoMemory : {A : Type 0} → Result A ChunkError → Type 0 → Type 0
 UnlessNoMemory (Err NoMemory) fact = ⊤
 UnlessNoMemory _ fact = fact

@@ -19,7 +19,7 @@ pub record IsTurn (place : ChunkPlace) (bytes line : List ℕ) (turn : ChunkTurn
   pub stage : IsStage line turn.stage
   pub gives : Gives place bytes turn.used turn.part (seen_as line turn.stage)
 
--- a turn from this place; out of memory promises nothing
+-- a turn from this place; once out of memory nothing is promised
 abbrev pub Turns : ChunkPlace → List ℕ → List ℕ → Result ChunkTurn ChunkError → Type 0
 Turns place bytes line (Ok turn) = IsTurn place bytes line turn
 Turns place bytes line (Err BadChunk) = IsRefusal place bytes

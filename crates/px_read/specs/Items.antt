@@ -21,6 +21,10 @@ pub record Body : Type 0 where
   -- the content
   pub content : List ℕ
 
+-- that of a message without one
+abbrev pub no_body : Body
+no_body = record { sizes = []; ended = 0; content = [] }
+
 abbrev pub sizes_in : Mark → List ℕ
 sizes_in (begins size) = size ∷ []
 sizes_in _ = []

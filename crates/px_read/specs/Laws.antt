@@ -1,7 +1,11 @@
 -- Laws of what stands at the front of a stream: what is told stays told, whatever bytes follow.
 use Rattle.std.specs.Prelude.{◌≡◌, ℕ, ◌+◌, ◌≤◌, Bool, true, false, ◌||◌, List, [], ◌++◌, length, is_some, Option, Some, None}
+use Rattle.px_head.specs.Front.{request_front}
+use Rattle.px_head.specs.declared.front.Front.TheVariants.{Stands}
+use Rattle.px_head.specs.declared.raw.RawHead.{RawHead}
 use Rattle.px_text.specs.Prefix.{IsPrefixOf}
-use Rattle.px_read.specs.Items.{Item, missing, part, complete, bad_head, bad_body, request_item, response_item, Body, answers_within, answer_list}
+use Rattle.px_read.specs.Heads.{asks_tunnel, request_head}
+use Rattle.px_read.specs.Items.{Item, missing, part, complete, bad_head, bad_body, request_item, response_item, Body, no_body, answers_within, answer_list}
 use Rattle.px_read.specs.Readings.{request_reading, response_reading}
 use Rattle.px_read.specs.declared.head.RequestHead.{RequestHead}
 use Rattle.px_read.specs.declared.head.ResponseHead.{ResponseHead}
@@ -55,6 +59,16 @@ RequestGrows = (bytes more : List ℕ) → IsPrefixOf (request_reading bytes).ma
 abbrev pub RequestUsedIsWithin : Type 0
 RequestUsedIsWithin = (bytes : List ℕ) (head : RequestHead) (body : Body) (trailers : List (List ℕ × List ℕ)) (used : ℕ)
     → request_item bytes ≡ complete head body trailers used → (1 ≤ used) × (used ≤ length bytes)
+
+-- a CONNECT is whole as soon as its head is there, and has no content, whatever its fields say (RFC 9110 section 9.3.6)
+abbrev pub ConnectIsWhole : Type 0
+ConnectIsWhole = (bytes : List ℕ) (head : RequestHead) → head_in (request_item bytes) ≡ Some head → asks_tunnel head ≡ true
+    → (used : ℕ) × (request_item bytes ≡ complete head no_body [] used)
+
+-- so it uses the bytes of its head alone
+abbrev pub ConnectEndsWithItsHead : Type 0
+ConnectEndsWithItsHead = (bytes : List ℕ) (raw : RawHead) (used : ℕ) → request_front bytes ≡ Stands raw used
+    → asks_tunnel (request_head raw) ≡ true → request_item bytes ≡ complete (request_head raw) no_body [] used
 
 -- ---- one response, with the server's close behind it or not
 

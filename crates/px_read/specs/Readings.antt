@@ -5,12 +5,12 @@ use Rattle.px_head.specs.Front.{request_front, response_front}
 use Rattle.px_head.specs.declared.raw.RawHead.{RawHead}
 use Rattle.px_head.specs.declared.front.Front.{Front}
 use Rattle.px_head.specs.declared.front.Front.TheVariants as front
-use Rattle.px_message.specs.Length.{request_length, response_length}
+use Rattle.px_message.specs.Length.{response_length}
 use Rattle.px_message.specs.declared.length.Length.{Length}
 use Rattle.px_message.specs.declared.length.Length.TheVariants as lengths
 use Rattle.px_message.specs.declared.fault.Fault.{Fault}
 use Rattle.px_message.specs.declared.fault.Fault.TheVariants.{BadHead, TooLong, BadResponse, ServerClosed}
-use Rattle.px_read.specs.Heads.{code_of, request_head, response_head}
+use Rattle.px_read.specs.Heads.{code_of, request_body_length, request_head, response_head}
 use Rattle.px_read.specs.Marks.{Mark, asks, answers, byte}
 use Rattle.px_read.specs.Chunks.{Finish, goes_on, whole, fails, Reading, chunked_reading}
 
@@ -56,7 +56,7 @@ request_behind front.Nothing bytes = only goes_on
 request_behind front.TooLong bytes = only (fails TooLong)
 request_behind front.BadHead bytes = only (fails BadHead)
 request_behind (front.Stands raw used) bytes =
-    behind_head (asks (request_head raw)) used (request_body (request_length raw.pairs) (drop used bytes))
+    behind_head (asks (request_head raw)) used (request_body (request_body_length raw.first raw.pairs) (drop used bytes))
 
 -- what the client's bytes tell of the request at their front
 abbrev pub request_reading : List ℕ → Reading

@@ -1,8 +1,9 @@
 -- The requests of a stream, one behind the other: each begins where the former ended, and behind the whole ones stands one that
 -- is not whole, or none yet, or a refused one. The list ends behind a CONNECT: the bytes behind it are those of a tunnel, or of
 -- whatever its answer makes of them (RFC 9110 section 9.3.6).
-use Rattle.std.specs.Prelude.{◌≡◌, ◌≢◌, ℕ, zero, suc, ◌+◌, ◌≤◌, Bool, true, false, List, [], ◌∷◌, ◌++◌, length, drop, codes, bytes_eq, Option, Some, None}
+use Rattle.std.specs.Prelude.{◌≡◌, ◌≢◌, ℕ, zero, suc, ◌+◌, ◌≤◌, Bool, true, false, List, [], ◌∷◌, ◌++◌, length, drop, Option, Some, None}
 use Rattle.px_text.specs.Prefix.{IsPrefixOf}
+use Rattle.px_read.specs.Heads.{asks_tunnel}
 use Rattle.px_read.specs.Items.{Body, Item, complete, request_item}
 use Rattle.px_read.specs.Laws.{is_decided}
 use Rattle.px_read.specs.declared.head.RequestHead.{RequestHead}
@@ -14,13 +15,6 @@ pub record Requests : Type 0 where
   pub used : ℕ
   -- what stands behind them; none where the last of them is a CONNECT
   pub last : Option (Item RequestHead)
-
-abbrev pub connect_method : List ℕ
-connect_method = codes "CONNECT"
-
--- the request is a CONNECT
-abbrev pub asks_tunnel : RequestHead → Bool
-asks_tunnel head = bytes_eq head.method connect_method
 
 -- the item is a whole CONNECT
 abbrev pub is_connect : Item RequestHead → Bool

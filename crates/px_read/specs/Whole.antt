@@ -2,10 +2,11 @@
 use Rattle.std.specs.Prelude.{◌≡◌, ◌≤◌, ℕ, Bool, List, length, drop, All, IsUtf8}
 use Rattle.httparse.specs.Grammar.{AllPass, is_uri_byte}
 use Rattle.px_head.specs.Laws.{IsPair, IsValueText}
-use Rattle.px_message.specs.Length.{request_length, response_length}
+use Rattle.px_message.specs.Length.{response_length}
 use Rattle.px_message.specs.Settle.{Fits, IsWholeRequest, IsWholeResponse, settled_request, settled_response}
 use Rattle.px_message.specs.declared.request.Request.{Request}
 use Rattle.px_message.specs.declared.response.Response.{Response}
+use Rattle.px_read.specs.Heads.{request_body_length}
 use Rattle.px_read.specs.Items.{Body, complete, request_item, response_item, answer_list}
 use Rattle.px_read.specs.declared.head.RequestHead.{RequestHead}
 use Rattle.px_read.specs.declared.head.ResponseHead.{ResponseHead}
@@ -36,10 +37,10 @@ pub record IsReadResponse (asked_head closed : Bool) (bytes : List ℕ) (respons
 
 -- ---- laws of items
 
--- the content of a whole request, and its trailers, are those of a body of the length that its head gives
+-- the content of a whole request, and its trailers, are those of a body of the length that its head gives: of none where it is a CONNECT
 abbrev pub WholeRequestFits : Type 0
 WholeRequestFits = (bytes : List ℕ) (head : RequestHead) (body : Body) (trailers : List (List ℕ × List ℕ)) (used : ℕ)
-    → request_item bytes ≡ complete head body trailers used → Fits (request_length head.fields) body.content trailers
+    → request_item bytes ≡ complete head body trailers used → Fits (request_body_length head.method head.fields) body.content trailers
 
 abbrev pub WholeResponseFits : Type 0
 WholeResponseFits = (asked_head closed : Bool) (bytes : List ℕ) (head : ResponseHead) (body : Body)

@@ -37,6 +37,16 @@ pub fn request_used_is_within()
     ensures { law.RequestUsedIsWithin }
 {}
 
+/// A CONNECT is whole as soon as its head is there: it has no content, whatever its fields say of a length.
+pub fn connect_is_whole()
+    ensures { law.ConnectIsWhole }
+{}
+
+/// A CONNECT uses the bytes of its head alone.
+pub fn connect_ends_with_its_head()
+    ensures { law.ConnectEndsWithItsHead }
+{}
+
 /// A response's head that stands is the same whatever follows, a close too.
 pub fn response_head_stays()
     ensures { law.ResponseHeadStays }
@@ -110,6 +120,16 @@ pub fn bad_is_refused()
 /// `More` is given exactly where nothing is told and the message goes on, `End` where it is whole, `Bad` where it is refused.
 pub fn next_is_exact()
     ensures { reader.NextIsExact }
+{}
+
+/// Behind the head of a CONNECT the reader has nothing to tell, and the message is whole.
+pub fn connect_has_ended()
+    ensures { reader.ConnectHasEnded }
+{}
+
+/// Behind the head of a CONNECT the reader gives `End`, and its rest is then what the head did not use.
+pub fn connect_is_read()
+    ensures { reader.ConnectIsRead }
 {}
 
 /// Each number of requests that is no less than that of the bytes is as good.

@@ -49,7 +49,7 @@ impl Model for MessageReader {
 }
 
 impl MessageReader {
-    /// A reader of a request.
+    /// A reader of a request. A CONNECT ends with its head, whatever its fields say of a length (RFC 9110 section 9.3.6).
     pub fn request(alloc: Global) -> MessageReader
         ensures state { result ≡ before_all request [] false }
         ensures reads { Reads request [] [] false result }

@@ -26,10 +26,11 @@ use Rattle.px_message.specs.declared.version.Version.{Version}
 use Rattle.px_message.specs.declared.version.Version.TheVariants.{Http10, Http11}
 use Rattle.px_message.proofs.SettleLemmas.{settled_request-whole, settled_response-whole, unframed}
 use Rattle.px_read.specs.Chunks.{Reading, goes_on, whole}
-use Rattle.px_read.specs.Heads.{code_of, request_head, response_head, version_named}
+use Rattle.px_read.specs.Heads.{code_of, connect_method, request_body_length, request_head, response_head, version_named}
 use Rattle.px_read.specs.Items.{body_of, complete, request_item, request_told, response_item, response_told}
 use Rattle.px_read.specs.Marks.{Mark, asks, answers, byte}
 use Rattle.px_read.specs.Readings.{as_response, behind_head, body_reading, request_behind, request_body, request_reading, response_behind, response_body, response_reading}
+use Rattle.px_read.proofs.ConnectLemmas.{length_by_fields}
 use Rattle.px_write.specs.ReadBack.{ResponseHeadStands, SettledRequestReadsBack, SettledResponseReadsBack, TrailersStand, WholeRequestReadsBack, WholeResponseReadsBack, one_chunk, request_parts, response_parts, trailer_parts}
 use Rattle.px_write.specs.Text.{body_text, chunk_text, fields_text, last_chunk_text, request_head_text, request_text, response_head_text, response_text, target_text, version_text}
 use Rattle.px_write.specs.declared.form.Form.{Form}
@@ -164,7 +165,7 @@ behind : (head body rest : List ℕ) → drop (length head) ((head ++ body) ++ r
 behind head body rest = ap (λ (bytes : List ℕ). drop (length head) bytes) (append_assoc head body rest) ∙ drop-append_seam head (body ++ rest)
 
 request_by : (head body rest : List ℕ) (raw : RawHead) (l : Length) (marks : List Mark) (trailers : List (List ℕ × List ℕ))
-    → request_front head ≡ Stands raw (length head) → request_length raw.pairs ≡ Ok l
+    → request_front head ≡ Stands raw (length head) → request_body_length raw.first raw.pairs ≡ Ok l
     → body_reading l false (body ++ rest) ≡ record { marks = marks; finish = whole trailers (length body) }
     → request_item ((head ++ body) ++ rest) ≡ complete (request_head raw) (body_of marks) trailers (length (head ++ body))
 request_by head body rest raw l marks trailers at measured reads =
@@ -200,17 +201,19 @@ RequestIs head content rest raw trailers framed =
     request_item ((head ++ written framed content trailers) ++ rest)
     ≡ complete (request_head raw) (one_chunk framed content) trailers (length (head ++ written framed content trailers))
 
-pub request_back : (head content rest : List ℕ) (raw : RawHead) (trailers : List (List ℕ × List ℕ)) → length content < 2 ^ 64
+-- of a request that is no CONNECT
+pub request_back : (head content rest : List ℕ) (raw : RawHead) (trailers : List (List ℕ × List ℕ)) → raw.first ≢ connect_method → length content < 2 ^ 64
     → request_front head ≡ Stands raw (length head) → TrailersStand raw.pairs trailers → Fits (request_length raw.pairs) content trailers
     → request_item ((head ++ body_text raw.pairs content trailers) ++ rest)
     ≡ complete (request_head raw) (one_chunk (is_framed_in_chunks raw.pairs) content) trailers (length (head ++ body_text raw.pairs content trailers))
-request_back head content rest raw trailers small at stand fits = by_result (request_length raw.pairs) refl fits
+request_back head content rest raw trailers other small at stand fits = by_result (request_length raw.pairs) refl fits
   where
     -- by the length that the head says
     of_length : (l : Length) → request_length raw.pairs ≡ Ok l → Fits (Ok l) content trailers → Ends l false rest
         → StandFor (frames l) trailers → RequestIs head content rest raw trailers (frames l)
     of_length l is fits ends stand =
-        request_by head (written (frames l) content trailers) rest raw l (marks_for (frames l) content) trailers at is
+        request_by head (written (frames l) content trailers) rest raw l (marks_for (frames l) content) trailers at
+        (length_by_fields raw.first raw.pairs other ∙ is)
         (body_back l content rest trailers false small stand fits ends)
         ∙ ap (λ b. complete (request_head raw) b trailers (length (head ++ written (frames l) content trailers))) (told_body (frames l) content)
 
@@ -299,7 +302,7 @@ version_back Http11 = refl
 
 pub whole_request-back : (request : Request) (form : Form) → length request.body < 2 ^ 64 → WholeRequestReadsBack request form
 whole_request-back request form small fits head stand rest =
-    request_back (request_head_text request form) request.body rest (request_parts request form) request.trailers small head stand fits
+    request_back (request_head_text request form) request.body rest (request_parts request form) request.trailers request.not_connect small head stand fits
     ∙ ap (λ (version : Version). complete (record {
       method = request.method;
       target = target_text form request.host request.port request.path;

@@ -1,19 +1,20 @@
 //! Heads, and what follows each of them by its length (RFC 9112 section 6.3).
 ghost use Rattle.std.specs.Prelude.{◌≡◌, ℕ, Bool, List, [], None, IfOk, true};
 ghost use Rattle.px_message.specs.Length.{response_length};
+ghost use Rattle.px_read.specs.Heads.{request_body_length};
 ghost use Rattle.px_read.specs.Reader.{IsTurn, is_client, is_clients, at_head, request, response};
 ghost use Rattle.px_read.specs.Stages.{answered, IsStage, StandOnce, body_place, request_place, seen_as, state_at};
 
 use super::pending::Pending;
 use super::stage::{MessageStage, MessageTurn, Sender, refuse};
 use crate::parts::{read_request_head, read_response_head};
-use crate::{ChunkReader, Part, ResponseHead};
+use crate::{ChunkReader, Part, RequestHead, ResponseHead};
 use px_head::{Found, HeadReader, RawHead};
 use px_message::{Fault, Fields, Length, length_of_request, length_of_response};
 use px_text::NoMemory;
 use std::alloc::Global;
 
-/// The head of a request. It is given before a fault of its length.
+/// The head of a request. It is given before a fault of its length; behind that of a CONNECT the message ends.
 pub fn take_request(
     alloc: Global,
     mut reader: HeadReader,
@@ -38,13 +39,24 @@ pub fn take_request(
         Found::Head(raw) => {
             let rest = rest_of(reader)?;
             let head = read_request_head(alloc, raw)?;
-            let stage = behind_request(alloc, length_of_request(&head.fields));
+            let stage = behind_request(alloc, length_behind(&head));
             Ok(MessageTurn {
                 part: Part::Request(head),
                 stage,
                 rest,
             })
         }
+    }
+}
+
+// The length of the body behind a request's head: a CONNECT has no content, whatever its fields say (RFC 9110 section 9.3.6).
+fn length_behind(head: &RequestHead) -> Result<Length, Fault>
+    ensures { result ≡ request_body_length head.now.method head.now.fields }
+{
+    if head.method.bytes() == b"CONNECT".as_slice() {
+        Ok(Length::None)
+    } else {
+        length_of_request(&head.fields)
     }
 }
 

@@ -1,7 +1,8 @@
 //! Bytes that were fed and not used.
 //!
 //! A piece that comes when all before it was used is kept as it is, shared with who fed it; any other is added behind the
-//! bytes that wait, which stay where they are as long as nobody else has a share in them and there is room.
+//! bytes that wait, which stay where they are as long as nobody else has a share in them and there is room. Of a piece that is
+//! used up no share is kept.
 ghost use Rattle.std.specs.Prelude.{◌≡◌, ◌≤◌, ◌++◌, take, drop, length, IfOk, OnOk};
 
 use px_text::{Bytes, NoMemory};
@@ -30,7 +31,9 @@ impl Pending {
     pub fn new(bytes: Bytes) -> Pending
         ensures { result ≡ bytes }
     {
-        Pending { waiting: bytes }
+        Pending {
+            waiting: unless_used(bytes),
+        }
     }
 
     /// Adds bytes behind the others.
@@ -70,7 +73,11 @@ impl Pending {
         requires { count ≤ length self.old }
         ensures { self.new ≡ drop count self.old }
     {
-        self.waiting.advance(count);
+        if count < self.waiting.len() {
+            self.waiting.advance(count);
+        } else {
+            self.waiting = Bytes::empty();
+        }
     }
 
     /// The bytes.
@@ -78,6 +85,17 @@ impl Pending {
         ensures { result ≡ self }
     {
         self.waiting
+    }
+}
+
+// These bytes: without a share in any where there are none.
+fn unless_used(bytes: Bytes) -> Bytes
+    ensures { result ≡ bytes }
+{
+    if bytes.is_empty() {
+        Bytes::empty()
+    } else {
+        bytes
     }
 }
 

@@ -1,8 +1,8 @@
 use Rattle.std.proofs.Common.{◌∙◌, ◌≡◌, Result, ap, subst, sym}
 use Rattle.px_head.specs.declared.front.Kind.TheVariants as kind
-use Rattle.px_message.specs.Length.{request_length}
 use Rattle.px_message.specs.declared.length.Length.{Length}
 use Rattle.px_message.specs.declared.fault.Fault.{Fault}
+use Rattle.px_read.specs.Heads.{request_body_length}
 use Rattle.px_read.specs.Reader.{State, at_head, request, IsTurn}
 use Rattle.px_read.specs.Stages.{seen_as, state_at, request_place}
 use Rattle.px_read.specs.declared.head.RequestHead.{RequestHead}
@@ -48,13 +48,13 @@ returns-in_ok-head-in-Head-clause-turn c =
     let head : RequestHead = c.in_ok-head-in-Head.head in
     let raw = c.in-Head.raw in
     let rest = c.in_ok-rest-in-Head.rest in
-    let seen : seen_as c.behind_request-stage.result rest c.args.closed ≡ state_at (request_place (request_length raw.pairs)) rest c.args.closed =
+    let seen : seen_as c.behind_request-stage.result rest c.args.closed ≡ state_at (request_place (request_body_length raw.first raw.pairs)) rest c.args.closed =
     c.behind_request-stage.ensures.seen rest c.args.closed
     ∙ ap (λ (framing : Result Length Fault). state_at (request_place framing) rest c.args.closed)
-    (c.length_of_request.ensures ∙ ap (λ (h : RequestHead). request_length h.fields) c.in_ok-head-in-Head.ensures) in
+    (c.length_behind.ensures ∙ ap (λ (h : RequestHead). request_body_length h.method h.fields) c.in_ok-head-in-Head.ensures) in
     subst (λ (s : State). IsTurn (state_at (at_head request) c.args.reader.rest c.args.closed) (part.Request head) s) (sym seen)
     (subst
-    (λ (h : RequestHead). IsTurn (state_at (at_head request) c.args.reader.rest c.args.closed) (part.Request h) (state_at (request_place (request_length raw.pairs)) rest c.args.closed))
+    (λ (h : RequestHead). IsTurn (state_at (at_head request) c.args.reader.rest c.args.closed) (part.Request h) (state_at (request_place (request_body_length raw.first raw.pairs)) rest c.args.closed))
     (sym c.in_ok-head-in-Head.ensures)
     (request-gives c.args.reader c.take_request.new.self raw rest c.args.closed
     (finds kind.Request c.args.reader c.take_request.new.self raw c.requires.going
