@@ -14,8 +14,9 @@ use Rattle.std.proofs.lemmas.List.Quantifiers.{position-Some}
 use Rattle.px_event.specs.declared.side.Side.{Side}
 use Rattle.px_wire.specs.Endpoints.{is_endpoint_of}
 use Rattle.px_wire.proofs.InLemmas.{same_or_not, in_append, in_left, in_here, in_around, in_other, among, any_from, Passing, any_one}
+use Rattle.px_wire.proofs.MarkLemmas.{marks_from, marks_by}
 use Rattle.px_wire.proofs.TidyLemmas.{tidy_alike, tidy_change, tidy_end, tidy_new, tidy_removed, tidy_same}
-use Rattle.px_wire.specs.Holds.{items_in, is_empty_list, IsSideAt, Alike, IsIn, Once, IsTidy, IsTakenOut, Holds, Changes, IsMarked, IsBelow, Ascend, endpoint_at, slots_at, passes, is_held_in, is_open_in, without}
+use Rattle.px_wire.specs.Holds.{items_in, is_empty_list, IsSideAt, Alike, IsIn, Once, IsTidy, IsTakenOut, Holds, Changes, IsMarked, MarksOnly, IsBelow, Ascend, endpoint_at, slots_at, passes, is_held_in, is_open_in, without}
 
 -- the parts of a test
 pub both_true : (a b : Bool) → (a && b) ≡ true → (a ≡ true) × (b ≡ true)
@@ -597,8 +598,8 @@ push_gone old gone new endpoint endpoints first absent next then held =
 -- a slot was changed through what was lent of it, and its conversation marked
 pub changes_of : (old mid new : Endpoints) (slot conv : ℕ) (endpoint changed : Endpoint) → mid ≡ record old { by_slot = mid.by_slot } → hash.UpdatesBy nat_eq (nat_eq slot) old.by_slot mid.by_slot (Some changed)
     → new ≡ record mid { marked = new.marked; is_lost = new.is_lost } → conv ≡ endpoint.conv → IsMarked new conv → ((c : ℕ) → IsMarked mid c → IsMarked new c)
-    → (Once mid.marked.items → Once new.marked.items) → Changes old new slot endpoint changed
-changes_of old mid new slot conv endpoint changed mid_is updates new_is conv_is marked marks once = record {
+    → MarksOnly (λ c. c ≡ conv) mid new → (Once mid.marked.items → Once new.marked.items) → Changes old new slot endpoint changed
+changes_of old mid new slot conv endpoint changed mid_is updates new_is conv_is marked marks only once = record {
   here = ap (λ (t : Endpoints). endpoint_at t slot) new_is ∙ updates.1;
   others = λ o ne. ap (λ (t : Endpoints). endpoint_at t o) new_is ∙ others_of slot (endpoint_at mid) (endpoint_at old) updates.2 o ne;
   lists = ap (λ (t : Endpoints). t.by_conv) new_is ∙ ap (λ (t : Endpoints). t.by_conv) mid_is;
@@ -606,6 +607,7 @@ changes_of old mid new slot conv endpoint changed mid_is updates new_is conv_is 
   next = ap (λ (t : Endpoints). t.next_turn) new_is ∙ ap (λ (t : Endpoints). t.next_turn) mid_is;
   marks = λ c m. marks c (let P : Endpoints → Type 0 = λ t. IsMarked t c in subst P (sym mid_is) m);
   marked = (let P : ℕ → Type 0 = λ n. IsMarked new n in subst P conv_is marked);
+  only = marks_from (λ c. c ≡ endpoint.conv) old mid new (ap (λ (t : Endpoints). t.marked.items) mid_is) (marks_by (λ c. c ≡ conv) (λ c. c ≡ endpoint.conv) mid new (λ c e. e ∙ conv_is) only);
   once = λ o. once (let P : Endpoints → Type 0 = λ t. Once t.marked.items in subst P (sym mid_is) o);
 }
 

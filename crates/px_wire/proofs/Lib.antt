@@ -10,6 +10,7 @@ pub mod HoldsLemmas
 pub mod InLemmas
 pub mod LedgerLemmas
 pub mod LinesLemmas
+pub mod MarkLemmas
 pub mod MemWireLemmas
 pub mod OwnLives
 pub mod PlaceLemmas

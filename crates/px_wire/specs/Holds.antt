@@ -1,5 +1,5 @@
 -- How the slots in use are kept, against the list of them in the order of their turns.
-use Rattle.std.specs.Prelude.{◌&&◌, ◌≡◌, ◌≢◌, ◌⊎◌, ℕ, ◌-◌, ◌^◌, ◌<◌, Bool, true, false, ◌==◌, nat_eq, not, if◌then◌else◌, List, [], ◌∷◌, Option, Some, None, Vec, vec_len, vec_capacity, length}
+use Rattle.std.specs.Prelude.{◌&&◌, ◌≡◌, ◌≢◌, ◌⊎◌, ◌≤◌, ℕ, ◌-◌, ◌^◌, ◌<◌, Bool, true, false, ◌==◌, nat_eq, not, if◌then◌else◌, List, [], ◌∷◌, Option, Some, None, Vec, vec_len, vec_capacity, length}
 use Rattle.std.specs.List.{list_any}
 use Rattle.std.specs.Ordering.{nat_cmp}
 use Rattle.std.specs.HashMap as hash
@@ -53,9 +53,17 @@ abbrev pub Ascend : ℕ → List Endpoint → Type 0
 Ascend next [] = Unit {0}
 Ascend next (endpoint ∷ endpoints) = (endpoint.turn < next) × IsBelow endpoint.turn endpoints × Ascend next endpoints
 
--- the conversation is to be looked at, or out of memory hides which are
+-- the conversation is to be looked at: it is marked, or memory ran out over a mark, and then each of them is
 abbrev pub IsMarked : Endpoints → ℕ → Type 0
 IsMarked t conv = (t.is_lost ≡ true) ⊎ IsIn conv t.marked.items
+
+-- No conversation was marked but those of which this holds.
+abbrev pub MarksOnly : (ℕ → Type 0) → Endpoints → Endpoints → Type 0
+MarksOnly P old new = (conv : ℕ) → IsIn conv new.marked.items → IsIn conv old.marked.items ⊎ P conv
+
+-- Memory ran out over a mark only where the list of marks was full.
+abbrev pub LosesOnlyFull : Endpoints → Endpoints → Type 0
+LosesOnlyFull old new = new.is_lost ≡ true → (old.is_lost ≡ true) ⊎ (vec_capacity old.marked ≤ vec_len old.marked)
 
 -- no item stands twice
 abbrev pub Once : {A : Type 0} → List A → Type 0
@@ -83,8 +91,8 @@ abbrev pub is_empty_list : {B : Type 0} → Option (Vec ℕ B) → Bool
 is_empty_list None = false
 is_empty_list (Some list) = length list.items == 0
 
--- Nothing is kept that is gone: what is listed for a conversation is in use and of it, each once, and no list is empty; what was found ready
--- is in use and has its turn still; no conversation is marked twice.
+-- No slot is kept that is gone: what is listed for a conversation is in use and of it, each once, and no list is empty; what was found ready
+-- is in use and has its turn still. No conversation is marked twice; one that has no slot any more stays marked until it is looked at.
 pub record IsTidy (t : Endpoints) : Type 0 where
   pub only : (conv slot : ℕ) → IsIn slot (slots_at t conv) → IsOf (λ s. endpoint_at t s) conv slot
   pub once : (conv : ℕ) → Once (slots_at t conv)
@@ -92,8 +100,8 @@ pub record IsTidy (t : Endpoints) : Type 0 where
   pub turned : AllTurns (λ s. endpoint_at t s) t.ready
   pub marks : Once t.marked.items
 
--- It is these slots, in the order of their turns. Each is found by its number and by its conversation; and each that is over,
--- or may be read, is found, or its conversation is to be looked at. Nothing else is kept.
+-- It is these slots, in the order of their turns, and no others. Each is found by its number and by its conversation. The conversation of each
+-- that is over is to be looked at; one that may be read was found ready, or its conversation is to be looked at.
 pub record Holds (t : Endpoints) (endpoints : List Endpoint) : Type 0 where
   pub found : (endpoint : Endpoint) → IsIn endpoint endpoints → endpoint_at t endpoint.slot ≡ Some endpoint
   pub kept : (slot : ℕ) (endpoint : Endpoint) → endpoint_at t slot ≡ Some endpoint → IsIn endpoint endpoints × (endpoint.slot ≡ slot)
@@ -137,7 +145,7 @@ abbrev pub without : ℕ → List Endpoint → List Endpoint
 without slot [] = []
 without slot (endpoint ∷ endpoints) = if endpoint.slot == slot then without slot endpoints else endpoint ∷ without slot endpoints
 
--- the slot is changed so, and its conversation is marked; all else is as before
+-- the slot is changed so, and its conversation is marked and no other; all else is as before
 pub record Changes (old new : Endpoints) (slot : ℕ) (endpoint changed : Endpoint) : Type 0 where
   pub here : endpoint_at new slot ≡ Some changed
   pub others : (other : ℕ) → other ≢ slot → endpoint_at new other ≡ endpoint_at old other
@@ -146,6 +154,7 @@ pub record Changes (old new : Endpoints) (slot : ℕ) (endpoint changed : Endpoi
   pub next : new.next_turn ≡ old.next_turn
   pub marks : (conv : ℕ) → IsMarked old conv → IsMarked new conv
   pub marked : IsMarked new endpoint.conv
+  pub only : MarksOnly (λ conv. conv ≡ endpoint.conv) old new
   pub once : Once old.marked.items → Once new.marked.items
 
 -- Of those that were found ready it has the first turn, and it may be read.

@@ -2,8 +2,8 @@
 //!
 //! Nothing here goes through all slots. A slot has a turn: the number at which it was given or last gave bytes. A conversation of
 //! which a slot has changed is marked; before something is heard, the slots of those that are marked are looked at, and those that may
-//! be read are kept in the order of their turns. What is in use no more is kept nowhere.
-ghost use Rattle.std.specs.Prelude.{◌≡◌, ◌≢◌, ◌<◌, ◌+◌, ℕ, List, [], ◌∷◌, ◌++◌, Option, Some, None, Ok, true, false, nat_eq, option_copied, vec_len, vec_capacity, ◌≤◌, ◌==◌, IfSome, OnOk};
+//! be read are kept in the order of their turns. A slot that is in use no more is kept nowhere.
+ghost use Rattle.std.specs.Prelude.{◌≡◌, ◌≢◌, ◌⊎◌, ◌<◌, ◌+◌, ℕ, List, [], ◌∷◌, ◌++◌, Option, Some, None, Ok, true, false, nat_eq, option_copied, vec_len, vec_capacity, ◌≤◌, ◌==◌, IfSome, OnOk};
 ghost use Rattle.std.specs.List.{list_any, position};
 ghost use Rattle.px_text.specs.Prefix.{IsPrefixOf};
 ghost use Rattle.px_wire.specs.declared.endpoint.Endpoint.{Endpoint as EndpointState};
@@ -12,7 +12,7 @@ ghost use Rattle.std.specs.HashMap.{get, spare};
 ghost use Rattle.std.specs.BTreeMap as tree;
 ghost use Rattle.std.specs.Ordering.{nat_cmp};
 ghost use Rattle.px_wire.specs.declared.endpoints.Due.TheVariants as due;
-ghost use Rattle.px_wire.specs.Holds.{Alike, IsSideAt, IsIn, Once, Holds, HasRoom, RoomIn, IsSpare, IsTakenOut, AllTurns, IsMarked, IsOverBy, StillReady, IsLookedAt, IsFirst, IsSettled, is_empty_list, endpoint_at, slots_at, passes, is_held_in, is_open_in, is_candidate, without, last_turn};
+ghost use Rattle.px_wire.specs.Holds.{Alike, IsSideAt, IsIn, Once, Holds, HasRoom, RoomIn, IsSpare, IsTakenOut, AllTurns, IsOf, IsMarked, MarksOnly, LosesOnlyFull, IsOverBy, StillReady, IsLookedAt, IsFirst, IsSettled, is_empty_list, endpoint_at, slots_at, passes, is_held_in, is_open_in, is_candidate, without, last_turn};
 
 use crate::endpoint::{Endpoint, READ_MARK};
 use px_event::Side;
@@ -147,10 +147,13 @@ impl Endpoints {
         }
     }
 
-    /// The conversation is looked at before something is heard.
+    /// The conversation is to be looked at before something is heard, and no other is for that. Where memory runs out over it, `next_due` answers
+    /// `NoMemory` for ever.
     pub fn mark(&mut self, conv: u32)
         ensures rest { self.new ≡ record self.old { marked = self.new.marked; is_lost = self.new.is_lost } }
         ensures marked { IsMarked self.new conv }
+        ensures only { MarksOnly (λ other. other ≡ conv) self.old self.new }
+        ensures lost { LosesOnlyFull self.old self.new }
         ensures kept { (other : ℕ) → IsMarked self.old other → IsMarked self.new other }
         ensures once { Once self.old.marked.items → Once self.new.marked.items }
     {
@@ -211,6 +214,7 @@ impl Endpoints {
     /// One slot more; it has the last turn. Another of its number is in use no more.
     pub fn push(&mut self, alloc: Global, endpoint: Endpoint)
         requires room { HasRoom self.old endpoint.conv }
+        ensures only { MarksOnly (λ conv. (conv ≡ endpoint.conv) ⊎ IsOf (λ s. endpoint_at self.old s) conv endpoint.slot) self.old self.new }
         ensures holds { (endpoints : List EndpointState) → Holds self.old endpoints → Holds self.new (without endpoint.slot endpoints ++ record endpoint { turn = self.old.next_turn } ∷ []) }
     {
         self.remove(endpoint.slot);
@@ -221,6 +225,7 @@ impl Endpoints {
     fn push_new(&mut self, alloc: Global, endpoint: Endpoint)
         requires room { HasRoom self.old endpoint.conv }
         requires absent { endpoint_at self.old endpoint.slot ≡ None }
+        ensures only { MarksOnly (λ conv. conv ≡ endpoint.conv) self.old self.new }
         ensures holds { (endpoints : List EndpointState) → Holds self.old endpoints → Holds self.new (without endpoint.slot endpoints ++ record endpoint { turn = self.old.next_turn } ∷ []) }
     {
         let slot = endpoint.slot;
@@ -296,6 +301,7 @@ impl Endpoints {
     pub fn remove(&mut self, slot: u32)
         ensures holds { (endpoints : List EndpointState) → Holds self.old endpoints → Holds self.new (without slot endpoints) }
         ensures gone { endpoint_at self.new slot ≡ None }
+        ensures only { MarksOnly (λ conv. IsOf (λ s. endpoint_at self.old s) conv slot) self.old self.new }
         ensures next { self.new.next_turn ≡ self.old.next_turn }
         ensures room { (conv : ℕ) → HasRoom self.old conv → HasRoom self.new conv }
     {
@@ -338,6 +344,7 @@ impl Endpoints {
         requires turn { self.old.next_turn < last_turn }
         ensures holds { (endpoints : List EndpointState) (endpoint : EndpointState) → endpoint_at self.old slot ≡ Some endpoint → Holds self.old endpoints →
             Holds self.new (without slot endpoints ++ record endpoint { turn = self.old.next_turn } ∷ []) }
+        ensures only { MarksOnly (λ conv. IsOf (λ s. endpoint_at self.old s) conv slot) self.old self.new }
     {
         let Some(endpoint) = self.get(slot) else {
             return;
@@ -350,7 +357,10 @@ impl Endpoints {
         self.mark(conv);
     }
 
-    /// What is to be done next. It looks at the conversations that are marked, and at no other; one that was looked at is marked no more.
+    /// What is to be done next. It looks at the conversations that are marked, and at no other. One of which no close is to be heard is then marked
+    /// no more; one of which a close is to be heard stays marked.
+    ///
+    /// `NoMemory` where memory runs out here, and for ever where it ran out over a mark or no turn is left.
     pub fn next_due(&mut self) -> Result<Due, NoMemory>
         ensures holds { (endpoints : List EndpointState) → Holds self.old endpoints → Holds self.new endpoints }
         ensures slots { self.new.by_slot ≡ self.old.by_slot }

@@ -8,7 +8,7 @@ ghost use Rattle.px_outside.specs.Net.{Adds};
 ghost use Rattle.px_wire.specs.declared.endpoint.Endpoint.{Endpoint as EndpointState};
 ghost use Rattle.std.specs.Map.{set_value};
 ghost use Rattle.px_wire.specs.Endpoints.{after_get};
-ghost use Rattle.px_wire.specs.Holds.{Changes, IsSettled, endpoint_at, last_turn};
+ghost use Rattle.px_wire.specs.Holds.{Changes, endpoint_at, last_turn};
 ghost use Rattle.px_wire.specs.Hears.{IsPlain, AddsHeard};
 ghost use Rattle.px_wire.specs.Asked.{AnsweredSince};
 ghost use Rattle.px_wire.specs.Calls.{Calls, GotWithin, Tells, got_call};
@@ -246,7 +246,6 @@ pub fn hear_waiting<W: Wire>(
     ensures stands { Rests None table.old (W.calls wire.old) → OnOk result (Rests None table.new (W.calls wire.new)) }
     ensures err { Rests None table.old (W.calls wire.old) → OnErr result (Loose table.new (W.calls wire.new)) }
     ensures calm { result ≡ Ok None → IsCalm table.new.endpoints }
-    ensures settled { result ≡ Ok None → IsSettled table.new.endpoints }
     ensures room { length room.new ≡ length room.old }
     ensures steps_err { OnErr result (W.steps wire.new ≡ W.steps wire.old) }
     ensures listening { W.listening wire.new ≡ W.listening wire.old }

@@ -14,7 +14,7 @@ returns-clause-flushes g c = λ endpoint at.
     subst P same (record {
       changed = c.flush_endpoint-flushed.new.endpoint;
       changes = changes_of c.args.endpoints.now mid c.mark.new.self c.args.slot seen.conv seen c.flush_endpoint-flushed.new.endpoint refl ((c.get_mut.follows.holds c.flush_endpoint-flushed.new.endpoint).3 (search rules))
-          c.mark.ensures.rest refl c.mark.ensures.marked c.mark.ensures.kept c.mark.ensures.once;
+          c.mark.ensures.rest refl c.mark.ensures.marked c.mark.ensures.kept c.mark.ensures.only c.mark.ensures.once;
       name = c.flush_endpoint-flushed.ensures.name;
       turn = c.flush_endpoint-flushed.ensures.turn;
       stands = c.flush_endpoint-flushed.ensures.stands;

@@ -14,9 +14,6 @@ returns-in-Over-clause-stands g c = λ rests.
 pub returns-in-Over-clause-calm : goal.returns-in-Over-clause-calm
 returns-in-Over-clause-calm g c = λ is. absurd (c.hear_close.ensures.some is)
 
-pub returns-in-Over-clause-settled : goal.returns-in-Over-clause-settled
-returns-in-Over-clause-settled g c = λ is. absurd (c.hear_close.ensures.some is)
-
 pub returns-in-Over-clause-kept : goal.returns-in-Over-clause-kept
 returns-in-Over-clause-kept g c = λ past times since. c.hear_close.ensures.kept past times (c.loop-slot.invariant.kept past times since)
 

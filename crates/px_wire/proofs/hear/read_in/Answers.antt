@@ -22,7 +22,7 @@ returns-clause-reads g c = λ endpoint at.
     × Tells (got_call l.slot c.read_endpoint-got.new.room got) (g.W.Wire.calls c.args.wire.now) (g.W.Wire.calls c.read_endpoint-got.new.wire) in
     subst P same (
       subst N c.read_endpoint-got.ensures.endpoint (changes_of c.args.endpoints.now mid c.mark.new.self c.args.slot seen.conv seen new refl ((c.get_mut.follows.holds new).3 (search rules))
-          c.mark.ensures.rest refl c.mark.ensures.marked c.mark.ensures.kept c.mark.ensures.once),
+          c.mark.ensures.rest refl c.mark.ensures.marked c.mark.ensures.kept c.mark.ensures.only c.mark.ensures.once),
       c.read_endpoint-got.ensures.told,
     )
 

@@ -13,4 +13,4 @@ returns-clause-changes c = λ endpoint at.
     let same : seen ≡ endpoint = cc in
     let P : Endpoint → Type 0 = λ l. Changes c.args.endpoints.now c.mark.new.self c.args.slot l (record l { is_readable = true }) in
     subst P same (changes_of c.args.endpoints.now mid c.mark.new.self c.args.slot seen.conv seen new refl ((c.get_mut.follows.holds new).3 (search rules))
-    c.mark.ensures.rest refl c.mark.ensures.marked c.mark.ensures.kept c.mark.ensures.once)
+    c.mark.ensures.rest refl c.mark.ensures.marked c.mark.ensures.kept c.mark.ensures.only c.mark.ensures.once)

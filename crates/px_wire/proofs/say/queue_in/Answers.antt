@@ -15,4 +15,4 @@ returns-clause-changes g c = λ endpoint at.
     let P : Endpoint → Type 0 = λ l. Changes c.args.endpoints.now c.mark.new.self c.args.slot l (record l { queue = l.queue ++ c.args.bytes.now }) in
     subst P same
     (subst N c.in_ok-queue_and_note.ensures.ok (changes_of c.args.endpoints.now mid c.mark.new.self c.args.slot seen.conv seen new refl ((c.get_mut.follows.holds new).3 (search rules))
-    c.mark.ensures.rest refl c.mark.ensures.marked c.mark.ensures.kept c.mark.ensures.once))
+    c.mark.ensures.rest refl c.mark.ensures.marked c.mark.ensures.kept c.mark.ensures.only c.mark.ensures.once))
