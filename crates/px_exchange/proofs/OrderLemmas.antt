@@ -13,7 +13,7 @@ use Rattle.px_read.specs.Items.{Item, missing, part, complete, bad_head, bad_bod
 use Rattle.px_read.specs.declared.head.RequestHead.{RequestHead as ReadRequest}
 use Rattle.px_read.specs.declared.head.ResponseHead.{ResponseHead as ReadResponse}
 use Rattle.px_exchange.specs.declared.asked.Judged.{Judged}
-use Rattle.px_exchange.specs.declared.asked.Judged.TheVariants.{Refused, Accepted}
+use Rattle.px_exchange.specs.declared.asked.Judged.TheVariants.{Refused, Accepted, Connects}
 use Rattle.px_exchange.specs.declared.ending.Used.{Used}
 use Rattle.px_exchange.specs.declared.ending.Used.TheVariants.{NoServer, ByServer}
 use Rattle.px_exchange.specs.declared.place.Place.{Place}
@@ -91,6 +91,7 @@ expectation_ends false = tt
 pub judged_ends : (terms : Terms) (index : ℕ) (head : ReadRequest) (made : Judged) (moment : ℕ) (closed : Bool) → FoundInOrder (look_judged terms index head made moment closed)
 judged_ends terms index head (Refused fault) moment closed = refuses_ends fault (is_head head.method) closed
 judged_ends terms index head (Accepted message) moment closed = tt
+judged_ends terms index head (Connects address) moment closed = tt
 
 pub head_ends : (terms : Terms) (index : ℕ) (item : Item ReadRequest) (moment : ℕ) (closed : Bool) → FoundInOrder (look_head terms index item moment closed)
 head_ends terms index missing moment closed = tt

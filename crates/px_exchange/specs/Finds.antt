@@ -1,6 +1,6 @@
 -- What is found where a message is awaited, by the item that stands at the front of what has come: the hook that is asked, the
 -- end and what is owed at it, or nothing yet.
-use Rattle.std.specs.Prelude.{ℕ, ◌==◌, Bool, false, ◌&&◌, not, if◌then◌else◌, List}
+use Rattle.std.specs.Prelude.{ℕ, Bool, false, not, if◌then◌else◌, List, []}
 use Rattle.px_message.specs.Status.{is_status}
 use Rattle.px_message.specs.declared.fault.Fault.TheVariants.{BadResponse}
 use Rattle.px_message.specs.declared.flow.Flow.{Flow}
@@ -11,7 +11,7 @@ use Rattle.px_read.specs.Items.{Item, missing, part, complete, bad_head, bad_bod
 use Rattle.px_read.specs.declared.head.RequestHead.{RequestHead as ReadRequest}
 use Rattle.px_read.specs.declared.head.ResponseHead.{ResponseHead as ReadResponse}
 use Rattle.px_exchange.specs.declared.asked.Judged.{Judged}
-use Rattle.px_exchange.specs.declared.asked.Judged.TheVariants.{Refused, Accepted}
+use Rattle.px_exchange.specs.declared.asked.Judged.TheVariants.{Refused, Accepted, Connects}
 use Rattle.px_exchange.specs.declared.ending.Used.{Used}
 use Rattle.px_exchange.specs.declared.ending.Used.TheVariants.{NoServer}
 use Rattle.px_exchange.specs.declared.terms.Terms.{Terms}
@@ -25,9 +25,11 @@ or_leaves closed leaving NotYet = if closed then Ends leaving else NotYet
 or_leaves closed leaving found = found
 
 -- what a head gives that stands at the front
+-- behind a CONNECT nothing is read as HTTP: the end, and nothing is owed there
 abbrev pub look_judged : Terms → ℕ → ReadRequest → Judged → ℕ → Bool → Look Command
 look_judged terms index head (Refused fault) moment closed = Ends (refuses fault (is_head head.method) closed)
 look_judged terms index head (Accepted request) moment closed = Asks (ask_of (flow_of terms index request moment) RequestHead)
+look_judged terms index head (Connects address) moment closed = Ends []
 
 abbrev pub look_head : Terms → ℕ → Item ReadRequest → ℕ → Bool → Look Command
 look_head terms index missing moment closed = NotYet
@@ -42,9 +44,9 @@ look_body flow (complete head body trailers used) moment closed = Asks (ask_of (
 look_body flow (bad_body fault head body) moment closed = Ends (ends_by_fault flow fault moment NoServer closed)
 look_body flow _ moment closed = NotYet
 
--- a head of code 101 would end HTTP here, which is not built
+-- a final response has a final status, or the one that switches protocols
 abbrev pub is_relayed : ℕ → Bool
-is_relayed code = not (code == 101) && is_status code
+is_relayed code = is_status code
 
 abbrev pub look_answer_head : Flow → ReadResponse → ℕ → Used → Bool → Look Command
 look_answer_head flow head moment used closed =

@@ -1,5 +1,5 @@
 -- Where the requests of a conversation go.
-use Rattle.std.specs.Prelude.{ℕ, Option, None, ⊤}
+use Rattle.std.specs.Prelude.{ℕ, Bool, false, ◌==◌, ◌&&◌, bytes_eq, Option, Some, None, ⊤}
 use Rattle.px_message.specs.declared.address.Address.{Address}
 use Rattle.px_message.specs.declared.request.Request.{Request}
 use Rattle.px_write.specs.declared.form.Form.{Form}
@@ -16,12 +16,11 @@ place_of modes.Regular = places.Regular
 place_of (modes.Reverse address) = places.Fixed address None None
 place_of (modes.Upstream proxy) = places.Upstream proxy
 
--- what is dialled is reached through no other, and no side is connected already
-abbrev pub IsDialled : Place → Type 0
-IsDialled (places.Fixed address None None) = ⊤
-IsDialled (places.Fixed address side inside) = ⊥
-IsDialled places.Regular = ⊤
-IsDialled (places.Upstream proxy) = ⊤
+-- what is dialled is reached through no other
+abbrev pub IsDirect : Place → Type 0
+IsDirect (places.Fixed address side None) = ⊤
+IsDirect (places.Fixed address side (Some proxy)) = ⊥
+IsDirect place = ⊤
 
 -- where a request goes: to its own host and port, as its hooks left them
 abbrev pub address_of : Request → Address
@@ -31,6 +30,15 @@ address_of request = record { host = request.host; port = request.port; port_not
 abbrev pub dialled_for : Place → Request → Address
 dialled_for (places.Upstream proxy) request = proxy
 dialled_for place request = address_of request
+
+-- a request goes to this address
+abbrev pub goes_to : Address → Request → Bool
+goes_to address request = bytes_eq address.host request.host && address.port == request.port
+
+-- whether a request goes where the conversation's own side is connected to
+abbrev pub goes_home : Place → Request → Bool
+goes_home (places.Fixed address side inside) request = goes_to address request
+goes_home place request = false
 
 -- the form in which its target is sent: a proxy gets the whole URL (RFC 9112 section 3.2.2)
 abbrev pub form_at : Place → Form

@@ -24,14 +24,18 @@ abbrev pub without_upgrade : Response → Response
 without_upgrade response =
     if response.status == 101 then record response { status = 502; reason = bad_gateway_reason } else response
 
+-- One that a server sent stays one, as long as each hook leaves it so.
+abbrev pub upgrades_as : Response → Response → Response
+upgrades_as asked given = if asked.status == 101 then given else without_upgrade given
+
 -- version, status, reason and fields
 abbrev pub with_response_head : Response → Response → Response
 with_response_head asked given =
-    without_upgrade (record given { body = asked.body; trailers = asked.trailers; streamed = asked.streamed })
+    upgrades_as asked (record given { body = asked.body; trailers = asked.trailers; streamed = asked.streamed })
 
 -- body and trailers besides
 abbrev pub with_response : Response → Response → Response
-with_response asked given = without_upgrade (record given { streamed = asked.streamed })
+with_response asked given = upgrades_as asked (record given { streamed = asked.streamed })
 
 -- a response in place of the server's, which is never streamed
 abbrev pub in_place : Response → Response

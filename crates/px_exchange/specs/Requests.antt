@@ -6,7 +6,7 @@ use Rattle.std.specs.Prelude.{◌≡◌, ◌≢◌, ◌==◌, ℕ, Bool, true, f
 use Rattle.std.specs.List.{list_any}
 use Rattle.px_message.specs.Fields.{is_valued}
 use Rattle.px_message.specs.Length.{request_length}
-use Rattle.px_message.specs.Target.{Form, absolute, target_form}
+use Rattle.px_message.specs.Target.{Form, absolute, authority, target_form}
 use Rattle.px_message.specs.declared.address.Address.{Address}
 use Rattle.px_message.specs.declared.fault.Fault.{Fault}
 use Rattle.px_message.specs.declared.fault.Fault.TheVariants.{BadTarget}
@@ -16,11 +16,11 @@ use Rattle.px_message.specs.declared.length.Length.{Length}
 use Rattle.px_message.specs.declared.request.Request.{Request}
 use Rattle.px_message.specs.declared.version.Version.{Version}
 use Rattle.px_message.specs.declared.version.Version.TheVariants.{Http10, Http11}
-use Rattle.px_read.specs.Requests.{connect_method}
+use Rattle.px_read.specs.Heads.{connect_method}
 use Rattle.px_read.specs.declared.head.RequestHead.{RequestHead}
 use Rattle.px_write.specs.TargetPath.{path_said}
 use Rattle.px_exchange.specs.declared.asked.Judged.{Judged}
-use Rattle.px_exchange.specs.declared.asked.Judged.TheVariants.{Refused, Accepted}
+use Rattle.px_exchange.specs.declared.asked.Judged.TheVariants.{Refused, Accepted, Connects}
 use Rattle.px_exchange.specs.declared.place.Place.{Place}
 use Rattle.px_exchange.specs.declared.place.Place.TheVariants as places
 use Rattle.px_exchange.specs.declared.terms.Terms.{Terms}
@@ -57,6 +57,17 @@ abbrev pub goal_at : Place → Option Form → Option (Address × List ℕ)
 goal_at (places.Fixed address side inside) form = with_path (Some address) (path_said form)
 goal_at places.Regular form = goal_in form
 goal_at (places.Upstream proxy) form = goal_in form
+
+-- where a CONNECT asks for a tunnel to: its target is in authority form
+abbrev pub tunnel_in : Option Form → Option Address
+tunnel_in (Some (authority host port)) = address_with host port (port == 0) refl
+tunnel_in _ = None
+
+-- A client of a proxy may ask for a tunnel; what is served by one address is none, and through another proxy no tunnel is made.
+abbrev pub tunnel_at : Place → Option Form → Option Address
+tunnel_at (places.Fixed address side inside) form = None
+tunnel_at places.Regular form = tunnel_in form
+tunnel_at (places.Upstream proxy) form = None
 
 -- the field asks for an answer before the body is sent (RFC 9110 section 10.1.1)
 abbrev pub is_expectation : List ℕ × List ℕ → Bool
@@ -123,9 +134,13 @@ judged_goal head not_connect (Some goal) =
 pub differs : (a b : List ℕ) → bytes_eq a b ≡ false → a ≢ b
 differs a b not same = let is : bytes_eq a b ≡ true = (bytes_eq-Decides a b).1 same in cc
 
--- CONNECT has no target that is allowed here
+-- a CONNECT is no request of a flow, and its framing fields are not looked at (RFC 9110 section 9.3.6)
+abbrev pub judged_tunnel : Option Address → Judged
+judged_tunnel None = Refused BadTarget
+judged_tunnel (Some address) = Connects address
+
 abbrev pub judged_method : Place → (head : RequestHead) → (connects : Bool) → bytes_eq head.method connect_method ≡ connects → Judged
-judged_method place head true is = Refused BadTarget
+judged_method place head true is = judged_tunnel (tunnel_at place (target_form head.method head.target))
 judged_method place head false is =
     judged_goal head (differs head.method connect_method is) (goal_at place (target_form head.method head.target))
 

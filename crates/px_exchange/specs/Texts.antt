@@ -15,6 +15,10 @@ use Rattle.px_exchange.specs.Requests.{is_head, is_http11}
 unfoldable pub continue_text : List ℕ
 continue_text = codes "HTTP/1.1 100 Continue" ++ crlf ++ crlf
 
+-- the tunnel stands (RFC 9110 section 9.3.6)
+unfoldable pub connected_text : List ℕ
+connected_text = codes "HTTP/1.1 200 Connection established" ++ crlf ++ crlf
+
 -- the request as it goes to the server, or to a proxy: its framing made true to its body
 abbrev pub onward_text : Form → Request → List ℕ
 onward_text form request = request_text (settled_request request) form

@@ -1,10 +1,10 @@
-//! The request that a head asks: its target is judged, then its length, and the expectation is taken out that this proxy
-//! meets itself.
+//! What a head asks for: a tunnel, or a request. Its target is judged, then its length, and the expectation is taken out that
+//! this proxy meets itself. Of a CONNECT the target alone is judged (RFC 9110 section 9.3.6).
 ghost use Rattle.std.specs.Prelude.{◌≡◌, ◌≢◌, ◌∷◌, [], IfOk, Some};
 ghost use Rattle.px_message.specs.Target.{target_form};
-ghost use Rattle.px_read.specs.Requests.{connect_method};
+ghost use Rattle.px_read.specs.Heads.{connect_method};
 ghost use Rattle.px_write.specs.TargetPath.{path_said};
-ghost use Rattle.px_exchange.specs.Requests.{expects, fields_asked, is_head, is_http11, goal_at, goal_in, judged, request_of, unless_met, with_path};
+ghost use Rattle.px_exchange.specs.Requests.{expects, fields_asked, is_head, is_http11, goal_at, goal_in, judged, judged_tunnel, request_of, tunnel_at, tunnel_in, unless_met, with_path};
 
 use crate::Place;
 use px_message::{
@@ -15,11 +15,15 @@ use px_read::RequestHead;
 use px_text::{Bytes, NoMemory};
 use std::alloc::Global;
 
-/// What is made of a head: a fault that makes no flow, or the request without its body.
+/// What is made of a head.
 #[derive(Debug, Drop)]
 pub enum Judged {
+    /// A fault that makes no flow.
     Refused(Fault),
+    /// The request of a flow, without its body.
     Accepted(Request),
+    /// A CONNECT: where it asks for a tunnel to (RFC 9110 section 9.3.6).
+    Connects(Address),
 }
 
 /// Whether the method is HEAD.
@@ -46,12 +50,16 @@ pub fn expects(head: &RequestHead) -> bool
     is_http11(head.version) && head.fields.has_value(b"Expect", b"100-continue")
 }
 
-/// The request of this head, where it is asked at this place.
+/// What this head makes, where it is asked at this place.
+///
+/// `Refused` has the fault `BadTarget` where the target has no form that is allowed there: for CONNECT a host and a port, at
+/// `Place::Regular` alone; for any other method what the place says (RFC 9112 section 3.2). Else it has the fault of framing
+/// fields that contradict themselves (section 6.3), which are not looked at in a CONNECT.
 pub fn judge(alloc: Global, place: &Place, head: RequestHead) -> Result<Judged, NoMemory>
     ensures { IfOk result (λ made. made ≡ judged place.now head) }
 {
     if head.method.bytes() == b"CONNECT".as_slice() {
-        return Ok(Judged::Refused(Fault::BadTarget));
+        return Ok(judge_tunnel(find_tunnel(alloc, place, &head)?));
     }
     let Some((address, path)) = find_goal(alloc, place, &head)? else {
         return Ok(Judged::Refused(Fault::BadTarget));
@@ -60,6 +68,43 @@ pub fn judge(alloc: Global, place: &Place, head: RequestHead) -> Result<Judged, 
         return Ok(Judged::Refused(fault));
     }
     Ok(Judged::Accepted(accept(alloc, address, head, path)?))
+}
+
+// A CONNECT by where it asks for a tunnel to.
+fn judge_tunnel(tunnel: Option<Address>) -> Judged
+    ensures { result ≡ judged_tunnel tunnel }
+{
+    match tunnel {
+        Some(address) => Judged::Connects(address),
+        None => Judged::Refused(Fault::BadTarget),
+    }
+}
+
+// Where a CONNECT asks for a tunnel to, if one may be asked for at this place.
+fn find_tunnel(
+    alloc: Global,
+    place: &Place,
+    head: &RequestHead,
+) -> Result<Option<Address>, NoMemory>
+    ensures { IfOk result (λ tunnel. tunnel ≡ tunnel_at place.now (target_form head.now.method head.now.target)) }
+{
+    match place {
+        Place::Fixed { .. } => Ok(None),
+        Place::Regular => named_tunnel(alloc, head.method.bytes(), head.target.as_slice()),
+        Place::Upstream(_) => Ok(None),
+    }
+}
+
+// What a target in authority form names.
+fn named_tunnel(alloc: Global, method: &[u8], target: &[u8]) -> Result<Option<Address>, NoMemory>
+    ensures { IfOk result (λ tunnel. tunnel ≡ tunnel_in (target_form method.now target.now)) }
+{
+    match read_target(alloc, method, target) {
+        Ok(Target::Authority(address)) => Ok(Some(address)),
+        Ok(_) => Ok(None),
+        Err(TargetError::BadTarget) => Ok(None),
+        Err(TargetError::NoMemory) => Err(NoMemory),
+    }
 }
 
 // Where a request goes, and its path, if its target is in a form that is allowed at this place.

@@ -136,8 +136,8 @@ fn runs_to_close(sent: &Response, asked_head: bool) -> bool
     }
 }
 
-// The response as it is sent: its framing made true to its body.
-fn settled(request: &Request, response: &Response) -> Result<Response, NoMemory>
+/// The response as it is sent: its framing made true to its body.
+pub fn settled(request: &Request, response: &Response) -> Result<Response, NoMemory>
     ensures { IfOk result (λ sent. sent ≡ settled_response (asks_head request.now.method) response.now) }
 {
     let mut sent = response.try_clone()?;

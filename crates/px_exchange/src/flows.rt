@@ -227,14 +227,11 @@ fn address_of(flow: &Flow) -> Result<Address, NoMemory>
     })
 }
 
-/// The status of a final response that this proxy relays; none where the code is no status, or is 101, which switches
-/// protocols (RFC 9110 section 15.2.2).
+/// The status of a response that this proxy relays: a final one, or 101, which switches protocols (RFC 9110 section 15.2.2).
+/// None exactly where the code is no such status.
 pub fn status_of(code: u16) -> Option<Status>
     ensures { MatchOption result (is_relayed code ≡ false) (λ status. (status ≡ code) × (is_relayed code ≡ true)) }
 {
-    if code == 101 {
-        return None;
-    }
     Status::try_new(code)
 }
 

@@ -2,26 +2,31 @@
 //! where a conversation stands or what has come so far: what a step needs it is given, and what it makes it gives back. The
 //! crate above says in which order the steps come.
 //!
-//! `asked`: what a request's head makes. CONNECT and a target in any other form than origin, absolute or asterisk are
-//! refused (RFC 9112 section 3.2), then framing fields that contradict themselves; else it is the flow's request, to the
-//! address that the conversation serves, without an expectation that the proxy meets itself (RFC 9110 section 10.1.1).
-//! So `GET http://h/a HTTP/1.1` asks for the path `/a`, and `CONNECT h:443 HTTP/1.1` is a bad target.
+//! `asked`: what a request's head makes, by the place where it is asked. A target in a form that is not allowed there is
+//! refused (RFC 9112 section 3.2), then framing fields that contradict themselves; else it is the flow's request, without an
+//! expectation that the proxy meets itself (RFC 9110 section 10.1.1). So at `Place::Regular` `GET http://h/a HTTP/1.1` asks
+//! the host `h` for the path `/a`, and `GET /a HTTP/1.1` is a bad target; at `Place::Fixed` both ask its address for `/a`.
+//! `CONNECT h:443 HTTP/1.1` makes no flow: at `Place::Regular` it asks for a tunnel to port 443 of `h` (RFC 9110 section
+//! 9.3.6), and at all other places it is a bad target.
 //!
 //! `taken`: what a reply to a hook is taken for. A hook of a head takes a head, one of a body a body besides, and what makes
-//! no sense there goes on as it was asked. A status 101 that no server sent becomes 502 (RFC 9110 section 15.2.2).
+//! no sense there goes on as it was asked. A status 101 that a server sent stays one as long as each hook leaves it so, and
+//! one that no server sent becomes 502 (RFC 9110 section 15.2.2).
 //!
 //! `flows`: a flow as it is told so far, each part with the moment at which it came. `content` is a body while it comes, and `body`
 //! reads it, part by part.
 //!
 //! `texts`: what is sent: the request onward and the response, each with its framing made true to its body, an interim
-//! response, and `100 Continue` (RFC 9110 section 15.2.1). To HEAD a response is its head alone (section 9.3.2).
+//! response, `100 Continue` (RFC 9110 section 15.2.1), and the answer to a CONNECT whose server is connected (section 9.3.6).
+//! To HEAD a response is its head alone (section 9.3.2).
 //!
 //! `ending`: how a flow ends: its bytes, the finished flow, then the closes of sides that did not close themselves, in this
 //! order (`laws`). Behind it the client's connection goes on where both messages persist and the response does not run to
 //! the close (RFC 9112 section 9.3): so `Connection: close` in either of them ends it, and so does an answer of version 1.0
 //! that does not say `keep-alive`.
 //!
-//! `Mode` says where requests go, and a conversation's place follows from it.
+//! `Mode` says where requests go, and a conversation's `Place` follows from it. Some place has a server's side that is
+//! connected and that no flow has used; `Place::is_home` tells whether a request goes there.
 //!
 //! What is found where a message is awaited (`specs/Finds.antt`), and what a dial's answer brings (`specs/Dials.antt`), are
 //! definitions for the crate above.

@@ -13,7 +13,7 @@ pub enum Mode {
     Regular,
     /// All requests go to this server, as if the proxy were that server (mitmproxy's mode `reverse:http://HOST:PORT`).
     Reverse(Address),
-    /// Each request goes to this proxy, as it came (mitmproxy's mode `upstream:http://HOST:PORT`).
+    /// Each request goes to this proxy, and its target is sent in absolute form (mitmproxy's mode `upstream:http://HOST:PORT`).
     Upstream(Address),
 }
 

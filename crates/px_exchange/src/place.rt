@@ -1,20 +1,22 @@
 //! Where the requests of a conversation go.
 ghost use Rattle.std.specs.Prelude.{◌≡◌};
-ghost use Rattle.px_exchange.specs.Places.{form_at};
+ghost use Rattle.px_exchange.specs.Places.{form_at, goes_home, goes_to};
 
-use px_message::Address;
+use px_message::{Address, Request};
 use px_write::Form;
 
 /// Where the requests of a conversation go, and which targets they may have (RFC 9112 section 3.2).
 #[derive(Debug, Drop)]
 pub enum Place {
-    /// Each request goes where its target says, which is in absolute form.
+    /// Each request goes where its target says, which is in absolute form. A CONNECT asks for a tunnel to where its target
+    /// says, which is in authority form.
     Regular,
-    /// Each request goes to this proxy, with its target in absolute form, as it came.
+    /// Each request goes to this proxy, and its target is sent in absolute form, of the host, the port and the path that its
+    /// hooks left. Its target comes in absolute form too, and a CONNECT is a bad target.
     Upstream(Address),
-    /// All requests go to this address. Their targets are in origin form, in absolute form, of which the path alone is
-    /// used, or `*`. `side` is the server's side that is connected already, if one is, and `inside` the proxy through
-    /// which the address is reached.
+    /// All requests go to this address, unless their hooks send them elsewhere. Their targets are in origin form, in absolute
+    /// form, of which the path alone is used, or `*`; a CONNECT is a bad target. `side` is a server's side that is connected
+    /// and that no flow has used, if there is one, and `inside` the proxy through which the address is reached.
     Fixed {
         address: Address,
         side: Option<u32>,
@@ -32,4 +34,22 @@ impl Place {
             _ => Form::Origin,
         }
     }
+
+    /// Whether a request goes where the conversation's own side is connected to: to the address that all requests go to at
+    /// this place, as its hooks left its host and port.
+    pub fn is_home(&self, request: &Request) -> bool
+        ensures is { result ≡ goes_home self.now request.now }
+    {
+        match self {
+            Place::Fixed { address, .. } => goes_to(address, request),
+            _ => false,
+        }
+    }
+}
+
+// Whether a request goes to this address.
+fn goes_to(address: &Address, request: &Request) -> bool
+    ensures { result ≡ goes_to address.now request.now }
+{
+    address.host.bytes() == request.host.bytes() && address.port == request.port
 }

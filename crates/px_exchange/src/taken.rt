@@ -3,7 +3,7 @@
 //! Replies that make no sense at a hook count as going on with the message as it was asked: an answer to a dial, a dropped
 //! message, a response in place of a response, or a flow that lacks the response.
 ghost use Rattle.std.specs.Prelude.{◌≡◌, IfOk};
-ghost use Rattle.px_exchange.specs.Replies.{bad_gateway_reason, in_place, taken_at_request_body, taken_at_request_head, taken_at_response_body, taken_at_response_head, with_request, with_request_head, with_response, with_response_head, without_upgrade, taken_at_body_of, taken_at_head_of};
+ghost use Rattle.px_exchange.specs.Replies.{bad_gateway_reason, in_place, taken_at_request_body, taken_at_request_head, taken_at_response_body, taken_at_response_head, upgrades_as, with_request, with_request_head, with_response, with_response_head, without_upgrade, taken_at_body_of, taken_at_head_of};
 
 use px_event::Reply;
 use px_message::{Flow, Request, Response, Shared, Status, Value};
@@ -61,7 +61,8 @@ pub fn take_at_request_body(
     }
 }
 
-/// At the hook of the response's head: version, status, reason and fields.
+/// At the hook of the response's head: version, status, reason and fields. A status 101 is taken where it is asked about, and
+/// else becomes 502 (RFC 9110 section 15.2.2).
 pub fn take_at_response_head(
     alloc: Global,
     asked: &Shared<Response>,
@@ -79,7 +80,8 @@ pub fn take_at_response_head(
     }
 }
 
-/// At the hook of the whole response: its body and trailers besides.
+/// At the hook of the whole response: its body and trailers besides. A status 101 is taken where it is asked about, and else
+/// becomes 502 (RFC 9110 section 15.2.2).
 pub fn take_at_response_body(
     alloc: Global,
     asked: &Shared<Response>,
@@ -154,7 +156,7 @@ fn with_response_head(
     taken.body = asked.body.try_clone()?;
     taken.trailers = asked.trailers.try_clone()?;
     taken.streamed = asked.streamed;
-    without_upgrade(alloc, taken)
+    upgrades_as(alloc, asked, taken)
 }
 
 fn with_response(alloc: Global, asked: &Response, given: Response) -> Result<Response, NoMemory>
@@ -162,7 +164,7 @@ fn with_response(alloc: Global, asked: &Response, given: Response) -> Result<Res
 {
     let mut taken = given;
     taken.streamed = asked.streamed;
-    without_upgrade(alloc, taken)
+    upgrades_as(alloc, asked, taken)
 }
 
 // The same of parts that are shared: a copy is changed, and shared anew.
@@ -213,6 +215,16 @@ fn in_place(alloc: Global, given: Response) -> Result<Shared<Response>, NoMemory
     let mut taken = given;
     taken.streamed = false;
     Shared::new(alloc, without_upgrade(alloc, taken)?)
+}
+
+// A status 101 that a server sent stays one, as long as each hook leaves it so.
+fn upgrades_as(alloc: Global, asked: &Response, given: Response) -> Result<Response, NoMemory>
+    ensures { IfOk result (λ taken. taken ≡ upgrades_as asked.now given) }
+{
+    if asked.status.code() == 101 {
+        return Ok(given);
+    }
+    without_upgrade(alloc, given)
 }
 
 // A status 101 that no server sent has nothing behind it: it becomes 502.

@@ -3,7 +3,7 @@ ghost use Rattle.std.specs.Prelude.{◌≡◌, [], IfOk};
 ghost use Rattle.px_read.specs.Heads.{is_interim};
 ghost use Rattle.px_write.specs.Text.{interim_text, response_text};
 ghost use Rattle.px_exchange.specs.Requests.{is_head as asks_head};
-ghost use Rattle.px_exchange.specs.Texts.{continue_text, onward_text};
+ghost use Rattle.px_exchange.specs.Texts.{connected_text, continue_text, onward_text};
 
 use crate::asked::is_head;
 use px_message::{Body, Request, Response, settle_request};
@@ -63,6 +63,14 @@ pub fn continue_text(alloc: Global) -> Result<Bytes, NoMemory>
     ensures { IfOk result (λ text. text ≡ continue_text) }
 {
     Bytes::copied(alloc, b"HTTP/1.1 100 Continue\r\n\r\n")
+}
+
+/// The text that answers a CONNECT whose server is connected: the tunnel stands (RFC 9110 section 9.3.6).
+#[tactic(auto, unfolding(crate::specs::Texts::connected_text))]
+pub fn connected_text(alloc: Global) -> Result<Bytes, NoMemory>
+    ensures { IfOk result (λ text. text ≡ connected_text) }
+{
+    Bytes::copied(alloc, b"HTTP/1.1 200 Connection established\r\n\r\n")
 }
 
 /// An interim response: another one follows it (RFC 9110 section 15.2).

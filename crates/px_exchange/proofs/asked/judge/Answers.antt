@@ -8,7 +8,7 @@ use Rattle.px_message.specs.declared.request.Request.{Request}
 use Rattle.px_read.specs.declared.head.RequestHead.{RequestHead}
 use Rattle.px_exchange.specs.declared.asked.Judged.TheVariants.{Accepted}
 use Rattle.px_exchange.specs.declared.place.Place.{Place}
-use Rattle.px_read.specs.Requests.{connect_method}
+use Rattle.px_read.specs.Heads.{connect_method}
 use Rattle.px_exchange.specs.Requests.{differs, goal_at, judged_method, request_of}
 use Rattle.px_exchange.proofs.asked.judge.Goals as goal
 
