@@ -1,45 +1,115 @@
--- The closed form of three small streams: two requests in one piece, two that wait for `100 Continue`, and a second one that is refused.
-use Rattle.std.proofs.Common.{◌≡◌, ℕ, ◌+◌, true, false, Some, List, [], ◌∷◌, refl}
+-- The closed form of small streams: two requests in one piece, a second one that waits for `100 Continue`, one that is refused, and one
+-- behind a response that switches protocols; a CONNECT; and a dial that is refused.
+use Rattle.std.proofs.Common.{◌≡◌, ℕ, ◌+◌, ◌==◌, true, false, Option, Some, None, List, [], ◌∷◌, refl}
+use Rattle.px_message.specs.declared.address.Address.{Address}
 use Rattle.px_message.specs.declared.fault.Fault.{Fault}
 use Rattle.px_message.specs.declared.request.Request.{Request}
+use Rattle.px_message.specs.declared.response.Response.{Response}
+use Rattle.px_event.specs.declared.command.Command.{Command}
+use Rattle.px_event.specs.declared.command.Command.TheVariants as commands
 use Rattle.px_event.specs.declared.event.Event.{Event}
-use Rattle.px_event.specs.declared.side.Side.TheVariants.{Client}
+use Rattle.px_event.specs.declared.side.Side.TheVariants.{Client, Server}
 use Rattle.px_event.specs.Chain.{Timed}
-use Rattle.px_read.specs.Items.{Body, missing, part, complete}
+use Rattle.px_read.specs.Items.{Answers, Body, Item, missing, part, complete}
 use Rattle.px_read.specs.declared.head.RequestHead.{RequestHead}
 use Rattle.px_read.specs.declared.head.ResponseHead.{ResponseHead}
-use Rattle.px_exchange.specs.declared.asked.Judged.TheVariants.{Refused, Accepted}
+use Rattle.px_exchange.specs.declared.asked.Judged.TheVariants.{Refused, Accepted, Connects}
 use Rattle.px_exchange.specs.declared.terms.Terms.{Terms}
-use Rattle.px_exchange.specs.Places.{form_at}
-use Rattle.px_exchange.specs.Requests.{expects, is_head, judged}
+use Rattle.px_exchange.specs.Endings.{connection_goes_on}
+use Rattle.px_exchange.specs.Finds.{is_relayed}
+use Rattle.px_exchange.specs.Places.{dialled_for, form_at}
+use Rattle.px_exchange.specs.Requests.{expects, is_head, is_http11, judged}
 use Rattle.px_exchange.specs.Texts.{continue_text, onward_text, returned_text}
-use Rattle.px_chain.specs.ClosedForm.{answers_at, connected_at, ended_at, first_point, interim_texts, next_point, request_items, texts_to_client, texts_to_servers, whole_request, whole_response}
-use Rattle.px_chain.specs.Streams.{bytes_of}
+use Rattle.px_chain.specs.ClosedForm.{Point, answers_at, behind_request, connected_at, ended_at, fault_said, next_point, said_from, whole_request, whole_response}
 
-module _ (terms : Terms) (events : List (Timed Event)) (h1 h2 : RequestHead) (b1 b2 : Body) (u1 u2 o1 e1 o2 : ℕ) (r1 r2 : Request) where
-  -- each goes to its own server, the second once the first one's response is whole
-  pub two_gets : (rh : ResponseHead) (rb : Body) (n : ℕ) → request_items (bytes_of Client events) ≡ complete h1 b1 [] u1 ∷ complete h2 b2 [] u2 ∷ missing ∷ [] →
-      judged terms.place h1 ≡ Accepted r1 → judged terms.place h2 ≡ Accepted r2 →
-      connected_at events first_point ≡ Some o1 → (answers_at events 0 o1 (is_head r1.method)).final ≡ complete rh rb [] n →
-      ended_at events 0 o1 (is_head r1.method) ≡ Some e1 → connected_at events (next_point first_point u1 e1) ≡ Some o2 →
-      (answers_at events (0 + 1) o2 (is_head r2.method)).final ≡ missing →
-      texts_to_servers terms events ≡ (0, onward_text (form_at terms.place) (whole_request r1 b1 [])) ∷ (0 + 1, onward_text (form_at terms.place) (whole_request r2 b2 [])) ∷ []
-  two_gets rh rb n items j1 j2 c1 f1 d1 c2 f2 = rw items (rw j1 (rw c1 (rw f1 (rw d1 (rw j2 (rw c2 (rw f2 refl)))))))
+-- the first request stands at the front, and dials are answered so
+abbrev front : List (Option Fault) → Point
+front dials = record { flow = 0; server = 0; bytes = 0; events = 0; dials = dials }
+
+abbrev final_alone : Item ResponseHead → Answers
+final_alone item = record { interim = []; used = 0; final = item }
+
+module _ (terms : Terms) (events : List (Timed Event)) (h1 h2 : RequestHead) (b1 b2 : Body) (u1 u2 o1 e1 o2 : ℕ) (r1 r2 : Request) (rh : ResponseHead) (rb : Body) (n : ℕ) where
+  -- both requests with their bodies, and the response to the first one
+  abbrev one : Request
+  one = whole_request r1 b1 []
+
+  abbrev two : Request
+  two = whole_request r2 b2 []
+
+  abbrev response : Response
+  response = whole_response rh rb []
+
+  -- a dial, the request's text, and the response's
+  abbrev dials : ℕ → Request → Command
+  dials server request = commands.Dial server (dialled_for terms.place request) None
+
+  abbrev goes_out : ℕ → Request → Command
+  goes_out server request = commands.Send (Server server) (onward_text (form_at terms.place) request)
+
+  abbrev comes_back : Command
+  comes_back = commands.Send Client (returned_text one response)
+
+  -- where the second request stands, once the dial before it was answered
+  abbrev second : List (Option Fault) → Point
+  second dials = next_point (behind_request (front dials) u1) e1
+
+  -- Each goes to its own server, the second one once the first one's response is whole.
+  pub two_gets : judged terms.place h1 ≡ Accepted r1 → expects h1 ≡ false → judged terms.place h2 ≡ Accepted r2 → expects h2 ≡ false →
+      is_http11 r1.version ≡ true → is_http11 r2.version ≡ true →
+      connected_at events (front (None ∷ None ∷ [])) ≡ Some o1 → answers_at events 0 o1 (is_head r1.method) ≡ final_alone (complete rh rb [] n) →
+      is_relayed rh.code ≡ true → (rh.code == 101) ≡ false → connection_goes_on 0 one response ≡ true →
+      ended_at events 0 o1 (is_head r1.method) ≡ Some e1 →
+      connected_at events (second (None ∷ [])) ≡ Some o2 → answers_at events (0 + 1) o2 (is_head r2.method) ≡ final_alone missing →
+      said_from terms events (front (None ∷ None ∷ [])) (complete h1 b1 [] u1 ∷ complete h2 b2 [] u2 ∷ missing ∷ [])
+      ≡ dials 0 one ∷ goes_out 0 one ∷ comes_back ∷ dials (0 + 1) two ∷ goes_out (0 + 1) two ∷ []
+  two_gets j1 x1 j2 x2 v1 v2 c1 a1 relays other stays d1 c2 a2 =
+      rw j1 (rw x1 (rw c1 (rw a1 (rw v1 (rw relays (rw other (rw stays (rw d1 (rw j2 (rw x2 (rw c2 (rw a2 (rw v2 refl)))))))))))))
 
   -- the second one's body is not whole
-  pub post_expects : (rh : ResponseHead) (rb : Body) (n : ℕ) → request_items (bytes_of Client events) ≡ complete h1 b1 [] u1 ∷ part h2 b2 ∷ [] →
-      judged terms.place h1 ≡ Accepted r1 → expects h1 ≡ true → judged terms.place h2 ≡ Accepted r2 → expects h2 ≡ true →
-      connected_at events first_point ≡ Some o1 → (answers_at events 0 o1 (is_head r1.method)).final ≡ complete rh rb [] n →
-      (answers_at events 0 o1 (is_head r1.method)).interim ≡ [] → interim_texts r1 [] ≡ [] →
+  pub post_expects : judged terms.place h1 ≡ Accepted r1 → expects h1 ≡ true → judged terms.place h2 ≡ Accepted r2 → expects h2 ≡ true →
+      is_http11 r1.version ≡ true →
+      connected_at events (front (None ∷ [])) ≡ Some o1 → answers_at events 0 o1 (is_head r1.method) ≡ final_alone (complete rh rb [] n) →
+      is_relayed rh.code ≡ true → (rh.code == 101) ≡ false → connection_goes_on 0 one response ≡ true →
       ended_at events 0 o1 (is_head r1.method) ≡ Some e1 →
-      texts_to_client terms events ≡ continue_text ∷ returned_text r1 (whole_response rh rb []) ∷ continue_text ∷ []
-  post_expects rh rb n items j1 x1 j2 x2 c1 f1 i1 none d1 = rw items (rw j1 (rw x1 (rw c1 (rw f1 (rw i1 (rw none (rw d1 (rw j2 (rw x2 refl)))))))))
+      said_from terms events (front (None ∷ [])) (complete h1 b1 [] u1 ∷ part h2 b2 ∷ [])
+      ≡ commands.Send Client continue_text ∷ dials 0 one ∷ goes_out 0 one ∷ comes_back ∷ commands.Send Client continue_text ∷ []
+  post_expects j1 x1 j2 x2 v1 c1 a1 relays other stays d1 =
+      rw j1 (rw x1 (rw c1 (rw a1 (rw v1 (rw relays (rw other (rw stays (rw d1 (rw j2 (rw x2 refl))))))))))
 
-  -- nothing is said of the second but its fault
-  pub refused_second : (rh : ResponseHead) (rb : Body) (n : ℕ) (fault : Fault) → request_items (bytes_of Client events) ≡ complete h1 b1 [] u1 ∷ complete h2 b2 [] u2 ∷ missing ∷ [] →
-      judged terms.place h1 ≡ Accepted r1 → expects h1 ≡ false → judged terms.place h2 ≡ Refused fault →
-      connected_at events first_point ≡ Some o1 → (answers_at events 0 o1 (is_head r1.method)).final ≡ complete rh rb [] n →
-      (answers_at events 0 o1 (is_head r1.method)).interim ≡ [] → interim_texts r1 [] ≡ [] →
+  -- the second one is refused, and behind its fault nothing is said
+  pub refused_second : (fault : Fault) → judged terms.place h1 ≡ Accepted r1 → expects h1 ≡ false → judged terms.place h2 ≡ Refused fault →
+      is_http11 r1.version ≡ true →
+      connected_at events (front (None ∷ [])) ≡ Some o1 → answers_at events 0 o1 (is_head r1.method) ≡ final_alone (complete rh rb [] n) →
+      is_relayed rh.code ≡ true → (rh.code == 101) ≡ false → connection_goes_on 0 one response ≡ true →
       ended_at events 0 o1 (is_head r1.method) ≡ Some e1 →
-      texts_to_client terms events ≡ returned_text r1 (whole_response rh rb []) ∷ []
-  refused_second rh rb n fault items j1 x1 j2 c1 f1 i1 none d1 = rw items (rw j1 (rw x1 (rw c1 (rw f1 (rw i1 (rw none (rw d1 (rw j2 refl))))))))
+      said_from terms events (front (None ∷ [])) (complete h1 b1 [] u1 ∷ complete h2 b2 [] u2 ∷ complete h1 b1 [] u1 ∷ [])
+      ≡ dials 0 one ∷ goes_out 0 one ∷ comes_back ∷ fault_said fault (is_head h2.method)
+  refused_second fault j1 x1 j2 v1 c1 a1 relays other stays d1 =
+      rw j1 (rw x1 (rw c1 (rw a1 (rw v1 (rw relays (rw other (rw stays (rw d1 (rw j2 refl)))))))))
+
+  -- A CONNECT stands there: it is none of the requests, and nothing is said of it or behind it.
+  pub tunnel_second : (address : Address) → judged terms.place h1 ≡ Accepted r1 → expects h1 ≡ false → judged terms.place h2 ≡ Connects address →
+      is_http11 r1.version ≡ true →
+      connected_at events (front (None ∷ [])) ≡ Some o1 → answers_at events 0 o1 (is_head r1.method) ≡ final_alone (complete rh rb [] n) →
+      is_relayed rh.code ≡ true → (rh.code == 101) ≡ false → connection_goes_on 0 one response ≡ true →
+      ended_at events 0 o1 (is_head r1.method) ≡ Some e1 →
+      said_from terms events (front (None ∷ [])) (complete h1 b1 [] u1 ∷ complete h2 b2 [] u2 ∷ [])
+      ≡ dials 0 one ∷ goes_out 0 one ∷ comes_back ∷ []
+  tunnel_second address j1 x1 j2 v1 c1 a1 relays other stays d1 =
+      rw j1 (rw x1 (rw c1 (rw a1 (rw v1 (rw relays (rw other (rw stays (rw d1 (rw j2 refl)))))))))
+
+  -- behind a response that switches protocols the second one is not read
+  pub switches_protocols : judged terms.place h1 ≡ Accepted r1 → expects h1 ≡ false → is_http11 r1.version ≡ true →
+      connected_at events (front (None ∷ [])) ≡ Some o1 → answers_at events 0 o1 (is_head r1.method) ≡ final_alone (complete rh rb [] n) →
+      is_relayed rh.code ≡ true → (rh.code == 101) ≡ true →
+      said_from terms events (front (None ∷ [])) (complete h1 b1 [] u1 ∷ complete h2 b2 [] u2 ∷ missing ∷ [])
+      ≡ dials 0 one ∷ goes_out 0 one ∷ comes_back ∷ []
+  switches_protocols j1 x1 v1 c1 a1 relays switches = rw j1 (rw x1 (rw c1 (rw a1 (rw v1 (rw relays (rw switches refl))))))
+
+  -- a dial that is refused
+  pub dial_refused : (fault : Fault) → judged terms.place h1 ≡ Accepted r1 → expects h1 ≡ false →
+      connected_at events (front (Some fault ∷ [])) ≡ Some o1 →
+      said_from terms events (front (Some fault ∷ [])) (complete h1 b1 [] u1 ∷ complete h2 b2 [] u2 ∷ missing ∷ [])
+      ≡ dials 0 one ∷ fault_said fault (is_head r1.method)
+  dial_refused fault j1 x1 c1 = rw j1 (rw x1 (rw c1 refl))

@@ -1,178 +1,214 @@
--- All that is due where a conversation stands whose replies go on is in closed form.
-use Rattle.std.proofs.Common.{◌≡◌, ℕ, Bool, true, false, List, [], ◌++◌, Some, None, refl, ap, sym, ◌∙◌, subst}
-use Rattle.std.specs.Prelude.{if◌then◌else◌, map}
-use Rattle.std.proofs.lemmas.List.{append-nil, map-append}
+-- What is found where a conversation stands whose replies go on: what it says is what is left of all that is said, or begins it.
+use Rattle.std.proofs.Common.{◌≡◌, ℕ, Bool, true, false, List, [], ◌∷◌, ◌++◌, Option, Some, refl, ap, sym, ◌∙◌, subst}
+use Rattle.std.specs.Prelude.{⊤, if◌then◌else◌, not}
+use Rattle.std.proofs.lemmas.List.{append-nil}
 use Rattle.px_text.specs.Prefix.{IsPrefixOf}
 use Rattle.px_message.specs.declared.fault.Fault.TheVariants.{BadResponse}
 use Rattle.px_message.specs.declared.flow.Flow.{Flow}
-use Rattle.px_message.specs.declared.request.Request.{Request}
+use Rattle.px_message.specs.declared.response.Response.{Response}
+use Rattle.px_event.specs.declared.ask.Hook.{Hook}
+use Rattle.px_event.specs.declared.ask.Hook.TheVariants.{ResponseHead}
 use Rattle.px_event.specs.declared.command.Command.{Command}
 use Rattle.px_event.specs.declared.event.Event.{Event}
 use Rattle.px_event.specs.Chain.{Timed, Look, NotYet, Asks, Ends, found}
-use Rattle.px_read.specs.Items.{Answers, Item, missing, part, complete, bad_head, bad_body}
+use Rattle.px_event.proofs.Growth.{prefix_behind}
+use Rattle.px_read.specs.Items.{Item, missing, part, complete, bad_head, bad_body}
+use Rattle.px_read.specs.Laws.{head_in}
 use Rattle.px_read.specs.declared.head.RequestHead.{RequestHead as ReadRequest}
 use Rattle.px_read.specs.declared.head.ResponseHead.{ResponseHead as ReadResponse}
-use Rattle.px_read.proofs.AnswerLemmas.{AnswersCarry}
-use Rattle.px_exchange.specs.declared.place.Place.{Place}
+use Rattle.px_read.proofs.ItemLemmas.{Carries}
 use Rattle.px_exchange.specs.declared.asked.Judged.{Judged}
-use Rattle.px_exchange.specs.declared.asked.Judged.TheVariants.{Refused, Accepted}
+use Rattle.px_exchange.specs.declared.asked.Judged.TheVariants.{Refused, Accepted, Connects}
 use Rattle.px_exchange.specs.declared.ending.Used.{Used}
 use Rattle.px_exchange.specs.declared.ending.Used.TheVariants.{NoServer}
 use Rattle.px_exchange.specs.declared.terms.Terms.{Terms}
-use Rattle.px_exchange.specs.Endings.{closed_message, without_response}
+use Rattle.px_exchange.specs.Endings.{ends_by_fault}
 use Rattle.px_exchange.specs.Finds.{is_relayed, look_answer, look_answer_head, look_body, look_head, look_judged, look_returned, or_leaves}
-use Rattle.px_exchange.specs.Requests.{is_head, is_http11, judged}
-use Rattle.px_chain.specs.Chain.{finds, leaves, leaving, look, so_far, waits}
-use Rattle.px_chain.specs.ClosedForm.{answers_at, interim_of, interim_texts}
-use Rattle.px_chain.specs.Sights.{Sight, answers_in, request_in, server_in, sight_of}
-use Rattle.px_chain.specs.Stages.{At, Doing, ServerSide, Stage, busy, connection, given_body, given_head, idle, next, over, request_body, response_body, response_head, side_of}
-use Rattle.px_chain.specs.Streams.{Since}
-use Rattle.px_chain.proofs.ClosedDone.{answers_to, asked_head}
-use Rattle.px_chain.proofs.ClosedFronts.{IsFront, IsSame, answers_grow, same_answers}
-use Rattle.px_chain.proofs.ClosedQuiet.{Closing, closing_early, closing_fault, closing_none, closing_refused, sends_interim}
-use Rattle.px_chain.proofs.ClosedStages.{IsAt, IsDoing, Onward, SentOn, answering_may, begun_may, between_may, closes, closes_now, connecting_may, returning_may}
+use Rattle.px_exchange.specs.Flows.{ask_of, response_of, with_answer}
+use Rattle.px_exchange.specs.Requests.{is_head, judged}
+use Rattle.px_chain.specs.ClosedForm.{GoesOn, Point, is_whole, said, said_asked, said_final, said_headed, said_item, said_judged, said_relayed, said_returned, said_whole}
+use Rattle.px_chain.proofs.ClosedQuiet.{refused_said, said_join, says_fault}
 
-leaves_closing : (closed : Bool) (leaving : List Command) (l : Look Command) → Closing leaving → Closing (found l) → Closing (found (or_leaves closed leaving l))
-leaves_closing true leaving NotYet early on = early
-leaves_closing false leaving NotYet early on = closing_none
-leaves_closing closed leaving (Asks ask) early on = on
-leaves_closing closed leaving (Ends owed) early on = on
+-- ---- what is found, and what is left
 
-judged_closing : (terms : Terms) (index : ℕ) (head : ReadRequest) (made : Judged) (moment : ℕ) (closed : Bool) →
-    Closing (found (look_judged terms index head made moment closed))
-judged_closing terms index head (Refused fault) moment closed = closing_refused fault (is_head head.method) closed
-judged_closing terms index head (Accepted message) moment closed = record { servers = refl; is_fault = tt }
+-- What is found says what is left: an end says all of it, a question begins it, and where nothing is found over all events nothing is left.
+abbrev pub Tells : Type 0 → Look Command → List Command → Type 0
+Tells over_all NotYet left = over_all → left ≡ []
+Tells over_all (Asks ask) left = IsPrefixOf (said (ask ∷ [])) left × (GoesOn false (ask ∷ []) [] → ⊥)
+Tells over_all (Ends owed) left = said owed ≡ left
 
-head_closing : (terms : Terms) (index : ℕ) (item : Item ReadRequest) (moment : ℕ) (closed : Bool) → Closing (found (look_head terms index item moment closed))
-head_closing terms index missing moment closed = closing_none
-head_closing terms index (part head body) moment closed = judged_closing terms index head (judged terms.place head) moment closed
-head_closing terms index (complete head body trailers used) moment closed =
-    judged_closing terms index head (judged terms.place head) moment closed
-head_closing terms index (bad_head fault) moment closed = closing_refused fault false closed
-head_closing terms index (bad_body fault head body) moment closed =
-    judged_closing terms index head (judged terms.place head) moment closed
+-- nothing comes behind what is found there
+abbrev pub IsLast : Type 0 → Look Command → Type 0
+IsLast over_all NotYet = over_all
+IsLast over_all (Asks ask) = ⊥
+IsLast over_all (Ends owed) = ⊤
 
-body_closing : (flow : Flow) (item : Item ReadRequest) (moment : ℕ) (closed : Bool) → Closing (found (look_body flow item moment closed))
-body_closing flow missing moment closed = closing_none
-body_closing flow (part head body) moment closed = closing_none
-body_closing flow (complete head body trailers used) moment closed = record { servers = refl; is_fault = tt }
-body_closing flow (bad_head fault) moment closed = closing_none
-body_closing flow (bad_body fault head body) moment closed = closing_fault flow fault moment NoServer closed
+-- what a stage owes so far, with what it finds
+pub record Here (over_all : Type 0) (closed : Bool) (look : Look Command) (so_far left : List Command) : Type 0 where
+  pub begins : IsPrefixOf (said (so_far ++ found look)) left
+  pub is_all : closed ≡ false → IsLast over_all look → said (so_far ++ found look) ≡ left
+  pub asks : (ask : Command) → look ≡ Asks ask → GoesOn false (ask ∷ []) [] → ⊥
 
-relays_closing : (flow : Flow) (head : ReadResponse) (moment : ℕ) (used : Used) (closed relays : Bool) → is_relayed head.code ≡ relays →
-    Closing (found (look_answer_head flow head moment used closed))
-relays_closing flow head moment used closed true is = rw is (record { servers = refl; is_fault = tt })
-relays_closing flow head moment used closed false is = rw is (closing_fault flow BadResponse moment used closed)
+prefix_same : (a b : List Command) → a ≡ b → IsPrefixOf a b
+prefix_same a b is = ([], sym is ∙ sym (append-nil a))
 
-answer_closing : (flow : Flow) (item : Item ReadResponse) (moment : ℕ) (used : Used) (closed : Bool) → Closing (found (look_answer flow item moment used closed))
-answer_closing flow missing moment used closed = closing_none
-answer_closing flow (part head body) moment used closed = relays_closing flow head moment used closed (is_relayed head.code) refl
-answer_closing flow (complete head body trailers size) moment used closed = relays_closing flow head moment used closed (is_relayed head.code) refl
-answer_closing flow (bad_head fault) moment used closed = closing_fault flow fault moment used closed
-answer_closing flow (bad_body fault head body) moment used closed = relays_closing flow head moment used closed (is_relayed head.code) refl
+more_said : (so_far more texts behind : List Command) → said so_far ≡ texts → said more ≡ behind → said (so_far ++ more) ≡ texts ++ behind
+more_said so_far more texts behind is more_is = said_join so_far more ∙ (ap (λ l. l ++ said more) is ∙ ap (λ l. texts ++ l) more_is)
 
-returned_closing : (flow : Flow) (item : Item ReadResponse) (moment : ℕ) (used : Used) (closed : Bool) → Closing (found (look_returned flow item moment used closed))
-returned_closing flow missing moment used closed = closing_none
-returned_closing flow (part head body) moment used closed = closing_none
-returned_closing flow (complete head body trailers size) moment used closed = record { servers = refl; is_fault = tt }
-returned_closing flow (bad_head fault) moment used closed = closing_none
-returned_closing flow (bad_body fault head body) moment used closed = closing_fault flow fault moment used closed
+-- where what it owes so far is all that is said before what is found
+pub here_with : (over_all : Type 0) (closed : Bool) (leaving : List Command) (look : Look Command) (so_far texts left : List Command) →
+    said so_far ≡ texts → said leaving ≡ [] → Tells over_all look left → Here over_all closed (or_leaves closed leaving look) so_far (texts ++ left)
+here_with over_all true leaving NotYet so_far texts left is none tells = record {
+  begins = (left, ap (λ l. l ++ left) (sym (more_said so_far leaving texts [] is none ∙ append-nil texts)));
+  is_all = λ no. absurd (let e : true ≡ false = no in cc);
+  asks = λ ask no. absurd (let e : Ends leaving ≡ Asks ask = no in cc);
+}
+here_with over_all false leaving NotYet so_far texts left is none tells = record {
+  begins = (left, ap (λ l. l ++ left) (sym (more_said so_far [] texts [] is refl ∙ append-nil texts)));
+  is_all = λ no over_it. more_said so_far [] texts [] is refl ∙ ap (λ l. texts ++ l) (sym (tells over_it));
+  asks = λ ask no. absurd (let e : NotYet ≡ Asks ask = no in cc);
+}
+here_with over_all closed leaving (Asks ask) so_far texts left is none tells = record {
+  begins = let P : List Command → Type 0 = λ l. IsPrefixOf l (texts ++ left) in
+      subst P (sym (more_said so_far (ask ∷ []) texts (said (ask ∷ [])) is refl)) (prefix_behind texts (said (ask ∷ [])) left tells.0);
+  is_all = λ no never. absurd never;
+  asks = λ other same goes. (let e : ask ≡ other = (let s : Asks ask ≡ Asks other = same in cc) in
+      let P : Command → Type 0 = λ c. GoesOn false (c ∷ []) [] in tells.1 (subst P (sym e) goes));
+}
+here_with over_all closed leaving (Ends owed) so_far texts left is none tells =
+    let all = more_said so_far owed texts left is tells in record {
+      begins = prefix_same (said (so_far ++ owed)) (texts ++ left) all;
+      is_all = λ no last. all;
+      asks = λ ask no. absurd (let e : Ends owed ≡ Asks ask = no in cc);
+    }
 
-finds_closing : (place : Place) (at : At) (flow : Flow) (doing : Doing) (seen : Sight) → Closing (found (finds place at flow doing seen))
-finds_closing place at flow (request_body given) seen = body_closing flow (request_in at seen) seen.now seen.closed
-finds_closing place at flow connection seen = record { servers = refl; is_fault = tt }
-finds_closing place at flow (response_head side how) seen =
-    answer_closing flow (answers_in flow.request side seen).final seen.now (server_in side seen) seen.closed
-finds_closing place at flow (response_body side how) seen =
-    returned_closing flow (answers_in flow.request side seen).final seen.now (server_in side seen) seen.closed
-finds_closing place at flow given_head seen = record { servers = refl; is_fault = tt }
-finds_closing place at flow given_body seen = record { servers = refl; is_fault = tt }
+-- where nothing is found
+pub here_waiting : (over_all : Type 0) (closed : Bool) (leaving so_far texts left : List Command) →
+    said so_far ≡ texts → said leaving ≡ [] → IsPrefixOf texts left → (over_all → left ≡ texts) →
+    Here over_all closed (or_leaves closed leaving NotYet) so_far left
+here_waiting over_all true leaving so_far texts left is none begins whole = record {
+  begins = let P : List Command → Type 0 = λ l. IsPrefixOf l left in subst P (sym (more_said so_far leaving texts [] is none ∙ append-nil texts)) begins;
+  is_all = λ no. absurd (let e : true ≡ false = no in cc);
+  asks = λ ask no. absurd (let e : Ends leaving ≡ Asks ask = no in cc);
+}
+here_waiting over_all false leaving so_far texts left is none begins whole = record {
+  begins = let P : List Command → Type 0 = λ l. IsPrefixOf l left in subst P (sym (more_said so_far [] texts [] is refl ∙ append-nil texts)) begins;
+  is_all = λ no over_it. more_said so_far [] texts [] is refl ∙ (append-nil texts ∙ sym (whole over_it));
+  asks = λ ask no. absurd (let e : NotYet ≡ Asks ask = no in cc);
+}
 
-leaving_closing : (flow : Flow) (doing : Doing) (seen : Sight) → Closing (leaves flow doing seen)
-leaving_closing flow (request_body given) seen = closing_early flow closed_message seen.now NoServer true
-leaving_closing flow connection seen = closing_none
-leaving_closing flow (response_head side how) seen = closing_early flow closed_message seen.now (server_in side seen) true
-leaving_closing flow (response_body side how) seen = closing_early (without_response flow) closed_message seen.now (server_in side seen) true
-leaving_closing flow given_head seen = closing_none
-leaving_closing flow given_body seen = closing_none
+-- ---- what each message tells: the item that is seen, and the one of all events
 
-doing_closing : (place : Place) (at : At) (flow : Flow) (doing : Doing) (seen : Sight) →
-    Closing (found (or_leaves seen.closed (leaves flow doing seen) (finds place at flow doing seen)))
-doing_closing place at flow doing seen =
-    leaves_closing seen.closed (leaves flow doing seen) (finds place at flow doing seen) (leaving_closing flow doing seen) (finds_closing place at flow doing seen)
+asks_hook : (over_all : Type 0) (flow : Flow) (hook : Hook) (left : List Command) → Tells over_all (Asks (ask_of flow hook)) left
+asks_hook over_all flow hook left = ((left, refl), λ goes. goes)
 
-module _ (terms : Terms) (events : List (Timed Event)) where
-  module _ (at : At) (asked : Request) (side : ServerSide) (opened come : ℕ) (sent : List Command) (o : Onward terms events at asked side opened come sent) where
-    -- the responses of its server
-    abbrev pub all_answers : Answers
-    all_answers = answers_to terms events at.used side.server asked opened o.asks
+module _ (over_all : Type 0) where
+  module _ (terms : Terms) (events : List (Timed Event)) (point : Point) (further : Point → List Command) where
+    judged_tells : (index : ℕ) (head : ReadRequest) (made : Judged) (item : Item ReadRequest) (moment : ℕ) (closed : Bool) →
+        Tells over_all (look_judged terms index head made moment closed) (said_judged terms events point head made item further)
+    judged_tells index head (Refused fault) item moment closed = refused_said fault (is_head head.method) closed
+    judged_tells index head (Connects address) item moment closed = refl
+    judged_tells index head (Accepted message) item moment closed = ((_, refl), λ goes. goes)
 
-    -- those that were seen, and those of all events
-    pub answers_carried : (since : Since) (prefix : List (Timed Event)) → IsFront prefix events →
-        AnswersCarry (answers_in asked side (sight_of (Some side) since opened prefix)) all_answers
-    answers_carried since prefix is =
-        let P : Request → Type 0 = λ r. AnswersCarry (answers_in asked side (sight_of (Some side) since opened prefix))
-        (answers_at events side.server opened (is_head r.method)) in
-        subst P o.asks.is (answers_grow (is_head asked.method) side opened prefix events o.used is)
+    asked_tells : (index : ℕ) (head : ReadRequest) (item : Item ReadRequest) (moment : ℕ) (closed : Bool) → head_in item ≡ Some head →
+        Tells over_all (look_judged terms index head (judged terms.place head) moment closed) (said_item terms events point item further)
+    asked_tells index head item moment closed there =
+        let P : Option ReadRequest → Type 0 = λ o.
+        Tells over_all (look_judged terms index head (judged terms.place head) moment closed) (said_asked terms events point o item further) in
+        subst P (sym there) (judged_tells index head (judged terms.place head) item moment closed)
 
-    -- over the same events they are the same
-    pub answers_same : (since : Since) (prefix all : List (Timed Event)) → IsSame prefix all →
-        answers_in asked side (sight_of (Some side) since opened prefix)
-        ≡ answers_at all side.server opened (asked_head terms events at.used side.server asked opened o.asks)
-    answers_same since prefix all is =
-        same_answers (is_head asked.method) side opened prefix all o.used is
-        ∙ ap (λ (r : Request). answers_at all side.server opened (is_head r.method)) o.asks.is
+    pub head_tells : (index : ℕ) (item all : Item ReadRequest) (moment : ℕ) (closed : Bool) → Carries item all → (over_all → all ≡ item) →
+        Tells over_all (look_head terms index item moment closed) (said_item terms events point all further)
+    head_tells index missing all moment closed carries same = λ o. ap (λ (i : Item ReadRequest). said_item terms events point i further) (same o)
+    head_tells index (part head body) all moment closed carries same = asked_tells index head all moment closed (carries.head head refl)
+    head_tells index (complete head body trailers used) all moment closed carries same = asked_tells index head all moment closed (carries.head head refl)
+    head_tells index (bad_head fault) all moment closed carries same =
+        refused_said fault false closed ∙ ap (λ (i : Item ReadRequest). said_item terms events point i further) (sym (carries.stays refl))
+    head_tells index (bad_body fault head body) all moment closed carries same = asked_tells index head all moment closed (carries.head head refl)
 
-    -- interim responses as they go to the client, by the head that the request was read of
-    pub interim_same : (heads : List ReadResponse) → interim_texts asked heads ≡ interim_texts o.asks.message heads
-    interim_same heads = ap (λ (r : Request). interim_texts r heads) o.asks.is
+    pub body_tells : (flow : Flow) (item all : Item ReadRequest) (moment : ℕ) (closed : Bool) → Carries item all → (over_all → all ≡ item) →
+        Tells over_all (look_body flow item moment closed) (said_whole terms events point flow.request all further)
+    body_tells flow missing all moment closed carries same = λ o. ap (λ (i : Item ReadRequest). said_whole terms events point flow.request i further) (same o)
+    body_tells flow (part head body) all moment closed carries same = λ o. ap (λ (i : Item ReadRequest). said_whole terms events point flow.request i further) (same o)
+    body_tells flow (complete head body trailers used) all moment closed carries same = ((_, refl), λ goes. goes)
+    body_tells flow (bad_head fault) all moment closed carries same = λ o. ap (λ (i : Item ReadRequest). said_whole terms events point flow.request i further) (same o)
+    body_tells flow (bad_body fault head body) all moment closed carries same =
+        (says_fault flow fault moment NoServer closed).is
+        ∙ ap (λ (i : Item ReadRequest). said_whole terms events point flow.request i further) (sym (carries.stays refl))
 
-  interim_more : (knows : Bool) (heads more : List ReadResponse) → IsPrefixOf heads more →
-      IsPrefixOf (if knows then map interim_of heads else []) (if knows then map interim_of more else [])
-  interim_more true heads more (rest, is) = (map interim_of rest, ap (map interim_of) is ∙ map-append interim_of heads rest)
-  interim_more false heads more begins = ([], refl)
+  module _ (flow : Flow) (used : Used) (behind : Response → List Command) where
+    relays_tell : (head : ReadResponse) (relays : Bool) (returned : List Command) (moment : ℕ) (closed : Bool) →
+        Tells over_all
+        (if not relays then Ends (ends_by_fault flow BadResponse moment used closed) else Asks (ask_of (with_answer flow (response_of head) moment) ResponseHead))
+        (said_relayed relays flow.request returned)
+    relays_tell head true returned moment closed = ((returned, refl), λ goes. goes)
+    relays_tell head false returned moment closed = (says_fault flow BadResponse moment used closed).is
 
-  -- all that is due there
-  doing_closed : (at : At) (flow : Flow) (doing : Doing) (since : Since) (opened come : ℕ) (sent : List Command) (prefix : List (Timed Event)) →
-      IsDoing terms events at flow doing opened come sent → IsFront prefix events →
-      let seen = sight_of (side_of (busy at flow doing)) since opened prefix in
-      SentOn terms events (sent ++ (waits flow doing seen ++ found (or_leaves seen.closed (leaves flow doing seen) (finds terms.place at flow doing seen))))
-  doing_closed at flow (request_body None) since opened come sent prefix stands is =
-      closes_now terms events sent _ [] (begun_may terms events at flow.request come sent stands)
-      (doing_closing terms.place at flow (request_body None) (sight_of None since opened prefix))
-  doing_closed at flow (request_body (Some response)) since opened come sent prefix stands is = absurd stands
-  doing_closed at flow connection since opened come sent prefix stands is =
-      closes_now terms events sent _ [] (connecting_may terms events at flow.request come sent stands)
-      (doing_closing terms.place at flow connection (sight_of None since opened prefix))
-  doing_closed at flow (response_head side how) since opened come sent prefix stands is =
-      let seen = sight_of (Some side) since opened prefix in
-      let o = stands.onward in
-      let carried = answers_carried at flow.request side opened come sent o since prefix is in
-      let sends = sends_interim flow.request (answers_in flow.request side seen).interim in
-      let answers = all_answers at flow.request side opened come sent o in
-      let begins : IsPrefixOf (interim_texts o.asks.message (answers_in flow.request side seen).interim) (interim_texts o.asks.message answers.interim) =
-      interim_more (is_http11 o.asks.message.version) _ _ carried.interim in
-      let P : List (List ℕ) → Type 0 = λ l. IsPrefixOf l (interim_texts o.asks.message answers.interim) in
-      closes terms events sent (waits flow (response_head side how) seen) _ (interim_texts o.asks.message answers.interim)
-      (answering_may terms events at flow.request side opened come sent o stands.client) sends.servers
-      (subst P (sym (sends.client ∙ interim_same at flow.request side opened come sent o (answers_in flow.request side seen).interim)) begins)
-      (doing_closing terms.place at flow (response_head side how) seen)
-  doing_closed at flow (response_body side how) since opened come sent prefix stands is =
-      closes_now terms events sent _ [] (returning_may terms events at flow.request side opened come sent stands.onward stands.client)
-      (doing_closing terms.place at flow (response_body side how) (sight_of (Some side) since opened prefix))
-  doing_closed at flow given_head since opened come sent prefix stands is = absurd stands
-  doing_closed at flow given_body since opened come sent prefix stands is = absurd stands
+    headed_tells : (head : ReadResponse) (item : Item ReadResponse) (moment : ℕ) (closed : Bool) → head_in item ≡ Some head →
+        Tells over_all (look_answer_head flow head moment used closed) (said_final flow.request item behind)
+    headed_tells head item moment closed there =
+        let P : Option ReadResponse → Type 0 = λ o. Tells over_all (look_answer_head flow head moment used closed) (said_headed flow.request o item behind) in
+        subst P (sym there) (relays_tell head (is_relayed head.code) (said_returned flow.request item behind) moment closed)
 
-  pub here_closed : (stage : Stage) (since : Since) (opened come : ℕ) (sent : List Command) (prefix : List (Timed Event)) →
-      IsAt terms events stage opened come sent → IsFront prefix events →
-      let seen = sight_of (side_of stage) since opened prefix in
-      SentOn terms events (sent ++ (so_far stage seen ++ found (look terms stage seen)))
-  here_closed (idle at) since opened come sent prefix stands is =
-      let seen = sight_of None since opened prefix in
-      closes_now terms events sent _ [] (between_may terms events at come sent stands)
-      (leaves_closing seen.closed [] (look_head terms at.flow (request_in at seen) seen.now seen.closed) closing_none
-      (head_closing terms at.flow (request_in at seen) seen.now seen.closed))
-  here_closed (busy at flow doing) since opened come sent prefix stands is = doing_closed at flow doing since opened come sent prefix stands is
-  here_closed (next at) since opened come sent prefix stands is = absurd stands
-  here_closed over since opened come sent prefix stands is =
-      let P : List Command → Type 0 = SentOn terms events in subst P (sym (append-nil sent)) stands.sent_on
+    pub answer_tells : (item all : Item ReadResponse) (moment : ℕ) (closed : Bool) → Carries item all → (over_all → all ≡ item) →
+        Tells over_all (look_answer flow item moment used closed) (said_final flow.request all behind)
+    answer_tells missing all moment closed carries same = λ o. ap (λ (i : Item ReadResponse). said_final flow.request i behind) (same o)
+    answer_tells (part head body) all moment closed carries same = headed_tells head all moment closed (carries.head head refl)
+    answer_tells (complete head body trailers size) all moment closed carries same = headed_tells head all moment closed (carries.head head refl)
+    answer_tells (bad_head fault) all moment closed carries same =
+        (says_fault flow fault moment used closed).is ∙ ap (λ (i : Item ReadResponse). said_final flow.request i behind) (sym (carries.stays refl))
+    answer_tells (bad_body fault head body) all moment closed carries same = headed_tells head all moment closed (carries.head head refl)
+
+    pub returned_tells : (item all : Item ReadResponse) (moment : ℕ) (closed : Bool) → Carries item all → (over_all → all ≡ item) →
+        Tells over_all (look_returned flow item moment used closed) (said_returned flow.request all behind)
+    returned_tells missing all moment closed carries same = λ o. ap (λ (i : Item ReadResponse). said_returned flow.request i behind) (same o)
+    returned_tells (part head body) all moment closed carries same = λ o. ap (λ (i : Item ReadResponse). said_returned flow.request i behind) (same o)
+    returned_tells (complete head body trailers size) all moment closed carries same = ((_, refl), λ goes. goes)
+    returned_tells (bad_head fault) all moment closed carries same = λ o. ap (λ (i : Item ReadResponse). said_returned flow.request i behind) (same o)
+    returned_tells (bad_body fault head body) all moment closed carries same =
+        (says_fault flow fault moment used closed).is ∙ ap (λ (i : Item ReadResponse). said_returned flow.request i behind) (sym (carries.stays refl))
+
+-- ---- where nothing is found, no message is whole
+
+pub none_found : (closed : Bool) (leaving : List Command) (look : Look Command) → or_leaves closed leaving look ≡ NotYet → look ≡ NotYet
+none_found closed leaving NotYet is = refl
+none_found closed leaving (Asks ask) is = is
+none_found closed leaving (Ends owed) is = is
+
+judged_found : (terms : Terms) (index : ℕ) (head : ReadRequest) (made : Judged) (moment : ℕ) (closed : Bool) → look_judged terms index head made moment closed ≡ NotYet → ⊥
+judged_found terms index head (Refused fault) moment closed is = cc
+judged_found terms index head (Connects address) moment closed is = cc
+judged_found terms index head (Accepted message) moment closed is = cc
+
+pub no_request : (terms : Terms) (index : ℕ) (item : Item ReadRequest) (moment : ℕ) (closed : Bool) → look_head terms index item moment closed ≡ NotYet → is_whole item ≡ false
+no_request terms index missing moment closed is = refl
+no_request terms index (part head body) moment closed is = refl
+no_request terms index (complete head body trailers used) moment closed is = absurd (judged_found terms index head (judged terms.place head) moment closed is)
+no_request terms index (bad_head fault) moment closed is = refl
+no_request terms index (bad_body fault head body) moment closed is = refl
+
+pub no_body : (flow : Flow) (item : Item ReadRequest) (moment : ℕ) (closed : Bool) → look_body flow item moment closed ≡ NotYet → is_whole item ≡ false
+no_body flow missing moment closed is = refl
+no_body flow (part head body) moment closed is = refl
+no_body flow (complete head body trailers used) moment closed is = absurd (cc)
+no_body flow (bad_head fault) moment closed is = refl
+no_body flow (bad_body fault head body) moment closed is = refl
+
+relays_found : (flow : Flow) (head : ReadResponse) (moment : ℕ) (used : Used) (closed relays : Bool) →
+    (if not relays then Ends (ends_by_fault flow BadResponse moment used closed) else Asks (ask_of (with_answer flow (response_of head) moment) ResponseHead)) ≡ NotYet → ⊥
+relays_found flow head moment used closed true is = cc
+relays_found flow head moment used closed false is = cc
+
+pub no_answer : (flow : Flow) (item : Item ReadResponse) (moment : ℕ) (used : Used) (closed : Bool) → look_answer flow item moment used closed ≡ NotYet → is_whole item ≡ false
+no_answer flow missing moment used closed is = refl
+no_answer flow (part head body) moment used closed is = refl
+no_answer flow (complete head body trailers size) moment used closed is = absurd (relays_found flow head moment used closed (is_relayed head.code) is)
+no_answer flow (bad_head fault) moment used closed is = refl
+no_answer flow (bad_body fault head body) moment used closed is = refl
+
+pub no_return : (flow : Flow) (item : Item ReadResponse) (moment : ℕ) (used : Used) (closed : Bool) → look_returned flow item moment used closed ≡ NotYet → is_whole item ≡ false
+no_return flow missing moment used closed is = refl
+no_return flow (part head body) moment used closed is = refl
+no_return flow (complete head body trailers size) moment used closed is = absurd (cc)
+no_return flow (bad_head fault) moment used closed is = refl
+no_return flow (bad_body fault head body) moment used closed is = refl

@@ -1,5 +1,6 @@
 -- What a reply brings at once, and what is owed at an end: bytes, then the end of a flow, then closes.
-use Rattle.std.proofs.Common.{ℕ, Bool, true, Option, Some, None}
+use Rattle.std.proofs.Common.{ℕ, ◌+◌, Bool, true, false, Option, Some, None}
+use Rattle.std.specs.Prelude.{◌==◌}
 use Rattle.px_message.specs.declared.flow.Flow.{Flow}
 use Rattle.px_message.specs.declared.request.Request.{Request}
 use Rattle.px_message.specs.declared.response.Response.{Response}
@@ -10,22 +11,23 @@ use Rattle.px_read.specs.Items.{Item, missing, part, complete, bad_head, bad_bod
 use Rattle.px_read.specs.declared.head.RequestHead.{RequestHead as ReadRequest}
 use Rattle.px_read.specs.declared.head.ResponseHead.{ResponseHead as ReadResponse}
 use Rattle.px_exchange.specs.declared.asked.Judged.{Judged}
-use Rattle.px_exchange.specs.declared.asked.Judged.TheVariants.{Refused, Accepted}
+use Rattle.px_exchange.specs.declared.asked.Judged.TheVariants.{Refused, Accepted, Connects}
 use Rattle.px_exchange.specs.declared.ending.Used.{Used}
 use Rattle.px_exchange.specs.declared.ending.Used.TheVariants.{NoServer}
 use Rattle.px_exchange.specs.declared.taken.Taken.{Taken}
 use Rattle.px_exchange.specs.declared.taken.Taken.TheVariants.{GoesOn, Responds, Kills}
 use Rattle.px_exchange.specs.declared.place.Place.{Place}
 use Rattle.px_exchange.specs.declared.terms.Terms.{Terms}
-use Rattle.px_chain.specs.Chain.{find, leaving, look, turn, turn_head, turn_judged, turn_taken_head, turn_body, turn_taken_body, turn_dial, turn_answer, turn_answer_head, turn_taken_answer, turn_returned, turn_whole_answer, turn_response, turn_taken_returned, turn_taken_given, used_more}
+use Rattle.px_chain.specs.Chain.{find, finish_by, goes_on_by, leaving, look, side_behind, spare_for, turn, turn_head, turn_judged, turn_taken_head, turn_body, turn_taken_body, turn_dial, turn_answer, turn_answer_head, turn_taken_answer, turn_returned, turn_taken_whole, turn_whole_answer, turn_response, turn_taken_returned, turn_taken_given, used_more}
 use Rattle.px_exchange.specs.Flows.{response_of, with_answer, with_body, with_end, with_returned, with_start}
 use Rattle.px_exchange.specs.Endings.{without_response, killed_message, closed_message, connection_goes_on}
 use Rattle.px_exchange.specs.EndOrder.{EndsInOrder, FoundInOrder}
 use Rattle.px_exchange.specs.Replies.{taken_at_request_body, taken_at_request_head, taken_at_response_body, taken_at_response_head}
+use Rattle.px_exchange.specs.Places.{goes_home}
 use Rattle.px_exchange.specs.Requests.{expects, flow_of, judged}
-use Rattle.px_chain.specs.Stages.{At, ServerSide, Stage, idle, busy, next, over, request_body, connection, response_head, response_body, given_head, given_body}
+use Rattle.px_chain.specs.Stages.{At, ServerSide, Stage, idle, busy, next, over, request_body, connection, response_head, response_body, given_head, given_body, upgraded}
 use Rattle.px_exchange.proofs.OrderLemmas.{early_ends, finished_ends, dial_ends, expectation_ends, head_ends, body_ends, answer_ends, returned_ends, leaves_ends}
-use Rattle.px_chain.specs.Sights.{Sight, answers_in, request_in, server_in}
+use Rattle.px_chain.specs.Sights.{Sight, Unused, answers_in, request_in, server_in}
 
 -- ---- what is found
 
@@ -36,6 +38,7 @@ module _ (terms : Terms) where
   finds_ends (busy at flow connection) seen = tt
   finds_ends (busy at flow (response_head side how)) seen = answer_ends flow (answers_in flow.request side seen).final seen.now (server_in side seen) seen.closed
   finds_ends (busy at flow (response_body side how)) seen = returned_ends flow (answers_in flow.request side seen).final seen.now (server_in side seen) seen.closed
+  finds_ends (busy at flow (upgraded side)) seen = tt
   finds_ends (busy at flow given_head) seen = tt
   finds_ends (busy at flow given_body) seen = tt
   finds_ends (next at) seen = tt
@@ -47,6 +50,7 @@ module _ (terms : Terms) where
   leaving_ends (busy at flow connection) seen = tt
   leaving_ends (busy at flow (response_head side how)) seen = early_ends flow closed_message seen.now (server_in side seen) true
   leaving_ends (busy at flow (response_body side how)) seen = early_ends (without_response flow) closed_message seen.now (server_in side seen) true
+  leaving_ends (busy at flow (upgraded side)) seen = tt
   leaving_ends (busy at flow given_head) seen = tt
   leaving_ends (busy at flow given_body) seen = tt
   leaving_ends (next at) seen = tt
@@ -65,6 +69,7 @@ module _ (terms : Terms) where
 
   turn_judged_ends : (at : At) (head : ReadRequest) (made : Judged) (seen : Sight) (answer : Timed Reply) → EndsInOrder (turn_judged terms at head made seen answer).owed
   turn_judged_ends at head (Refused fault) seen answer = tt
+  turn_judged_ends at head (Connects address) seen answer = tt
   turn_judged_ends at head (Accepted message) seen answer =
       taken_head_ends at (flow_of terms at.flow message seen.now) (expects head) (taken_at_request_head message answer.value) answer.moment seen.closed
 
@@ -75,19 +80,25 @@ module _ (terms : Terms) where
   turn_head_ends at (bad_head fault) seen answer = tt
   turn_head_ends at (bad_body fault head body) seen answer = turn_judged_ends at head (judged terms.place head) seen answer
 
-  taken_body_ends : (at : At) (flow : Flow) (taken : Taken Request) (moment : ℕ) (closed : Bool) → EndsInOrder (turn_taken_body at flow taken moment closed).owed
-  taken_body_ends at flow (GoesOn message) moment closed = tt
-  taken_body_ends at flow (Responds response) moment closed = tt
-  taken_body_ends at flow Kills moment closed = early_ends flow killed_message moment NoServer closed
+  goes_on_ends : (home : Bool) (spare : Option Unused) (place : Place) (at : At) (flow : Flow) → EndsInOrder (goes_on_by (spare_for home spare) place at flow).owed
+  goes_on_ends true None place at flow = tt
+  goes_on_ends true (Some unused) place at flow = tt
+  goes_on_ends false spare place at flow = tt
 
-  turn_body_ends : (at : At) (flow : Flow) (item : Item ReadRequest) (seen : Sight) (answer : Timed Reply) → EndsInOrder (turn_body at flow item seen answer).owed
-  turn_body_ends at flow missing seen answer = tt
-  turn_body_ends at flow (part head body) seen answer = tt
-  turn_body_ends at flow (complete head body trailers used) seen answer =
+  taken_body_ends : (place : Place) (at : At) (flow : Flow) (spare : Option Unused) (taken : Taken Request) (moment : ℕ) (closed : Bool) →
+      EndsInOrder (turn_taken_body place at flow spare taken moment closed).owed
+  taken_body_ends place at flow spare (GoesOn message) moment closed = goes_on_ends (goes_home place message) spare place at (record flow { request = message })
+  taken_body_ends place at flow spare (Responds response) moment closed = tt
+  taken_body_ends place at flow spare Kills moment closed = early_ends flow killed_message moment NoServer closed
+
+  turn_body_ends : (place : Place) (at : At) (flow : Flow) (item : Item ReadRequest) (seen : Sight) (answer : Timed Reply) → EndsInOrder (turn_body place at flow item seen answer).owed
+  turn_body_ends place at flow missing seen answer = tt
+  turn_body_ends place at flow (part head body) seen answer = tt
+  turn_body_ends place at flow (complete head body trailers used) seen answer =
       let asked_flow : Flow = with_body flow body.content trailers seen.now in
-      taken_body_ends (used_more at used) asked_flow (taken_at_request_body asked_flow.request answer.value) answer.moment seen.closed
-  turn_body_ends at flow (bad_head fault) seen answer = tt
-  turn_body_ends at flow (bad_body fault head body) seen answer = tt
+      taken_body_ends place (used_more at used) asked_flow seen.spare (taken_at_request_body asked_flow.request answer.value) answer.moment seen.closed
+  turn_body_ends place at flow (bad_head fault) seen answer = tt
+  turn_body_ends place at flow (bad_body fault head body) seen answer = tt
 
   turn_dial_ends : (place : Place) (at : At) (flow : Flow) (answer : Timed Reply) (closed : Bool) → EndsInOrder (turn_dial place at flow answer closed).owed
   turn_dial_ends place at flow answer closed = dial_ends place flow at.dials answer.value answer.moment closed
@@ -123,13 +134,29 @@ module _ (terms : Terms) where
       response_ends flow.response (λ message. taken_at_response_body message answer.value) (λ taken. turn_taken_returned at flow taken answer.moment used closed)
       (λ taken. taken_returned_ends at flow taken answer.moment used closed)
 
-  turn_returned_ends : (at : At) (flow : Flow) (side : ServerSide) (item : Item ReadResponse) (seen : Sight) (answer : Timed Reply) → EndsInOrder (turn_returned at flow side item seen answer).owed
-  turn_returned_ends at flow side missing seen answer = tt
-  turn_returned_ends at flow side (part head body) seen answer = tt
-  turn_returned_ends at flow side (complete head body trailers size) seen answer =
-      whole_answer_ends at (with_returned flow body.content trailers seen.now) answer (server_in side seen) seen.closed
-  turn_returned_ends at flow side (bad_head fault) seen answer = tt
-  turn_returned_ends at flow side (bad_body fault head body) seen answer = tt
+  finish_ends : (switches : Bool) (at : At) (flow : Flow) (message : Response) (side : ServerSide) (used : Used) (closed : Bool) →
+      EndsInOrder (finish_by switches at flow message side used closed).owed
+  finish_ends true at flow message side used closed = tt
+  finish_ends false at flow message side used closed = finished_ends flow message used (connection_goes_on at.flow flow.request message) closed
+
+  taken_whole_ends : (at : At) (flow : Flow) (side : ServerSide) (taken : Taken Response) (moment : ℕ) (used : Used) (closed : Bool) →
+      EndsInOrder (turn_taken_whole at flow side taken moment used closed).owed
+  taken_whole_ends at flow side (GoesOn message) moment used closed = finish_ends (message.status == 101) at flow message side used closed
+  taken_whole_ends at flow side (Responds response) moment used closed = early_ends flow killed_message moment used closed
+  taken_whole_ends at flow side Kills moment used closed = early_ends flow killed_message moment used closed
+
+  turn_returned_ends : (at : At) (flow : Flow) (side : ServerSide) (interim : ℕ) (item : Item ReadResponse) (seen : Sight) (answer : Timed Reply) →
+      EndsInOrder (turn_returned at flow side interim item seen answer).owed
+  turn_returned_ends at flow side interim missing seen answer = tt
+  turn_returned_ends at flow side interim (part head body) seen answer = tt
+  turn_returned_ends at flow side interim (complete head body trailers size) seen answer =
+      let asked_flow : Flow = with_returned flow body.content trailers seen.now in
+      let behind : ServerSide = side_behind side (interim + size) in
+      response_ends asked_flow.response (λ message. taken_at_response_body message answer.value)
+      (λ taken. turn_taken_whole at asked_flow behind taken answer.moment (server_in side seen) seen.closed)
+      (λ taken. taken_whole_ends at asked_flow behind taken answer.moment (server_in side seen) seen.closed)
+  turn_returned_ends at flow side interim (bad_head fault) seen answer = tt
+  turn_returned_ends at flow side interim (bad_body fault head body) seen answer = tt
 
   given_ends : (at : At) (flow : Flow) (taken : Taken Response) (moment : ℕ) (closed : Bool) → EndsInOrder (turn_taken_given at flow taken moment closed).owed
   given_ends at flow (GoesOn message) moment closed = tt
@@ -139,10 +166,11 @@ module _ (terms : Terms) where
   -- What a reply brings is in order.
   pub turns_in_order : (stage : Stage) (seen : Sight) (answer : Timed Reply) → EndsInOrder (turn terms stage seen answer).owed
   turns_in_order (idle at) seen answer = turn_head_ends at (request_in at seen) seen answer
-  turns_in_order (busy at flow (request_body given)) seen answer = turn_body_ends at flow (request_in at seen) seen answer
+  turns_in_order (busy at flow (request_body given)) seen answer = turn_body_ends terms.place at flow (request_in at seen) seen answer
   turns_in_order (busy at flow connection) seen answer = turn_dial_ends terms.place at flow answer seen.closed
   turns_in_order (busy at flow (response_head side how)) seen answer = turn_answer_ends at flow side (answers_in flow.request side seen).final seen answer
-  turns_in_order (busy at flow (response_body side how)) seen answer = turn_returned_ends at flow side (answers_in flow.request side seen).final seen answer
+  turns_in_order (busy at flow (response_body side how)) seen answer = turn_returned_ends at flow side (answers_in flow.request side seen).used (answers_in flow.request side seen).final seen answer
+  turns_in_order (busy at flow (upgraded side)) seen answer = tt
   turns_in_order (busy at flow given_head) seen answer =
       let asked_flow : Flow = with_start flow seen.now in
       response_ends asked_flow.response (λ message. taken_at_response_head message answer.value)

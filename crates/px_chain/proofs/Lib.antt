@@ -3,11 +3,14 @@ pub mod SightLaws
 pub mod ChainLaws
 pub mod Quiet
 pub mod QuietLemmas
+pub mod ConnectLaws
+pub mod CountedLemmas
+pub mod OnceLemmas
 pub mod SilentLemmas
+pub mod SentLemmas
 pub mod EndLemmas
 pub mod ClosedFronts
 pub mod ClosedItems
-pub mod ClosedDone
 pub mod ClosedQuiet
 pub mod ClosedStages
 pub mod ClosedLooks

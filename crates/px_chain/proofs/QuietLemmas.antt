@@ -1,6 +1,6 @@
 -- What a conversation owes names the flow of its stage, and what a reply brings asks nothing at once and leads on.
 use Rattle.std.proofs.Common.{◌≡◌, ℕ, ◌+◌, ◌<◌, Bool, true, false, List, [], ◌∷◌, ◌++◌, Option, Some, None, refl, ap, arith, nat_lt}
-use Rattle.std.specs.Prelude.{⊤, ◌&&◌, map}
+use Rattle.std.specs.Prelude.{⊤, ◌==◌, ◌&&◌, map}
 use Rattle.std.proofs.lemmas.Bool.{ltb-true}
 use Rattle.px_message.specs.declared.fault.Fault.{Fault}
 use Rattle.px_message.specs.declared.fault.Fault.TheVariants.{BadResponse}
@@ -18,13 +18,13 @@ use Rattle.px_read.specs.Items.{Item, missing, part, complete, bad_head, bad_bod
 use Rattle.px_read.specs.declared.head.RequestHead.{RequestHead as ReadRequest}
 use Rattle.px_read.specs.declared.head.ResponseHead.{ResponseHead as ReadResponse}
 use Rattle.px_exchange.specs.declared.asked.Judged.{Judged}
-use Rattle.px_exchange.specs.declared.asked.Judged.TheVariants.{Refused, Accepted}
+use Rattle.px_exchange.specs.declared.asked.Judged.TheVariants.{Refused, Accepted, Connects}
 use Rattle.px_exchange.specs.declared.ending.Used.{Used}
 use Rattle.px_exchange.specs.declared.ending.Used.TheVariants.{NoServer, ByServer}
 use Rattle.px_exchange.specs.declared.taken.Taken.{Taken}
 use Rattle.px_exchange.specs.declared.taken.Taken.TheVariants.{GoesOn, Responds, Kills}
 use Rattle.px_exchange.specs.declared.terms.Terms.{Terms}
-use Rattle.px_chain.specs.Chain.{dial_leads, find, leaving, look, pass, pass_body, so_far, turn, turn_head, turn_judged, turn_taken_head, turn_body, turn_taken_body, turn_answer, turn_answer_head, turn_taken_answer, turn_returned, turn_whole_answer, turn_response, turn_taken_returned, turn_taken_given, killed, behind_flow, used_more}
+use Rattle.px_chain.specs.Chain.{dial_leads, find, finish, finish_by, goes_on_by, side_behind, spare_for, turn_taken_whole, leaving, look, pass, pass_body, so_far, turn, turn_head, turn_judged, turn_taken_head, turn_body, turn_taken_body, turn_answer, turn_answer_head, turn_taken_answer, turn_returned, turn_whole_answer, turn_response, turn_taken_returned, turn_taken_given, killed, behind_flow, used_more}
 use Rattle.px_exchange.specs.Finds.{or_leaves, look_head, look_judged, look_body, look_answer, look_answer_head, look_returned, is_relayed}
 use Rattle.px_exchange.specs.Texts.{meets_expectation, interim_command, interim_commands}
 use Rattle.px_exchange.specs.Dials.{dial_owes}
@@ -33,9 +33,11 @@ use Rattle.px_exchange.specs.Endings.{shut_server, shut_client, shut_all, shut_u
 use Rattle.px_chain.specs.Left.{stage_left}
 use Rattle.px_chain.proofs.Quiet.{AllQuiet, LooksQuiet, IsOf, any_flow, no_flow, id_in, SameFlow, IsBehind, Leads}
 use Rattle.px_exchange.specs.Replies.{taken_at_request_body, taken_at_request_head, taken_at_response_body, taken_at_response_head}
+use Rattle.px_exchange.specs.declared.place.Place.{Place}
+use Rattle.px_exchange.specs.Places.{goes_home}
 use Rattle.px_exchange.specs.Requests.{is_head, expects, flow_of, judged}
-use Rattle.px_chain.specs.Stages.{At, ServerSide, Stage, idle, busy, next, over, request_body, connection, response_head, response_body, given_head, given_body, place_of}
-use Rattle.px_chain.specs.Sights.{Sight, answers_in, request_in, server_in}
+use Rattle.px_chain.specs.Stages.{At, ServerSide, Stage, idle, busy, next, over, request_body, connection, response_head, response_body, given_head, given_body, upgraded, place_of}
+use Rattle.px_chain.specs.Sights.{Sight, Unused, answers_in, request_in, server_in}
 
 -- ---- lists
 
@@ -60,6 +62,7 @@ so_far_quiet names (busy at flow (request_body given)) seen = tt
 so_far_quiet names (busy at flow connection) seen = tt
 so_far_quiet names (busy at flow (response_head side how)) seen = interim_quiet names flow.request _
 so_far_quiet names (busy at flow (response_body side how)) seen = tt
+so_far_quiet names (busy at flow (upgraded side)) seen = tt
 so_far_quiet names (busy at flow given_head) seen = tt
 so_far_quiet names (busy at flow given_body) seen = tt
 so_far_quiet names (next at) seen = tt
@@ -106,6 +109,7 @@ module _ (names : FlowId → Type 0) where
     judged_quiet : (index : ℕ) (head : ReadRequest) (made : Judged) (moment : ℕ) (closed : Bool) → names (id_in terms index) → LooksQuiet names (look_judged terms index head made moment closed)
     judged_quiet index head (Refused fault) moment closed is = refuses_quiet fault (is_head head.method) closed
     judged_quiet index head (Accepted message) moment closed is = (is, refl)
+    judged_quiet index head (Connects address) moment closed is = tt
 
     head_quiet : (index : ℕ) (item : Item ReadRequest) (moment : ℕ) (closed : Bool) → names (id_in terms index) → LooksQuiet names (look_head terms index item moment closed)
     head_quiet index missing moment closed is = tt
@@ -148,6 +152,7 @@ module _ (names : FlowId → Type 0) where
         answer_quiet flow (answers_in flow.request side seen).final seen.now (server_in side seen) seen.closed is
     finds_quiet (busy at flow (response_body side how)) seen is =
         returned_quiet flow (answers_in flow.request side seen).final seen.now (server_in side seen) seen.closed is
+    finds_quiet (busy at flow (upgraded side)) seen is = tt
     finds_quiet (busy at flow given_head) seen is = (is, refl)
     finds_quiet (busy at flow given_body) seen is = (is, refl)
     finds_quiet (next at) seen is = tt
@@ -159,6 +164,7 @@ module _ (names : FlowId → Type 0) where
     leaving_quiet (busy at flow connection) seen is = tt
     leaving_quiet (busy at flow (response_head side how)) seen is = early_quiet flow closed_message seen.now (server_in side seen) true is
     leaving_quiet (busy at flow (response_body side how)) seen is = early_quiet (without_response flow) closed_message seen.now (server_in side seen) true is
+    leaving_quiet (busy at flow (upgraded side)) seen is = tt
     leaving_quiet (busy at flow given_head) seen is = tt
     leaving_quiet (busy at flow given_body) seen is = tt
     leaving_quiet (next at) seen is = tt
@@ -194,6 +200,7 @@ module _ (names : FlowId → Type 0) where
       judged_led : (at : At) (head : ReadRequest) (made : Judged) (seen : Sight) (answer : Timed Reply) → SameFlow flow_now dials at → 4 < count → names (id_in terms at.flow) →
           Led (turn_judged terms at head made seen answer)
       judged_led at head (Refused fault) seen answer at_flow more is = over_led [] tt
+      judged_led at head (Connects address) seen answer at_flow more is = over_led [] tt
       judged_led at head (Accepted message) seen answer at_flow more is =
           taken_head_led at (flow_of terms at.flow message seen.now) (expects head) (taken_at_request_head message answer.value) answer.moment seen.closed at_flow more is
 
@@ -205,21 +212,29 @@ module _ (names : FlowId → Type 0) where
       head_led at (bad_head fault) seen answer at_flow more is = over_led [] tt
       head_led at (bad_body fault head body) seen answer at_flow more is = judged_led at head (judged terms.place head) seen answer at_flow more is
 
-      taken_body_led : (at : At) (flow : Flow) (taken : Taken Request) (moment : ℕ) (closed : Bool) → SameFlow flow_now dials at → 3 < count → names flow.id →
-          Led (turn_taken_body at flow taken moment closed)
-      taken_body_led at flow (GoesOn message) moment closed at_flow more is = record { quiet = tt; is_of = is; ends_none = tt; behind = (at_flow, more) }
-      taken_body_led at flow (Responds response) moment closed at_flow more is = record { quiet = tt; is_of = is; ends_none = tt; behind = (at_flow, omega arith) }
-      taken_body_led at flow Kills moment closed at_flow more is = killed_led flow moment NoServer closed is
+      goes_on_led : (home : Bool) (spare : Option Unused) (place : Place) (at : At) (flow : Flow) → SameFlow flow_now dials at → 3 < count → names flow.id →
+          Led (goes_on_by (spare_for home spare) place at flow)
+      goes_on_led true None place at flow at_flow more is = record { quiet = tt; is_of = is; ends_none = tt; behind = (at_flow, more) }
+      goes_on_led true (Some unused) place at flow at_flow more is =
+          let few = at_flow.1 in record { quiet = (tt, tt); is_of = is; ends_none = (tt, tt); behind = ((at_flow.0, omega arith), omega arith) }
+      goes_on_led false spare place at flow at_flow more is = record { quiet = tt; is_of = is; ends_none = tt; behind = (at_flow, more) }
 
-      body_led : (at : At) (flow : Flow) (item : Item ReadRequest) (seen : Sight) (answer : Timed Reply) → SameFlow flow_now dials at → 3 < count → names flow.id →
-          Led (turn_body at flow item seen answer)
-      body_led at flow missing seen answer at_flow more is = over_led [] tt
-      body_led at flow (part head body) seen answer at_flow more is = over_led [] tt
-      body_led at flow (complete head body trailers used) seen answer at_flow more is =
+      taken_body_led : (place : Place) (at : At) (flow : Flow) (spare : Option Unused) (taken : Taken Request) (moment : ℕ) (closed : Bool) →
+          SameFlow flow_now dials at → 3 < count → names flow.id → Led (turn_taken_body place at flow spare taken moment closed)
+      taken_body_led place at flow spare (GoesOn message) moment closed at_flow more is =
+          goes_on_led (goes_home place message) spare place at (record flow { request = message }) at_flow more is
+      taken_body_led place at flow spare (Responds response) moment closed at_flow more is = record { quiet = tt; is_of = is; ends_none = tt; behind = (at_flow, omega arith) }
+      taken_body_led place at flow spare Kills moment closed at_flow more is = killed_led flow moment NoServer closed is
+
+      body_led : (place : Place) (at : At) (flow : Flow) (item : Item ReadRequest) (seen : Sight) (answer : Timed Reply) → SameFlow flow_now dials at → 3 < count → names flow.id →
+          Led (turn_body place at flow item seen answer)
+      body_led place at flow missing seen answer at_flow more is = over_led [] tt
+      body_led place at flow (part head body) seen answer at_flow more is = over_led [] tt
+      body_led place at flow (complete head body trailers used) seen answer at_flow more is =
           let asked_flow : Flow = with_body flow body.content trailers seen.now in
-          taken_body_led (used_more at used) asked_flow (taken_at_request_body asked_flow.request answer.value) answer.moment seen.closed at_flow more is
-      body_led at flow (bad_head fault) seen answer at_flow more is = over_led [] tt
-      body_led at flow (bad_body fault head body) seen answer at_flow more is = over_led [] tt
+          taken_body_led place (used_more at used) asked_flow seen.spare (taken_at_request_body asked_flow.request answer.value) answer.moment seen.closed at_flow more is
+      body_led place at flow (bad_head fault) seen answer at_flow more is = over_led [] tt
+      body_led place at flow (bad_body fault head body) seen answer at_flow more is = over_led [] tt
 
       dial_led : (at : At) (flow : Flow) (answer : Reply) (moment : ℕ) (closed : Bool) → SameFlow flow_now dials at → 2 < count → names flow.id →
           Led (record { owed = dial_owes terms.place flow at.dials answer moment closed; stage = dial_leads terms.place at flow answer })
@@ -254,19 +269,23 @@ module _ (names : FlowId → Type 0) where
       last_true true b is = is
       last_true false b is = absurd (let e : false ≡ true = is in cc)
 
-      finish_by : (at : At) (owed : List Command) (stays : Bool) → (stays ≡ true → at.flow + 1 < 1000000) → AllQuiet names owed → SameFlow flow_now dials at →
+      finish_led : (at : At) (owed : List Command) (stays : Bool) → (stays ≡ true → at.flow + 1 < 1000000) → AllQuiet names owed → SameFlow flow_now dials at →
           Led (record { owed = owed; stage = behind_flow stays at })
-      finish_by at owed true few quiet (at_flow, dialled) =
+      finish_led at owed true few quiet (at_flow, dialled) =
           let less = few refl in record { quiet = quiet; is_of = tt; ends_none = tt; behind = ((ap (λ n. n + 1) at_flow, dialled), omega arith) }
-      finish_by at owed false few quiet at_flow = over_led owed quiet
+      finish_led at owed false few quiet at_flow = over_led owed quiet
+
+      finished_led : (at : At) (flow : Flow) (message : Response) (used : Used) (closed : Bool) → SameFlow flow_now dials at → names flow.id →
+          Led (finish at flow message used closed)
+      finished_led at flow message used closed at_flow is =
+          let stays : Bool = connection_goes_on at.flow flow.request message in
+          finish_led at (finished flow message used ++ shut_unless stays closed) stays
+          (λ on. ltb-true (at.flow + 1) 1000000 (last_true _ (nat_lt (at.flow + 1) 1000000) on))
+          (all_quiet names (finished flow message used) (shut_unless stays closed) (finished_quiet flow message used is) (unless_quiet stays closed)) at_flow
 
       taken_returned_led : (at : At) (flow : Flow) (taken : Taken Response) (moment : ℕ) (used : Used) (closed : Bool) → SameFlow flow_now dials at → names flow.id →
           Led (turn_taken_returned at flow taken moment used closed)
-      taken_returned_led at flow (GoesOn message) moment used closed at_flow is =
-          let stays : Bool = connection_goes_on at.flow flow.request message in
-          finish_by at (finished flow message used ++ shut_unless stays closed) stays
-          (λ on. ltb-true (at.flow + 1) 1000000 (last_true _ (nat_lt (at.flow + 1) 1000000) on))
-          (all_quiet names (finished flow message used) (shut_unless stays closed) (finished_quiet flow message used is) (unless_quiet stays closed)) at_flow
+      taken_returned_led at flow (GoesOn message) moment used closed at_flow is = finished_led at flow message used closed at_flow is
       taken_returned_led at flow (Responds response) moment used closed at_flow is = killed_led flow moment used closed is
       taken_returned_led at flow Kills moment used closed at_flow is = killed_led flow moment used closed is
 
@@ -281,14 +300,29 @@ module _ (names : FlowId → Type 0) where
           response_led flow.response (λ message. taken_at_response_body message answer.value) (λ taken. turn_taken_returned at flow taken answer.moment used closed)
           (λ taken. taken_returned_led at flow taken answer.moment used closed at_flow is)
 
-      returned_led : (at : At) (flow : Flow) (side : ServerSide) (item : Item ReadResponse) (seen : Sight) (answer : Timed Reply) → SameFlow flow_now dials at → names flow.id →
-          Led (turn_returned at flow side item seen answer)
-      returned_led at flow side missing seen answer at_flow is = over_led [] tt
-      returned_led at flow side (part head body) seen answer at_flow is = over_led [] tt
-      returned_led at flow side (complete head body trailers size) seen answer at_flow is =
-          whole_answer_led at (with_returned flow body.content trailers seen.now) answer (server_in side seen) seen.closed at_flow is
-      returned_led at flow side (bad_head fault) seen answer at_flow is = over_led [] tt
-      returned_led at flow side (bad_body fault head body) seen answer at_flow is = over_led [] tt
+      finish_by_led : (switches : Bool) (at : At) (flow : Flow) (message : Response) (side : ServerSide) (used : Used) (closed : Bool) → SameFlow flow_now dials at → 0 < count → names flow.id →
+          Led (finish_by switches at flow message side used closed)
+      finish_by_led true at flow message side used closed at_flow more is = record { quiet = (tt, tt); is_of = is; ends_none = (tt, tt); behind = (at_flow, more) }
+      finish_by_led false at flow message side used closed at_flow more is = finished_led at flow message used closed at_flow is
+
+      taken_whole_led : (at : At) (flow : Flow) (side : ServerSide) (taken : Taken Response) (moment : ℕ) (used : Used) (closed : Bool) → SameFlow flow_now dials at → 0 < count → names flow.id →
+          Led (turn_taken_whole at flow side taken moment used closed)
+      taken_whole_led at flow side (GoesOn message) moment used closed at_flow more is = finish_by_led (message.status == 101) at flow message side used closed at_flow more is
+      taken_whole_led at flow side (Responds response) moment used closed at_flow more is = killed_led flow moment used closed is
+      taken_whole_led at flow side Kills moment used closed at_flow more is = killed_led flow moment used closed is
+
+      returned_led : (at : At) (flow : Flow) (side : ServerSide) (interim : ℕ) (item : Item ReadResponse) (seen : Sight) (answer : Timed Reply) → SameFlow flow_now dials at → 0 < count → names flow.id →
+          Led (turn_returned at flow side interim item seen answer)
+      returned_led at flow side interim missing seen answer at_flow more is = over_led [] tt
+      returned_led at flow side interim (part head body) seen answer at_flow more is = over_led [] tt
+      returned_led at flow side interim (complete head body trailers size) seen answer at_flow more is =
+          let asked_flow : Flow = with_returned flow body.content trailers seen.now in
+          let behind : ServerSide = side_behind side (interim + size) in
+          response_led asked_flow.response (λ message. taken_at_response_body message answer.value)
+          (λ taken. turn_taken_whole at asked_flow behind taken answer.moment (server_in side seen) seen.closed)
+          (λ taken. taken_whole_led at asked_flow behind taken answer.moment (server_in side seen) seen.closed at_flow more is)
+      returned_led at flow side interim (bad_head fault) seen answer at_flow more is = over_led [] tt
+      returned_led at flow side interim (bad_body fault head body) seen answer at_flow more is = over_led [] tt
 
       given_led : (at : At) (flow : Flow) (taken : Taken Response) (moment : ℕ) (closed : Bool) → SameFlow flow_now dials at → 1 < count → names flow.id →
           Led (turn_taken_given at flow taken moment closed)
@@ -306,13 +340,15 @@ pub turn_led : (terms : Terms) (names : FlowId → Type 0) (stage : Stage) (seen
 turn_led terms names (idle at) seen answer goes is =
     head_led names terms at.flow at.dials 5 at (request_in at seen) seen answer (refl, omega arith) (omega arith) is
 turn_led terms names (busy at flow (request_body given)) seen answer goes is =
-    body_led names terms at.flow at.dials 4 at flow (request_in at seen) seen answer (refl, omega arith) (omega arith) is
+    body_led names terms at.flow at.dials 4 terms.place at flow (request_in at seen) seen answer (refl, omega arith) (omega arith) is
 turn_led terms names (busy at flow connection) seen answer goes is =
     dial_led names terms at.flow at.dials 3 at flow answer.value answer.moment seen.closed (refl, omega arith) (omega arith) is
 turn_led terms names (busy at flow (response_head side how)) seen answer goes is =
     answer_led names terms at.flow at.dials 2 at flow side (answers_in flow.request side seen).final seen answer (refl, omega arith) (omega arith) is
 turn_led terms names (busy at flow (response_body side how)) seen answer goes is =
-    returned_led names terms at.flow at.dials 1 at flow side (answers_in flow.request side seen).final seen answer (refl, omega arith) is
+    returned_led names terms at.flow at.dials 1 at flow side (answers_in flow.request side seen).used (answers_in flow.request side seen).final seen answer
+    (refl, omega arith) (omega arith) is
+turn_led terms names (busy at flow (upgraded side)) seen answer goes is = over_led names terms at.flow at.dials 0 [] tt
 turn_led terms names (busy at flow given_head) seen answer goes is =
     let asked_flow : Flow = with_start flow seen.now in
     response_led names terms at.flow at.dials 2 asked_flow.response (λ message. taken_at_response_head message answer.value)
@@ -357,6 +393,7 @@ pass_of terms names (busy at flow (request_body given)) seen is = pass_of_by ter
 pass_of terms names (busy at flow connection) seen is = is
 pass_of terms names (busy at flow (response_head side how)) seen is = is
 pass_of terms names (busy at flow (response_body side how)) seen is = is
+pass_of terms names (busy at flow (upgraded side)) seen is = is
 pass_of terms names (busy at flow given_head) seen is = is
 pass_of terms names (busy at flow given_body) seen is = is
 pass_of terms names (next at) seen is = is

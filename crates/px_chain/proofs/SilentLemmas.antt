@@ -1,6 +1,7 @@
--- A server is sent nothing before its dial was answered with the connection, and before the first move nobody is.
-use Rattle.std.proofs.Common.{◌≡◌, ℕ, ◌+◌, ◌≤◌, Bool, true, false, cond, List, [], ◌∷◌, ◌++◌, drop, Option, Some, None, refl, ap, sym, ◌∙◌, arith}
-use Rattle.std.specs.Prelude.{◌==◌, map}
+-- What a conversation sends goes to servers that are connected: those that were dialled before its stage, of which the side in use and
+-- the spare one are two. And before the first move nobody is sent anything.
+use Rattle.std.proofs.Common.{◌≡◌, ℕ, ◌+◌, ◌≤◌, ◌<◌, Bool, true, false, cond, List, [], ◌∷◌, ◌++◌, drop, Option, Some, None, refl, ap, ◌∙◌, arith}
+use Rattle.std.specs.Prelude.{⊤, ◌==◌, map}
 use Rattle.std.proofs.lemmas.Bool.{eqb-true}
 use Rattle.px_message.specs.declared.fault.Fault.{Fault}
 use Rattle.px_message.specs.declared.fault.Fault.TheVariants.{BadResponse}
@@ -13,50 +14,85 @@ use Rattle.px_event.specs.declared.command.Command.{Command}
 use Rattle.px_event.specs.declared.event.Event.{Event}
 use Rattle.px_event.specs.declared.reply.Reply.{Reply}
 use Rattle.px_event.specs.declared.reply.Reply.TheVariants as reply
-use Rattle.px_event.specs.declared.side.Side.TheVariants.{Server}
-use Rattle.px_event.specs.Chain.{Stamp, Stamped, Timed, Look, NotYet, Asks, Ends, Turn, Reached, Stop, Chain, worked_off, at_its_step, never, reach, reach_by, walk, walk_by, found, owed_at}
-use Rattle.px_event.specs.Layer.{Move, Took, Replied}
-use Rattle.px_event.specs.Stands.{due_by, events_in, replies_in}
-use Rattle.px_event.specs.View.{bytes_in, close, line, seen_of}
-use Rattle.px_event.proofs.LineLemmas.{bytes_join}
-use Rattle.px_event.proofs.Seen.{seen_append}
+use Rattle.px_event.specs.Chain.{Timed, Look, NotYet, Asks, Ends, Turn, found}
+use Rattle.px_event.specs.Layer.{Move}
+use Rattle.px_event.specs.Stands.{due_by}
+use Rattle.px_event.specs.View.{bytes_in, close}
 use Rattle.px_read.specs.Items.{Item, missing, part, complete, bad_head, bad_body, request_item}
 use Rattle.px_read.specs.declared.head.RequestHead.{RequestHead as ReadRequest}
 use Rattle.px_read.specs.declared.head.ResponseHead.{ResponseHead as ReadResponse}
 use Rattle.px_exchange.specs.declared.asked.Judged.{Judged}
-use Rattle.px_exchange.specs.declared.asked.Judged.TheVariants.{Refused, Accepted}
+use Rattle.px_exchange.specs.declared.asked.Judged.TheVariants.{Refused, Accepted, Connects}
 use Rattle.px_exchange.specs.declared.ending.Used.{Used}
 use Rattle.px_exchange.specs.declared.ending.Used.TheVariants.{NoServer, ByServer}
+use Rattle.px_exchange.specs.declared.place.Place.{Place}
 use Rattle.px_exchange.specs.declared.taken.Taken.{Taken}
 use Rattle.px_exchange.specs.declared.taken.Taken.TheVariants.{GoesOn, Responds, Kills}
 use Rattle.px_exchange.specs.declared.terms.Terms.{Terms}
-use Rattle.px_chain.specs.Chain.{begin, stands, dial_leads, sequence, http_chain, find, leaving, look, pass, pass_body, so_far, turn, turn_head, turn_judged, turn_taken_head, turn_body, turn_taken_body, turn_answer, turn_answer_head, turn_taken_answer, turn_returned, turn_whole_answer, turn_response, turn_taken_returned, turn_taken_given, killed, IsOnward, is_alone, is_sequence, behind_flow, used_more}
-use Rattle.px_exchange.specs.Finds.{or_leaves, look_head, look_judged, look_body, look_answer, look_answer_head, look_returned, is_relayed}
-use Rattle.px_exchange.specs.Texts.{meets_expectation, interim_command, interim_commands}
-use Rattle.px_exchange.specs.Dials.{dial_owes}
-use Rattle.px_exchange.specs.Flows.{response_of, with_answer, with_body, with_end, with_returned, with_start}
-use Rattle.px_chain.specs.Stages.{At, ServerSide, Stage, idle, busy, next, over, request_body, connection, response_head, response_body, given_head, given_body, place_of}
+use Rattle.px_exchange.specs.Dials.{connected_owes, dial_owes}
 use Rattle.px_exchange.specs.Endings.{shut_server, shut_client, shut_unless, without_response, killed_message, closed_message, ends_early, ends_by_fault, refuses, finished, connection_goes_on}
+use Rattle.px_exchange.specs.Finds.{or_leaves, look_head, look_judged, look_body, look_answer, look_answer_head, look_returned, is_relayed}
+use Rattle.px_exchange.specs.Flows.{response_of, with_answer, with_body, with_end, with_returned, with_start}
+use Rattle.px_exchange.specs.Places.{goes_home}
 use Rattle.px_exchange.specs.Replies.{taken_at_request_body, taken_at_request_head, taken_at_response_body, taken_at_response_head}
 use Rattle.px_exchange.specs.Requests.{is_head, expects, flow_of, judged}
-use Rattle.px_chain.specs.Silent.{connects, connections, NoAnswer}
-use Rattle.px_chain.specs.Sights.{Sight, Standing, sight_over, answers_in, request_in, server_in}
+use Rattle.px_exchange.specs.Texts.{meets_expectation, interim_command, interim_commands}
+use Rattle.px_chain.specs.Chain.{IsOnward, begin, begin_with, behind_flow, dial_leads, find, finish, finish_by, goes_on_by, http_chain, is_alone, is_sequence, killed, leaving, look, pass, pass_body, sequence, side_behind, so_far, spare_for, turn, turn_answer, turn_answer_head, turn_body, turn_head, turn_judged, turn_response, turn_returned, turn_taken_answer, turn_taken_body, turn_taken_given, turn_taken_head, turn_taken_returned, turn_taken_whole, turn_whole_answer, used_more}
+use Rattle.px_chain.specs.Silent.{NoAnswer, SpareBelow, connects, connections}
+use Rattle.px_chain.specs.Sights.{Sight, Spare, Standing, Unused, answers_in, request_in, server_in, sight_over, took_spare, unless_taken, unused_over}
+use Rattle.px_chain.specs.Stages.{At, ServerSide, Stage, busy, connection, given_body, given_head, idle, next, over, place_of, request_body, response_body, response_head, side_in, upgraded}
+use Rattle.px_chain.proofs.CountedLemmas.{Counts, CountsServers, IsSilent, counted_from, counted_silent, silent_both}
 
 -- how many servers were dialled before the stage's flow dials
-abbrev dialled : Stage → ℕ
+abbrev pub dialled : Stage → ℕ
 dialled stage = (place_of stage).dials
 
+-- the side's server is among the first so many
+abbrev pub SideBelow : Option ServerSide → ℕ → Type 0
+SideBelow None dials = ⊤
+SideBelow (Some side) dials = side.server < dials
+
+abbrev pub UnusedBelow : Option Unused → ℕ → Type 0
+UnusedBelow None dials = ⊤
+UnusedBelow (Some unused) dials = unused.server < dials
+
+-- At the stage the server in use and the spare one are among those that were dialled; at the end it counts for nothing.
+abbrev pub ServersBelow : Option Spare → Stage → Type 0
+ServersBelow spare (idle at) = SpareBelow spare at.dials
+ServersBelow spare (busy at flow doing) = SpareBelow spare at.dials × SideBelow (side_in doing) at.dials
+ServersBelow spare (next at) = SpareBelow spare at.dials
+ServersBelow spare over = ⊤
+
+-- So is it at a place.
+abbrev pub AreBelow : Standing → Type 0
+AreBelow place = ServersBelow place.spare place.stage
+
+-- so many servers were dialled before the stage at least, and at most so many, with the one in use; at the end that counts for nothing
+abbrev pub IsBetween : ℕ → ℕ → Stage → Type 0
+IsBetween least most (idle at) = (least ≤ at.dials) × (at.dials ≤ most)
+IsBetween least most (busy at flow doing) = ((least ≤ at.dials) × (at.dials ≤ most)) × SideBelow (side_in doing) at.dials
+IsBetween least most (next at) = (least ≤ at.dials) × (at.dials ≤ most)
+IsBetween least most over = ⊤
+
+-- the server is none that a reply can send to at this stage
+abbrev pub IsBeyond : ℕ → Reply → Stage → Type 0
+IsBeyond server answer (busy at flow (request_body given)) = at.dials ≤ server
+IsBeyond server answer (busy at flow connection) = at.dials + connects answer ≤ server
+IsBeyond server answer stage = ⊤
+
+pub beyond_by : (server : ℕ) (answer : Reply) (stage : Stage) → dialled stage + connects answer ≤ server → IsBeyond server answer stage
+beyond_by server answer (idle at) before = tt
+beyond_by server answer (busy at flow (request_body given)) before = omega arith
+beyond_by server answer (busy at flow connection) before = before
+beyond_by server answer (busy at flow (response_head side how)) before = tt
+beyond_by server answer (busy at flow (response_body side how)) before = tt
+beyond_by server answer (busy at flow (upgraded side)) before = tt
+beyond_by server answer (busy at flow given_head) before = tt
+beyond_by server answer (busy at flow given_body) before = tt
+beyond_by server answer (next at) before = tt
+beyond_by server answer over before = tt
+
 module _ (server : ℕ) where
-  -- nothing of this is sent to the server
-  abbrev IsSilent : List Command → Type 0
-  IsSilent owed = bytes_in (seen_of (line (Server server)) owed) ≡ []
-
-  silent_both : (xs ys : List Command) → IsSilent xs → IsSilent ys → IsSilent (xs ++ ys)
-  silent_both xs ys a b =
-      ap bytes_in (seen_append (line (Server server)) xs ys)
-      ∙ (bytes_join (seen_of (line (Server server)) xs) (seen_of (line (Server server)) ys)
-      ∙ (ap (λ l. l ++ bytes_in (seen_of (line (Server server)) ys)) a ∙ b))
-
   -- a close has no bytes
   close_silent : (same : Bool) → bytes_in (cond same (close ∷ []) [] ++ []) ≡ []
   close_silent true = refl
@@ -64,47 +100,48 @@ module _ (server : ℕ) where
 
   -- ---- ends
 
-  client_silent : (closed : Bool) → IsSilent (shut_client closed)
+  client_silent : (closed : Bool) → IsSilent server (shut_client closed)
   client_silent true = refl
   client_silent false = refl
 
-  server_silent : (used : Used) → IsSilent (shut_server used)
+  server_silent : (used : Used) → IsSilent server (shut_server used)
   server_silent NoServer = refl
   server_silent (ByServer number true) = refl
   server_silent (ByServer number false) = close_silent (number == server)
 
-  early_silent : (flow : Flow) (message : List ℕ) (moment : ℕ) (used : Used) (closed : Bool) → IsSilent (ends_early flow message moment used closed)
-  early_silent flow message moment used closed = silent_both (shut_server used) (shut_client closed) (server_silent used) (client_silent closed)
+  pub early_silent : (flow : Flow) (message : List ℕ) (moment : ℕ) (used : Used) (closed : Bool) → IsSilent server (ends_early flow message moment used closed)
+  early_silent flow message moment used closed = silent_both server (shut_server used) (shut_client closed) (server_silent used) (client_silent closed)
 
-  fault_silent : (flow : Flow) (fault : Fault) (moment : ℕ) (used : Used) (closed : Bool) → IsSilent (ends_by_fault flow fault moment used closed)
-  fault_silent flow fault moment used closed = silent_both (shut_server used) (shut_client closed) (server_silent used) (client_silent closed)
+  pub fault_silent : (flow : Flow) (fault : Fault) (moment : ℕ) (used : Used) (closed : Bool) → IsSilent server (ends_by_fault flow fault moment used closed)
+  fault_silent flow fault moment used closed = silent_both server (shut_server used) (shut_client closed) (server_silent used) (client_silent closed)
 
-  refuses_silent : (fault : Fault) (asked_head closed : Bool) → IsSilent (refuses fault asked_head closed)
+  refuses_silent : (fault : Fault) (asked_head closed : Bool) → IsSilent server (refuses fault asked_head closed)
   refuses_silent fault asked_head closed = client_silent closed
 
-  unless_silent : (stays closed : Bool) → IsSilent (shut_unless stays closed)
+  unless_silent : (stays closed : Bool) → IsSilent server (shut_unless stays closed)
   unless_silent true closed = refl
   unless_silent false closed = client_silent closed
 
-  finished_silent : (flow : Flow) (response : Response) (used : Used) → IsSilent (finished flow response used)
+  finished_silent : (flow : Flow) (response : Response) (used : Used) → IsSilent server (finished flow response used)
   finished_silent flow response used = server_silent used
 
   -- ---- while it waits
 
-  interim_silent : (heads : List ReadResponse) → IsSilent (map interim_command heads)
+  interim_silent : (heads : List ReadResponse) → IsSilent server (map interim_command heads)
   interim_silent [] = refl
   interim_silent (head ∷ heads) = interim_silent heads
 
-  interim_by : (version : Version) (message : Request) (heads : List ReadResponse) → message.version ≡ version → IsSilent (interim_commands message heads)
+  interim_by : (version : Version) (message : Request) (heads : List ReadResponse) → message.version ≡ version → IsSilent server (interim_commands message heads)
   interim_by versions.Http10 message heads is = rw is refl
   interim_by versions.Http11 message heads is = rw is (interim_silent heads)
 
-  so_far_silent : (stage : Stage) (seen : Sight) → IsSilent (so_far stage seen)
+  pub so_far_silent : (stage : Stage) (seen : Sight) → IsSilent server (so_far stage seen)
   so_far_silent (idle at) seen = refl
   so_far_silent (busy at flow (request_body given)) seen = refl
   so_far_silent (busy at flow connection) seen = refl
   so_far_silent (busy at flow (response_head side how)) seen = interim_by flow.request.version flow.request _ refl
   so_far_silent (busy at flow (response_body side how)) seen = refl
+  so_far_silent (busy at flow (upgraded side)) seen = refl
   so_far_silent (busy at flow given_head) seen = refl
   so_far_silent (busy at flow given_body) seen = refl
   so_far_silent (next at) seen = refl
@@ -113,18 +150,19 @@ module _ (server : ℕ) where
   -- ---- what is found
 
   module _ (terms : Terms) where
-    judged_silent : (index : ℕ) (head : ReadRequest) (made : Judged) (moment : ℕ) (closed : Bool) → IsSilent (found (look_judged terms index head made moment closed))
+    judged_silent : (index : ℕ) (head : ReadRequest) (made : Judged) (moment : ℕ) (closed : Bool) → IsSilent server (found (look_judged terms index head made moment closed))
     judged_silent index head (Refused fault) moment closed = refuses_silent fault (is_head head.method) closed
     judged_silent index head (Accepted message) moment closed = refl
+    judged_silent index head (Connects address) moment closed = refl
 
-    head_silent : (index : ℕ) (item : Item ReadRequest) (moment : ℕ) (closed : Bool) → IsSilent (found (look_head terms index item moment closed))
+    head_silent : (index : ℕ) (item : Item ReadRequest) (moment : ℕ) (closed : Bool) → IsSilent server (found (look_head terms index item moment closed))
     head_silent index missing moment closed = refl
     head_silent index (part head body) moment closed = judged_silent index head (judged terms.place head) moment closed
     head_silent index (complete head body trailers used) moment closed = judged_silent index head (judged terms.place head) moment closed
     head_silent index (bad_head fault) moment closed = refuses_silent fault false closed
     head_silent index (bad_body fault head body) moment closed = judged_silent index head (judged terms.place head) moment closed
 
-    body_silent : (flow : Flow) (item : Item ReadRequest) (moment : ℕ) (closed : Bool) → IsSilent (found (look_body flow item moment closed))
+    body_silent : (flow : Flow) (item : Item ReadRequest) (moment : ℕ) (closed : Bool) → IsSilent server (found (look_body flow item moment closed))
     body_silent flow missing moment closed = refl
     body_silent flow (part head body) moment closed = refl
     body_silent flow (complete head body trailers used) moment closed = refl
@@ -132,25 +170,25 @@ module _ (server : ℕ) where
     body_silent flow (bad_body fault head body) moment closed = fault_silent flow fault moment NoServer closed
 
     relays_silent : (flow : Flow) (head : ReadResponse) (moment : ℕ) (used : Used) (closed relays : Bool) → is_relayed head.code ≡ relays →
-        IsSilent (found (look_answer_head flow head moment used closed))
+        IsSilent server (found (look_answer_head flow head moment used closed))
     relays_silent flow head moment used closed true at = rw at refl
     relays_silent flow head moment used closed false at = rw at (fault_silent flow BadResponse moment used closed)
 
-    answer_silent : (flow : Flow) (item : Item ReadResponse) (moment : ℕ) (used : Used) (closed : Bool) → IsSilent (found (look_answer flow item moment used closed))
+    answer_silent : (flow : Flow) (item : Item ReadResponse) (moment : ℕ) (used : Used) (closed : Bool) → IsSilent server (found (look_answer flow item moment used closed))
     answer_silent flow missing moment used closed = refl
     answer_silent flow (part head body) moment used closed = relays_silent flow head moment used closed (is_relayed head.code) refl
     answer_silent flow (complete head body trailers size) moment used closed = relays_silent flow head moment used closed (is_relayed head.code) refl
     answer_silent flow (bad_head fault) moment used closed = fault_silent flow fault moment used closed
     answer_silent flow (bad_body fault head body) moment used closed = relays_silent flow head moment used closed (is_relayed head.code) refl
 
-    returned_silent : (flow : Flow) (item : Item ReadResponse) (moment : ℕ) (used : Used) (closed : Bool) → IsSilent (found (look_returned flow item moment used closed))
+    returned_silent : (flow : Flow) (item : Item ReadResponse) (moment : ℕ) (used : Used) (closed : Bool) → IsSilent server (found (look_returned flow item moment used closed))
     returned_silent flow missing moment used closed = refl
     returned_silent flow (part head body) moment used closed = refl
     returned_silent flow (complete head body trailers size) moment used closed = refl
     returned_silent flow (bad_head fault) moment used closed = refl
     returned_silent flow (bad_body fault head body) moment used closed = fault_silent flow fault moment used closed
 
-    finds_silent : (stage : Stage) (seen : Sight) → IsSilent (found (find terms stage seen))
+    finds_silent : (stage : Stage) (seen : Sight) → IsSilent server (found (find terms stage seen))
     finds_silent (idle at) seen = head_silent at.flow (request_in at seen) seen.now seen.closed
     finds_silent (busy at flow (request_body given)) seen = body_silent flow (request_in at seen) seen.now seen.closed
     finds_silent (busy at flow connection) seen = refl
@@ -158,175 +196,210 @@ module _ (server : ℕ) where
         answer_silent flow (answers_in flow.request side seen).final seen.now (server_in side seen) seen.closed
     finds_silent (busy at flow (response_body side how)) seen =
         returned_silent flow (answers_in flow.request side seen).final seen.now (server_in side seen) seen.closed
+    finds_silent (busy at flow (upgraded side)) seen = refl
     finds_silent (busy at flow given_head) seen = refl
     finds_silent (busy at flow given_body) seen = refl
     finds_silent (next at) seen = refl
     finds_silent over seen = refl
 
-    leaving_silent : (stage : Stage) (seen : Sight) → IsSilent (leaving stage seen)
+    leaving_silent : (stage : Stage) (seen : Sight) → IsSilent server (leaving stage seen)
     leaving_silent (idle at) seen = refl
     leaving_silent (busy at flow (request_body given)) seen = early_silent flow closed_message seen.now NoServer true
     leaving_silent (busy at flow connection) seen = refl
     leaving_silent (busy at flow (response_head side how)) seen = early_silent flow closed_message seen.now (server_in side seen) true
     leaving_silent (busy at flow (response_body side how)) seen = early_silent (without_response flow) closed_message seen.now (server_in side seen) true
+    leaving_silent (busy at flow (upgraded side)) seen = refl
     leaving_silent (busy at flow given_head) seen = refl
     leaving_silent (busy at flow given_body) seen = refl
     leaving_silent (next at) seen = refl
     leaving_silent over seen = refl
 
-    leaves_silent : (closed : Bool) (leaves : List Command) (l : Look Command) → IsSilent leaves → IsSilent (found l) → IsSilent (found (or_leaves closed leaves l))
+    leaves_silent : (closed : Bool) (leaves : List Command) (l : Look Command) → IsSilent server leaves → IsSilent server (found l) → IsSilent server (found (or_leaves closed leaves l))
     leaves_silent true leaves NotYet silent is = silent
     leaves_silent false leaves NotYet silent is = refl
     leaves_silent closed leaves (Asks ask) silent is = is
     leaves_silent closed leaves (Ends owed) silent is = is
 
-    looks_silent : (stage : Stage) (seen : Sight) → IsSilent (found (look terms stage seen))
+    pub looks_silent : (stage : Stage) (seen : Sight) → IsSilent server (found (look terms stage seen))
     looks_silent stage seen = leaves_silent seen.closed (leaving stage seen) (find terms stage seen) (leaving_silent stage seen) (finds_silent stage seen)
 
     -- ---- replies
 
-    -- What a reply brings sends nothing to the server, and leads to where at most so many servers were dialled.
-    abbrev Leads : ℕ → Turn Stage Command → Type 0
-    Leads most turned = IsSilent turned.owed × (dialled turned.stage ≤ most)
+    -- What a reply brings sends nothing to the server, and leads to where so many servers were dialled.
+    abbrev Leads : ℕ → ℕ → Turn Stage Command → Type 0
+    Leads least most turned = IsSilent server turned.owed × IsBetween least most turned.stage
 
-    module _ (most : ℕ) where
-      over_leads : (owed : List Command) → IsSilent owed → Leads most (record { owed = owed; stage = over })
-      over_leads owed silent = (silent, omega arith)
+    module _ (least most : ℕ) where
+      abbrev Few : At → Type 0
+      Few at = (least ≤ at.dials) × (at.dials ≤ most)
 
-      killed_leads : (flow : Flow) (moment : ℕ) (used : Used) (closed : Bool) → Leads most (killed flow moment used closed)
+      over_leads : (owed : List Command) → IsSilent server owed → Leads least most (record { owed = owed; stage = over })
+      over_leads owed silent = (silent, tt)
+
+      killed_leads : (flow : Flow) (moment : ℕ) (used : Used) (closed : Bool) → Leads least most (killed flow moment used closed)
       killed_leads flow moment used closed = over_leads (ends_early flow killed_message moment used closed) (early_silent flow killed_message moment used closed)
 
-      expectation_silent : (expected : Bool) → IsSilent (meets_expectation expected)
+      expectation_silent : (expected : Bool) → IsSilent server (meets_expectation expected)
       expectation_silent true = refl
       expectation_silent false = refl
 
-      taken_head_leads : (at : At) (flow : Flow) (expected : Bool) (taken : Taken Request) (moment : ℕ) (closed : Bool) → at.dials ≤ most →
-          Leads most (turn_taken_head at flow expected taken moment closed)
-      taken_head_leads at flow expected (GoesOn message) moment closed few = (expectation_silent expected, few)
-      taken_head_leads at flow expected (Responds response) moment closed few = (expectation_silent expected, few)
+      taken_head_leads : (at : At) (flow : Flow) (expected : Bool) (taken : Taken Request) (moment : ℕ) (closed : Bool) → Few at → Leads least most (turn_taken_head at flow expected taken moment closed)
+      taken_head_leads at flow expected (GoesOn message) moment closed few = (expectation_silent expected, (few, tt))
+      taken_head_leads at flow expected (Responds response) moment closed few = (expectation_silent expected, (few, tt))
       taken_head_leads at flow expected Kills moment closed few = killed_leads flow moment NoServer closed
 
-      judged_leads : (at : At) (head : ReadRequest) (made : Judged) (seen : Sight) (answer : Timed Reply) → at.dials ≤ most →
-          Leads most (turn_judged terms at head made seen answer)
+      judged_leads : (at : At) (head : ReadRequest) (made : Judged) (seen : Sight) (answer : Timed Reply) → Few at → Leads least most (turn_judged terms at head made seen answer)
       judged_leads at head (Refused fault) seen answer few = over_leads [] refl
+      judged_leads at head (Connects address) seen answer few = over_leads [] refl
       judged_leads at head (Accepted message) seen answer few =
           taken_head_leads at (flow_of terms at.flow message seen.now) (expects head) (taken_at_request_head message answer.value) answer.moment seen.closed few
 
-      head_leads : (at : At) (item : Item ReadRequest) (seen : Sight) (answer : Timed Reply) → at.dials ≤ most →
-          Leads most (turn_head terms at item seen answer)
+      head_leads : (at : At) (item : Item ReadRequest) (seen : Sight) (answer : Timed Reply) → Few at → Leads least most (turn_head terms at item seen answer)
       head_leads at missing seen answer few = over_leads [] refl
       head_leads at (part head body) seen answer few = judged_leads at head (judged terms.place head) seen answer few
       head_leads at (complete head body trailers used) seen answer few = judged_leads at head (judged terms.place head) seen answer few
       head_leads at (bad_head fault) seen answer few = over_leads [] refl
       head_leads at (bad_body fault head body) seen answer few = judged_leads at head (judged terms.place head) seen answer few
 
-      taken_body_leads : (at : At) (flow : Flow) (taken : Taken Request) (moment : ℕ) (closed : Bool) → at.dials ≤ most → Leads most (turn_taken_body at flow taken moment closed)
-      taken_body_leads at flow (GoesOn message) moment closed few = (refl, few)
-      taken_body_leads at flow (Responds response) moment closed few = (refl, few)
-      taken_body_leads at flow Kills moment closed few = killed_leads flow moment NoServer closed
+      -- this server is another one
+      other_server : (number : ℕ) → number + 1 ≤ server → (other : Bool) → (number == server) ≡ other → other ≡ false
+      other_server number before false is = refl
+      other_server number before true is = let same = eqb-true number server is in absurd (let no : ⊥ = omega arith in no)
 
-      body_leads : (at : At) (flow : Flow) (item : Item ReadRequest) (seen : Sight) (answer : Timed Reply) → at.dials ≤ most →
-          Leads most (turn_body at flow item seen answer)
-      body_leads at flow missing seen answer few = over_leads [] refl
-      body_leads at flow (part head body) seen answer few = over_leads [] refl
-      body_leads at flow (complete head body trailers used) seen answer few =
+      connected_silent : (place : Place) (flow : Flow) (number : ℕ) → number + 1 ≤ server → IsSilent server (connected_owes place flow number)
+      connected_silent place flow number before =
+          let other : (number == server) ≡ false = other_server number before (number == server) refl in rw other refl
+
+      goes_on_leads : (home : Bool) (spare : Option Unused) (place : Place) (at : At) (flow : Flow) → Few at → at.dials ≤ server → UnusedBelow spare at.dials →
+          Leads least most (goes_on_by (spare_for home spare) place at flow)
+      goes_on_leads true None place at flow few before below = (refl, (few, tt))
+      goes_on_leads true (Some unused) place at flow few before below = (connected_silent place flow unused.server (omega arith), (few, below))
+      goes_on_leads false spare place at flow few before below = (refl, (few, tt))
+
+      taken_body_leads : (place : Place) (at : At) (flow : Flow) (spare : Option Unused) (taken : Taken Request) (moment : ℕ) (closed : Bool) → Few at → at.dials ≤ server → UnusedBelow spare at.dials →
+          Leads least most (turn_taken_body place at flow spare taken moment closed)
+      taken_body_leads place at flow spare (GoesOn message) moment closed few before below =
+          goes_on_leads (goes_home place message) spare place at (record flow { request = message }) few before below
+      taken_body_leads place at flow spare (Responds response) moment closed few before below = (refl, (few, tt))
+      taken_body_leads place at flow spare Kills moment closed few before below = killed_leads flow moment NoServer closed
+
+      body_leads : (place : Place) (at : At) (flow : Flow) (item : Item ReadRequest) (seen : Sight) (answer : Timed Reply) → Few at → at.dials ≤ server → UnusedBelow seen.spare at.dials →
+          Leads least most (turn_body place at flow item seen answer)
+      body_leads place at flow missing seen answer few before below = over_leads [] refl
+      body_leads place at flow (part head body) seen answer few before below = over_leads [] refl
+      body_leads place at flow (complete head body trailers used) seen answer few before below =
           let asked_flow : Flow = with_body flow body.content trailers seen.now in
-          taken_body_leads (used_more at used) asked_flow (taken_at_request_body asked_flow.request answer.value) answer.moment seen.closed few
-      body_leads at flow (bad_head fault) seen answer few = over_leads [] refl
-      body_leads at flow (bad_body fault head body) seen answer few = over_leads [] refl
+          taken_body_leads place (used_more at used) asked_flow seen.spare (taken_at_request_body asked_flow.request answer.value) answer.moment seen.closed few before below
+      body_leads place at flow (bad_head fault) seen answer few before below = over_leads [] refl
+      body_leads place at flow (bad_body fault head body) seen answer few before below = over_leads [] refl
 
-      taken_answer_leads : (at : At) (flow : Flow) (side : ServerSide) (taken : Taken Response) (moment : ℕ) (used : Used) (closed : Bool) → at.dials ≤ most →
-          Leads most (turn_taken_answer at flow side taken moment used closed)
-      taken_answer_leads at flow side (GoesOn message) moment used closed few = (refl, few)
-      taken_answer_leads at flow side (Responds response) moment used closed few = killed_leads (without_response flow) moment used closed
-      taken_answer_leads at flow side Kills moment used closed few = killed_leads (without_response flow) moment used closed
+      taken_answer_leads : (at : At) (flow : Flow) (side : ServerSide) (taken : Taken Response) (moment : ℕ) (used : Used) (closed : Bool) → Few at → side.server < at.dials →
+          Leads least most (turn_taken_answer at flow side taken moment used closed)
+      taken_answer_leads at flow side (GoesOn message) moment used closed few below = (refl, (few, below))
+      taken_answer_leads at flow side (Responds response) moment used closed few below = killed_leads (without_response flow) moment used closed
+      taken_answer_leads at flow side Kills moment used closed few below = killed_leads (without_response flow) moment used closed
 
-      answer_head_leads : (at : At) (flow : Flow) (side : ServerSide) (head : ReadResponse) (seen : Sight) (answer : Timed Reply) → at.dials ≤ most →
-          Leads most (turn_answer_head at flow side head seen answer)
-      answer_head_leads at flow side head seen answer few =
-          taken_answer_leads at (with_answer flow (response_of head) seen.now) side (taken_at_response_head (response_of head) answer.value) answer.moment (server_in side seen) seen.closed few
+      answer_head_leads : (at : At) (flow : Flow) (side : ServerSide) (head : ReadResponse) (seen : Sight) (answer : Timed Reply) → Few at → side.server < at.dials →
+          Leads least most (turn_answer_head at flow side head seen answer)
+      answer_head_leads at flow side head seen answer few below =
+          taken_answer_leads at (with_answer flow (response_of head) seen.now) side (taken_at_response_head (response_of head) answer.value) answer.moment (server_in side seen) seen.closed few below
 
-      answer_leads : (at : At) (flow : Flow) (side : ServerSide) (item : Item ReadResponse) (seen : Sight) (answer : Timed Reply) → at.dials ≤ most →
-          Leads most (turn_answer at flow side item seen answer)
-      answer_leads at flow side missing seen answer few = over_leads [] refl
-      answer_leads at flow side (part head body) seen answer few = answer_head_leads at flow side head seen answer few
-      answer_leads at flow side (complete head body trailers size) seen answer few = answer_head_leads at flow side head seen answer few
-      answer_leads at flow side (bad_head fault) seen answer few = over_leads [] refl
-      answer_leads at flow side (bad_body fault head body) seen answer few = answer_head_leads at flow side head seen answer few
+      answer_leads : (at : At) (flow : Flow) (side : ServerSide) (item : Item ReadResponse) (seen : Sight) (answer : Timed Reply) → Few at → side.server < at.dials →
+          Leads least most (turn_answer at flow side item seen answer)
+      answer_leads at flow side missing seen answer few below = over_leads [] refl
+      answer_leads at flow side (part head body) seen answer few below = answer_head_leads at flow side head seen answer few below
+      answer_leads at flow side (complete head body trailers size) seen answer few below = answer_head_leads at flow side head seen answer few below
+      answer_leads at flow side (bad_head fault) seen answer few below = over_leads [] refl
+      answer_leads at flow side (bad_body fault head body) seen answer few below = answer_head_leads at flow side head seen answer few below
 
-      finish_leads : (at : At) (owed : List Command) (stays : Bool) → IsSilent owed → at.dials ≤ most → Leads most (record { owed = owed; stage = behind_flow stays at })
-      finish_leads at owed true silent few = (silent, few)
-      finish_leads at owed false silent few = over_leads owed silent
+      behind_leads : (at : At) (owed : List Command) (stays : Bool) → IsSilent server owed → Few at → Leads least most (record { owed = owed; stage = behind_flow stays at })
+      behind_leads at owed true silent few = (silent, few)
+      behind_leads at owed false silent few = over_leads owed silent
 
-      taken_returned_leads : (at : At) (flow : Flow) (taken : Taken Response) (moment : ℕ) (used : Used) (closed : Bool) → at.dials ≤ most →
-          Leads most (turn_taken_returned at flow taken moment used closed)
-      taken_returned_leads at flow (GoesOn message) moment used closed few =
+      finish_leads : (at : At) (flow : Flow) (message : Response) (used : Used) (closed : Bool) → Few at → Leads least most (finish at flow message used closed)
+      finish_leads at flow message used closed few =
           let stays : Bool = connection_goes_on at.flow flow.request message in
-          finish_leads at (finished flow message used ++ shut_unless stays closed) stays
-          (silent_both (finished flow message used) (shut_unless stays closed) (finished_silent flow message used) (unless_silent stays closed)) few
+          behind_leads at (finished flow message used ++ shut_unless stays closed) stays
+          (silent_both server (finished flow message used) (shut_unless stays closed) (finished_silent flow message used) (unless_silent stays closed)) few
+
+      taken_returned_leads : (at : At) (flow : Flow) (taken : Taken Response) (moment : ℕ) (used : Used) (closed : Bool) → Few at →
+          Leads least most (turn_taken_returned at flow taken moment used closed)
+      taken_returned_leads at flow (GoesOn message) moment used closed few = finish_leads at flow message used closed few
       taken_returned_leads at flow (Responds response) moment used closed few = killed_leads flow moment used closed
       taken_returned_leads at flow Kills moment used closed few = killed_leads flow moment used closed
 
-      response_leads : (o : Option Response) (takes : Response → Taken Response) (goes : Taken Response → Turn Stage Command) → ((taken : Taken Response) → Leads most (goes taken)) →
-          Leads most (turn_response o takes goes)
+      response_leads : (o : Option Response) (takes : Response → Taken Response) (goes : Taken Response → Turn Stage Command) → ((taken : Taken Response) → Leads least most (goes taken)) →
+          Leads least most (turn_response o takes goes)
       response_leads None takes goes leads = over_leads [] refl
       response_leads (Some message) takes goes leads = leads (takes message)
 
-      whole_answer_leads : (at : At) (flow : Flow) (answer : Timed Reply) (used : Used) (closed : Bool) → at.dials ≤ most → Leads most (turn_whole_answer at flow answer used closed)
+      whole_answer_leads : (at : At) (flow : Flow) (answer : Timed Reply) (used : Used) (closed : Bool) → Few at → Leads least most (turn_whole_answer at flow answer used closed)
       whole_answer_leads at flow answer used closed few =
           response_leads flow.response (λ message. taken_at_response_body message answer.value) (λ taken. turn_taken_returned at flow taken answer.moment used closed)
           (λ taken. taken_returned_leads at flow taken answer.moment used closed few)
 
-      returned_leads : (at : At) (flow : Flow) (side : ServerSide) (item : Item ReadResponse) (seen : Sight) (answer : Timed Reply) → at.dials ≤ most →
-          Leads most (turn_returned at flow side item seen answer)
-      returned_leads at flow side missing seen answer few = over_leads [] refl
-      returned_leads at flow side (part head body) seen answer few = over_leads [] refl
-      returned_leads at flow side (complete head body trailers size) seen answer few =
-          whole_answer_leads at (with_returned flow body.content trailers seen.now) answer (server_in side seen) seen.closed few
-      returned_leads at flow side (bad_head fault) seen answer few = over_leads [] refl
-      returned_leads at flow side (bad_body fault head body) seen answer few = over_leads [] refl
+      finish_by_leads : (switches : Bool) (at : At) (flow : Flow) (message : Response) (side : ServerSide) (used : Used) (closed : Bool) → Few at → side.server < at.dials →
+          Leads least most (finish_by switches at flow message side used closed)
+      finish_by_leads true at flow message side used closed few below = (refl, (few, below))
+      finish_by_leads false at flow message side used closed few below = finish_leads at flow message used closed few
 
-      given_leads : (at : At) (flow : Flow) (taken : Taken Response) (moment : ℕ) (closed : Bool) → at.dials ≤ most → Leads most (turn_taken_given at flow taken moment closed)
-      given_leads at flow (GoesOn message) moment closed few = (refl, few)
+      taken_whole_leads : (at : At) (flow : Flow) (side : ServerSide) (taken : Taken Response) (moment : ℕ) (used : Used) (closed : Bool) → Few at → side.server < at.dials →
+          Leads least most (turn_taken_whole at flow side taken moment used closed)
+      taken_whole_leads at flow side (GoesOn message) moment used closed few below = finish_by_leads (message.status == 101) at flow message side used closed few below
+      taken_whole_leads at flow side (Responds response) moment used closed few below = killed_leads flow moment used closed
+      taken_whole_leads at flow side Kills moment used closed few below = killed_leads flow moment used closed
+
+      returned_leads : (at : At) (flow : Flow) (side : ServerSide) (interim : ℕ) (item : Item ReadResponse) (seen : Sight) (answer : Timed Reply) → Few at → side.server < at.dials →
+          Leads least most (turn_returned at flow side interim item seen answer)
+      returned_leads at flow side interim missing seen answer few below = over_leads [] refl
+      returned_leads at flow side interim (part head body) seen answer few below = over_leads [] refl
+      returned_leads at flow side interim (complete head body trailers size) seen answer few below =
+          let asked_flow : Flow = with_returned flow body.content trailers seen.now in
+          let behind : ServerSide = side_behind side (interim + size) in
+          response_leads asked_flow.response (λ message. taken_at_response_body message answer.value)
+          (λ taken. turn_taken_whole at asked_flow behind taken answer.moment (server_in side seen) seen.closed)
+          (λ taken. taken_whole_leads at asked_flow behind taken answer.moment (server_in side seen) seen.closed few below)
+      returned_leads at flow side interim (bad_head fault) seen answer few below = over_leads [] refl
+      returned_leads at flow side interim (bad_body fault head body) seen answer few below = over_leads [] refl
+
+      given_leads : (at : At) (flow : Flow) (taken : Taken Response) (moment : ℕ) (closed : Bool) → Few at → Leads least most (turn_taken_given at flow taken moment closed)
+      given_leads at flow (GoesOn message) moment closed few = (refl, (few, tt))
       given_leads at flow (Responds response) moment closed few = killed_leads (without_response flow) moment NoServer closed
       given_leads at flow Kills moment closed few = killed_leads (without_response flow) moment NoServer closed
 
-      -- a connection is that of a server before this one
-      other_server : (dials : ℕ) → dials + 1 ≤ server → (other : Bool) → (dials == server) ≡ other → other ≡ false
-      other_server dials before false is = refl
-      other_server dials before true is = let same = eqb-true dials server is in absurd (let no : ⊥ = omega arith in no)
+      connected_leads : (at : At) (flow : Flow) (answer : Reply) (moment : ℕ) (closed : Bool) → at.dials + connects answer ≤ server → least ≤ at.dials → at.dials + connects answer ≤ most →
+          Leads least most (record { owed = dial_owes terms.place flow at.dials answer moment closed; stage = dial_leads terms.place at flow answer })
+      connected_leads at flow reply.Dialled moment closed before few many =
+          (connected_silent terms.place flow at.dials before, ((omega arith, many), omega arith))
+      connected_leads at flow (reply.Refused fault) moment closed before few many = over_leads (ends_by_fault flow fault moment NoServer closed) (fault_silent flow fault moment NoServer closed)
+      connected_leads at flow (reply.Go other stream) moment closed before few many = over_leads [] refl
+      connected_leads at flow (reply.Respond given) moment closed before few many = over_leads [] refl
+      connected_leads at flow reply.Kill moment closed before few many = over_leads [] refl
+      connected_leads at flow reply.Discard moment closed before few many = over_leads [] refl
 
-      connected_leads : (at : At) (flow : Flow) (answer : Reply) (moment : ℕ) (closed : Bool) → at.dials + connects answer ≤ server → at.dials + connects answer ≤ most →
-          Leads most (record { owed = dial_owes terms.place flow at.dials answer moment closed; stage = dial_leads terms.place at flow answer })
-      connected_leads at flow reply.Dialled moment closed before few =
-          let other : (at.dials == server) ≡ false = other_server at.dials before (at.dials == server) refl in (rw other refl, few)
-      connected_leads at flow (reply.Refused fault) moment closed before few = over_leads (ends_by_fault flow fault moment NoServer closed) (fault_silent flow fault moment NoServer closed)
-      connected_leads at flow (reply.Go other stream) moment closed before few = over_leads [] refl
-      connected_leads at flow (reply.Respond given) moment closed before few = over_leads [] refl
-      connected_leads at flow reply.Kill moment closed before few = over_leads [] refl
-      connected_leads at flow reply.Discard moment closed before few = over_leads [] refl
-
-    turn_leads : (stage : Stage) (seen : Sight) (answer : Timed Reply) → dialled stage + connects answer.value ≤ server →
-        Leads (dialled stage + connects answer.value) (turn terms stage seen answer)
-    turn_leads (idle at) seen answer before =
-        head_leads (at.dials + connects answer.value) at (request_in at seen) seen answer (omega arith)
-    turn_leads (busy at flow (request_body given)) seen answer before =
-        body_leads (at.dials + connects answer.value) at flow (request_in at seen) seen answer (omega arith)
-    turn_leads (busy at flow connection) seen answer before =
-        connected_leads (at.dials + connects answer.value) at flow answer.value answer.moment seen.closed before (omega arith)
-    turn_leads (busy at flow (response_head side how)) seen answer before =
-        answer_leads (at.dials + connects answer.value) at flow side (answers_in flow.request side seen).final seen answer (omega arith)
-    turn_leads (busy at flow (response_body side how)) seen answer before =
-        returned_leads (at.dials + connects answer.value) at flow side (answers_in flow.request side seen).final seen answer (omega arith)
-    turn_leads (busy at flow given_head) seen answer before =
+    pub turn_leads : (stage : Stage) (spare : Option Spare) (seen : Sight) (answer : Timed Reply) → ServersBelow spare stage →
+        ((dials : ℕ) → SpareBelow spare dials → UnusedBelow seen.spare dials) → IsBeyond server answer.value stage → Leads (dialled stage) (dialled stage + connects answer.value) (turn terms stage seen answer)
+    turn_leads (idle at) spare seen answer below sees before =
+        head_leads at.dials (at.dials + connects answer.value) at (request_in at seen) seen answer (omega arith, omega arith)
+    turn_leads (busy at flow (request_body given)) spare seen answer below sees before =
+        body_leads at.dials (at.dials + connects answer.value) terms.place at flow (request_in at seen) seen answer (omega arith, omega arith) before (sees at.dials below.0)
+    turn_leads (busy at flow connection) spare seen answer below sees before =
+        connected_leads at.dials (at.dials + connects answer.value) at flow answer.value answer.moment seen.closed before (omega arith) (omega arith)
+    turn_leads (busy at flow (response_head side how)) spare seen answer below sees before =
+        answer_leads at.dials (at.dials + connects answer.value) at flow side (answers_in flow.request side seen).final seen answer (omega arith, omega arith) below.1
+    turn_leads (busy at flow (response_body side how)) spare seen answer below sees before =
+        returned_leads at.dials (at.dials + connects answer.value) at flow side (answers_in flow.request side seen).used (answers_in flow.request side seen).final seen answer
+        (omega arith, omega arith) below.1
+    turn_leads (busy at flow (upgraded side)) spare seen answer below sees before = over_leads at.dials (at.dials + connects answer.value) [] refl
+    turn_leads (busy at flow given_head) spare seen answer below sees before =
         let asked_flow : Flow = with_start flow seen.now in
-        response_leads (at.dials + connects answer.value) asked_flow.response (λ message. taken_at_response_head message answer.value)
+        response_leads at.dials (at.dials + connects answer.value) asked_flow.response (λ message. taken_at_response_head message answer.value)
         (λ taken. turn_taken_given at asked_flow taken answer.moment seen.closed)
-        (λ taken. given_leads (at.dials + connects answer.value) at asked_flow taken answer.moment seen.closed (omega arith))
-    turn_leads (busy at flow given_body) seen answer before =
-        whole_answer_leads (at.dials + connects answer.value) at (with_end flow seen.now) answer NoServer seen.closed (omega arith)
-    turn_leads (next at) seen answer before = (refl, omega arith)
-    turn_leads over seen answer before = over_leads (0 + connects answer.value) [] refl
+        (λ taken. given_leads at.dials (at.dials + connects answer.value) at asked_flow taken answer.moment seen.closed (omega arith, omega arith))
+    turn_leads (busy at flow given_body) spare seen answer below sees before =
+        whole_answer_leads at.dials (at.dials + connects answer.value) at (with_end flow seen.now) answer NoServer seen.closed (omega arith, omega arith)
+    turn_leads (next at) spare seen answer below sees before = (refl, (omega arith, omega arith))
+    turn_leads over spare seen answer below sees before = over_leads 0 (0 + connects answer.value) [] refl
 
 -- ---- passing, and the next flow
 
@@ -338,12 +411,13 @@ passes_by at flow (Some response) (complete head body trailers used) now = refl
 passes_by at flow (Some response) (bad_head fault) now = refl
 passes_by at flow (Some response) (bad_body fault head body) now = refl
 
-passes_same : (stage : Stage) (seen : Sight) → dialled (pass stage seen) ≡ dialled stage
+pub passes_same : (stage : Stage) (seen : Sight) → dialled (pass stage seen) ≡ dialled stage
 passes_same (idle at) seen = refl
 passes_same (busy at flow (request_body given)) seen = passes_by at flow given (request_in at seen) seen.now
 passes_same (busy at flow connection) seen = refl
 passes_same (busy at flow (response_head side how)) seen = refl
 passes_same (busy at flow (response_body side how)) seen = refl
+passes_same (busy at flow (upgraded side)) seen = refl
 passes_same (busy at flow given_head) seen = refl
 passes_same (busy at flow given_body) seen = refl
 passes_same (next at) seen = refl
@@ -355,94 +429,129 @@ sequence_same (busy at flow doing) = refl
 sequence_same (next at) = refl
 sequence_same over = refl
 
-onward_same : (onward : Stage → Stage) → IsOnward onward → (stage : Stage) → dialled (onward stage) ≡ dialled stage
+pub onward_same : (onward : Stage → Stage) → IsOnward onward → (stage : Stage) → dialled (onward stage) ≡ dialled stage
 onward_same onward (is_alone is) stage = ap (λ f. dialled (f stage)) is
 onward_same onward (is_sequence is) stage = ap (λ f. dialled (f stage)) is ∙ sequence_same stage
 
--- ---- the walk
+-- ---- the counts of the chain
 
--- the connections among replies
-abbrev connected : List (Stamped Reply) → ℕ
-connected [] = 0
-connected (r ∷ rs) = connects r.value + connected rs
+-- where it passes, the servers stay below
+below_by : (spare : Option Spare) (at : At) (flow : Flow) (given : Option Response) (item : Item ReadRequest) (now : ℕ) → SpareBelow spare at.dials →
+    ServersBelow spare (pass_body at flow given item now)
+below_by spare at flow None item now below = (below, tt)
+below_by spare at flow (Some response) missing now below = (below, tt)
+below_by spare at flow (Some response) (part head body) now below = (below, tt)
+below_by spare at flow (Some response) (complete head body trailers used) now below = (below, tt)
+below_by spare at flow (Some response) (bad_head fault) now below = (below, tt)
+below_by spare at flow (Some response) (bad_body fault head body) now below = (below, tt)
 
-connected_are : (step : ℕ) (moves : List Move) → connected (replies_in step moves) ≡ connections moves
-connected_are step [] = refl
-connected_are step (Took moment event ∷ moves) = connected_are (step + 1) moves
-connected_are step (Replied moment reply ∷ moves) = ap (λ n. connects reply + n) (connected_are (step + 1) moves)
+below_passed : (spare : Option Spare) (stage : Stage) (seen : Sight) → ServersBelow spare stage → ServersBelow spare (pass stage seen)
+below_passed spare (idle at) seen below = below
+below_passed spare (busy at flow (request_body given)) seen below = below_by spare at flow given (request_in at seen) seen.now below.0
+below_passed spare (busy at flow connection) seen below = below
+below_passed spare (busy at flow (response_head side how)) seen below = below
+below_passed spare (busy at flow (response_body side how)) seen below = below
+below_passed spare (busy at flow (upgraded side)) seen below = below
+below_passed spare (busy at flow given_head) seen below = below
+below_passed spare (busy at flow given_body) seen below = below
+below_passed spare (next at) seen below = below
+below_passed spare over seen below = below
 
-module _ (onward : Stage → Stage) (goes : IsOnward onward) (terms : Terms) (server : ℕ) where
-  abbrev chain : Chain Standing Event Reply Command
-  chain = http_chain onward terms
+spare_further : (spare : Option Spare) (least dials : ℕ) → SpareBelow spare least → least ≤ dials → SpareBelow spare dials
+spare_further None least dials below more = tt
+spare_further (Some spare) least dials below more = omega arith
 
-  -- nothing was sent to the server, and so many connections do not reach it
-  abbrev Here : ℕ → Reached Standing Event Command → Type 0
-  Here more here = IsSilent server here.before × (dialled here.stage.stage + more ≤ server)
+spare_untaken : (taken : Bool) (spare : Option Spare) (dials : ℕ) → SpareBelow spare dials → SpareBelow (unless_taken taken spare) dials
+spare_untaken true spare dials below = tt
+spare_untaken false spare dials below = below
 
-  reach_by_silent : (more : ℕ) (l : Look Command) (further here : Reached Standing Event Command) → Here more further → Here more here → Here more (reach_by l further here)
-  reach_by_silent more NotYet further here a b = a
-  reach_by_silent more (Asks ask) further here a b = b
-  reach_by_silent more (Ends owed) further here a b = b
+-- the spare side as it is seen
+pub unused_below : (spare : Option Spare) (prefix : List (Timed Event)) (dials : ℕ) → SpareBelow spare dials → UnusedBelow (unused_over spare prefix) dials
+unused_below None prefix dials below = tt
+unused_below (Some spare) prefix dials below = below
 
-  passed_silent : (before : List Command) → IsSilent server before → IsSilent server (before ++ [])
-  passed_silent before silent = silent_both server before [] silent refl
+-- and behind a reply
+below_led : (spare : Option Spare) (least most : ℕ) (stage : Stage) → IsBetween least most stage → ((dials : ℕ) → least ≤ dials → SpareBelow spare dials) → ServersBelow spare stage
+below_led spare least most (idle at) between carries = carries at.dials between.0
+below_led spare least most (busy at flow doing) between carries = (carries at.dials between.0.0, between.1)
+below_led spare least most (next at) between carries = carries at.dials between.0
+below_led spare least most over between carries = tt
 
-  passed_before : (more : ℕ) (p : Standing) (f : List (Timed Event)) → dialled p.stage + more ≤ server → dialled (pass p.stage (sight_over p f)) + more ≤ server
-  passed_before more p f few = let same = passes_same p.stage (sight_over p f) in omega arith
+below_turned : (terms : Terms) (spare : Option Spare) (taken : Bool) (most : ℕ) (from : Stage) (seen : Sight) (answer : Timed Reply) → ServersBelow spare from →
+    IsBetween (dialled from) most (turn terms from seen answer).stage → ServersBelow (unless_taken taken spare) (turn terms from seen answer).stage
+below_turned terms spare taken most (idle at) seen answer below between =
+    below_led (unless_taken taken spare) at.dials most _ between (λ dials more. spare_untaken taken spare dials (spare_further spare at.dials dials below more))
+below_turned terms spare taken most (busy at flow doing) seen answer below between =
+    below_led (unless_taken taken spare) at.dials most _ between (λ dials more. spare_untaken taken spare dials (spare_further spare at.dials dials below.0 more))
+below_turned terms spare taken most (next at) seen answer below between = spare_untaken taken spare at.dials below
+below_turned terms spare taken most over seen answer below between = tt
 
-  reach_silent : (more : ℕ) (last : Stamp) (before : List Command) (p : Standing) (f : List (Timed Event)) (es : List (Stamped Event)) → IsSilent server before → dialled p.stage + more ≤ server →
-      Here more (reach chain last before p f es)
-  reach_silent more last before p f [] silent few = (passed_silent before silent, passed_before more p f few)
-  reach_silent more last before p f (e ∷ es) silent few =
-      let here = passed_silent before silent in
-      let fewer = passed_before more p f few in
-      let on : Standing = record p { stage = pass p.stage (sight_over p f) } in
-      reach_by_silent more (look terms on.stage (sight_over on f)) _ _
-      (reach_silent more last (before ++ []) on (f ++ worked_off last e ∷ []) es here fewer) (here, fewer)
+below_sequence : (spare : Option Spare) (stage : Stage) → ServersBelow spare stage → ServersBelow spare (sequence stage)
+below_sequence spare (idle at) below = below
+below_sequence spare (busy at flow doing) below = below
+below_sequence spare (next at) below = below
+below_sequence spare over below = below
 
-  there_silent : (before : List Command) (s : Stage) (v : Sight) → IsSilent server before → IsSilent server (before ++ (so_far s v ++ found (look terms s v)))
-  there_silent before s v silent =
-      silent_both server before (so_far s v ++ found (look terms s v)) silent (silent_both server (so_far s v) (found (look terms s v)) (so_far_silent server s v) (looks_silent server terms s v))
+below_onward : (onward : Stage → Stage) → IsOnward onward → (spare : Option Spare) (stage : Stage) → ServersBelow spare stage → ServersBelow spare (onward stage)
+below_onward onward (is_alone is) spare stage below = rw is below
+below_onward onward (is_sequence is) spare stage below = rw is (below_sequence spare stage below)
 
-  asked_silent : (ask : Command) (s : Stage) (v : Sight) (owed : List Command) → look terms s v ≡ Asks ask → IsSilent server owed → IsSilent server (so_far s v ++ ask ∷ owed)
-  asked_silent ask s v owed is silent =
-      let one : IsSilent server (ask ∷ []) = ap (λ l. bytes_in (seen_of (line (Server server)) (found l))) (sym is) ∙ looks_silent server terms s v in
-      silent_both server (so_far s v) (ask ∷ owed) (so_far_silent server s v) (silent_both server (ask ∷ []) owed one silent)
+few_between : (least most : ℕ) (stage : Stage) → IsBetween least most stage → dialled stage ≤ most
+few_between least most (idle at) between = between.1
+few_between least most (busy at flow doing) between = between.0.1
+few_between least most (next at) between = between.1
+few_between least most over between = omega arith
 
-  walk_by_silent : (l : Look Command) (on : Command → Stop Standing Event Reply Command) (stop : Stop Standing Event Reply Command) →
-      ((ask : Command) → l ≡ Asks ask → IsSilent server (owed_at chain (on ask))) → IsSilent server (owed_at chain stop) → IsSilent server (owed_at chain (walk_by l on stop))
-  walk_by_silent NotYet on stop asked here = here
-  walk_by_silent (Asks ask) on stop asked here = asked ask refl
-  walk_by_silent (Ends owed) on stop asked here = here
+-- the count of a place
+abbrev pub dialled_at : Standing → ℕ
+dialled_at place = dialled place.stage
 
-  walk_silent : (rs : List (Stamped Reply)) (last : Stamp) (before : List Command) (p : Standing) (f : List (Timed Event)) (es : List (Stamped Event)) → IsSilent server before → dialled p.stage + connected rs ≤ server →
-      IsSilent server (owed_at chain (walk chain rs last before p f es))
-  walk_silent [] last before p f es silent few =
-      let here = reach chain last before p f es in
-      let there = reach_silent 0 last before p f es silent few in
-      there_silent here.before here.stage.stage (sight_over here.stage here.prefix) there.0
-  walk_silent (r ∷ rs) last before p f es silent few =
-      let here = reach chain last before p f es in
-      let there = reach_silent (connects r.value + connected rs) last before p f es silent few in
-      let within = there.1 in
-      let stage : Stage = here.stage.stage in
-      let seen : Sight = sight_over here.stage here.prefix in
-      let turned = turn terms stage seen (at_its_step r) in
-      let led = turn_leads server terms stage seen (at_its_step r) (omega arith) in
-      let fewer = led.1 in
-      let same = onward_same onward goes turned.stage in
-      walk_by_silent (look terms stage seen) _ _
-      (λ ask is. walk_silent rs r.stamp (here.before ++ (so_far stage seen ++ ask ∷ turned.owed)) (stands here.stage r.stamp.moment here.prefix (onward turned.stage)) here.prefix here.rest
-      (silent_both server here.before (so_far stage seen ++ ask ∷ turned.owed) there.0 (asked_silent ask stage seen turned.owed is led.0)) (omega arith))
-      (there_silent here.before stage seen there.0)
+passes_counted : (place : Standing) (seen : Sight) → AreBelow place →
+    Counts dialled_at AreBelow (dialled place.stage) (record { owed = []; stage = record place { stage = pass place.stage seen } })
+passes_counted place seen below = record {
+  silent = λ server more. refl;
+  few = (let same = passes_same place.stage seen in omega arith);
+  stays = below_passed place.spare place.stage seen below;
+}
+
+pub turns_counted : (onward : Stage → Stage) → IsOnward onward → (terms : Terms) (place : Standing) (prefix : List (Timed Event)) (answer : Timed Reply) → AreBelow place →
+    Counts dialled_at AreBelow (dialled place.stage + connects answer.value) ((http_chain onward terms).turn place prefix answer)
+turns_counted onward goes terms place prefix answer below =
+    let seen : Sight = sight_over place prefix in
+    let from : Stage = place.stage in
+    let sees : (dials : ℕ) → SpareBelow place.spare dials → UnusedBelow seen.spare dials = (λ dials is. unused_below place.spare prefix dials is) in
+    let led = turn_leads (dialled from + connects answer.value) terms from place.spare seen answer below sees (beyond_by (dialled from + connects answer.value) answer.value from (omega arith)) in
+    let turned : Stage = (turn terms from seen answer).stage in
+    let taken : Bool = took_spare from (onward turned) in
+    let same = onward_same onward goes turned in
+    let fewer = few_between (dialled from) (dialled from + connects answer.value) turned led.1 in
+    record {
+      silent = λ server more. (turn_leads server terms from place.spare seen answer below sees (beyond_by server answer.value from more)).0;
+      few = omega arith;
+      stays = below_onward onward goes (unless_taken taken place.spare) turned (below_turned terms place.spare taken (dialled from + connects answer.value) from seen answer below led.1);
+    }
+
+-- A conversation of HTTP, or one flow, sends to servers that were dialled and connected before, the one in use and the spare one among them.
+pub http_counts : (onward : Stage → Stage) → IsOnward onward → (terms : Terms) → CountsServers (http_chain onward terms) dialled_at AreBelow
+http_counts onward goes terms = record {
+  passes = λ place prefix below. passes_counted place (sight_over place prefix) below;
+  looks = λ place prefix below server more. looks_silent server terms place.stage (sight_over place prefix);
+  waits = λ place prefix below server more. so_far_silent server place.stage (sight_over place prefix);
+  turns = λ place prefix ask answer below asked. turns_counted onward goes terms place prefix answer below;
+}
+
+-- One that begins with a spare side among so many servers sends nothing to a server that the answers do not reach.
+pub silent_with : (onward : Stage → Stage) → IsOnward onward → (terms : Terms) (at : At) (spare : Option Spare) → SpareBelow spare at.dials →
+    (server : ℕ) (moves : List Move) → at.dials + connections moves ≤ server → IsSilent server (due_by (http_chain onward terms) (begin_with spare (idle at)) moves)
+silent_with onward goes terms at spare below server moves few =
+    counted_from (http_chain onward terms) dialled_at AreBelow (http_counts onward goes terms) server (begin_with spare (idle at)) moves below few
 
 -- A conversation, or one flow, that begins with no server sends nothing to a server whose dial was not answered with its
 -- connection.
 pub silent_from : (onward : Stage → Stage) → IsOnward onward → (terms : Terms) (at : At) → at.dials ≡ 0 → (server : ℕ) (moves : List Move) → NoAnswer server moves →
-    bytes_in (seen_of (line (Server server)) (due_by (http_chain onward terms) (begin (idle at)) moves)) ≡ []
+    IsSilent server (due_by (http_chain onward terms) (begin (idle at)) moves)
 silent_from onward goes terms at first server moves none =
-    let are = connected_are 1 moves in
-    walk_silent onward goes terms server (replies_in 1 moves) never [] (begin (idle at)) [] (events_in 1 moves) refl (omega arith)
+    counted_silent (http_chain onward terms) dialled_at AreBelow (http_counts onward goes terms) server (begin (idle at)) moves tt first none
 
 -- Where no move was made nothing is due.
 pub nothing_yet : (onward : Stage → Stage) (terms : Terms) (at : At) → at.used ≡ 0 → due_by (http_chain onward terms) (begin (idle at)) [] ≡ []

@@ -1,7 +1,8 @@
 -- What is due in a conversation of HTTP/1.1, as a chain of stages (RFC 9110, RFC 9112). What a stage finds, where it goes on
 -- without a reply and what a reply brings are functions of the stage and of what it looks at. A close of the client counts where
 -- nothing else is found in the same sight.
-use Rattle.std.specs.Prelude.{◌≡◌, ℕ, ◌+◌, Bool, true, false, List, [], length, Option, Some, None, ◌++◌}
+use Rattle.std.specs.Prelude.{◌≡◌, ℕ, ◌+◌, ◌==◌, Bool, true, false, List, [], ◌∷◌, length, Option, Some, None, ◌++◌}
+use Rattle.px_message.specs.declared.address.Address.{Address}
 use Rattle.px_message.specs.declared.flow.Flow.{Flow}
 use Rattle.px_message.specs.declared.request.Request.{Request}
 use Rattle.px_message.specs.declared.response.Response.{Response}
@@ -9,6 +10,7 @@ use Rattle.px_event.specs.declared.ask.Hook.TheVariants.{ResponseHead, ResponseB
 use Rattle.px_event.specs.declared.command.Command.{Command}
 use Rattle.px_event.specs.declared.command.Command.TheVariants as commands
 use Rattle.px_event.specs.declared.event.Event.{Event}
+use Rattle.px_event.specs.declared.side.Side.TheVariants.{Client}
 use Rattle.px_event.specs.declared.reply.Reply.{Reply}
 use Rattle.px_event.specs.declared.reply.Reply.TheVariants as reply
 use Rattle.px_event.specs.Chain.{Timed, Look, Asks, Ends, Turn, Chain}
@@ -16,23 +18,24 @@ use Rattle.px_read.specs.Items.{Item, part, complete, bad_body}
 use Rattle.px_read.specs.declared.head.RequestHead.{RequestHead as ReadRequest}
 use Rattle.px_read.specs.declared.head.ResponseHead.{ResponseHead as ReadResponse}
 use Rattle.px_exchange.specs.declared.asked.Judged.{Judged}
-use Rattle.px_exchange.specs.declared.asked.Judged.TheVariants.{Refused, Accepted}
+use Rattle.px_exchange.specs.declared.asked.Judged.TheVariants.{Refused, Accepted, Connects}
 use Rattle.px_exchange.specs.declared.ending.Used.{Used}
 use Rattle.px_exchange.specs.declared.ending.Used.TheVariants.{NoServer}
 use Rattle.px_exchange.specs.declared.taken.Taken.{Taken}
 use Rattle.px_exchange.specs.declared.taken.Taken.TheVariants.{GoesOn, Responds, Kills}
 use Rattle.px_exchange.specs.declared.terms.Terms.{Terms}
 use Rattle.px_exchange.specs.declared.place.Place.{Place}
-use Rattle.px_exchange.specs.Dials.{dial_owes}
+use Rattle.px_exchange.specs.declared.place.Place.TheVariants as places
+use Rattle.px_exchange.specs.Dials.{connected_owes, dial_owes}
 use Rattle.px_exchange.specs.Endings.{without_response, killed_message, closed_message, ends_early, connection_goes_on, finished, shut_unless}
 use Rattle.px_exchange.specs.Finds.{or_leaves, look_head, look_body, look_answer, look_returned}
 use Rattle.px_exchange.specs.Flows.{ask_of, with_body, response_of, with_answer, with_end, with_returned, with_start}
-use Rattle.px_exchange.specs.Places.{dialled_for}
+use Rattle.px_exchange.specs.Places.{dialled_for, goes_home}
 use Rattle.px_exchange.specs.Replies.{taken_at_request_head, taken_at_request_body, taken_at_response_head, taken_at_response_body}
 use Rattle.px_exchange.specs.Requests.{expects, flow_of, judged}
-use Rattle.px_exchange.specs.Texts.{interim_commands, meets_expectation}
-use Rattle.px_chain.specs.Sights.{Sight, Standing, answers_in, request_in, server_in, sight_over}
-use Rattle.px_chain.specs.Stages.{At, Doing, ServerSide, Stage, all_sent, busy, connection, given_body, given_head, idle, next, over, request_body, response_body, response_head}
+use Rattle.px_exchange.specs.Texts.{interim_commands, meets_expectation, returned_text}
+use Rattle.px_chain.specs.Sights.{Sight, Spare, Standing, Unused, answers_in, request_in, server_in, sight_over, took_spare, unless_taken}
+use Rattle.px_chain.specs.Stages.{At, Doing, ServerSide, Stage, all_sent, busy, connection, given_body, given_head, idle, next, over, request_body, response_body, response_head, upgraded}
 use Rattle.px_chain.specs.Streams.{from_here}
 
 -- ---- idle: a request's head
@@ -54,6 +57,7 @@ turn_taken_head at flow expected Kills moment closed = killed flow moment NoServ
 
 abbrev pub turn_judged : Terms → At → ReadRequest → Judged → Sight → Timed Reply → Turn Stage Command
 turn_judged terms at head (Refused fault) seen answer = stops
+turn_judged terms at head (Connects address) seen answer = stops
 turn_judged terms at head (Accepted request) seen answer =
     turn_taken_head at (flow_of terms at.flow request seen.now) (expects head)
     (taken_at_request_head request answer.value) answer.moment seen.closed
@@ -78,33 +82,49 @@ pass_body at flow (Some response) (complete head body trailers used) now =
     busy (used_more at used) (record (with_body flow body.content trailers now) { response = Some response }) given_head
 pass_body at flow given item now = busy at flow (request_body given)
 
-abbrev pub turn_taken_body : At → Flow → Taken Request → ℕ → Bool → Turn Stage Command
-turn_taken_body at flow (GoesOn request) moment closed =
-    record { owed = []; stage = busy at (record flow { request = request }) connection }
-turn_taken_body at flow (Responds response) moment closed =
-    record { owed = []; stage = busy at (record flow { response = Some response }) given_head }
-turn_taken_body at flow Kills moment closed = killed flow moment NoServer closed
-
--- the request is whole, and the flow has it
-abbrev pub turn_whole : At → Flow → Sight → Timed Reply → Turn Stage Command
-turn_whole at flow seen answer =
-    turn_taken_body at flow (taken_at_request_body flow.request answer.value) answer.moment seen.closed
-
-abbrev pub turn_body : At → Flow → Item ReadRequest → Sight → Timed Reply → Turn Stage Command
-turn_body at flow (complete head body trailers used) seen answer =
-    turn_whole (used_more at used) (with_body flow body.content trailers seen.now) seen answer
-turn_body at flow _ seen answer = stops
-
--- ---- the connection to its server
-
 -- the side of a server that is new: no flow has used a byte of it
 abbrev pub new_side : ℕ → ServerSide
 new_side server = record { server = server; used = 0 }
 
+-- the flow, connected to its server
+abbrev pub reached : Place → Flow → Flow
+reached place flow = record flow { server = Some (dialled_for place flow.request) }
+
+-- the spare side, where this request goes there
+abbrev pub spare_for : Bool → Option Unused → Option Unused
+spare_for true spare = spare
+spare_for false spare = None
+
+-- A request that goes on goes to the spare side, or its server is dialled.
+abbrev pub goes_on_by : Option Unused → Place → At → Flow → Turn Stage Command
+goes_on_by None place at flow = record { owed = []; stage = busy at flow connection }
+goes_on_by (Some unused) place at flow = record {
+  owed = connected_owes place flow unused.server;
+  stage = busy at (reached place flow) (response_head (new_side unused.server) all_sent);
+}
+
+abbrev pub turn_taken_body : Place → At → Flow → Option Unused → Taken Request → ℕ → Bool → Turn Stage Command
+turn_taken_body place at flow spare (GoesOn request) moment closed =
+    goes_on_by (spare_for (goes_home place request) spare) place at (record flow { request = request })
+turn_taken_body place at flow spare (Responds response) moment closed =
+    record { owed = []; stage = busy at (record flow { response = Some response }) given_head }
+turn_taken_body place at flow spare Kills moment closed = killed flow moment NoServer closed
+
+-- the request is whole, and the flow has it
+abbrev pub turn_whole : Place → At → Flow → Sight → Timed Reply → Turn Stage Command
+turn_whole place at flow seen answer =
+    turn_taken_body place at flow seen.spare (taken_at_request_body flow.request answer.value) answer.moment seen.closed
+
+abbrev pub turn_body : Place → At → Flow → Item ReadRequest → Sight → Timed Reply → Turn Stage Command
+turn_body place at flow (complete head body trailers used) seen answer =
+    turn_whole place (used_more at used) (with_body flow body.content trailers seen.now) seen answer
+turn_body place at flow _ seen answer = stops
+
+-- ---- the connection to its server
+
 abbrev pub dial_leads : Place → At → Flow → Reply → Stage
 dial_leads place at flow reply.Dialled =
-    busy (record at { dials = at.dials + 1 }) (record flow { server = Some (dialled_for place flow.request) })
-    (response_head (new_side at.dials) all_sent)
+    busy (record at { dials = at.dials + 1 }) (reached place flow) (response_head (new_side at.dials) all_sent)
 dial_leads place at flow _ = over
 
 abbrev pub turn_dial : Place → At → Flow → Timed Reply → Bool → Turn Stage Command
@@ -155,10 +175,35 @@ turn_whole_answer at flow answer used closed = turn_response flow.response
     (λ response. taken_at_response_body response answer.value)
     (λ taken. turn_taken_returned at flow taken answer.moment used closed)
 
-abbrev pub turn_returned : At → Flow → ServerSide → Item ReadResponse → Sight → Timed Reply → Turn Stage Command
-turn_returned at flow side (complete head body trailers size) seen answer =
-    turn_whole_answer at (with_returned flow body.content trailers seen.now) answer (server_in side seen) seen.closed
-turn_returned at flow side _ seen answer = stops
+-- A response of code 101 is sent, and ends HTTP: what follows on both sides is of another protocol (RFC 9110 section 15.2.2).
+abbrev pub upgrade : At → Flow → Response → ServerSide → Turn Stage Command
+upgrade at flow response side = record {
+  owed = commands.Send Client (returned_text flow.request response) ∷ [];
+  stage = busy at (record flow { response = Some response }) (upgraded side);
+}
+
+abbrev pub finish_by : Bool → At → Flow → Response → ServerSide → Used → Bool → Turn Stage Command
+finish_by true at flow response side used closed = upgrade at flow response side
+finish_by false at flow response side used closed = finish at flow response used closed
+
+abbrev pub turn_taken_whole : At → Flow → ServerSide → Taken Response → ℕ → Used → Bool → Turn Stage Command
+turn_taken_whole at flow side (GoesOn response) moment used closed =
+    finish_by (response.status == 101) at flow response side used closed
+turn_taken_whole at flow side _ moment used closed = killed flow moment used closed
+
+-- the side behind so many bytes more
+abbrev pub side_behind : ServerSide → ℕ → ServerSide
+side_behind side used = record side { used = side.used + used }
+
+abbrev pub turn_read_whole : At → Flow → ServerSide → Timed Reply → Used → Bool → Turn Stage Command
+turn_read_whole at flow side answer used closed = turn_response flow.response
+    (λ response. taken_at_response_body response answer.value)
+    (λ taken. turn_taken_whole at flow side taken answer.moment used closed)
+
+abbrev pub turn_returned : At → Flow → ServerSide → ℕ → Item ReadResponse → Sight → Timed Reply → Turn Stage Command
+turn_returned at flow side interim (complete head body trailers size) seen answer =
+    turn_read_whole at (with_returned flow body.content trailers seen.now) (side_behind side (interim + size)) answer (server_in side seen) seen.closed
+turn_returned at flow side interim _ seen answer = stops
 
 -- ---- a response that was given in place of the server's
 
@@ -191,6 +236,7 @@ finds place at flow (response_head side sent) seen =
     look_answer flow (answers_in flow.request side seen).final seen.now (server_in side seen) seen.closed
 finds place at flow (response_body side sent) seen =
     look_returned flow (answers_in flow.request side seen).final seen.now (server_in side seen) seen.closed
+finds place at flow (upgraded side) seen = Ends []
 finds place at flow given_head seen = Asks (ask_of (with_start flow seen.now) ResponseHead)
 finds place at flow given_body seen = Asks (ask_of (with_end flow seen.now) ResponseBody)
 
@@ -227,10 +273,12 @@ so_far _ seen = []
 -- ---- what a reply brings
 
 abbrev pub turns : Place → At → Flow → Doing → Sight → Timed Reply → Turn Stage Command
-turns place at flow (request_body given) seen answer = turn_body at flow (request_in at seen) seen answer
+turns place at flow (request_body given) seen answer = turn_body place at flow (request_in at seen) seen answer
 turns place at flow connection seen answer = turn_dial place at flow answer seen.closed
 turns place at flow (response_head side sent) seen answer = turn_answer at flow side (answers_in flow.request side seen).final seen answer
-turns place at flow (response_body side sent) seen answer = turn_returned at flow side (answers_in flow.request side seen).final seen answer
+turns place at flow (response_body side sent) seen answer =
+    let answers = answers_in flow.request side seen in turn_returned at flow side answers.used answers.final seen answer
+turns place at flow (upgraded side) seen answer = stops
 turns place at flow given_head seen answer = turn_given_head at (with_start flow seen.now) answer seen.closed
 turns place at flow given_body seen answer = turn_whole_answer at (with_end flow seen.now) answer NoServer seen.closed
 
@@ -247,11 +295,39 @@ abbrev pub sequence : Stage → Stage
 sequence (next at) = idle at
 sequence stage = stage
 
+-- ---- where HTTP ends and something else follows
+
+-- a whole CONNECT: where it asks for a tunnel to, and how many bytes it used
+pub record Connect : Type 0 where
+  pub address : Address
+  pub used : ℕ
+
+abbrev pub connect_by : Judged → ℕ → Option Connect
+connect_by (Connects address) used = Some (record { address = address; used = used })
+connect_by _ used = None
+
+abbrev pub connect_in : Place → Item ReadRequest → Option Connect
+connect_in place (complete head body trailers used) = connect_by (judged place head) used
+connect_in place _ = None
+
 -- ---- the chain
 
+-- a side that is connected before a conversation begins, in a place that has one
+abbrev pub spare_of : Place → Option Spare
+spare_of (places.Fixed address (Some server) inside) = Some (record { server = server; opened = 0 })
+spare_of place = None
+
 -- where a conversation stands at first
+abbrev pub begin_with : Option Spare → Stage → Standing
+begin_with spare stage = record { stage = stage; since = record { events = 0; moment = 0 }; opened = 0; spare = spare }
+
 abbrev pub begin : Stage → Standing
-begin stage = record { stage = stage; since = record { events = 0; moment = 0 }; opened = 0 }
+begin stage = begin_with None stage
+
+-- how many events had come when the dial of a spare side was answered
+abbrev pub opened_spare : Bool → Option Spare → ℕ → ℕ
+opened_spare true (Some spare) opened = spare.opened
+opened_spare taken spare opened = opened
 
 -- how many events had come when the dial of its server was answered: they are counted where a connection is awaited
 abbrev pub opens : Doing → ℕ → ℕ → ℕ
@@ -265,7 +341,13 @@ opened_by _ opened come = opened
 -- A stage that was come to from another over a prefix, by a reply at this moment: it stands from here on.
 abbrev pub stands : Standing → ℕ → List (Timed Event) → Stage → Standing
 stands from moment prefix stage =
-    record { stage = stage; since = from_here moment prefix; opened = opened_by from.stage from.opened (length prefix) }
+    let taken = took_spare from.stage stage in
+    record {
+      stage = stage;
+      since = from_here moment prefix;
+      opened = opened_spare taken from.spare (opened_by from.stage from.opened (length prefix));
+      spare = unless_taken taken from.spare;
+    }
 
 -- the chain of one flow, or of flows in sequence
 abbrev pub http_chain : (Stage → Stage) → Terms → Chain Standing Event Reply Command

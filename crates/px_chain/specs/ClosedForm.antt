@@ -1,11 +1,12 @@
 -- What goes on is sent on: what is due in a conversation whose replies all go on, said over whole lists and without stages. The
--- requests of the client's stream stand one behind the other; request k goes to server k once the response before it is whole, and the
--- client gets what came of each.
-use Rattle.std.specs.Prelude.{◌≡◌, ℕ, ◌+◌, Bool, true, false, if◌then◌else◌, List, [], ◌∷◌, ◌++◌, drop, take, length, map, ⊤, Option, Some, None, option_to_list}
-use Rattle.std.specs.List.{flat_map, list_any}
+-- requests of the client's stream stand one behind the other; each is sent to a server of its own, once the response before it is
+-- whole, and the client gets what came of each. Nothing stands behind a fault, a CONNECT, a response that switches protocols, or one
+-- behind which the connection does not go on.
+use Rattle.std.specs.Prelude.{◌≡◌, ℕ, ◌+◌, ◌==◌, Bool, true, false, ◌&&◌, not, List, [], ◌∷◌, ◌++◌, drop, take, length, map, ⊤, Option, Some, None, option_to_list}
+use Rattle.std.specs.List.{flat_map}
 use Rattle.px_text.specs.Least.{least}
-use Rattle.px_text.specs.Prefix.{IsPrefixOf}
 use Rattle.px_message.specs.declared.fault.Fault.{Fault}
+use Rattle.px_message.specs.declared.fault.Fault.TheVariants.{BadResponse}
 use Rattle.px_message.specs.declared.flow.Flow.{Flow}
 use Rattle.px_message.specs.declared.request.Request.{Request}
 use Rattle.px_message.specs.declared.response.Response.{Response}
@@ -19,20 +20,22 @@ use Rattle.px_event.specs.Chain.{Timed, at_its_step}
 use Rattle.px_event.specs.Layer.{Move}
 use Rattle.px_event.specs.Stands.{events_in, replies_in}
 use Rattle.px_write.specs.Error.{error_text}
-use Rattle.px_write.specs.Text.{interim_text}
-use Rattle.px_read.specs.Items.{Answers, Body, Item, complete, answer_list, request_item}
+use Rattle.px_read.specs.Items.{Answers, Body, Item, complete, bad_head, bad_body, answer_list, request_item}
 use Rattle.px_read.specs.Laws.{head_in}
 use Rattle.px_read.specs.Requests.{request_list}
 use Rattle.px_read.specs.declared.head.RequestHead.{RequestHead}
 use Rattle.px_read.specs.declared.head.ResponseHead.{ResponseHead}
-use Rattle.px_exchange.specs.Places.{form_at}
-use Rattle.px_exchange.specs.declared.asked.Judged.{Judged}
-use Rattle.px_exchange.specs.declared.asked.Judged.TheVariants.{Refused, Accepted}
-use Rattle.px_exchange.specs.declared.terms.Terms.{Terms}
+use Rattle.px_exchange.specs.Endings.{connection_goes_on}
+use Rattle.px_exchange.specs.Finds.{is_relayed}
 use Rattle.px_exchange.specs.Flows.{response_of}
-use Rattle.px_exchange.specs.Requests.{expects, is_head, is_http11, judged}
-use Rattle.px_exchange.specs.Texts.{continue_text, onward_text, returned_text}
-use Rattle.px_chain.specs.Streams.{bytes_of, client_closed, is_closed}
+use Rattle.px_exchange.specs.Places.{dialled_for, form_at}
+use Rattle.px_exchange.specs.Requests.{expects, is_head, judged}
+use Rattle.px_exchange.specs.Texts.{interim_commands, meets_expectation, onward_text, returned_text}
+use Rattle.px_exchange.specs.declared.asked.Judged.{Judged}
+use Rattle.px_exchange.specs.declared.asked.Judged.TheVariants.{Refused, Accepted, Connects}
+use Rattle.px_exchange.specs.declared.terms.Terms.{Terms}
+use Rattle.px_chain.specs.Stages.{At}
+use Rattle.px_chain.specs.Streams.{bytes_of, is_closed}
 
 -- ---- replies that go on
 
@@ -63,28 +66,20 @@ GoesOn waits (commands.Send side text ∷ rest) replies = GoesOn waits rest repl
 GoesOn waits (commands.Close side ∷ rest) replies = GoesOn waits rest replies
 GoesOn waits (commands.Done flow ∷ rest) replies = GoesOn waits rest replies
 
--- ---- what is sent
+-- ---- what is said
 
--- the texts that are sent to servers, each with its server's number, in order
-abbrev pub server_text : Command → List (ℕ × List ℕ)
-server_text (commands.Send (Server server) text) = (server, text) ∷ []
-server_text _ = []
+-- the texts that are sent, to the client and to servers, and the dials, in order
+abbrev pub said_of : Command → List Command
+said_of (commands.Send side text) = commands.Send side text ∷ []
+said_of (commands.Dial server address inside) = commands.Dial server address inside ∷ []
+said_of _ = []
 
-abbrev pub server_texts : List Command → List (ℕ × List ℕ)
-server_texts sent = flat_map server_text sent
+abbrev pub said : List Command → List Command
+said due = flat_map said_of due
 
--- the texts that are sent to the client
-abbrev pub client_text : Command → List (List ℕ)
-client_text (commands.Send Client text) = text ∷ []
-client_text _ = []
-
-abbrev pub client_texts : List Command → List (List ℕ)
-client_texts sent = flat_map client_text sent
-
--- the client is closed
-abbrev pub closes_client : Command → Bool
-closes_client (commands.Close Client) = true
-closes_client _ = false
+-- the text of a fault, to the client
+abbrev pub fault_said : Fault → Bool → List Command
+fault_said fault asked_head = commands.Send Client (error_text fault asked_head) ∷ []
 
 -- ---- what was heard
 
@@ -95,24 +90,46 @@ heard moves = map at_its_step (events_in 1 moves)
 abbrev pub answered : List Move → List Reply
 answered moves = map (λ r. r.value) (replies_in 1 moves)
 
+-- how dials were answered: by the fault that refused one, or by none, which is the connection
+abbrev pub dial_answer : Reply → List (Option Fault)
+dial_answer reply.Dialled = None ∷ []
+dial_answer (reply.Refused fault) = Some fault ∷ []
+dial_answer _ = []
+
+abbrev pub dial_answers : List Reply → List (Option Fault)
+dial_answers replies = flat_map dial_answer replies
+
 -- the client's requests, one behind the other: the whole ones, and what stands behind them
 abbrev pub request_items : List ℕ → List (Item RequestHead)
 request_items bytes = (request_list bytes).whole ++ option_to_list (request_list bytes).last
 
 -- ---- when a server is connected, and when its response is whole
 
--- Where a request stands: its number, which is that of its server, how many of the client's bytes those before it used, and how many
--- events had come when the response before it was whole.
+-- where a request stands
 pub record Point : Type 0 where
-  pub number : ℕ
+  -- the number of its flow, and that of its server
+  pub flow : ℕ
+  pub server : ℕ
+  -- how many of the client's bytes were used
   pub bytes : ℕ
+  -- how many events had come when the response before it was whole
   pub events : ℕ
+  -- the answers of the dials from here on
+  pub dials : List (Option Fault)
 
-abbrev pub first_point : Point
-first_point = record { number = 0; bytes = 0; events = 0 }
+-- a request that is whole has used its bytes
+abbrev pub behind_request : Point → ℕ → Point
+behind_request point used = record point { bytes = point.bytes + used }
 
-abbrev pub next_point : Point → ℕ → ℕ → Point
-next_point point used ended = record { number = point.number + 1; bytes = point.bytes + used; events = ended }
+-- and once its response is whole as well, the next one stands here
+abbrev pub next_point : Point → ℕ → Point
+next_point point ended = record {
+  flow = point.flow + 1;
+  server = point.server + 1;
+  bytes = point.bytes;
+  events = ended;
+  dials = point.dials;
+}
 
 abbrev pub is_whole : {H : Type 0} → Item H → Bool
 is_whole (complete head body trailers used) = true
@@ -122,7 +139,7 @@ is_whole _ = false
 abbrev pub request_is_whole : List (Timed Event) → ℕ → ℕ → Bool
 request_is_whole events bytes so_many = is_whole (request_item (drop bytes (bytes_of Client (take so_many events))))
 
--- its server is connected, and heard, behind the fewest events over which the request is whole
+-- its server is dialled, and heard once it is connected, behind the fewest events over which the request is whole
 abbrev pub connected_at : List (Timed Event) → Point → Option ℕ
 connected_at events point = least (request_is_whole events point.bytes) point.events (length events + 1)
 
@@ -139,133 +156,116 @@ response_is_whole events server opened asked_head so_many = is_whole (answers_at
 abbrev pub ended_at : List (Timed Event) → ℕ → ℕ → Bool → Option ℕ
 ended_at events server opened asked_head = least (response_is_whole events server opened asked_head) opened (length events + 1)
 
--- what is sent for the next request, once the response is whole
-abbrev pub texts_next : Point → ℕ → Option ℕ → (Point → List (List ℕ)) → List (List ℕ)
-texts_next point used None further = []
-texts_next point used (Some ended) further = further (next_point point used ended)
-
--- ---- the servers
+-- ---- what is said of a response
 
 -- the request of a head that is accepted, with its body
 abbrev pub whole_request : Request → Body → List (List ℕ × List ℕ) → Request
 whole_request request body trailers = record request { body = body.content; trailers = trailers }
 
--- behind a response that is whole
-abbrev pub once_whole : Item ResponseHead → List (List ℕ) → List (List ℕ)
-once_whole (complete head body trailers used) further = further
-once_whole _ further = []
-
-abbrev pub sent_connected : List (Timed Event) → Point → ℕ → Bool → Option ℕ → (Point → List (List ℕ)) → List (List ℕ)
-sent_connected events point used asked_head None further = []
-sent_connected events point used asked_head (Some opened) further =
-    once_whole (answers_at events point.number opened asked_head).final
-    (texts_next point used (ended_at events point.number opened asked_head) further)
-
-abbrev pub sent_judged : Terms → List (Timed Event) → Point → ℕ → Judged → Body → List (List ℕ × List ℕ) → (Point → List (List ℕ)) → List (List ℕ)
-sent_judged terms events point used (Refused fault) body trailers further = []
-sent_judged terms events point used (Accepted request) body trailers further =
-    onward_text (form_at terms.place) (whole_request request body trailers)
-    ∷ sent_connected events point used (is_head request.method) (connected_at events point) further
-
-abbrev pub sent_item : Terms → List (Timed Event) → Point → Item RequestHead → (Point → List (List ℕ)) → List (List ℕ)
-sent_item terms events point (complete head body trailers used) further =
-    sent_judged terms events point used (judged terms.place head) body trailers further
-sent_item terms events point _ further = []
-
--- The texts of the requests from this point on, as they go to their servers: each that is whole and accepted, and the next one once
--- its response is whole.
-abbrev pub request_texts : Terms → List (Timed Event) → Point → List (Item RequestHead) → List (List ℕ)
-request_texts terms events point [] = []
-request_texts terms events point (item ∷ items) = sent_item terms events point item (λ next. request_texts terms events next items)
-
--- each with its number, counted from this one
-abbrev pub numbered_from : ℕ → List (List ℕ) → List (ℕ × List ℕ)
-numbered_from n [] = []
-numbered_from n (text ∷ rest) = (n, text) ∷ numbered_from (n + 1) rest
-
--- ---- the client
-
--- what a client that waits for it gets before its request's body was read
-abbrev pub continue_texts : RequestHead → List (List ℕ)
-continue_texts head = if expects head then continue_text ∷ [] else []
-
--- interim responses as they go to the client, which knows none in version 1.0
-abbrev pub interim_of : ResponseHead → List ℕ
-interim_of head = interim_text head.version head.code head.reason head.fields
-
-abbrev pub interim_texts : Request → List ResponseHead → List (List ℕ)
-interim_texts request heads = if is_http11 request.version then map interim_of heads else []
-
 -- the response of a head that was read, with its body
 abbrev pub whole_response : ResponseHead → Body → List (List ℕ × List ℕ) → Response
 whole_response head body trailers = record (response_of head) { body = body.content; trailers = trailers }
 
--- a final response as it goes to the client, once it is whole, and the texts behind it
-abbrev pub final_texts : Request → Item ResponseHead → List (List ℕ) → List (List ℕ)
-final_texts request (complete head body trailers used) further =
-    returned_text request (whole_response head body trailers) ∷ further
-final_texts request _ further = []
+-- of a message without a head: its fault, if it has one
+abbrev pub headless_said : {H : Type 0} → Item H → Bool → List Command
+headless_said (bad_head fault) asked_head = fault_said fault asked_head
+headless_said _ asked_head = []
 
-abbrev pub answer_texts : Request → Answers → List (List ℕ) → List (List ℕ)
-answer_texts request answers further = interim_texts request answers.interim ++ final_texts request answers.final further
+-- The next request is read where the connection goes on by both messages as they are sent (RFC 9112 section 9.3), and the response does not
+-- switch protocols (RFC 9110 section 15.2.2).
+abbrev pub next_is_read : Point → Request → Response → Bool
+next_is_read point request response = not (response.status == 101) && connection_goes_on point.flow request response
 
-abbrev pub texts_connected : List (Timed Event) → Point → ℕ → Request → Option ℕ → (Point → List (List ℕ)) → List (List ℕ)
-texts_connected events point used request None further = []
-texts_connected events point used request (Some opened) further =
-    answer_texts request (answers_at events point.number opened (is_head request.method))
-    (texts_next point used (ended_at events point.number opened (is_head request.method)) further)
+-- what is said behind a response that is whole
+abbrev pub said_behind : Bool → Point → Option ℕ → (Point → List Command) → List Command
+said_behind true point (Some ended) further = further (next_point point ended)
+said_behind _ point ended further = []
 
-abbrev pub texts_whole : List (Timed Event) → Point → Request → Item RequestHead → (Point → List (List ℕ)) → List (List ℕ)
-texts_whole events point request (complete head body trailers used) further =
-    texts_connected events point used request (connected_at events point) further
-texts_whole events point request _ further = []
+-- The final response as it goes to the client, once it is whole, and what is said behind it; or the fault of its body.
+abbrev pub said_returned : Request → Item ResponseHead → (Response → List Command) → List Command
+said_returned request (complete head body trailers used) behind =
+    let response = whole_response head body trailers in commands.Send Client (returned_text request response) ∷ behind response
+said_returned request (bad_body fault head body) behind = fault_said fault (is_head request.method)
+said_returned request _ behind = []
 
-abbrev pub texts_judged : List (Timed Event) → Point → RequestHead → Judged → Item RequestHead → (Point → List (List ℕ)) → List (List ℕ)
-texts_judged events point head (Refused fault) item further = []
-texts_judged events point head (Accepted request) item further = continue_texts head ++ texts_whole events point request item further
+-- a final response without a final status is a fault
+abbrev pub said_relayed : Bool → Request → List Command → List Command
+said_relayed true request returned = returned
+said_relayed false request returned = fault_said BadResponse (is_head request.method)
 
-abbrev pub texts_headed : Terms → List (Timed Event) → Point → Option RequestHead → Item RequestHead → (Point → List (List ℕ)) → List (List ℕ)
-texts_headed terms events point None item further = []
-texts_headed terms events point (Some head) item further =
-    texts_judged events point head (judged terms.place head) item further
+abbrev pub said_headed : Request → Option ResponseHead → Item ResponseHead → (Response → List Command) → List Command
+said_headed request None item behind = headless_said item (is_head request.method)
+said_headed request (Some head) item behind = said_relayed (is_relayed head.code) request (said_returned request item behind)
 
--- What the client gets for the requests from this point on: the `100 Continue` of each whose head is accepted, and once it is whole the
--- interim responses that came of it and its final one, once that is whole; and then what it gets for the next.
-abbrev pub texts_for : Terms → List (Timed Event) → Point → List (Item RequestHead) → List (List ℕ)
-texts_for terms events point [] = []
-texts_for terms events point (item ∷ items) =
-    texts_headed terms events point (head_in item) item (λ next. texts_for terms events next items)
+abbrev pub said_final : Request → Item ResponseHead → (Response → List Command) → List Command
+said_final request item behind = said_headed request (head_in item) item behind
 
--- nothing, or a fault's text
-abbrev pub IsFaultText : List (List ℕ) → Type 0
-IsFaultText [] = ⊤
-IsFaultText (text ∷ []) = (fault : Fault) × (asked_head : Bool) × (text ≡ error_text fault asked_head)
-IsFaultText _ = ⊥
+-- the interim responses, and the final one
+abbrev pub said_answers : Request → Answers → (Response → List Command) → List Command
+said_answers request answers behind = interim_commands request answers.interim ++ said_final request answers.final behind
+
+-- ---- what is said of a request
+
+-- behind its response
+abbrev pub said_on : List (Timed Event) → Point → ℕ → (Point → List Command) → Request → Response → List Command
+said_on events point opened further request response =
+    said_behind (next_is_read point request response) point (ended_at events point.server opened (is_head request.method)) further
+
+-- By the answer of its dial: it is sent on, and its response comes back; or the dial is refused.
+abbrev pub said_dialled : Terms → List (Timed Event) → Point → Request → ℕ → List (Option Fault) → (Point → List Command) → List Command
+said_dialled terms events point request opened [] further = []
+said_dialled terms events point request opened (Some fault ∷ dials) further = fault_said fault (is_head request.method)
+said_dialled terms events point request opened (None ∷ dials) further =
+    commands.Send (Server point.server) (onward_text (form_at terms.place) request)
+    ∷ said_answers request (answers_at events point.server opened (is_head request.method))
+    (said_on events (record point { dials = dials }) opened further request)
+
+-- its server is dialled once it is whole
+abbrev pub said_connected : Terms → List (Timed Event) → Point → Request → Option ℕ → (Point → List Command) → List Command
+said_connected terms events point request None further = []
+said_connected terms events point request (Some opened) further =
+    commands.Dial point.server (dialled_for terms.place request) None
+    ∷ said_dialled terms events point request opened point.dials further
+
+abbrev pub said_whole : Terms → List (Timed Event) → Point → Request → Item RequestHead → (Point → List Command) → List Command
+said_whole terms events point request (complete head body trailers used) further =
+    said_connected terms events (behind_request point used) (whole_request request body trailers) (connected_at events point) further
+said_whole terms events point request (bad_body fault head body) further = fault_said fault (is_head request.method)
+said_whole terms events point request _ further = []
+
+-- a head that is refused has its fault; behind a CONNECT nothing is said
+abbrev pub said_judged : Terms → List (Timed Event) → Point → RequestHead → Judged → Item RequestHead → (Point → List Command) → List Command
+said_judged terms events point head (Refused fault) item further = fault_said fault (is_head head.method)
+said_judged terms events point head (Connects address) item further = []
+said_judged terms events point head (Accepted request) item further =
+    meets_expectation (expects head) ++ said_whole terms events point request item further
+
+abbrev pub said_asked : Terms → List (Timed Event) → Point → Option RequestHead → Item RequestHead → (Point → List Command) → List Command
+said_asked terms events point None item further = headless_said item false
+said_asked terms events point (Some head) item further = said_judged terms events point head (judged terms.place head) item further
+
+abbrev pub said_item : Terms → List (Timed Event) → Point → Item RequestHead → (Point → List Command) → List Command
+said_item terms events point item further = said_asked terms events point (head_in item) item further
 
 -- ---- the closed form
 
--- the texts that servers get, each with its server's number: those of the client's requests, request k to server k
-abbrev pub texts_to_servers : Terms → List (Timed Event) → List (ℕ × List ℕ)
-texts_to_servers terms events = numbered_from 0 (request_texts terms events first_point (request_items (bytes_of Client events)))
+-- what is said of the requests from this point on
+abbrev pub said_from : Terms → List (Timed Event) → Point → List (Item RequestHead) → List Command
+said_from terms events point [] = []
+said_from terms events point (item ∷ items) = said_item terms events point item (λ next. said_from terms events next items)
 
--- the texts that the client gets
-abbrev pub texts_to_client : Terms → List (Timed Event) → List (List ℕ)
-texts_to_client terms events = texts_for terms events first_point (request_items (bytes_of Client events))
+-- where a conversation begins
+abbrev pub first_point : At → List Move → Point
+first_point at moves = record {
+  flow = at.flow;
+  server = at.dials;
+  bytes = at.used;
+  events = 0;
+  dials = dial_answers (answered moves);
+}
 
--- a beginning of these texts, and then nothing more, or one fault's text
-pub record BeginsOrFails (sent texts : List (List ℕ)) : Type 0 where
-  pub given : List (List ℕ)
-  pub faults : List (List ℕ)
-  pub sent_is : sent ≡ given ++ faults
-  pub begins : IsPrefixOf given texts
-  pub is_fault : IsFaultText faults
-
--- neither side of the client's connection is closed
-pub record StaysOpen (events : List (Timed Event)) (sent : List Command) : Type 0 where
-  pub client : client_closed events ≡ false
-  pub proxy : list_any closes_client sent ≡ false
-
--- all of the texts were sent, and nothing else
-pub record IsAllSent (terms : Terms) (events : List (Timed Event)) (sent : List Command) : Type 0 where
-  pub servers : server_texts sent ≡ texts_to_servers terms events
-  pub client : client_texts sent ≡ texts_to_client terms events
+-- What is said by these moves: for each request the `100 Continue` that its client waits for, the dial of its server, its text there, the
+-- interim responses that came of it and its final one; and then what is said of the next.
+abbrev pub said_for : Terms → At → List Move → List Command
+said_for terms at moves =
+    said_from terms (heard moves) (first_point at moves) (request_items (drop at.used (bytes_of Client (heard moves))))

@@ -1,6 +1,6 @@
 -- What a stage looks at, and nothing else: the joined bytes of the client and of the server's side that it uses, whether each
 -- closed, and the moment.
-use Rattle.std.specs.Prelude.{ℕ, ◌≤◌, Bool, false, ◌||◌, if◌then◌else◌, List, [], ◌++◌, length, drop, Option, Some, None}
+use Rattle.std.specs.Prelude.{ℕ, ◌≤◌, Bool, true, false, ◌||◌, if◌then◌else◌, List, [], ◌++◌, length, drop, Option, Some, None, ⊤}
 use Rattle.px_message.specs.declared.request.Request.{Request}
 use Rattle.px_event.specs.declared.event.Event.{Event}
 use Rattle.px_event.specs.declared.side.Side.TheVariants.{Client, Server}
@@ -10,8 +10,14 @@ use Rattle.px_read.specs.declared.head.RequestHead.{RequestHead}
 use Rattle.px_exchange.specs.declared.ending.Used.{Used}
 use Rattle.px_exchange.specs.declared.ending.Used.TheVariants.{ByServer}
 use Rattle.px_exchange.specs.Requests.{is_head}
-use Rattle.px_chain.specs.Stages.{At, ServerSide, Stage, side_of}
+use Rattle.px_chain.specs.Stages.{At, Doing, ServerSide, Stage, busy, request_body, side_of}
 use Rattle.px_chain.specs.Streams.{Since, bytes_of, client_closed, closes, is_closed, now_over, piece_of}
+
+-- a server's side that is connected and that no flow has used: its number, its bytes, and whether it closed
+pub record Unused : Type 0 where
+  pub server : ℕ
+  pub bytes : List ℕ
+  pub shut : Bool
 
 pub record Sight : Type 0 where
   -- the client's bytes, those of flows before included
@@ -20,6 +26,8 @@ pub record Sight : Type 0 where
   -- of the server's side that the stage uses
   pub server : List ℕ
   pub shut : Bool
+  -- the spare side, if there is one
+  pub spare : Option Unused
   pub now : ℕ
 
 -- ---- what is read of it
@@ -38,12 +46,18 @@ server_in side seen = ByServer side.server seen.shut
 
 -- ---- a stage over a prefix
 
--- A stage, since when it stands, and how many events had come when the dial of its server was answered: the server is heard
--- in those behind them.
+-- a spare side: its number, and how many events had come when its dial was answered
+pub record Spare : Type 0 where
+  pub server : ℕ
+  pub opened : ℕ
+
+-- A stage, since when it stands, how many events had come when the dial of its server was answered, and the spare side. A server is
+-- heard in the events behind those that had come.
 pub record Standing : Type 0 where
   pub stage : Stage
   pub since : Since
   pub opened : ℕ
+  pub spare : Option Spare
 
 abbrev pub bytes_over : Option ServerSide → ℕ → List (Timed Event) → List ℕ
 bytes_over None opened prefix = []
@@ -53,22 +67,36 @@ abbrev pub shut_over : Option ServerSide → ℕ → List (Timed Event) → Bool
 shut_over None opened prefix = false
 shut_over (Some side) opened prefix = is_closed (Server side.server) (drop opened prefix)
 
-abbrev pub sight_of : Option ServerSide → Since → ℕ → List (Timed Event) → Sight
-sight_of side since opened prefix = record {
+abbrev pub unused_over : Option Spare → List (Timed Event) → Option Unused
+unused_over None prefix = None
+unused_over (Some spare) prefix = Some (record {
+  server = spare.server;
+  bytes = bytes_of (Server spare.server) (drop spare.opened prefix);
+  shut = is_closed (Server spare.server) (drop spare.opened prefix);
+})
+
+abbrev pub sight_of : Option ServerSide → Since → ℕ → Option Spare → List (Timed Event) → Sight
+sight_of side since opened spare prefix = record {
   client = bytes_of Client prefix;
   closed = client_closed prefix;
   server = bytes_over side opened prefix;
   shut = shut_over side opened prefix;
+  spare = unused_over spare prefix;
   now = now_over since prefix;
 }
 
 abbrev pub sight_over : Standing → List (Timed Event) → Sight
-sight_over place prefix = sight_of (side_of place.stage) place.since place.opened prefix
+sight_over place prefix = sight_of (side_of place.stage) place.since place.opened place.spare prefix
 
--- it stands since an event of the prefix, and so does its server's side
+abbrev pub SpareIsWithin : Option Spare → List (Timed Event) → Type 0
+SpareIsWithin None prefix = ⊤
+SpareIsWithin (Some spare) prefix = spare.opened ≤ length prefix
+
+-- it stands since an event of the prefix, and so do its server's side and the spare one
 pub record IsWithin (place : Standing) (prefix : List (Timed Event)) : Type 0 where
   pub since : place.since.events ≤ length prefix
   pub opened : place.opened ≤ length prefix
+  pub spare : SpareIsWithin place.spare prefix
 
 -- ---- one event more
 
@@ -80,6 +108,14 @@ abbrev pub shut_with : Option ServerSide → Bool → Event → Bool
 shut_with None shut event = shut
 shut_with (Some side) shut event = shut || closes (Server side.server) event
 
+abbrev pub unused_with : Option Unused → Event → Option Unused
+unused_with None event = None
+unused_with (Some unused) event = Some (record {
+  server = unused.server;
+  bytes = if unused.shut then unused.bytes else (unused.bytes ++ piece_of (Server unused.server) event);
+  shut = unused.shut || closes (Server unused.server) event;
+})
+
 -- the sight with one event more, at this moment, while the client has not closed
 abbrev pub sight_with : Option ServerSide → Sight → Event → ℕ → Sight
 sight_with side seen event now = record {
@@ -87,10 +123,24 @@ sight_with side seen event now = record {
   closed = seen.closed || closes Client event;
   server = server_with side seen.shut seen.server event;
   shut = shut_with side seen.shut event;
+  spare = unused_with seen.spare event;
   now = now;
 }
 
 -- ---- behind a reply
+
+-- A reply led to the use of the spare side: no dial was asked for the request that was read.
+abbrev pub is_taken : Doing → Option ServerSide → Bool
+is_taken (request_body given) (Some side) = true
+is_taken doing side = false
+
+abbrev pub took_spare : Stage → Stage → Bool
+took_spare (busy at flow doing) to = is_taken doing (side_of to)
+took_spare from to = false
+
+abbrev pub unless_taken : {A : Type 0} → Bool → Option A → Option A
+unless_taken true spare = None
+unless_taken false spare = spare
 
 -- What is seen of a server's side where a reply led, from the side that was used before: nothing of one that is new.
 abbrev pub server_behind : Option ServerSide → Option ServerSide → List ℕ → List ℕ
@@ -103,12 +153,24 @@ shut_behind before None shut = false
 shut_behind None (Some side) shut = false
 shut_behind (Some before) (Some side) shut = shut
 
--- the sight behind a reply at this moment
-abbrev pub sight_behind : Option ServerSide → Sight → ℕ → Option ServerSide → Sight
-sight_behind before seen moment side = record {
-  client = seen.client;
-  closed = seen.closed;
-  server = server_behind before side seen.server;
-  shut = shut_behind before side seen.shut;
-  now = moment;
-}
+-- and of one that was spare, all that was seen of it
+abbrev pub server_taken : Bool → Option Unused → List ℕ → List ℕ
+server_taken true (Some unused) server = unused.bytes
+server_taken taken spare server = server
+
+abbrev pub shut_taken : Bool → Option Unused → Bool → Bool
+shut_taken true (Some unused) shut = unused.shut
+shut_taken taken spare shut = shut
+
+-- the sight behind a reply at this moment, which led from the one stage to the other
+abbrev pub sight_behind : Stage → Sight → ℕ → Stage → Sight
+sight_behind from seen moment to =
+    let taken = took_spare from to in
+    record {
+      client = seen.client;
+      closed = seen.closed;
+      server = server_taken taken seen.spare (server_behind (side_of from) (side_of to) seen.server);
+      shut = shut_taken taken seen.spare (shut_behind (side_of from) (side_of to) seen.shut);
+      spare = unless_taken taken seen.spare;
+      now = moment;
+    }

@@ -1,10 +1,11 @@
 -- A server hears nothing before its dial was answered with the connection. A conversation dials its servers one after the
 -- other, from number 0 on, and dials the next only where each before is connected: so the dial of a server was not answered
 -- so as long as the moves have no more such answers than there are servers before it.
-use Rattle.std.specs.Prelude.{◌≤◌, ◌+◌, ℕ, List, [], ◌∷◌}
+use Rattle.std.specs.Prelude.{◌≤◌, ◌<◌, ◌+◌, ℕ, List, [], ◌∷◌, Option, Some, None, ⊤}
 use Rattle.px_event.specs.declared.reply.Reply.{Reply}
 use Rattle.px_event.specs.declared.reply.Reply.TheVariants as replies
 use Rattle.px_event.specs.Layer.{Move, Took, Replied}
+use Rattle.px_chain.specs.Sights.{Spare}
 
 -- the answer of a dial with its connection, as a number
 abbrev pub connects : Reply → ℕ
@@ -20,3 +21,8 @@ connections (Replied moment reply ∷ moves) = connects reply + connections move
 -- no move answers the dial of this server with its connection
 abbrev pub NoAnswer : ℕ → List Move → Type 0
 NoAnswer server moves = connections moves ≤ server
+
+-- the server of a spare side is among the first so many
+abbrev pub SpareBelow : Option Spare → ℕ → Type 0
+SpareBelow None dials = ⊤
+SpareBelow (Some spare) dials = spare.server < dials

@@ -16,8 +16,6 @@ pub record At : Type 0 where
   pub dials : ℕ
   -- how many of the client's bytes the flows before have used
   pub used : ℕ
-  -- the server's side that the flow before has left to this one
-  pub kept : Option ServerSide
 
 -- how the request stands while its response is awaited
 pub data Sent : Type 0 where
@@ -33,6 +31,8 @@ pub data Doing : Type 0 where
   -- the server is connected: the head of its final response, and behind that head's hook the response's body
   response_head : (side : ServerSide) (sent : Sent) → Doing
   response_body : (side : ServerSide) (sent : Sent) → Doing
+  -- the response has code 101 and was sent: HTTP ends here, and the flow does not
+  upgraded : (side : ServerSide) → Doing
   -- a response was given in place of the server's, and goes through both hooks
   given_head : Doing
   given_body : Doing
@@ -49,7 +49,7 @@ pub data Stage : Type 0 where
 
 -- where its flow stands; at the end that counts for nothing
 abbrev pub ended_at : At
-ended_at = record { flow = 0; dials = 0; used = 0; kept = None }
+ended_at = record { flow = 0; dials = 0; used = 0 }
 
 abbrev pub place_of : Stage → At
 place_of (idle at) = at
@@ -61,6 +61,7 @@ place_of over = ended_at
 abbrev pub side_in : Doing → Option ServerSide
 side_in (response_head side sent) = Some side
 side_in (response_body side sent) = Some side
+side_in (upgraded side) = Some side
 side_in _ = None
 
 abbrev pub side_of : Stage → Option ServerSide

@@ -1,7 +1,7 @@
 //! Laws of the chain of a conversation, each the contract of a function that does nothing.
-ghost use Rattle.std.specs.Prelude.{◌≡◌, [], ℕ, List, true, false};
+ghost use Rattle.std.specs.Prelude.{◌≡◌, ◌≤◌, ◌+◌, [], ℕ, List, Option, Some, true, false};
 ghost use Rattle.px_text.specs.Prefix.{IsPrefixOf};
-ghost use Rattle.px_event.specs.Chain.{Timed};
+ghost use Rattle.px_event.specs.Chain.{Ends, Timed};
 ghost use Rattle.px_event.specs.Laws.{Settles, SoFarGrows};
 ghost use Rattle.px_event.specs.Layer.{Move};
 ghost use Rattle.px_event.specs.Stands.{due_by};
@@ -10,11 +10,13 @@ ghost use Rattle.px_event.specs.declared.reply.Reply.{Reply as Answer};
 ghost use Rattle.px_event.specs.declared.side.Side.TheVariants.{Server as TheServer};
 ghost use Rattle.px_exchange.specs.EndOrder.{EndsInOrder, FoundInOrder};
 ghost use Rattle.px_exchange.specs.declared.terms.Terms.{Terms as Made};
-ghost use Rattle.px_chain.specs.Chain.{IsOnward, begin, http_chain, look, sequence, turn};
-ghost use Rattle.px_chain.specs.ClosedForm.{BeginsOrFails, GoesOn, IsAllSent, StaysOpen, answered, client_texts, heard, server_texts, texts_to_client, texts_to_servers};
-ghost use Rattle.px_chain.specs.Sights.{Sight};
-ghost use Rattle.px_chain.specs.Silent.{NoAnswer};
+ghost use Rattle.px_chain.specs.Chain.{Connect, IsOnward, begin, begin_with, connect_in, find, http_chain, look, sequence, turn};
+ghost use Rattle.px_chain.specs.ClosedForm.{GoesOn, answered, heard, said, said_for};
+ghost use Rattle.px_chain.specs.Sent.{IsSentOnce};
+ghost use Rattle.px_chain.specs.Sights.{Sight, Spare, request_in};
+ghost use Rattle.px_chain.specs.Silent.{NoAnswer, SpareBelow, connections};
 ghost use Rattle.px_chain.specs.Stages.{At, Stage, idle};
+ghost use Rattle.px_chain.specs.Streams.{client_closed};
 
 /// In one sight passing settles at once.
 pub fn passing_settles()
@@ -26,11 +28,32 @@ pub fn waiting_grows()
     ensures { (onward : Stage → Stage) (made : Made) (view : View) → SoFarGrows (http_chain onward made) (seen_of view) }
 {}
 
-/// A server is sent nothing before its dial was answered with the connection, and nothing is due before the first move.
+/// A server is sent nothing before its dial was answered with the connection, and nothing is due before the first move. A conversation
+/// that begins with a spare side, among so many servers that were connected before, sends nothing to a server that the answers do not reach.
 pub fn servers_hear_nothing_early()
     ensures silent { (onward : Stage → Stage) (made : Made) (at : At) (server : ℕ) (moves : List Move) → IsOnward onward → at.dials ≡ 0 → NoAnswer server moves →
         bytes_in (seen_of (line (TheServer server)) (due_by (http_chain onward made) (begin (idle at)) moves)) ≡ [] }
+    ensures spare { (onward : Stage → Stage) (made : Made) (at : At) (side : Option Spare) (server : ℕ) (moves : List Move) → IsOnward onward → SpareBelow side at.dials →
+        at.dials + connections moves ≤ server →
+        bytes_in (seen_of (line (TheServer server)) (due_by (http_chain onward made) (begin_with side (idle at)) moves)) ≡ [] }
     ensures before_all { (onward : Stage → Stage) (made : Made) (at : At) → at.used ≡ 0 → due_by (http_chain onward made) (begin (idle at)) [] ≡ [] }
+{}
+
+/// Each server is sent the text of one request at most. One that was connected before the conversation began is that of its spare side,
+/// and the request is one that goes there.
+pub fn a_server_is_sent_one_request()
+    ensures { (onward : Stage → Stage) (made : Made) (at : At) (side : Option Spare) (server : ℕ) (moves : List Move) → IsOnward onward → SpareBelow side at.dials →
+        IsSentOnce made.place side at.dials server
+        (bytes_in (seen_of (line (TheServer server)) (due_by (http_chain onward made) (begin_with side (idle at)) moves))) }
+{}
+
+/// Where a request is awaited, the end is found with nothing owed exactly where a CONNECT stands that asks for a tunnel here, and then it is
+/// whole: behind it nothing is read as HTTP. (A client's close is an end too, where nothing else is found.)
+pub fn tunnels_end_http()
+    ensures found { (made : Made) (at : At) (seen : Sight) → find made (idle at) seen ≡ Ends [] →
+        (connect : Connect) × (connect_in made.place (request_in at seen) ≡ Some connect) }
+    ensures there { (made : Made) (at : At) (seen : Sight) (connect : Connect) → connect_in made.place (request_in at seen) ≡ Some connect →
+        find made (idle at) seen ≡ Ends [] }
 {}
 
 /// What a reply brings, and what is owed at an end, is bytes, then the end of at most one flow, then closes, in this order.
@@ -39,18 +62,15 @@ pub fn bytes_come_before_ends()
     ensures ends { (made : Made) (stage : Stage) (seen : Sight) → FoundInOrder (look made stage seen) }
 {}
 
-/// Where every reply goes on with the flow as it was asked: the servers are sent the requests of the client's stream, one behind the
-/// other, request k to server k once the response before it is whole; and the client is sent what came of each, in order, until a
-/// fault's text or an end. Where no question waits, and the client's connection is not closed, all of that was sent.
+/// Where every reply goes on with the flow as it was asked, and the dials are answered by the connection or refused: the texts that are sent and the dials, in
+/// order, begin those of the closed form, which are said of the client's stream, one request behind the other, and of what each server sent. Where no question
+/// waits, and the client has not closed, they are all of them.
 pub fn what_goes_on_is_sent_on()
-    ensures servers { (made : Made) (at : At) (moves : List Move) → at.dials ≡ 0 → at.used ≡ 0 →
+    ensures begins { (made : Made) (at : At) (moves : List Move) →
         GoesOn true (due_by (http_chain sequence made) (begin (idle at)) moves) (answered moves) →
-        IsPrefixOf (server_texts (due_by (http_chain sequence made) (begin (idle at)) moves)) (texts_to_servers made (heard moves)) }
-    ensures client { (made : Made) (at : At) (moves : List Move) → at.dials ≡ 0 → at.used ≡ 0 →
-        GoesOn true (due_by (http_chain sequence made) (begin (idle at)) moves) (answered moves) →
-        BeginsOrFails (client_texts (due_by (http_chain sequence made) (begin (idle at)) moves)) (texts_to_client made (heard moves)) }
-    ensures all { (made : Made) (at : At) (moves : List Move) → at.dials ≡ 0 → at.used ≡ 0 →
+        IsPrefixOf (said (due_by (http_chain sequence made) (begin (idle at)) moves)) (said_for made at moves) }
+    ensures all { (made : Made) (at : At) (moves : List Move) →
         GoesOn false (due_by (http_chain sequence made) (begin (idle at)) moves) (answered moves) →
-        StaysOpen (heard moves) (due_by (http_chain sequence made) (begin (idle at)) moves) →
-        IsAllSent made (heard moves) (due_by (http_chain sequence made) (begin (idle at)) moves) }
+        client_closed (heard moves) ≡ false →
+        said (due_by (http_chain sequence made) (begin (idle at)) moves) ≡ said_for made at moves }
 {}

@@ -6,18 +6,28 @@
 //! awaited; `busy` with a flow, awaiting its request's body, the connection to its server, the head of its final response, that
 //! response's body, or the hooks of a response that was given in the server's place; behind a finished flow (`next`); or `over`.
 //!
-//! A stage looks at the joined bytes of the client and of the server's side that it uses, at their closes and at the moment, and at
-//! nothing else: that is its sight (`specs/Sights.antt`). What it finds, where it goes on without a reply, and what a reply brings
-//! are functions of the stage and its sight (`specs/Chain.antt`), in the steps of `px_exchange`. A client that closes ends the flow
-//! where nothing else is found by then.
+//! HTTP ends in two more ways, behind which another protocol follows, and a crate above goes on from there. A CONNECT asks for a tunnel
+//! (RFC 9110 section 9.3.6): `idle` finds it and owes nothing, and `connect_in` says where the tunnel is asked for to, and how many of the
+//! client's bytes that used. A response of code 101 switches protocols (RFC 9110 section 15.2.2): once its last hook was answered it is
+//! sent, and the flow stands at `upgraded`, unfinished, with the server's side and how many of its bytes HTTP used.
+//!
+//! A conversation may begin with a spare side: a server that is connected, and that no flow has used (`spare_of`). The first request that
+//! goes there is sent to it in the turn that answers its body's hook, and no connection is asked for; each later one is dialled for.
+//!
+//! A stage looks at the joined bytes of the client, of the server's side that it uses and of the spare one, at their closes and at the
+//! moment, and at nothing else: that is its sight (`specs/Sights.antt`). What it finds, where it goes on without a reply, and what a
+//! reply brings are functions of the stage and its sight (`specs/Chain.antt`), in the steps of `px_exchange`. A client that closes ends
+//! the flow where nothing else is found by then.
 //!
 //! So over `GET / HTTP/1.1` CRLF `Host: h` CRLF CRLF, `idle` finds a head and asks its hook; a reply that goes on leads to awaiting
 //! the body, which finds the request whole and asks its hook; then the connection is asked for, which owes the server the request's
 //! text and leads to awaiting the response's head, where nothing is found until the server's bytes begin with a final response.
 //!
-//! `laws` says what follows: what is due only grows, in each view; a server hears nothing before its dial was answered; bytes come
-//! before the end of their flow, and that before closes. Where every reply goes on with the flow as it was asked, `specs/ClosedForm.antt`
-//! says what the servers and the client are sent over whole lists, without stages, and the chain sends that.
+//! `laws` says what follows: what is due only grows, in each view; a server hears nothing before its dial was answered, and the text of
+//! one request at most; bytes come before the end of their flow, and that before closes; a CONNECT that ends HTTP stands whole. Where
+//! every reply goes on with the flow as it was asked, `specs/ClosedForm.antt` says over whole lists, without stages, which texts are sent
+//! and which servers are dialled, in order and with the faults' texts, and the chain does that. For crates with larger chains
+//! `proofs/CountedLemmas.antt` says that no server hears anything early of any chain that counts its servers, as this one does.
 #![tactic(auto)]
 
 pub mod laws;
