@@ -9,22 +9,22 @@ use Rattle.px_event.specs.declared.reply.Reply.{Reply}
 use Rattle.px_event.specs.declared.side.Side.{Side}
 use Rattle.px_event.specs.declared.side.Side.TheVariants.{Client, Server}
 use Rattle.px_event.specs.Alike.{Alike, FoundAlike, OwesAlike, passes_over, TurnsAlike, Unhurried}
-use Rattle.px_event.specs.Chain.{Asks, at_its_step, Chain, Ends, found, Look, NotYet, Stamp, Stamped, Timed, worked_off}
+use Rattle.px_event.specs.Chain.{Asks, at_its_step, Chain, Ends, found, later, Look, NotYet, Stamp, Stamped, Timed, worked_off}
 use Rattle.px_event.specs.Laws.{IsFound, IsSettled}
 use Rattle.px_read.specs.Items.{Item, missing, part, complete, bad_head, bad_body}
 use Rattle.px_read.specs.declared.head.RequestHead.{RequestHead as ReadRequest}
 use Rattle.px_exchange.specs.declared.terms.Terms.{Terms}
 use Rattle.px_chain.specs.Chain.{http_chain, look, pass, pass_body, sequence, so_far, stands, turn, IsOnward, is_alone, is_sequence}
 use Rattle.px_chain.specs.Sights.{Sight, Standing, request_in, sight_behind, sight_over, sight_with}
-use Rattle.px_chain.specs.Stages.{At, ServerSide, Stage, busy, connection, given_body, given_head, idle, next, over, request_body, response_body, response_head, side_of}
-use Rattle.px_chain.specs.Streams.{client_closed}
+use Rattle.px_chain.specs.Stages.{At, Stage, busy, connection, given_body, given_head, idle, next, over, request_body, response_body, response_head, side_of, upgraded}
+use Rattle.px_chain.specs.Streams.{client_closed, now_over}
 use Rattle.px_chain.proofs.ChainLaws.{open_still}
 use Rattle.px_chain.proofs.FrontLaws.{now_here}
 use Rattle.px_chain.proofs.SightLaws.{IsSideFrom, onward_from, side_passed, sight_passed, sight_turned}
 use Rattle.px_cuts.specs.Alike.{PlacesAlike, HeardEarly}
 use Rattle.px_cuts.specs.Cuts.{AlikeSeen, IsDialled, MayBeHeard, MayWaitFor, retimed}
-use Rattle.px_cuts.specs.Shown.{hears, look_over, passed_over, retimed_sight, retimed_stage}
-use Rattle.px_cuts.proofs.PlaceLaws.{hears_behind, may_more, may_passed, may_turned, onward_leads, passed_leads, shown_more, side_retimed}
+use Rattle.px_cuts.specs.Shown.{hears, look_over, moment_at, passed_over, retimed_stage, shown_over, shown_sight}
+use Rattle.px_cuts.proofs.PlaceLaws.{behind_retimed, hears_behind, may_more, may_passed, may_turned, moment_alike, moment_passed, onward_leads, passed_leads, shown_more, side_retimed}
 use Rattle.px_cuts.proofs.ShownLaws.{look_shown, pass_shown, retimed_look, retimed_reply, retimed_turn, so_far_shown, turn_shown}
 use Rattle.px_cuts.proofs.StayLaws.{finds_alike, FindsAlike, pass_stays, ReadersStay}
 
@@ -51,6 +51,7 @@ not_passed terms (busy at flow (request_body given)) seen is = not_passed_by ter
 not_passed terms (busy at flow connection) seen is = refl
 not_passed terms (busy at flow (response_head side how)) seen is = refl
 not_passed terms (busy at flow (response_body side how)) seen is = refl
+not_passed terms (busy at flow (upgraded side)) seen is = refl
 not_passed terms (busy at flow given_head) seen is = refl
 not_passed terms (busy at flow given_body) seen is = refl
 not_passed terms (next at) seen is = refl
@@ -101,7 +102,14 @@ module _ (see : ℕ → ℕ) where
     chain = http_chain onward terms
 
     abbrev shown : Standing → List (Timed Event) → Sight
-    shown s f = retimed_sight see (sight_over s f)
+    shown s f = shown_over see s f
+
+    -- where a stage passes, a sight is shown as before
+    sight_shown : (stage : Stage) (seen v : Sight) → shown_sight see (pass stage seen) v ≡ shown_sight see stage v
+    sight_shown stage seen v = ap (λ n. (let there : Sight = record v { now = n } in there)) (moment_passed see stage seen v.now)
+
+    passed_shows : (s : Standing) (f : List (Timed Event)) → shown (passed_over s f) f ≡ shown s f
+    passed_shows s f = let v : Sight = sight_over s f in ap (λ x. shown_sight see (pass s.stage v) x) (sight_passed s v f) ∙ sight_shown s.stage v v
 
     -- ---- places that show the same
 
@@ -109,8 +117,7 @@ module _ (see : ℕ → ℕ) where
     pass_alike s f t g place = record {
       stages = pass_shown see s.stage (sight_over s f)
           ∙ (both pass (retimed_stage see s.stage) (retimed_stage see t.stage) (shown s f) (shown t g) place.stages place.sights ∙ sym (pass_shown see t.stage (sight_over t g)));
-      sights = ap (λ v. retimed_sight see v) (sight_passed s (sight_over s f) f)
-          ∙ (place.sights ∙ sym (ap (λ v. retimed_sight see v) (sight_passed t (sight_over t g) g)));
+      sights = passed_shows s f ∙ (place.sights ∙ sym (passed_shows t g));
       may = may_passed s f place.may;
       other_may = may_passed t g place.other_may;
     }
@@ -138,8 +145,8 @@ module _ (see : ℕ → ℕ) where
 
     -- what is shown there
     led_shows : (s : Standing) (f : List (Timed Event)) (answer : Timed Reply) →
-        shown (stands s answer.moment f (led s f answer)) f ≡ sight_behind (side_of s.stage) (shown s f) (see answer.moment) (side_of (led s f answer))
-    led_shows s f answer = ap (λ v. retimed_sight see v) (sight_turned onward goes terms s f (sight_over s f) answer)
+        shown (stands s answer.moment f (led s f answer)) f ≡ sight_behind s.stage (shown s f) (moment_at see (led s f answer) answer.moment) (led s f answer)
+    led_shows s f answer = ap (λ v. shown_sight see (led s f answer) v) (sight_turned onward goes terms s f answer)
 
     led_alike : (s : Standing) (f : List (Timed Event)) (t : Standing) (g : List (Timed Event)) (answer other : Timed Reply) →
         retimed_turn see (turn terms s.stage (sight_over s f) answer) ≡ retimed_turn see (turn terms t.stage (sight_over t g) other) →
@@ -148,10 +155,15 @@ module _ (see : ℕ → ℕ) where
         retimed_on onward goes (turn terms s.stage (sight_over s f) answer).stage
         ∙ (ap (λ x. onward x.stage) turned ∙ sym (retimed_on onward goes (turn terms t.stage (sight_over t g) other).stage))
 
-    -- behind the same sides and the same sights, at the same moment
-    behind_alike : (a a' : Option ServerSide) (v w : Sight) (now other : ℕ) (b b' : Option ServerSide) → a ≡ a' → v ≡ w → now ≡ other → b ≡ b' → sight_behind a v now b ≡ sight_behind a' w other b'
+    -- behind the same stages, seen so, and the same sights, at the same moment
+    behind_alike : (a a' : Stage) (v w : Sight) (now other : ℕ) (b b' : Stage) → retimed_stage see a ≡ retimed_stage see a' → v ≡ w → now ≡ other → retimed_stage see b ≡ retimed_stage see b' →
+        sight_behind a v now b ≡ sight_behind a' w other b'
     behind_alike a a' v w now other b b' one two three four =
-        ap (λ x. sight_behind x v now b) one ∙ (ap (λ x. sight_behind a' x now b) two ∙ (ap (λ n. sight_behind a' w n b) three ∙ ap (λ x. sight_behind a' w other x) four))
+        sym (behind_retimed see a b v now)
+        ∙ (ap (λ x. sight_behind x v now (retimed_stage see b)) one
+        ∙ (ap (λ x. sight_behind (retimed_stage see a') x now (retimed_stage see b)) two
+        ∙ (ap (λ n. sight_behind (retimed_stage see a') w n (retimed_stage see b)) three
+        ∙ (ap (λ x. sight_behind (retimed_stage see a') w other x) four ∙ behind_retimed see a' b' w other))))
 
     pub turn_alike : (s : Standing) (f : List (Timed Event)) (t : Standing) (g : List (Timed Event)) → PlacesAlike see s f t g → (answer other : Timed Reply) → RepliesAlike answer other →
         TurnsAlike (AlikeSeen see) (λ a b. PlacesAlike see a f b g) (chain.turn s f answer) (chain.turn t g other)
@@ -166,10 +178,10 @@ module _ (see : ℕ → ℕ) where
           stage = record {
             stages = stages;
             sights = led_shows s f answer
-                ∙ (behind_alike (side_of s.stage) (side_of t.stage) (shown s f) (shown t g) (see answer.moment) (see other.moment) (side_of (led s f answer)) (side_of (led t g other))
-                (same_sides s.stage t.stage place.stages) place.sights same.moment (same_sides (led s f answer) (led t g other) stages) ∙ sym (led_shows t g other));
-            may = may_turned onward goes terms s f (sight_over s f) answer place.may;
-            other_may = may_turned onward goes terms t g (sight_over t g) other place.other_may;
+                ∙ (behind_alike s.stage t.stage (shown s f) (shown t g) (moment_at see (led s f answer) answer.moment) (moment_at see (led t g other) other.moment) (led s f answer) (led t g other)
+                place.stages place.sights (moment_alike see (led s f answer) (led t g other) answer.moment other.moment stages same.moment) stages ∙ sym (led_shows t g other));
+            may = may_turned onward goes terms s f answer place.may;
+            other_may = may_turned onward goes terms t g other place.other_may;
           };
         }
 
@@ -180,9 +192,9 @@ module _ (see : ℕ → ℕ) where
         record {
           stages = place.stages;
           sights = shown_more see s f e place.may open_client
-              ∙ (both (λ a v. sight_with a v e.value (see e.moment)) (side_of s.stage) (side_of t.stage) (shown s f) (shown t g) (same_sides s.stage t.stage place.stages) place.sights
-              ∙ (ap (λ x. sight_with (side_of t.stage) (shown t g) x (see e.moment)) same
-              ∙ (ap (λ n. sight_with (side_of t.stage) (shown t g) other.value n) once
+              ∙ (both (λ a v. sight_with a v e.value (moment_at see s.stage e.moment)) (side_of s.stage) (side_of t.stage) (shown s f) (shown t g) (same_sides s.stage t.stage place.stages) place.sights
+              ∙ (ap (λ x. sight_with (side_of t.stage) (shown t g) x (moment_at see s.stage e.moment)) same
+              ∙ (ap (λ n. sight_with (side_of t.stage) (shown t g) other.value n) (moment_alike see s.stage t.stage e.moment other.moment place.stages once)
               ∙ sym (shown_more see t g other place.other_may (sym (ap (λ v. v.closed) place.sights) ∙ open_client)))));
           may = may_more s f e place.may;
           other_may = may_more t g other place.other_may;
@@ -218,7 +230,9 @@ module _ (see : ℕ → ℕ) where
           let P : Look Command → Type 0 = IsFound in
           let there : IsFound (look terms (pass stage (shown s f)) (shown s f)) =
           subst P (ap (λ x. retimed_look see (look terms (pass s.stage v) x)) (sight_passed s v f)
-          ∙ (look_shown see terms (pass s.stage v) v ∙ ap (λ x. look terms x (shown s f)) (pass_shown see s.stage v))) (is_found_seen (look_over terms (passed_over s f) f) is) in
+          ∙ (look_shown see terms (pass s.stage v) v
+          ∙ both (look terms) (retimed_stage see (pass s.stage v)) (pass stage (shown s f)) (shown_sight see (pass s.stage v) v) (shown s f) (pass_shown see s.stage v) (sight_shown s.stage v v)))
+          (is_found_seen (look_over terms (passed_over s f) f) is) in
           let same : pass stage (hears (side_of stage) (shown s f) piece) ≡ pass stage (shown s f) = pass_stays terms readers place.side place.bytes stage (shown s f) place.open_client there in
           record {
             side = place.side;
@@ -229,11 +243,10 @@ module _ (see : ℕ → ℕ) where
                 ∙ (both pass stage (retimed_stage see t.stage) (hears (side_of stage) (shown s f) piece) (shown t g) place.stages (heard_so last s f t g place)
                 ∙ sym (pass_shown see t.stage (sight_over t g))));
             hears = both (λ a x. hears a x piece) (side_of (pass s.stage v)) (side_of s.stage) (shown (passed_over s f) f) (shown s f)
-                (side_passed s.stage v) (ap (λ x. retimed_sight see x) (sight_passed s v f))
-                ∙ (place.hears ∙ sym (ap (λ x. retimed_sight see x) (sight_passed t (sight_over t g) g)));
+                (side_passed s.stage v) (passed_shows s f) ∙ (place.hears ∙ sym (passed_shows t g));
             open_client = place.open_client;
-            comes = place.comes;
-            heard = λ again. heard_on place.side s.stage (pass s.stage v) (passed_leads s.stage v).dialled (place.heard is);
+            comes = moment_passed see s.stage v (later last event.stamp).moment ∙ (place.comes ∙ sym (moment_passed see s.stage v (now_over s.since f)));
+            heard = λ again. heard_on place.side s.stage (pass s.stage v) (passed_leads None s.stage v).dialled (place.heard is);
             may = may_passed s f place.may;
             other_may = may_passed t g place.other_may;
           }
@@ -280,7 +293,7 @@ module _ (see : ℕ → ℕ) where
           let s' : Stage = led s f answer in
           let t' : Stage = led t g answer in
           let stages : retimed_stage see s' ≡ retimed_stage see t' = led_alike s f t g answer answer turned in
-          let from : IsSideFrom s.stage (side_of s') = onward_from onward goes terms s.stage (sight_over s f) answer in
+          let from : IsSideFrom s.stage (sight_over s f).spare (side_of s') = onward_from onward goes terms s.stage (sight_over s f) answer in
           record {
             owed = ap (λ x. x.owed) turned;
             stage = record {
@@ -289,14 +302,14 @@ module _ (see : ℕ → ℕ) where
               is_piece = place.is_piece;
               stages = stages;
               hears = ap (λ x. hears (side_of s') x piece) (led_shows s f answer)
-                  ∙ (hears_behind s.stage (side_of s') (shown s f) place.side place.bytes (see answer.moment) from heard
-                  ∙ (behind_alike (side_of s.stage) (side_of t.stage) (hears (side_of s.stage) (shown s f) piece) (shown t g) (see answer.moment) (see answer.moment) (side_of s') (side_of t')
-                  (same_sides s.stage t.stage place.stages) place.hears refl (same_sides s' t' stages) ∙ sym (led_shows t g answer)));
+                  ∙ (hears_behind s.stage s' (shown s f) place.side place.bytes (moment_at see s' answer.moment) from heard
+                  ∙ (behind_alike s.stage t.stage (hears (side_of s.stage) (shown s f) piece) (shown t g) (moment_at see s' answer.moment) (moment_at see t' answer.moment) s' t'
+                  place.stages place.hears (moment_alike see s' t' answer.moment answer.moment stages refl) stages ∙ sym (led_shows t g answer)));
               open_client = place.open_client;
-              comes = waits ∙ sym (ap see (now_here answer.moment f));
+              comes = moment_alike see s' s' (later reply.stamp event.stamp).moment answer.moment refl waits ∙ sym (ap (λ n. moment_at see s' n) (now_here answer.moment f));
               heard = λ found. heard_on place.side s.stage s' (onward_leads onward goes terms s.stage (sight_over s f) answer).dialled heard;
-              may = may_turned onward goes terms s f (sight_over s f) answer place.may;
-              other_may = may_turned onward goes terms t g (sight_over t g) answer place.other_may;
+              may = may_turned onward goes terms s f answer place.may;
+              other_may = may_turned onward goes terms t g answer place.other_may;
             };
           }
 
@@ -308,7 +321,7 @@ module _ (see : ℕ → ℕ) where
           record {
             stages = place.stages;
             sights = shown_more see s f e place.may place.open_client
-                ∙ (ap (λ x. sight_with (side_of s.stage) (shown s f) x (see e.moment)) place.is_piece
+                ∙ (ap (λ x. sight_with (side_of s.stage) (shown s f) x (moment_at see s.stage e.moment)) place.is_piece
                 ∙ (ap (λ n. sight_with (side_of s.stage) (shown s f) (events.Piece place.side place.bytes) n) place.comes ∙ place.hears));
             may = may_more s f e place.may;
             other_may = place.other_may;

@@ -1,6 +1,6 @@
 -- All that a stage finds, owes, passes to and turns to, its moments seen so, is that of the stage and the sight seen so.
-use Rattle.std.proofs.Common.{◌≡◌, ℕ, Bool, true, false, List, [], ◌∷◌, ◌++◌, map, Option, Some, None, refl, ap, ◌∙◌}
-use Rattle.std.specs.Prelude.{not, if◌then◌else◌}
+use Rattle.std.proofs.Common.{◌≡◌, ℕ, ◌+◌, Bool, true, false, List, [], ◌∷◌, ◌++◌, map, Option, Some, None, refl, ap, ◌∙◌}
+use Rattle.std.specs.Prelude.{◌==◌, not, if◌then◌else◌}
 use Rattle.std.proofs.lemmas.List.{map-append}
 use Rattle.px_message.specs.declared.fault.Fault.{Fault}
 use Rattle.px_message.specs.declared.fault.Fault.TheVariants.{BadResponse}
@@ -19,24 +19,25 @@ use Rattle.px_read.specs.declared.head.RequestHead.{RequestHead as ReadRequest}
 use Rattle.px_read.specs.declared.head.ResponseHead.{ResponseHead as ReadResponse}
 use Rattle.px_write.specs.Error.{error_text, fault_message}
 use Rattle.px_exchange.specs.declared.asked.Judged.{Judged}
-use Rattle.px_exchange.specs.declared.asked.Judged.TheVariants.{Refused, Accepted}
+use Rattle.px_exchange.specs.declared.asked.Judged.TheVariants.{Refused, Accepted, Connects}
 use Rattle.px_exchange.specs.declared.ending.Used.{Used}
 use Rattle.px_exchange.specs.declared.ending.Used.TheVariants.{NoServer, ByServer}
 use Rattle.px_exchange.specs.declared.taken.Taken.{Taken}
 use Rattle.px_exchange.specs.declared.taken.Taken.TheVariants.{GoesOn, Responds, Kills}
 use Rattle.px_exchange.specs.declared.place.Place.{Place}
 use Rattle.px_exchange.specs.declared.terms.Terms.{Terms}
-use Rattle.px_chain.specs.Chain.{dial_leads, killed, look, pass, pass_body, so_far, turn, turn_answer, turn_answer_head, turn_body, turn_given_head, turn_head, turn_judged, turn_response, turn_returned, turn_taken_answer, turn_taken_body, turn_taken_given, turn_taken_head, turn_taken_returned, turn_whole_answer, behind_flow, finish, used_more}
+use Rattle.px_chain.specs.Chain.{behind_flow, dial_leads, finish, finish_by, goes_on_by, killed, look, pass, pass_body, side_behind, so_far, spare_for, turn, turn_answer, turn_answer_head, turn_body, turn_given_head, turn_head, turn_judged, turn_read_whole, turn_response, turn_returned, turn_taken_answer, turn_taken_body, turn_taken_given, turn_taken_head, turn_taken_returned, turn_taken_whole, turn_whole_answer, used_more}
 use Rattle.px_exchange.specs.Flows.{ask_of, response_of, with_answer, with_body, with_end, with_returned, with_start}
 use Rattle.px_exchange.specs.Dials.{dial_owes}
 use Rattle.px_exchange.specs.Finds.{is_relayed, look_answer, look_answer_head, look_body, look_head, look_judged, look_returned, or_leaves}
 use Rattle.px_cuts.specs.Cuts.{retimed, retimed_flow}
 use Rattle.px_exchange.specs.Endings.{closed_message, connection_goes_on, ends_by_fault, ends_early, finished, refuses, shut_all, shut_client, shut_server, shut_unless, with_error, without_response}
+use Rattle.px_exchange.specs.Places.{goes_home}
 use Rattle.px_exchange.specs.Replies.{taken_at_request_body, taken_at_request_head, taken_at_response_head}
 use Rattle.px_exchange.specs.Requests.{expects, flow_of, is_head, is_http11, judged}
-use Rattle.px_cuts.specs.Shown.{retimed_sight, retimed_stage}
-use Rattle.px_chain.specs.Stages.{At, ServerSide, Stage, busy, connection, given_body, given_head, idle, next, over, request_body, response_body, response_head}
-use Rattle.px_chain.specs.Sights.{Sight, answers_in, request_in, server_in}
+use Rattle.px_cuts.specs.Shown.{retimed_sight, retimed_stage, shown_sight}
+use Rattle.px_chain.specs.Stages.{At, ServerSide, Stage, busy, connection, given_body, given_head, idle, next, over, request_body, response_body, response_head, upgraded}
+use Rattle.px_chain.specs.Sights.{Sight, Unused, answers_in, request_in, server_in}
 use Rattle.px_exchange.specs.Texts.{interim_command}
 
 -- a look, a turn and a reply, their moments seen so
@@ -96,6 +97,7 @@ module _ (see : ℕ → ℕ) where
       retimed_look see (look_judged terms index head j moment closed) ≡ look_judged terms index head j (see moment) closed
   look_judged_seen terms index head (Refused fault) moment closed = ap (λ l. Ends l) (refuses_seen fault (is_head head.method) closed)
   look_judged_seen terms index head (Accepted request) moment closed = refl
+  look_judged_seen terms index head (Connects address) moment closed = refl
 
   look_head_seen : (terms : Terms) (index : ℕ) (item : Item ReadRequest) (moment : ℕ) (closed : Bool) →
       retimed_look see (look_head terms index item moment closed) ≡ look_head terms index item (see moment) closed
@@ -152,7 +154,7 @@ module _ (see : ℕ → ℕ) where
   looked closed leaves other l m same alike = or_leaves_seen closed leaves l ∙ rw (same, alike) refl
 
   pub look_shown : (terms : Terms) (stage : Stage) (seen : Sight) →
-      retimed_look see (look terms stage seen) ≡ look terms (retimed_stage see stage) (retimed_sight see seen)
+      retimed_look see (look terms stage seen) ≡ look terms (retimed_stage see stage) (shown_sight see stage seen)
   look_shown terms (idle at) seen =
       looked seen.closed [] [] _ _ refl (look_head_seen terms at.flow (request_in at seen) seen.now seen.closed)
   look_shown terms (busy at flow (request_body given)) seen =
@@ -165,6 +167,7 @@ module _ (see : ℕ → ℕ) where
   look_shown terms (busy at flow (response_body side how)) seen =
       looked seen.closed _ _ _ _ (ends_early_seen (without_response flow) closed_message seen.now (server_in side seen) true)
       (look_returned_seen flow (answers_in flow.request side seen).final seen.now (server_in side seen) seen.closed)
+  look_shown terms (busy at flow (upgraded side)) seen = refl
   look_shown terms (busy at flow given_head) seen = refl
   look_shown terms (busy at flow given_body) seen = refl
   look_shown terms (next at) seen = refl
@@ -181,12 +184,13 @@ module _ (see : ℕ → ℕ) where
   interim_by true heads = interim_seen heads
   interim_by false heads = refl
 
-  pub so_far_shown : (stage : Stage) (seen : Sight) → map (retimed see) (so_far stage seen) ≡ so_far (retimed_stage see stage) (retimed_sight see seen)
+  pub so_far_shown : (stage : Stage) (seen : Sight) → map (retimed see) (so_far stage seen) ≡ so_far (retimed_stage see stage) (shown_sight see stage seen)
   so_far_shown (idle at) seen = refl
   so_far_shown (busy at flow (request_body given)) seen = refl
   so_far_shown (busy at flow connection) seen = refl
   so_far_shown (busy at flow (response_head side how)) seen = interim_by (is_http11 flow.request.version) (answers_in flow.request side seen).interim
   so_far_shown (busy at flow (response_body side how)) seen = refl
+  so_far_shown (busy at flow (upgraded side)) seen = refl
   so_far_shown (busy at flow given_head) seen = refl
   so_far_shown (busy at flow given_body) seen = refl
   so_far_shown (next at) seen = refl
@@ -203,12 +207,13 @@ module _ (see : ℕ → ℕ) where
   passed_seen at flow (Some response) (bad_head fault) now = refl
   passed_seen at flow (Some response) (bad_body fault head body) now = refl
 
-  pub pass_shown : (stage : Stage) (seen : Sight) → retimed_stage see (pass stage seen) ≡ pass (retimed_stage see stage) (retimed_sight see seen)
+  pub pass_shown : (stage : Stage) (seen : Sight) → retimed_stage see (pass stage seen) ≡ pass (retimed_stage see stage) (shown_sight see stage seen)
   pass_shown (idle at) seen = refl
   pass_shown (busy at flow (request_body given)) seen = passed_seen at flow given (request_in at seen) seen.now
   pass_shown (busy at flow connection) seen = refl
   pass_shown (busy at flow (response_head side how)) seen = refl
   pass_shown (busy at flow (response_body side how)) seen = refl
+  pass_shown (busy at flow (upgraded side)) seen = refl
   pass_shown (busy at flow given_head) seen = refl
   pass_shown (busy at flow given_body) seen = refl
   pass_shown (next at) seen = refl
@@ -233,6 +238,7 @@ module _ (see : ℕ → ℕ) where
       retimed_turn see (turn_judged terms at head j seen answer)
       ≡ turn_judged terms at head j (retimed_sight see seen) (retimed_reply see answer)
   judged_turn_seen terms at head (Refused fault) seen answer = refl
+  judged_turn_seen terms at head (Connects address) seen answer = refl
   judged_turn_seen terms at head (Accepted request) seen answer =
       taken_head_seen at (flow_of terms at.flow request seen.now) (expects head)
       (taken_at_request_head request answer.value) answer.moment seen.closed
@@ -246,23 +252,26 @@ module _ (see : ℕ → ℕ) where
   head_turn_seen terms at (bad_head fault) seen answer = refl
   head_turn_seen terms at (bad_body fault head body) seen answer = judged_turn_seen terms at head (judged terms.place head) seen answer
 
-  taken_body_seen : (at : At) (flow : Flow) (taken : Taken Request) (moment : ℕ) (closed : Bool) →
-      retimed_turn see (turn_taken_body at flow taken moment closed) ≡ turn_taken_body at (retimed_flow see flow) taken (see moment) closed
-  taken_body_seen at flow (GoesOn request) moment closed = refl
-  taken_body_seen at flow (Responds response) moment closed = refl
-  taken_body_seen at flow Kills moment closed = killed_seen flow moment NoServer closed
+  goes_on_seen : (to : Place) (at : At) (flow : Flow) (spare : Option Unused) → retimed_turn see (goes_on_by spare to at flow) ≡ goes_on_by spare to at (retimed_flow see flow)
+  goes_on_seen to at flow None = refl
+  goes_on_seen to at flow (Some unused) = refl
 
-  body_turn_seen : (at : At) (flow : Flow) (item : Item ReadRequest) (seen : Sight) (answer : Timed Reply) →
-      retimed_turn see (turn_body at flow item seen answer)
-      ≡ turn_body at (retimed_flow see flow) item (retimed_sight see seen) (retimed_reply see answer)
-  body_turn_seen at flow missing seen answer = refl
-  body_turn_seen at flow (part head body) seen answer = refl
-  body_turn_seen at flow (complete head body trailers used) seen answer =
+  taken_body_seen : (to : Place) (at : At) (flow : Flow) (spare : Option Unused) (taken : Taken Request) (moment : ℕ) (closed : Bool) →
+      retimed_turn see (turn_taken_body to at flow spare taken moment closed) ≡ turn_taken_body to at (retimed_flow see flow) spare taken (see moment) closed
+  taken_body_seen to at flow spare (GoesOn request) moment closed = goes_on_seen to at (record flow { request = request }) (spare_for (goes_home to request) spare)
+  taken_body_seen to at flow spare (Responds response) moment closed = refl
+  taken_body_seen to at flow spare Kills moment closed = killed_seen flow moment NoServer closed
+
+  body_turn_seen : (to : Place) (at : At) (flow : Flow) (item : Item ReadRequest) (seen : Sight) (answer : Timed Reply) →
+      retimed_turn see (turn_body to at flow item seen answer)
+      ≡ turn_body to at (retimed_flow see flow) item (retimed_sight see seen) (retimed_reply see answer)
+  body_turn_seen to at flow missing seen answer = refl
+  body_turn_seen to at flow (part head body) seen answer = refl
+  body_turn_seen to at flow (complete head body trailers used) seen answer =
       let whole : Flow = with_body flow body.content trailers seen.now in
-      taken_body_seen (used_more at used) whole
-      (taken_at_request_body whole.request answer.value) answer.moment seen.closed
-  body_turn_seen at flow (bad_head fault) seen answer = refl
-  body_turn_seen at flow (bad_body fault head body) seen answer = refl
+      taken_body_seen to (used_more at used) whole seen.spare (taken_at_request_body whole.request answer.value) answer.moment seen.closed
+  body_turn_seen to at flow (bad_head fault) seen answer = refl
+  body_turn_seen to at flow (bad_body fault head body) seen answer = refl
 
   dial_owes_seen : (to : Place) (flow : Flow) (server : ℕ) (value : Reply) (moment : ℕ) (closed : Bool) →
       map (retimed see) (dial_owes to flow server value moment closed) ≡ dial_owes to (retimed_flow see flow) server value (see moment) closed
@@ -355,15 +364,34 @@ module _ (see : ℕ → ℕ) where
       response_seen flow.response _ _ _
       (λ taken. taken_returned_seen at flow taken answer.moment used closed)
 
-  returned_turn_seen : (at : At) (flow : Flow) (side : ServerSide) (item : Item ReadResponse) (seen : Sight) (answer : Timed Reply) →
-      retimed_turn see (turn_returned at flow side item seen answer)
-      ≡ turn_returned at (retimed_flow see flow) side item (retimed_sight see seen) (retimed_reply see answer)
-  returned_turn_seen at flow side missing seen answer = refl
-  returned_turn_seen at flow side (part head body) seen answer = refl
-  returned_turn_seen at flow side (complete head body trailers size) seen answer =
-      whole_answer_seen at (with_returned flow body.content trailers seen.now) answer (server_in side seen) seen.closed
-  returned_turn_seen at flow side (bad_head fault) seen answer = refl
-  returned_turn_seen at flow side (bad_body fault head body) seen answer = refl
+  finish_by_seen : (switches : Bool) (at : At) (flow : Flow) (response : Response) (side : ServerSide) (used : Used) (closed : Bool) →
+      retimed_turn see (finish_by switches at flow response side used closed) ≡ finish_by switches at (retimed_flow see flow) response side used closed
+  finish_by_seen true at flow response side used closed = refl
+  finish_by_seen false at flow response side used closed = finish_seen at flow response used closed
+
+  taken_whole_seen : (at : At) (flow : Flow) (side : ServerSide) (taken : Taken Response) (moment : ℕ) (used : Used) (closed : Bool) →
+      retimed_turn see (turn_taken_whole at flow side taken moment used closed)
+      ≡ turn_taken_whole at (retimed_flow see flow) side taken (see moment) used closed
+  taken_whole_seen at flow side (GoesOn response) moment used closed = finish_by_seen (response.status == 101) at flow response side used closed
+  taken_whole_seen at flow side (Responds response) moment used closed = killed_seen flow moment used closed
+  taken_whole_seen at flow side Kills moment used closed = killed_seen flow moment used closed
+
+  read_whole_seen : (at : At) (flow : Flow) (side : ServerSide) (answer : Timed Reply) (used : Used) (closed : Bool) →
+      retimed_turn see (turn_read_whole at flow side answer used closed)
+      ≡ turn_read_whole at (retimed_flow see flow) side (retimed_reply see answer) used closed
+  read_whole_seen at flow side answer used closed =
+      response_seen flow.response _ _ _
+      (λ taken. taken_whole_seen at flow side taken answer.moment used closed)
+
+  returned_turn_seen : (at : At) (flow : Flow) (side : ServerSide) (interim : ℕ) (item : Item ReadResponse) (seen : Sight) (answer : Timed Reply) →
+      retimed_turn see (turn_returned at flow side interim item seen answer)
+      ≡ turn_returned at (retimed_flow see flow) side interim item (retimed_sight see seen) (retimed_reply see answer)
+  returned_turn_seen at flow side interim missing seen answer = refl
+  returned_turn_seen at flow side interim (part head body) seen answer = refl
+  returned_turn_seen at flow side interim (complete head body trailers size) seen answer =
+      read_whole_seen at (with_returned flow body.content trailers seen.now) (side_behind side (interim + size)) answer (server_in side seen) seen.closed
+  returned_turn_seen at flow side interim (bad_head fault) seen answer = refl
+  returned_turn_seen at flow side interim (bad_body fault head body) seen answer = refl
 
   given_turn_seen : (at : At) (flow : Flow) (answer : Timed Reply) (closed : Bool) →
       retimed_turn see (turn_given_head at flow answer closed) ≡ turn_given_head at (retimed_flow see flow) (retimed_reply see answer) closed
@@ -372,15 +400,16 @@ module _ (see : ℕ → ℕ) where
       (λ taken. taken_given_seen at flow taken answer.moment closed)
 
   pub turn_shown : (terms : Terms) (stage : Stage) (seen : Sight) (answer : Timed Reply) →
-      retimed_turn see (turn terms stage seen answer) ≡ turn terms (retimed_stage see stage) (retimed_sight see seen) (retimed_reply see answer)
+      retimed_turn see (turn terms stage seen answer) ≡ turn terms (retimed_stage see stage) (shown_sight see stage seen) (retimed_reply see answer)
   turn_shown terms (idle at) seen answer = head_turn_seen terms at (request_in at seen) seen answer
-  turn_shown terms (busy at flow (request_body given)) seen answer = body_turn_seen at flow (request_in at seen) seen answer
+  turn_shown terms (busy at flow (request_body given)) seen answer = body_turn_seen terms.place at flow (request_in at seen) seen answer
   turn_shown terms (busy at flow connection) seen answer =
       turning_eq _ _ _ _ (dial_owes_seen terms.place flow at.dials answer.value answer.moment seen.closed) (dial_leads_seen terms.place at flow answer.value)
   turn_shown terms (busy at flow (response_head side how)) seen answer =
       answer_turn_seen at flow side (answers_in flow.request side seen).final seen answer
   turn_shown terms (busy at flow (response_body side how)) seen answer =
-      returned_turn_seen at flow side (answers_in flow.request side seen).final seen answer
+      returned_turn_seen at flow side (answers_in flow.request side seen).used (answers_in flow.request side seen).final seen answer
+  turn_shown terms (busy at flow (upgraded side)) seen answer = refl
   turn_shown terms (busy at flow given_head) seen answer = given_turn_seen at (with_start flow seen.now) answer seen.closed
   turn_shown terms (busy at flow given_body) seen answer =
       whole_answer_seen at (with_end flow seen.now) answer NoServer seen.closed

@@ -1,7 +1,8 @@
 -- What is found stays found with a piece more, by the laws of the readers: an event that waits is heard early.
-use Rattle.std.proofs.Common.{◌≡◌, ℕ, Bool, true, false, List, [], ◌∷◌, ◌++◌, drop, Some, None, refl, ap, sym, ◌∙◌, subst}
+use Rattle.std.proofs.Common.{◌≡◌, ℕ, Bool, true, false, List, [], ◌∷◌, ◌++◌, drop, Option, Some, None, refl, ap, sym, ◌∙◌, subst}
 use Rattle.std.specs.Prelude.{zero, suc}
 use Rattle.px_message.specs.declared.flow.Flow.{Flow}
+use Rattle.px_message.specs.declared.request.Request.{Request}
 use Rattle.px_message.specs.declared.response.Response.{Response}
 use Rattle.px_event.specs.declared.command.Command.{Command}
 use Rattle.px_event.specs.declared.event.Event.{Event}
@@ -16,17 +17,23 @@ use Rattle.px_read.specs.Laws.{FinalHeadStays, FinalStays, head_in, InterimStay,
 use Rattle.px_read.specs.declared.head.RequestHead.{RequestHead as ReadRequest}
 use Rattle.px_read.specs.declared.head.ResponseHead.{ResponseHead as ReadResponse}
 use Rattle.px_exchange.specs.declared.asked.Judged.{Judged}
-use Rattle.px_exchange.specs.declared.asked.Judged.TheVariants.{Refused, Accepted}
+use Rattle.px_exchange.specs.declared.asked.Judged.TheVariants.{Refused, Accepted, Connects}
 use Rattle.px_exchange.specs.declared.ending.Used.{Used}
 use Rattle.px_exchange.specs.declared.ending.Used.TheVariants.{NoServer, ByServer}
+use Rattle.px_exchange.specs.declared.place.Place.{Place}
+use Rattle.px_exchange.specs.declared.taken.Taken.{Taken}
+use Rattle.px_exchange.specs.declared.taken.Taken.TheVariants.{GoesOn, Responds, Kills}
 use Rattle.px_exchange.specs.declared.terms.Terms.{Terms}
 use Rattle.px_exchange.specs.Finds.{look_answer, look_answer_head, look_body, look_head, look_judged, look_returned, or_leaves}
 use Rattle.px_cuts.specs.Shown.{hears}
+use Rattle.px_exchange.specs.Places.{goes_home}
 use Rattle.px_exchange.specs.Requests.{is_head, judged}
-use Rattle.px_chain.specs.Chain.{look, pass, pass_body, so_far, turn, turn_answer, turn_answer_head, turn_body, turn_head, turn_judged, turn_returned}
-use Rattle.px_chain.specs.Sights.{Sight}
-use Rattle.px_chain.specs.Stages.{At, ServerSide, Stage, busy, connection, given_body, given_head, idle, next, over, request_body, response_body, response_head, side_of}
+use Rattle.px_chain.specs.Chain.{goes_on_by, look, pass, pass_body, so_far, spare_for, turn, turn_answer, turn_answer_head, turn_body, turn_head, turn_judged, turn_returned, turn_taken_body, used_more}
+use Rattle.px_chain.specs.Sights.{Sight, Unused, unused_with}
+use Rattle.px_chain.specs.Stages.{At, ServerSide, Stage, busy, connection, given_body, given_head, idle, next, over, request_body, response_body, response_head, side_of, upgraded}
 use Rattle.px_chain.specs.Streams.{piece_of}
+use Rattle.px_exchange.specs.Flows.{with_body}
+use Rattle.px_exchange.specs.Replies.{taken_at_request_body}
 use Rattle.px_exchange.specs.Texts.{interim_commands}
 use Rattle.px_exchange.specs.Endings.{closed_message, ends_early, without_response}
 
@@ -83,6 +90,12 @@ interim_stays : ReadersStay → (asked_head : Bool) (n : ℕ) (bytes more : List
 interim_stays readers asked_head n bytes more begun =
     let split = drop_split n bytes more in
     ap (λ l. (answer_list asked_head false l).interim) split.1 ∙ (readers.interim asked_head false (drop n bytes) split.0 begun).0
+
+used_stays : ReadersStay → (asked_head : Bool) (n : ℕ) (bytes more : List ℕ) → is_begun (answer_list asked_head false (drop n bytes)).final ≡ true →
+    (answer_list asked_head false (drop n (bytes ++ more))).used ≡ (answer_list asked_head false (drop n bytes)).used
+used_stays readers asked_head n bytes more begun =
+    let split = drop_split n bytes more in
+    ap (λ l. (answer_list asked_head false l).used) split.1 ∙ (readers.interim asked_head false (drop n bytes) split.0 begun).1
 
 none_is : {H : Type 0} {P : Type 0} (head : H) → None ≡ Some head → P
 none_is head is = absurd (let e : None ≡ Some head = is in cc)
@@ -185,6 +198,13 @@ returned_found flow (complete head body trailers size) later now used closed sta
 returned_found flow (bad_head fault) later now used closed stays found = absurd found
 returned_found flow (bad_body fault head body) later now used closed stays found = stays.decided refl
 
+returned_begun : (flow : Flow) (item : Item ReadResponse) (now : ℕ) (used : Used) (closed : Bool) → IsFound (look_returned flow item now used closed) → is_begun item ≡ true
+returned_begun flow missing now used closed found = absurd found
+returned_begun flow (part head body) now used closed found = absurd found
+returned_begun flow (complete head body trailers size) now used closed found = refl
+returned_begun flow (bad_head fault) now used closed found = absurd found
+returned_begun flow (bad_body fault head body) now used closed found = refl
+
 -- ---- a place where something is found, and one that heard a piece more
 
 or_found : (leaves : List Command) (l : Look Command) → IsFound (or_leaves false leaves l) → IsFound l
@@ -198,20 +218,34 @@ pub record FindsAlike (terms : Terms) (stage : Stage) (v w : Sight) : Type 0 whe
   pub so_far : so_far stage w ≡ so_far stage v
   pub turn : (answer : Timed Reply) → turn terms stage w answer ≡ turn terms stage v answer
 
-abbrev make : List ℕ → Bool → List ℕ → Bool → ℕ → Sight
-make client closed server shut now = record { client = client; closed = closed; server = server; shut = shut; now = now }
+abbrev make : List ℕ → Bool → List ℕ → Bool → Option Unused → ℕ → Sight
+make client closed server shut spare now = record { client = client; closed = closed; server = server; shut = shut; spare = spare; now = now }
 
 -- ---- a turn reads no bytes of its sight but those of the item
 
-module _ (client client' : List ℕ) (closed : Bool) (server server' : List ℕ) (shut : Bool) (now : ℕ) (answer : Timed Reply) where
+-- a request goes to the spare side as it did, whatever was heard of that side
+goes_on_heard : (event : Event) (home : Bool) (spare : Option Unused) (to : Place) (at : At) (flow : Flow) →
+    goes_on_by (spare_for home (unused_with spare event)) to at flow ≡ goes_on_by (spare_for home spare) to at flow
+goes_on_heard event true None to at flow = refl
+goes_on_heard event true (Some unused) to at flow = refl
+goes_on_heard event false spare to at flow = refl
+
+body_heard : (event : Event) (to : Place) (at : At) (flow : Flow) (spare : Option Unused) (taken : Taken Request) (moment : ℕ) (closed : Bool) →
+    turn_taken_body to at flow (unused_with spare event) taken moment closed ≡ turn_taken_body to at flow spare taken moment closed
+body_heard event to at flow spare (GoesOn request) moment closed = goes_on_heard event (goes_home to request) spare to at (record flow { request = request })
+body_heard event to at flow spare (Responds response) moment closed = refl
+body_heard event to at flow spare Kills moment closed = refl
+
+module _ (client client' : List ℕ) (closed : Bool) (server server' : List ℕ) (shut : Bool) (spare : Option Unused) (event : Event) (now : ℕ) (answer : Timed Reply) where
   abbrev one : Sight
-  one = make client closed server shut now
+  one = make client closed server shut (unused_with spare event) now
 
   abbrev other : Sight
-  other = make client' closed server' shut now
+  other = make client' closed server' shut spare now
 
   judged_reads : (terms : Terms) (at : At) (head : ReadRequest) (j : Judged) → turn_judged terms at head j one answer ≡ turn_judged terms at head j other answer
   judged_reads terms at head (Refused fault) = refl
+  judged_reads terms at head (Connects address) = refl
   judged_reads terms at head (Accepted request) = refl
 
   head_reads : (terms : Terms) (at : At) (item : Item ReadRequest) → turn_head terms at item one answer ≡ turn_head terms at item other answer
@@ -221,12 +255,14 @@ module _ (client client' : List ℕ) (closed : Bool) (server server' : List ℕ)
   head_reads terms at (bad_head fault) = refl
   head_reads terms at (bad_body fault head body) = judged_reads terms at head (judged terms.place head)
 
-  body_reads : (at : At) (flow : Flow) (item : Item ReadRequest) → turn_body at flow item one answer ≡ turn_body at flow item other answer
-  body_reads at flow missing = refl
-  body_reads at flow (part head body) = refl
-  body_reads at flow (complete head body trailers used) = refl
-  body_reads at flow (bad_head fault) = refl
-  body_reads at flow (bad_body fault head body) = refl
+  body_reads : (to : Place) (at : At) (flow : Flow) (item : Item ReadRequest) → turn_body to at flow item one answer ≡ turn_body to at flow item other answer
+  body_reads to at flow missing = refl
+  body_reads to at flow (part head body) = refl
+  body_reads to at flow (complete head body trailers used) =
+      let whole : Flow = with_body flow body.content trailers now in
+      body_heard event to (used_more at used) whole spare (taken_at_request_body whole.request answer.value) answer.moment closed
+  body_reads to at flow (bad_head fault) = refl
+  body_reads to at flow (bad_body fault head body) = refl
 
   answer_reads : (at : At) (flow : Flow) (side : ServerSide) (item : Item ReadResponse) → turn_answer at flow side item one answer ≡ turn_answer at flow side item other answer
   answer_reads at flow side missing = refl
@@ -235,12 +271,13 @@ module _ (client client' : List ℕ) (closed : Bool) (server server' : List ℕ)
   answer_reads at flow side (bad_head fault) = refl
   answer_reads at flow side (bad_body fault head body) = refl
 
-  returned_reads : (at : At) (flow : Flow) (side : ServerSide) (item : Item ReadResponse) → turn_returned at flow side item one answer ≡ turn_returned at flow side item other answer
-  returned_reads at flow side missing = refl
-  returned_reads at flow side (part head body) = refl
-  returned_reads at flow side (complete head body trailers size) = refl
-  returned_reads at flow side (bad_head fault) = refl
-  returned_reads at flow side (bad_body fault head body) = refl
+  returned_reads : (at : At) (flow : Flow) (side : ServerSide) (interim : ℕ) (item : Item ReadResponse) →
+      turn_returned at flow side interim item one answer ≡ turn_returned at flow side interim item other answer
+  returned_reads at flow side interim missing = refl
+  returned_reads at flow side interim (part head body) = refl
+  returned_reads at flow side interim (complete head body trailers size) = refl
+  returned_reads at flow side interim (bad_head fault) = refl
+  returned_reads at flow side interim (bad_body fault head body) = refl
 
 -- ---- a piece more
 
@@ -248,9 +285,9 @@ module _ (terms : Terms) (readers : ReadersStay) (side : Side) (bytes : List ℕ
   abbrev piece : Event
   piece = events.Piece side bytes
 
-  finds_by : (stage : Stage) (client server : List ℕ) (shut : Bool) (now : ℕ) → IsFound (look terms stage (make client false server shut now)) →
-      FindsAlike terms stage (make client false server shut now) (hears (side_of stage) (make client false server shut now) piece)
-  finds_by (idle at) client server shut now found =
+  finds_by : (stage : Stage) (client server : List ℕ) (shut : Bool) (spare : Option Unused) (now : ℕ) → IsFound (look terms stage (make client false server shut spare now)) →
+      FindsAlike terms stage (make client false server shut spare now) (hears (side_of stage) (make client false server shut spare now) piece)
+  finds_by (idle at) client server shut spare now found =
       let longer = client ++ piece_of Client piece in
       let item = request_item (drop at.used client) in
       let later = request_item (drop at.used longer) in
@@ -259,9 +296,9 @@ module _ (terms : Terms) (readers : ReadersStay) (side : Side) (bytes : List ℕ
       record {
         look = ap (λ l. or_leaves false [] l) (look_head_same terms at.flow item later now false heads);
         so_far = refl;
-        turn = λ answer. head_turn_same terms at item later (make longer false server shut now) answer heads ∙ head_reads longer client false server server shut now answer terms at item;
+        turn = λ answer. head_turn_same terms at item later (make longer false server shut (unused_with spare piece) now) answer heads ∙ head_reads longer client false server server shut spare piece now answer terms at item;
       }
-  finds_by (busy at flow (request_body given)) client server shut now found =
+  finds_by (busy at flow (request_body given)) client server shut spare now found =
       let longer = client ++ piece_of Client piece in
       let item = request_item (drop at.used client) in
       let later = request_item (drop at.used longer) in
@@ -270,16 +307,16 @@ module _ (terms : Terms) (readers : ReadersStay) (side : Side) (bytes : List ℕ
       record {
         look = ap (λ i. or_leaves false (ends_early flow closed_message now NoServer true) (look_body flow i now false)) whole;
         so_far = refl;
-        turn = λ answer. ap (λ i. turn_body at flow i (make longer false server shut now) answer) whole ∙ body_reads longer client false server server shut now answer at flow item;
+        turn = λ answer. ap (λ i. turn_body terms.place at flow i (make longer false server shut (unused_with spare piece) now) answer) whole ∙ body_reads longer client false server server shut spare piece now answer terms.place at flow item;
       }
-  finds_by (busy at flow connection) client server shut now found = record { look = refl; so_far = refl; turn = λ answer. refl }
-  finds_by (busy at flow (response_head own how)) client server true now found = record {
+  finds_by (busy at flow connection) client server shut spare now found = record { look = refl; so_far = refl; turn = λ answer. refl }
+  finds_by (busy at flow (response_head own how)) client server true spare now found = record {
     look = refl;
     so_far = refl;
     turn = λ answer.
-        answer_reads (client ++ piece_of Client piece) client false server server true now answer at flow own (answer_list (is_head flow.request.method) true (drop own.used server)).final;
+        answer_reads (client ++ piece_of Client piece) client false server server true spare piece now answer at flow own (answer_list (is_head flow.request.method) true (drop own.used server)).final;
   }
-  finds_by (busy at flow (response_head own how)) client server false now found =
+  finds_by (busy at flow (response_head own how)) client server false spare now found =
       let asked_head = is_head flow.request.method in
       let longer = client ++ piece_of Client piece in
       let more = piece_of (Server own.server) piece in
@@ -291,16 +328,17 @@ module _ (terms : Terms) (readers : ReadersStay) (side : Side) (bytes : List ℕ
       record {
         look = ap (λ l. or_leaves false (ends_early flow closed_message now used true) l) (look_answer_same flow item later now used false heads);
         so_far = ap (λ l. interim_commands flow.request l) (interim_stays readers asked_head own.used server more (answer_begun flow item now used false there));
-        turn = λ answer. answer_turn_same at flow own item later (make longer false (server ++ more) false now) answer heads
-            ∙ answer_reads longer client false (server ++ more) server false now answer at flow own item;
+        turn = λ answer. answer_turn_same at flow own item later (make longer false (server ++ more) false (unused_with spare piece) now) answer heads
+            ∙ answer_reads longer client false (server ++ more) server false spare piece now answer at flow own item;
       }
-  finds_by (busy at flow (response_body own how)) client server true now found = record {
+  finds_by (busy at flow (response_body own how)) client server true spare now found = record {
     look = refl;
     so_far = refl;
     turn = λ answer.
-        returned_reads (client ++ piece_of Client piece) client false server server true now answer at flow own (answer_list (is_head flow.request.method) true (drop own.used server)).final;
+        let answers = answer_list (is_head flow.request.method) true (drop own.used server) in
+        returned_reads (client ++ piece_of Client piece) client false server server true spare piece now answer at flow own answers.used answers.final;
   }
-  finds_by (busy at flow (response_body own how)) client server false now found =
+  finds_by (busy at flow (response_body own how)) client server false spare now found =
       let asked_head = is_head flow.request.method in
       let longer = client ++ piece_of Client piece in
       let more = piece_of (Server own.server) piece in
@@ -308,64 +346,69 @@ module _ (terms : Terms) (readers : ReadersStay) (side : Side) (bytes : List ℕ
       let later = (answer_list asked_head false (drop own.used (server ++ more))).final in
       let used : Used = ByServer own.server false in
       let there = or_found (ends_early (without_response flow) closed_message now used true) (look_returned flow item now used false) found in
+      let interim : ℕ = (answer_list asked_head false (drop own.used server)).used in
       let whole = returned_found flow item later now used false (final_stays readers asked_head own.used server more) there in
+      let before = used_stays readers asked_head own.used server more (returned_begun flow item now used false there) in
       record {
         look = ap (λ i. or_leaves false (ends_early (without_response flow) closed_message now used true) (look_returned flow i now used false)) whole;
         so_far = refl;
-        turn = λ answer. ap (λ i. turn_returned at flow own i (make longer false (server ++ more) false now) answer) whole
-            ∙ returned_reads longer client false (server ++ more) server false now answer at flow own item;
+        turn = λ answer. ap (λ n. turn_returned at flow own n later (make longer false (server ++ more) false (unused_with spare piece) now) answer) before
+            ∙ (ap (λ i. turn_returned at flow own interim i (make longer false (server ++ more) false (unused_with spare piece) now) answer) whole
+            ∙ returned_reads longer client false (server ++ more) server false spare piece now answer at flow own interim item);
       }
-  finds_by (busy at flow given_head) client server shut now found = record { look = refl; so_far = refl; turn = λ answer. refl }
-  finds_by (busy at flow given_body) client server shut now found = record { look = refl; so_far = refl; turn = λ answer. refl }
-  finds_by (next at) client server shut now found = record { look = refl; so_far = refl; turn = λ answer. refl }
-  finds_by over client server shut now found = record { look = refl; so_far = refl; turn = λ answer. refl }
+  finds_by (busy at flow (upgraded own)) client server shut spare now found = record { look = refl; so_far = refl; turn = λ answer. refl }
+  finds_by (busy at flow given_head) client server shut spare now found = record { look = refl; so_far = refl; turn = λ answer. refl }
+  finds_by (busy at flow given_body) client server shut spare now found = record { look = refl; so_far = refl; turn = λ answer. refl }
+  finds_by (next at) client server shut spare now found = record { look = refl; so_far = refl; turn = λ answer. refl }
+  finds_by over client server shut spare now found = record { look = refl; so_far = refl; turn = λ answer. refl }
 
   -- What is found without a piece is found with it, where the client has not closed.
   pub finds_alike : (stage : Stage) (v : Sight) → v.closed ≡ false → IsFound (look terms stage v) → FindsAlike terms stage v (hears (side_of stage) v piece)
   finds_alike stage v open_client found =
-      let P : Bool → Type 0 = λ b. IsFound (look terms stage (make v.client b v.server v.shut v.now)) →
-      FindsAlike terms stage (make v.client b v.server v.shut v.now) (hears (side_of stage) (make v.client b v.server v.shut v.now) piece) in
-      subst P (sym open_client) (finds_by stage v.client v.server v.shut v.now) found
+      let P : Bool → Type 0 = λ b. IsFound (look terms stage (make v.client b v.server v.shut v.spare v.now)) →
+      FindsAlike terms stage (make v.client b v.server v.shut v.spare v.now) (hears (side_of stage) (make v.client b v.server v.shut v.spare v.now) piece) in
+      subst P (sym open_client) (finds_by stage v.client v.server v.shut v.spare v.now) found
 
   -- ---- and where it passes
 
-  pass_body_stays : (at : At) (flow : Flow) (response : Response) (client : List ℕ) (item later : Item ReadRequest) (server : List ℕ) (shut : Bool) (now : ℕ) →
+  pass_body_stays : (at : At) (flow : Flow) (response : Response) (client : List ℕ) (item later : Item ReadRequest) (server : List ℕ) (shut : Bool) (spare : Option Unused) (now : ℕ) →
       request_item (drop at.used client) ≡ item → Stays item later →
-      IsFound (look terms (pass_body at flow (Some response) item now) (make client false server shut now)) →
+      IsFound (look terms (pass_body at flow (Some response) item now) (make client false server shut spare now)) →
       pass_body at flow (Some response) later now ≡ pass_body at flow (Some response) item now
-  pass_body_stays at flow response client missing later server shut now is stays found =
+  pass_body_stays at flow response client missing later server shut spare now is stays found =
       let P : Item ReadRequest → Type 0 = λ i. IsFound (or_leaves false (ends_early flow closed_message now NoServer true) (look_body flow i now false)) in
       absurd (subst P is found)
-  pass_body_stays at flow response client (part head body) later server shut now is stays found =
+  pass_body_stays at flow response client (part head body) later server shut spare now is stays found =
       let P : Item ReadRequest → Type 0 = λ i. IsFound (or_leaves false (ends_early flow closed_message now NoServer true) (look_body flow i now false)) in
       absurd (subst P is found)
-  pass_body_stays at flow response client (complete head body trailers used) later server shut now is stays found =
+  pass_body_stays at flow response client (complete head body trailers used) later server shut spare now is stays found =
       ap (λ i. pass_body at flow (Some response) i now) (stays.decided refl)
-  pass_body_stays at flow response client (bad_head fault) later server shut now is stays found =
+  pass_body_stays at flow response client (bad_head fault) later server shut spare now is stays found =
       let P : Item ReadRequest → Type 0 = λ i. IsFound (or_leaves false (ends_early flow closed_message now NoServer true) (look_body flow i now false)) in
       absurd (subst P is found)
-  pass_body_stays at flow response client (bad_body fault head body) later server shut now is stays found =
+  pass_body_stays at flow response client (bad_body fault head body) later server shut spare now is stays found =
       ap (λ i. pass_body at flow (Some response) i now) (stays.decided refl)
 
-  pass_stays_by : (stage : Stage) (client server : List ℕ) (shut : Bool) (now : ℕ) →
-      IsFound (look terms (pass stage (make client false server shut now)) (make client false server shut now)) →
-      pass stage (hears (side_of stage) (make client false server shut now) piece) ≡ pass stage (make client false server shut now)
-  pass_stays_by (idle at) client server shut now found = refl
-  pass_stays_by (busy at flow (request_body None)) client server shut now found = refl
-  pass_stays_by (busy at flow (request_body (Some response))) client server shut now found =
-      pass_body_stays at flow response client (request_item (drop at.used client)) (request_item (drop at.used (client ++ piece_of Client piece))) server shut now refl
+  pass_stays_by : (stage : Stage) (client server : List ℕ) (shut : Bool) (spare : Option Unused) (now : ℕ) →
+      IsFound (look terms (pass stage (make client false server shut spare now)) (make client false server shut spare now)) →
+      pass stage (hears (side_of stage) (make client false server shut spare now) piece) ≡ pass stage (make client false server shut spare now)
+  pass_stays_by (idle at) client server shut spare now found = refl
+  pass_stays_by (busy at flow (request_body None)) client server shut spare now found = refl
+  pass_stays_by (busy at flow (request_body (Some response))) client server shut spare now found =
+      pass_body_stays at flow response client (request_item (drop at.used client)) (request_item (drop at.used (client ++ piece_of Client piece))) server shut spare now refl
       (request_stays readers at.used client (piece_of Client piece)) found
-  pass_stays_by (busy at flow connection) client server shut now found = refl
-  pass_stays_by (busy at flow (response_head own how)) client server shut now found = refl
-  pass_stays_by (busy at flow (response_body own how)) client server shut now found = refl
-  pass_stays_by (busy at flow given_head) client server shut now found = refl
-  pass_stays_by (busy at flow given_body) client server shut now found = refl
-  pass_stays_by (next at) client server shut now found = refl
-  pass_stays_by over client server shut now found = refl
+  pass_stays_by (busy at flow connection) client server shut spare now found = refl
+  pass_stays_by (busy at flow (response_head own how)) client server shut spare now found = refl
+  pass_stays_by (busy at flow (response_body own how)) client server shut spare now found = refl
+  pass_stays_by (busy at flow (upgraded own)) client server shut spare now found = refl
+  pass_stays_by (busy at flow given_head) client server shut spare now found = refl
+  pass_stays_by (busy at flow given_body) client server shut spare now found = refl
+  pass_stays_by (next at) client server shut spare now found = refl
+  pass_stays_by over client server shut spare now found = refl
 
   -- Where something is found behind passing, it passes with the piece as without it.
   pub pass_stays : (stage : Stage) (v : Sight) → v.closed ≡ false → IsFound (look terms (pass stage v) v) → pass stage (hears (side_of stage) v piece) ≡ pass stage v
   pass_stays stage v open_client found =
-      let P : Bool → Type 0 = λ b. IsFound (look terms (pass stage (make v.client b v.server v.shut v.now)) (make v.client b v.server v.shut v.now)) →
-      pass stage (hears (side_of stage) (make v.client b v.server v.shut v.now) piece) ≡ pass stage (make v.client b v.server v.shut v.now) in
-      subst P (sym open_client) (pass_stays_by stage v.client v.server v.shut v.now) found
+      let P : Bool → Type 0 = λ b. IsFound (look terms (pass stage (make v.client b v.server v.shut v.spare v.now)) (make v.client b v.server v.shut v.spare v.now)) →
+      pass stage (hears (side_of stage) (make v.client b v.server v.shut v.spare v.now) piece) ≡ pass stage (make v.client b v.server v.shut v.spare v.now) in
+      subst P (sym open_client) (pass_stays_by stage v.client v.server v.shut v.spare v.now) found

@@ -9,10 +9,10 @@ use Rattle.px_event.specs.Chain.{later, Stamp, Stamped, Timed}
 use Rattle.px_event.specs.Laws.{IsFound}
 use Rattle.px_exchange.specs.declared.terms.Terms.{Terms}
 use Rattle.px_chain.specs.Chain.{http_chain}
-use Rattle.px_chain.specs.Sights.{Standing, sight_over}
+use Rattle.px_chain.specs.Sights.{Standing}
 use Rattle.px_cuts.specs.Cuts.{AlikeSeen, MayBeHeard, MayStand, MayWaitFor, retimed}
 use Rattle.px_chain.specs.Stages.{Stage, side_of}
-use Rattle.px_cuts.specs.Shown.{hears, look_over, passed_over, retimed_sight, retimed_stage}
+use Rattle.px_cuts.specs.Shown.{hears, look_over, moment_at, passed_over, retimed_stage, shown_over}
 use Rattle.px_chain.specs.Streams.{client_closed, now_over}
 
 -- ---- what is owed, its moments seen so
@@ -30,7 +30,7 @@ is_like see = record {
 
 pub record PlacesAlike (see : ℕ → ℕ) (s : Standing) (f : List (Timed Event)) (t : Standing) (g : List (Timed Event)) : Type 0 where
   pub stages : retimed_stage see s.stage ≡ retimed_stage see t.stage
-  pub sights : retimed_sight see (sight_over s f) ≡ retimed_sight see (sight_over t g)
+  pub sights : shown_over see s f ≡ shown_over see t g
   pub may : MayStand s f
   pub other_may : MayStand t g
 
@@ -41,9 +41,9 @@ pub record HeardEarly (see : ℕ → ℕ) (terms : Terms) (event : Stamped Event
   pub bytes : List ℕ
   pub is_piece : event.value ≡ events.Piece side bytes
   pub stages : retimed_stage see s.stage ≡ retimed_stage see t.stage
-  pub hears : hears (side_of s.stage) (retimed_sight see (sight_over s f)) (events.Piece side bytes) ≡ retimed_sight see (sight_over t g)
+  pub hears : hears (side_of s.stage) (shown_over see s f) (events.Piece side bytes) ≡ shown_over see t g
   pub open_client : client_closed f ≡ false
-  pub comes : see (later last event.stamp).moment ≡ see (now_over s.since f)
+  pub comes : moment_at see s.stage (later last event.stamp).moment ≡ moment_at see s.stage (now_over s.since f)
   -- a server's piece that waits while something is found is none of a server that is dialled later
   pub heard : IsFound (look_over terms (passed_over s f) f) → MayBeHeard side s.stage
   pub may : MayStand s f

@@ -21,6 +21,15 @@ retimed_stage see over = over
 abbrev pub retimed_sight : (ℕ → ℕ) → Sight → Sight
 retimed_sight see seen = record seen { now = see seen.now }
 
+-- the moment that a stage shows, seen so: at the end nothing is told of it, and none is shown
+abbrev pub moment_at : (ℕ → ℕ) → Stage → ℕ → ℕ
+moment_at see over moment = 0
+moment_at see stage moment = see moment
+
+-- the sight that a stage shows
+abbrev pub shown_sight : (ℕ → ℕ) → Stage → Sight → Sight
+shown_sight see stage seen = record seen { now = moment_at see stage seen.now }
+
 -- the sight with one event more, while the moment stays as it is
 abbrev pub hears : Option ServerSide → Sight → Event → Sight
 hears side seen event = sight_with side seen event seen.now
@@ -32,6 +41,10 @@ look_over terms place prefix = look terms place.stage (sight_over place prefix)
 
 abbrev pub so_far_over : Standing → List (Timed Event) → List Command
 so_far_over place prefix = so_far place.stage (sight_over place prefix)
+
+-- the sight of a place, as it is shown
+abbrev pub shown_over : (ℕ → ℕ) → Standing → List (Timed Event) → Sight
+shown_over see place prefix = shown_sight see place.stage (sight_over place prefix)
 
 abbrev pub passed_over : Standing → List (Timed Event) → Standing
 passed_over place prefix = record place { stage = pass place.stage (sight_over place prefix) }

@@ -22,11 +22,11 @@ use Rattle.px_stream.specs.Bodies.{BodyFound}
 use Rattle.px_exchange.specs.Places.{dialled_for}
 use Rattle.px_chain.specs.Chain.{pass, pass_body, used_more}
 use Rattle.px_chain.specs.Sights.{Sight}
-use Rattle.px_chain.specs.Stages.{At, Stage, busy, connection, given_body, given_head, idle, next, over, request_body, response_body, response_head}
+use Rattle.px_chain.specs.Stages.{At, Stage, busy, connection, given_body, given_head, idle, next, over, request_body, response_body, response_head, upgraded}
 use Rattle.px_stream.specs.Found.{LookedAt}
 use Rattle.px_stream.specs.Looking.{HeadFound, LookFound}
 use Rattle.px_exchange.specs.Bodies.{content_of}
-use Rattle.px_stream.specs.Stands.{Dials, KeepsBehind, IsReady, IsReceiving, IsNow, IsPlaced, HasPlace, sent_on}
+use Rattle.px_stream.specs.Stands.{Dials, KeepsBehind, IsReady, IsReceiving, IsUpgraded, IsNow, IsPlaced, HasPlace, sent_on}
 use Rattle.px_stream.proofs.AnsweringLemmas.{answering_looked}
 use Rattle.px_stream.proofs.LookLemmas.{BodyShown, at_look, body_shown, dial_looked, given_body_looked, given_head_looked, idle_looked, receiving_looked}
 use Rattle.px_stream.proofs.ReturnLemmas.{returning_looked}
@@ -70,7 +70,7 @@ module _ (terms : Terms) (seen : Sight) (numbers : Numbers) (old new : State) (m
   advanced (idle at) looked is place now dials look_found =
       let head : HeadFound terms numbers.flow old new moment closed out longer is_now = as_ready looked ready.Idle is.phase look_found in
       let fed : List ℕ = drop at.used seen.client in
-      (idle_looked terms at seen new out longer is_now numbers.flow moment closed place.index now place.client (head.reads fed is.reads) (head.gives fed is.reads) (head.phase fed is.reads), place)
+      (idle_looked terms at seen new out longer is_now numbers.flow moment closed place.index now place.client place.used (head.reads fed is.reads) (head.gives fed is.reads) (head.phase fed is.reads), place)
   advanced (busy at flow (request_body given)) looked is place now dials look_found =
       let known : Wanted = ready.Receiving flow given (content_of is.marks) in
       let body : BodyFound flow given (content_of is.marks) old new moment closed out longer is_now = as_ready looked known is.phase look_found in
@@ -98,6 +98,18 @@ module _ (terms : Terms) (seen : Sight) (numbers : Numbers) (old new : State) (m
             (record { kept = is.kept; head = is.head; marks = is.marks; phase = refl; final = is.final; is_link = is.is_link; keeps = keeps_same at.used seen old new both.0 is.keeps }) both.1.1,
         place,
       )
+  advanced (busy at flow (upgraded side)) looked is place now dials look_found =
+      let once = as_ready looked (ready.Upgraded flow is.kept) is.phase look_found in
+      let last : IsUpgraded at seen new flow side (ready.Upgraded flow is.kept) = record {
+        kept = is.kept;
+        phase = refl;
+        server = is.server;
+        closed = is.closed;
+        rest = is.rest;
+        within = is.within;
+        keeps = keeps_same at.used seen old new once.same is.keeps;
+      } in
+      (at_look terms (busy at flow (upgraded side)) seen new is_now [] out longer [] (Ends []) refl once.gives refl (ready.Upgraded flow is.kept, once.phase, last), place)
   advanced (busy at flow given_head) looked is place now dials look_found =
       let once = as_ready looked (ready.GivenHead flow) is.phase look_found in
       (given_head_looked terms seen new out longer is_now at flow moment now (keeps_same at.used seen old new once.same is.keeps) once.gives once.phase, place)
@@ -105,8 +117,11 @@ module _ (terms : Terms) (seen : Sight) (numbers : Numbers) (old new : State) (m
       let once = as_ready looked (ready.GivenBody flow) is.phase look_found in
       (given_body_looked terms seen new out longer is_now at flow moment now (keeps_same at.used seen old new once.same is.keeps) once.gives once.phase, place)
   advanced (next at) looked is place now dials look_found =
-      let once = as_ready looked ready.Finished is.phase look_found in
-      (at_look terms (next at) seen new is_now [] out longer [] (Ends []) refl once.gives refl (once.phase, keeps_same at.used seen old new once.same is.keeps), place)
+      let once = as_ready looked ready.Finished is.phase look_found in (
+        at_look terms (next at) seen new is_now [] out longer [] (Ends []) refl once.gives refl
+            (ready.Finished, once.phase, record { phase = refl; keeps = keeps_same at.used seen old new once.same is.keeps }),
+        place,
+      )
   advanced over looked is place now dials look_found =
       let once = as_ready looked ready.Over is look_found in
-      (at_look terms over seen new is_now [] out longer [] (Ends []) refl once.gives refl (once.phase, tt), place)
+      (at_look terms over seen new is_now [] out longer [] (Ends []) refl once.gives refl (ready.Over, once.phase, refl), place)

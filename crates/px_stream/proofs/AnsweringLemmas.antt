@@ -97,7 +97,7 @@ module _ (terms : Terms) (at : At) (flow : Flow) (side : ServerSide) (how : Sent
       ap (or_leaves seen.closed (leaving (busy at flow (response_head side how)) seen))
       (look_at flow (answers_in flow.request side seen).final head seen.now (server_in side seen) seen.closed stands ∙ ends_now) in
       answered (Ends owed) is (ends_by_fault flow BadResponse seen.now (ByServer new.server new.closed) seen.closed)
-      (ap (λ u. ends_by_fault flow BadResponse seen.now u seen.closed) used) gives (there, tt)
+      (ap (λ u. ends_by_fault flow BadResponse seen.now u seen.closed) used) gives (ready.Over, there, refl)
 
   missing_by : (shut : Bool) → seen.closed ≡ shut → (answers_in flow.request side seen).final ≡ missing →
       Keeps (is_head flow.request.method) side.server (drop side.used seen.server) seen.shut (sent ++ more) [] new →
@@ -106,7 +106,7 @@ module _ (terms : Terms) (at : At) (flow : Flow) (side : ServerSide) (how : Sent
   missing_by true shut final keeps gives there =
       answered (Ends (ends_early flow closed_message seen.now (server_in side seen) true)) (rw (shut, final) refl)
       (ends_early flow closed_message seen.now (ByServer new.server new.closed) true)
-      (ap (λ u. ends_early flow closed_message seen.now u true) used) gives (there, tt)
+      (ap (λ u. ends_early flow closed_message seen.now u true) used) gives (ready.Over, there, refl)
   missing_by false shut final keeps gives there =
       answered NotYet (rw (shut, final) refl) [] refl gives (
         ready.Answering flow new,
@@ -122,7 +122,7 @@ module _ (terms : Terms) (at : At) (flow : Flow) (side : ServerSide) (how : Sent
   bad_by fault final gives there =
       answered (Ends (ends_by_fault flow fault seen.now (server_in side seen) seen.closed)) (rw final refl)
       (ends_by_fault flow fault seen.now (ByServer new.server new.closed) seen.closed)
-      (ap (λ u. ends_by_fault flow fault seen.now u seen.closed) used) gives (there, tt)
+      (ap (λ u. ends_by_fault flow fault seen.now u seen.closed) used) gives (ready.Over, there, refl)
 
 module _ (terms : Terms) (at : At) (flow : Flow) (side : ServerSide) (how : Sent) (seen : Sight) (requests : State) (sent more : List ReadResponse) (new : KeptLink)
     (within : side.used ≤ length seen.server) (keeps_rest : KeepsBehind at.used seen requests) (out between longer : List Command) (is_now : Phase)

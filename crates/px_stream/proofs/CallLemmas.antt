@@ -22,25 +22,27 @@ use Rattle.px_stream.specs.declared.stream.Stream.{Stream}
 use Rattle.px_stream.specs.declared.numbers.Numbers.{Numbers}
 use Rattle.px_exchange.specs.declared.terms.Terms.{Terms}
 use Rattle.px_stream.specs.Calls.{Answers, Hears, IsSome, LooksOnce, MayHear, TakesEvent, TurnsTo, ended, hears}
-use Rattle.px_chain.specs.Chain.{IsOnward, alone, begin, http_chain, is_alone, is_sequence, look, sequence, stands, turn}
-use Rattle.px_chain.specs.Sights.{Sight, Standing, sight_behind, sight_over, sight_with}
-use Rattle.px_chain.specs.Stages.{Stage, busy, connection, given_body, given_head, idle, next, over, request_body, response_body, response_head, side_of}
+use Rattle.px_chain.specs.Chain.{IsOnward, alone, http_chain, is_alone, is_sequence, look, sequence, stands, turn}
+use Rattle.px_chain.specs.Sights.{Sight, Standing, Unused, sight_behind, sight_over, sight_with}
+use Rattle.px_chain.specs.Stages.{Stage, busy, connection, given_body, given_head, idle, next, over, request_body, response_body, response_head, side_of, upgraded}
 use Rattle.px_exchange.specs.Finds.{look_head, or_leaves}
-use Rattle.px_stream.specs.Heard.{LinkAgrees, closes_client, ready_takes, requests_take}
+use Rattle.px_stream.specs.Heard.{LinkAgrees, SpareAgrees, closes_client, ready_takes, requests_take, spare_takes}
 use Rattle.px_chain.proofs.ChainLaws.{settles}
 use Rattle.px_stream.specs.Led.{Turned}
 use Rattle.px_chain.specs.Left.{stage_left, stages_left}
 use Rattle.px_stream.specs.Left.{flow_left, sequence_left}
 use Rattle.px_stream.specs.Looking.{LookFound, MayLook}
 use Rattle.px_exchange.specs.Requests.{is_head}
-use Rattle.px_stream.specs.Sequence.{IsFew, IsInSequence, Stands, StandsInSequence, ready_onward, requests_onward}
-use Rattle.px_stream.specs.Stands.{IsAsked, IsAt, IsIn, IsReady, PhaseAt, awaits, is_last, last_of, start_of}
-use Rattle.px_stream.specs.StateLaws.{ends_where_it_ends}
-use Rattle.px_stream.specs.Turns.{asked_leads, asked_owes, behind_asked, behind_ready}
+use Rattle.px_stream.specs.Sequence.{IsFew, IsInSequence, Stands, StandsInSequence, ahead_of, first_of, ready_onward, requests_onward}
+use Rattle.px_stream.specs.Anywhere.{ResumesAnywhere, Somewhere, TakesAnywhere}
+use Rattle.px_stream.specs.declared.link.Link.{Link as KeptLink}
+use Rattle.px_stream.specs.Stands.{IsAsked, IsAt, IsIn, IsReady, IsSpare, PhaseAt, awaits, is_last}
+use Rattle.px_stream.specs.StateLaws.{ends_last, ends_where_it_ends}
+use Rattle.px_stream.specs.Turns.{asked_leads, asked_owes, behind_asked, behind_ready, behind_spare}
 use Rattle.px_stream.proofs.HearLemmas.{ready_on}
 use Rattle.px_stream.proofs.MoveLemmas.{flow_falls, flow_measures, pass_few, resumes_asks, resumes_left, sequence_falls, sequence_few, sequence_measures, takes_asks, takes_left, turn_few}
-use Rattle.px_stream.proofs.ResumeLemmas.{begun_again, led_alone, led_onward, onto, resumes_answer}
-use Rattle.px_stream.proofs.TakeLemmas.{never_last, takes_event}
+use Rattle.px_stream.proofs.ResumeLemmas.{led_alone, led_onward, onto, resumes_answer}
+use Rattle.px_stream.proofs.TakeLemmas.{takes_event}
 use Rattle.px_stream.proofs.TurnLemmas.{answered}
 
 -- ---- what a flow that waits may hear, and look for
@@ -72,6 +74,7 @@ module _ (seen : Sight) (requests : State) (sent : List ReadResponse) where
         closed = seen.shut;
         reads = is.is_link.keeps.reads;
       })
+  may_look (busy at flow (upgraded side)) looked is = let P : Wanted → Type 0 = λ r. MayLook r requests in subst P (sym is.phase) tt
   may_look (busy at flow given_head) looked is = let P : Wanted → Type 0 = λ r. MayLook r requests in subst P (sym is.phase) tt
   may_look (busy at flow given_body) looked is = let P : Wanted → Type 0 = λ r. MayLook r requests in subst P (sym is.phase) tt
   may_look (next at) looked is = let P : Wanted → Type 0 = λ r. MayLook r requests in subst P (sym is.phase) tt
@@ -84,6 +87,7 @@ module _ (seen : Sight) (requests : State) (sent : List ReadResponse) where
   agrees (busy at flow connection) looked is = subst LinkAgrees (sym is.phase) tt
   agrees (busy at flow (response_head side how)) looked is = let k = is.is_link.keeps in subst LinkAgrees (sym is.phase) (k.reads.closed ∙ sym k.closed)
   agrees (busy at flow (response_body side how)) looked is = let k = is.is_link.keeps in subst LinkAgrees (sym is.phase) (k.reads.closed ∙ sym k.closed)
+  agrees (busy at flow (upgraded side)) looked is = subst LinkAgrees (sym is.phase) tt
   agrees (busy at flow given_head) looked is = subst LinkAgrees (sym is.phase) tt
   agrees (busy at flow given_body) looked is = subst LinkAgrees (sym is.phase) tt
   agrees (next at) looked is = subst LinkAgrees (sym is.phase) tt
@@ -96,14 +100,22 @@ module _ (seen : Sight) (requests : State) (sent : List ReadResponse) where
   open_reader (busy at flow connection) looked is goes = is.keeps.open_still
   open_reader (busy at flow (response_head side how)) looked is goes = is.keeps.open_still
   open_reader (busy at flow (response_body side how)) looked is goes = is.keeps.open_still
+  open_reader (busy at flow (upgraded side)) looked is goes = is.keeps.open_still
   open_reader (busy at flow given_head) looked is goes = is.keeps.open_still
   open_reader (busy at flow given_body) looked is goes = is.keeps.open_still
   open_reader (next at) looked is goes = is.keeps.open_still
   open_reader over looked is goes = absurd (let no : true ≡ false = ap (λ r. is_last (phase.Ready r)) (sym is) ∙ goes in cc)
 
+-- and so do those of the spare side
+spare_agrees : (unused : Option Unused) (spare : Option KeptLink) → IsSpare unused spare → SpareAgrees spare
+spare_agrees None None is = tt
+spare_agrees None (Some spare) is = absurd is
+spare_agrees (Some unused) None is = absurd is
+spare_agrees (Some unused) (Some spare) is = ap (λ (s : State). s.closed) is.responses ∙ sym is.closed
+
 module _ (made : Terms) (before : Stream) (event : Event) (looked : Wanted) (live : before.phase ≡ phase.Ready looked) (goes : is_last (phase.Ready looked) ≡ false) where
-  hears_by : (l : Look Command) (stage : Stage) (seen : Sight) → PhaseAt l made before.requests before.phase stage seen → IsIn made before stage seen → MayHear event before.requests looked
-  hears_by NotYet stage seen (known, sent, same, there, gave) at =
+  hears_by : (l : Look Command) (stage : Stage) (seen : Sight) → look made stage seen ≡ l → PhaseAt l made before.requests before.phase stage seen → IsIn made before stage seen → MayHear event before.requests before.spare looked
+  hears_by NotYet stage seen waits (known, sent, same, there, gave) at =
       let one : phase.Ready known ≡ phase.Ready looked = sym same ∙ live in
       let same_ready : known ≡ looked = cc in
       let P : Wanted → Type 0 = λ r. IsReady before.requests r stage seen sent in
@@ -111,20 +123,22 @@ module _ (made : Terms) (before : Stream) (event : Event) (looked : Wanted) (liv
       record {
         open_still = open_reader seen before.requests sent stage looked here goes;
         agrees = agrees seen before.requests sent stage looked here;
+        spare_agrees = spare_agrees seen.spare before.spare at.spare;
         looks = may_look (sight_with (side_of stage) seen event 0) (requests_take event before.requests) sent stage (ready_takes event looked)
-            (ready_on seen event 0 stage before.requests looked sent before.numbers before.client_closed at.place here);
+            (ready_on made seen event 0 stage before.requests looked sent before.numbers before.client_closed at.place waits here);
       }
-  hears_by (Asks ask) stage seen (here, same, there) at = absurd (let e : phase.Asked here ≡ phase.Ready looked = sym same ∙ live in cc)
-  hears_by (Ends owed) stage seen (same, there) at = absurd (never_last stage (ap is_last (sym same ∙ live) ∙ goes))
+  hears_by (Asks ask) stage seen waits (here, same, there) at = absurd (let e : phase.Asked here ≡ phase.Ready looked = sym same ∙ live in cc)
+  hears_by (Ends owed) stage seen waits (last, same, there) at =
+      absurd (let no : true ≡ false = sym (ends_last made stage seen before.requests last there) ∙ (ap is_last (sym same ∙ live) ∙ goes) in cc)
 
-  pub may_hear : (stage : Stage) (seen : Sight) → IsIn made before stage seen → MayHear event before.requests looked
-  may_hear stage seen at = hears_by (look made stage seen) stage seen at.phase at
+  pub may_hear : (stage : Stage) (seen : Sight) → IsIn made before stage seen → MayHear event before.requests before.spare looked
+  may_hear stage seen at = hears_by (look made stage seen) stage seen refl at.phase at
 
-pub alone_hears : (before : Stream) (event : Event) → IsSound (Stands alone) before → (looked : Wanted) → before.phase ≡ phase.Ready looked → is_last (phase.Ready looked) ≡ false → MayHear event before.requests looked
+pub alone_hears : (before : Stream) (event : Event) → IsSound (Stands alone) before → (looked : Wanted) → before.phase ≡ phase.Ready looked → is_last (phase.Ready looked) ≡ false → MayHear event before.requests before.spare looked
 alone_hears before event (made, past, given, stands) looked live goes = may_hear made.terms before event looked live goes _ _ stands.place.is_in
 
-pub sequence_hears : (before : Stream) (event : Event) → IsSound StandsInSequence before → (looked : Wanted) → before.phase ≡ phase.Ready looked → is_last (phase.Ready looked) ≡ false → MayHear event before.requests looked
-sequence_hears before event (made, past, given, stands) looked live goes = may_hear made.terms before event looked live goes _ _ stands.place.is_at.is_in
+pub hears_anywhere : (before : Stream) (event : Event) → Somewhere before → (looked : Wanted) → before.phase ≡ phase.Ready looked → is_last (phase.Ready looked) ≡ false → MayHear event before.requests before.spare looked
+hears_anywhere before event (made, ahead, place, prefix, at) looked live goes = may_hear made before event looked live goes place.stage (sight_over place prefix) at.is_at.is_in
 
 -- ---- from call to call
 
@@ -145,11 +159,12 @@ look_as terms terms_now numbers numbers_now looked looked_now old old_now new mo
 -- what is behind an event that was heard
 pub hears_then : (before heard after : Stream) (moment : ℕ) (event : Event) (looked now : Wanted) (out longer : List Command) →
     heard.terms ≡ before.terms → heard.numbers ≡ before.numbers → heard.requests ≡ requests_take event before.requests → heard.client_closed ≡ closes_client event before.client_closed →
-    now ≡ ready_takes event looked → LooksOnce heard after moment now out longer → Hears before after moment event looked out longer
-hears_then before heard after moment event looked now out longer terms numbers requests client is once = record {
+    heard.spare ≡ spare_takes event before.spare → now ≡ ready_takes event looked → LooksOnce heard after moment now out longer → Hears before after moment event looked out longer
+hears_then before heard after moment event looked now out longer terms numbers requests client spare is once = record {
   terms = once.terms ∙ terms;
   numbers = once.numbers ∙ numbers;
   client = once.client ∙ client;
+  spare = once.spare ∙ spare;
   looks = look_as before.terms heard.terms before.numbers heard.numbers (ready_takes event looked) now (requests_take event before.requests) heard.requests after.requests moment moment
       (closes_client event before.client_closed) heard.client_closed out longer after.phase after.phase terms numbers is requests refl client refl once.looks;
 }
@@ -157,7 +172,7 @@ hears_then before heard after moment event looked now out longer terms numbers r
 -- an event that is heard, whatever the phase was that was taken out
 pub hears_as : (before after : Stream) (there : Phase) (moment : ℕ) (event : Event) (looked : Wanted) (out longer : List Command) →
     Hears (record before { phase = there }) after moment event looked out longer → Hears before after moment event looked out longer
-hears_as before after there moment event looked out longer call = record { terms = call.terms; numbers = call.numbers; client = call.client; looks = call.looks }
+hears_as before after there moment event looked out longer call = record { terms = call.terms; numbers = call.numbers; client = call.client; spare = call.spare; looks = call.looks }
 
 pub takes_as : (before after : Stream) (there : Phase) (moment : ℕ) (event : Event) (looked : Wanted) (out longer : List Command) → before.phase ≡ phase.Ready looked → is_last before.phase ≡ false →
     Hears (record before { phase = there }) after moment event looked out longer → TakesEvent before after moment event out longer
@@ -167,40 +182,42 @@ takes_as before after there moment event looked out longer live goes call =
 -- an answer that was taken, and the look behind it
 pub answers_then : (before turned after : Stream) (moment : ℕ) (reply : Reply) (here : Asked) (leads : Wanted) (out between longer : List Command) →
     TurnsTo before turned moment reply here leads out between → LooksOnce turned after moment leads between longer →
-    Answers before after moment reply here (asked_leads before.terms.place before.numbers.flow here reply) before.requests out longer
+    Answers before after moment reply here (asked_leads before.terms.place before.numbers.flow before.spare here reply) before.requests out longer
 answers_then before turned after moment reply here leads out between longer turns once = record {
   terms = once.terms ∙ turns.terms;
   client = once.client ∙ turns.client;
+  spare = once.spare ∙ turns.spare;
   numbers = once.numbers ∙ turns.numbers;
   between = between;
   owes = turns.gives;
-  looks = look_as before.terms turned.terms after.numbers turned.numbers (asked_leads before.terms.place before.numbers.flow here reply) leads before.requests turned.requests after.requests moment moment
+  looks = look_as before.terms turned.terms after.numbers turned.numbers (asked_leads before.terms.place before.numbers.flow before.spare here reply) leads before.requests turned.requests after.requests moment moment
       before.client_closed turned.client_closed between longer after.phase after.phase turns.terms (sym once.numbers) turns.leads turns.requests refl turns.client refl once.looks;
 }
 
 -- in sequence the next flow begins before the look
 pub answers_onward : (before turned begun after : Stream) (moment : ℕ) (reply : Reply) (here : Asked) (leads now : Wanted) (out between longer : List Command) →
-    TurnsTo before turned moment reply here leads out between → begun.terms ≡ turned.terms → begun.numbers ≡ turned.numbers → begun.client_closed ≡ turned.client_closed →
+    TurnsTo before turned moment reply here leads out between → begun.terms ≡ turned.terms → begun.numbers ≡ turned.numbers → begun.client_closed ≡ turned.client_closed → begun.spare ≡ turned.spare →
     begun.requests ≡ requests_onward leads turned.requests → now ≡ ready_onward leads → LooksOnce begun after moment now between longer →
-    Answers before after moment reply here (ready_onward (asked_leads before.terms.place before.numbers.flow here reply)) (requests_onward (asked_leads before.terms.place before.numbers.flow here reply) before.requests) out longer
-answers_onward before turned begun after moment reply here leads now out between longer turns terms numbers client requests is once =
-    let same : now ≡ ready_onward (asked_leads before.terms.place before.numbers.flow here reply) = is ∙ ap ready_onward turns.leads in
-    let kept : begun.requests ≡ requests_onward (asked_leads before.terms.place before.numbers.flow here reply) before.requests =
-    requests ∙ (ap (λ r. requests_onward r turned.requests) turns.leads ∙ ap (λ s. requests_onward (asked_leads before.terms.place before.numbers.flow here reply) s) turns.requests) in
+    Answers before after moment reply here (ready_onward (asked_leads before.terms.place before.numbers.flow before.spare here reply)) (requests_onward (asked_leads before.terms.place before.numbers.flow before.spare here reply) before.requests) out longer
+answers_onward before turned begun after moment reply here leads now out between longer turns terms numbers client spare requests is once =
+    let same : now ≡ ready_onward (asked_leads before.terms.place before.numbers.flow before.spare here reply) = is ∙ ap ready_onward turns.leads in
+    let kept : begun.requests ≡ requests_onward (asked_leads before.terms.place before.numbers.flow before.spare here reply) before.requests =
+    requests ∙ (ap (λ r. requests_onward r turned.requests) turns.leads ∙ ap (λ s. requests_onward (asked_leads before.terms.place before.numbers.flow before.spare here reply) s) turns.requests) in
     record {
       terms = once.terms ∙ (terms ∙ turns.terms);
       client = once.client ∙ (client ∙ turns.client);
+      spare = once.spare ∙ (spare ∙ turns.spare);
       numbers = once.numbers ∙ (numbers ∙ turns.numbers);
       between = between;
       owes = turns.gives;
-      looks = look_as before.terms begun.terms after.numbers begun.numbers (ready_onward (asked_leads before.terms.place before.numbers.flow here reply)) now
-          (requests_onward (asked_leads before.terms.place before.numbers.flow here reply) before.requests) begun.requests after.requests moment moment
+      looks = look_as before.terms begun.terms after.numbers begun.numbers (ready_onward (asked_leads before.terms.place before.numbers.flow before.spare here reply)) now
+          (requests_onward (asked_leads before.terms.place before.numbers.flow before.spare here reply) before.requests) begun.requests after.requests moment moment
           before.client_closed begun.client_closed between longer after.phase after.phase (terms ∙ turns.terms) (sym once.numbers) same kept refl (client ∙ turns.client) refl once.looks;
     }
 
 -- and it may look there
 pub may_look_then : (before turned : Stream) (moment : ℕ) (reply : Reply) (here : Asked) (leads : Wanted) (out between : List Command) → TurnsTo before turned moment reply here leads out between →
-    MayLook (asked_leads before.terms.place before.numbers.flow here reply) before.requests → MayLook leads turned.requests
+    MayLook (asked_leads before.terms.place before.numbers.flow before.spare here reply) before.requests → MayLook leads turned.requests
 may_look_then before turned moment reply here leads out between turns may =
     let P : State → Type 0 = λ s. MayLook leads s in
     let Q : Wanted → Type 0 = λ r. MayLook r before.requests in
@@ -210,30 +227,31 @@ may_look_then before turned moment reply here leads out between turns may =
 pub answers_as : (before after : Stream) (there : Phase) (moment : ℕ) (reply : Reply) (here : Asked) (looked : Wanted) (requests : State) (out longer : List Command) →
     Answers (record before { phase = there }) after moment reply here looked requests out longer → Answers before after moment reply here looked requests out longer
 answers_as before after there moment reply here looked requests out longer call =
-    record { terms = call.terms; client = call.client; numbers = call.numbers; between = call.between; owes = call.owes; looks = call.looks }
+    record { terms = call.terms; client = call.client; spare = call.spare; numbers = call.numbers; between = call.between; owes = call.owes; looks = call.looks }
 
 -- something is awaited where it may be answered
 pub is_awaited : (here : Option Ask) (reply : Reply) → MayAnswer here reply → IsSome here
 is_awaited None reply may = may
 is_awaited (Some ask) reply may = tt
 
-pub may_look_heard : (event : Event) (requests now : State) (looked there : Wanted) → there ≡ ready_takes event looked → now ≡ requests_take event requests → MayHear event requests looked → MayLook there now
-may_look_heard event requests now looked there is same may =
+pub may_look_heard : (event : Event) (requests now : State) (spare : Option KeptLink) (looked there : Wanted) → there ≡ ready_takes event looked → now ≡ requests_take event requests → MayHear event requests spare looked → MayLook there now
+may_look_heard event requests now spare looked there is same may =
     let P : State → Type 0 = λ s. MayLook there s in
     let Q : Wanted → Type 0 = λ r. MayLook r (requests_take event requests) in
     subst P (sym same) (subst Q (sym is) may.looks)
 
 -- a turn, from the fields that it reads
-pub turns_by : (before : Stream) (server numbers : Numbers) (moment moment_now : ℕ) (closed_now : Bool) (reply : Reply) (here : Asked) (leads : Wanted) (out longer : List Command) →
+pub turns_by : (before : Stream) (server numbers : Numbers) (left : Option KeptLink) (moment moment_now : ℕ) (closed_now : Bool) (reply : Reply) (here : Asked) (leads : Wanted) (out longer : List Command) →
     server ≡ behind_asked before.numbers here → numbers ≡ behind_ready server leads → moment_now ≡ moment → closed_now ≡ before.client_closed →
-    longer ≡ out ++ asked_owes before.terms.place before.numbers.flow here reply moment_now closed_now → leads ≡ asked_leads before.terms.place before.numbers.flow here reply →
-    TurnsTo before (record before { numbers = numbers }) moment reply here leads out longer
-turns_by before server numbers moment moment_now closed_now reply here leads out longer counts is same_moment same_closed gives led = record {
+    longer ≡ out ++ asked_owes before.terms.place before.numbers.flow before.spare here reply moment_now closed_now → leads ≡ asked_leads before.terms.place before.numbers.flow before.spare here reply →
+    left ≡ behind_spare before.terms.place here reply before.spare → TurnsTo before (record before { numbers = numbers; spare = left }) moment reply here leads out longer
+turns_by before server numbers left moment moment_now closed_now reply here leads out longer counts is same_moment same_closed gives led spare = record {
   terms = refl;
   requests = refl;
   client = refl;
+  spare = spare;
   numbers = is ∙ (ap (λ n. behind_ready n leads) counts ∙ ap (λ r. behind_ready (behind_asked before.numbers here) r) led);
-  gives = gives ∙ (ap (λ m. out ++ asked_owes before.terms.place before.numbers.flow here reply m closed_now) same_moment ∙ ap (λ b. out ++ asked_owes before.terms.place before.numbers.flow here reply moment b) same_closed);
+  gives = gives ∙ (ap (λ m. out ++ asked_owes before.terms.place before.numbers.flow before.spare here reply m closed_now) same_moment ∙ ap (λ b. out ++ asked_owes before.terms.place before.numbers.flow before.spare here reply moment b) same_closed);
   leads = led;
 }
 
@@ -256,6 +274,7 @@ module _ (terms : Terms) (numbers : Numbers) (seen : Sight) (old new : State) (m
       let read = both.1.read (is_head flow.request.method) side.server (drop side.used seen.server) seen.shut sent is.is_link.keeps in
       grown_by out both.1.between longer _ _ read.grown both.1.gives
   look_adds (busy at flow (response_body side how)) looked is look_found = let both = as_ready looked (ready.Returning flow is.kept _) is.phase look_found in (_, both.1.1.gives)
+  look_adds (busy at flow (upgraded side)) looked is look_found = let once = as_ready looked (ready.Upgraded flow is.kept) is.phase look_found in (_, once.gives)
   look_adds (busy at flow given_head) looked is look_found = let once = as_ready looked (ready.GivenHead flow) is.phase look_found in (_, once.gives)
   look_adds (busy at flow given_body) looked is look_found = let once = as_ready looked (ready.GivenBody flow) is.phase look_found in (_, once.gives)
   look_adds (next at) looked is look_found = let once = as_ready looked ready.Finished is.phase look_found in (_, once.gives)
@@ -265,20 +284,21 @@ module _ (terms : Terms) (numbers : Numbers) (seen : Sight) (old new : State) (m
 
 module _ (before after : Stream) (moment : ℕ) (event : Event) (out longer : List Command) where
   heard_by : (made : Terms) (looked : Wanted) → before.phase ≡ phase.Ready looked → is_last (phase.Ready looked) ≡ false → Hears before after moment event looked out longer →
-      (l : Look Command) (stage : Stage) (seen : Sight) → PhaseAt l made before.requests before.phase stage seen → IsIn made before stage seen → (more : List Command) × (longer ≡ out ++ more)
-  heard_by made looked live goes heard NotYet stage seen (known, sent, same, there, gave) at =
+      (l : Look Command) (stage : Stage) (seen : Sight) → look made stage seen ≡ l → PhaseAt l made before.requests before.phase stage seen → IsIn made before stage seen → (more : List Command) × (longer ≡ out ++ more)
+  heard_by made looked live goes heard NotYet stage seen waits (known, sent, same, there, gave) at =
       let one : phase.Ready known ≡ phase.Ready looked = sym same ∙ live in
       let same_ready : known ≡ looked = cc in
       let P : Wanted → Type 0 = λ r. IsReady before.requests r stage seen sent in
       look_adds before.terms before.numbers (sight_with (side_of stage) seen event moment) (requests_take event before.requests) after.requests moment (closes_client event before.client_closed) out longer after.phase sent
       stage (ready_takes event looked)
-      (ready_on seen event moment stage before.requests looked sent before.numbers before.client_closed at.place (subst P same_ready there)) heard.looks
-  heard_by made looked live goes heard (Asks ask) stage seen (here, same, there) at = absurd (let e : phase.Asked here ≡ phase.Ready looked = sym same ∙ live in cc)
-  heard_by made looked live goes heard (Ends owed) stage seen (same, there) at = absurd (never_last stage (ap is_last (sym same ∙ live) ∙ goes))
+      (ready_on made seen event moment stage before.requests looked sent before.numbers before.client_closed at.place waits (subst P same_ready there)) heard.looks
+  heard_by made looked live goes heard (Asks ask) stage seen waits (here, same, there) at = absurd (let e : phase.Asked here ≡ phase.Ready looked = sym same ∙ live in cc)
+  heard_by made looked live goes heard (Ends owed) stage seen waits (last, same, there) at =
+      absurd (let no : true ≡ false = sym (ends_last made stage seen before.requests last there) ∙ (ap is_last (sym same ∙ live) ∙ goes) in cc)
 
   take_adds : (made : Terms) (stage : Stage) (seen : Sight) → IsIn made before stage seen → TakesEvent before after moment event out longer → (more : List Command) × (longer ≡ out ++ more)
   take_adds made stage seen at (ended is same none) = ([], none ∙ sym (append-nil out))
-  take_adds made stage seen at (hears looked live goes heard) = heard_by made looked live goes heard (look made stage seen) stage seen at.phase at
+  take_adds made stage seen at (hears looked live goes heard) = heard_by made looked live goes heard (look made stage seen) stage seen refl at.phase at
 
   nothing_added : (more : List Command) → longer ≡ out → longer ≡ out ++ more → more ≡ []
   nothing_added more none grown = nil out more (append-nil out ∙ (sym none ∙ grown))
@@ -296,19 +316,19 @@ module _ (before after : Stream) (moment : ℕ) (event : Event) (out longer : Li
       let nothing = nothing_added more none grown in
       past_end end.0 end.1 (subst P (sym same) at) (λ view. ap (seen_of view) nothing)
   takes onward_to made more (hears looked live goes heard) grown place prefix at =
-      takes_event onward_to made before after moment event looked out longer more live goes heard.terms heard.numbers heard.client heard.looks grown place prefix at
+      takes_event onward_to made before after moment event looked out longer more live goes heard.terms heard.numbers heard.client heard.spare heard.looks grown place prefix at
 
   -- where flows follow one another
-  few_takes : (made : Terms) (more : List Command) (place : Standing) (prefix : List (Timed Event)) → IsFew place.stage → Takes (http_chain sequence made) (IsAt made) after moment event more place prefix →
-      Takes (http_chain sequence made) (IsInSequence made) after moment event more place prefix
-  few_takes made more place prefix few (onward is at gives) =
-      onward is (record { is_at = at; few = pass_few place.stage (sight_over place (prefix ++ record { moment = moment; value = event } ∷ [])) few }) gives
-  few_takes made more place prefix few (past_end owed is at gives) = past_end owed is (record { is_at = at; few = few }) gives
+  few_takes : (made : Terms) (ahead : ℕ) (more : List Command) (place : Standing) (prefix : List (Timed Event)) → IsFew ahead place.stage → ahead ≤ 1 →
+      Takes (http_chain sequence made) (IsAt made) after moment event more place prefix → Takes (http_chain sequence made) (IsInSequence made ahead) after moment event more place prefix
+  few_takes made ahead more place prefix few small (onward is at gives) =
+      onward is (record { is_at = at; few = pass_few ahead place.stage (sight_over place (prefix ++ record { moment = moment; value = event } ∷ [])) few; small = small }) gives
+  few_takes made ahead more place prefix few small (past_end owed is at gives) = past_end owed is (record { is_at = at; few = few; small = small }) gives
 
   pub take_alone_goes : IsSound (Stands alone) before → TakesEvent before after moment event out longer → Goes (Stands alone) before after (Took moment event) out longer
   take_alone_goes (made, past, given, stands) call =
       let added = take_adds made.terms _ _ stands.place.is_in call in
-      take_goes (λ (m : Stream). http_chain alone m.terms) (λ m. settles alone m.terms) (λ m. begin (idle (start_of m.numbers))) (λ m. IsAt m.terms) before after moment event added.0 out longer added.1
+      take_goes (λ (m : Stream). http_chain alone m.terms) (λ m. settles alone m.terms) (λ m. first_of m) (λ m. IsAt m.terms) before after moment event added.0 out longer added.1
       (λ m place prefix _ at. takes alone m.terms added.0 call added.1 place prefix at)
 
   pub take_alone_asks : IsSound (Stands alone) before → TakesEvent before after moment event out longer → AsksOnly (awaits after) out longer
@@ -321,28 +341,41 @@ module _ (before after : Stream) (moment : ℕ) (event : Event) (out longer : Li
       let added = take_adds made.terms _ _ stands.place.is_in call in
       takes_left flow_left stage_left flow_measures made.terms alone before after moment event added.0 _ _ stands.place (takes alone made.terms added.0 call added.1 _ _ stands.place)
 
-  pub take_sequence_goes : IsSound StandsInSequence before → TakesEvent before after moment event out longer → Goes StandsInSequence before after (Took moment event) out longer
-  take_sequence_goes (made, past, given, stands) call =
-      let added = take_adds made.terms _ _ stands.place.is_at.is_in call in
-      take_goes (λ (m : Stream). http_chain sequence m.terms) (λ m. settles sequence m.terms) (λ m. begin (idle (start_of m.numbers))) (λ m. IsInSequence m.terms) before after moment event added.0 out longer added.1
-      (λ m place prefix _ at. few_takes m.terms added.0 place prefix at.few (takes sequence m.terms added.0 call added.1 place prefix at.is_at))
+  -- wherever it stood
+  pub take_somewhere : Somewhere before → TakesEvent before after moment event out longer → TakesAnywhere before after moment event out longer
+  take_somewhere (made, ahead, place, prefix, at) call =
+      let added = take_adds made place.stage (sight_over place prefix) at.is_at.is_in call in
+      record {
+        more = added.0;
+        grown = added.1;
+        takes = λ terms most there front is. few_takes terms most added.0 there front is.few is.small (takes sequence terms added.0 call added.1 there front is.is_at);
+      }
 
-  pub take_sequence_asks : IsSound StandsInSequence before → TakesEvent before after moment event out longer → AsksOnly (awaits after) out longer
-  take_sequence_asks (made, past, given, stands) call =
-      let added = take_adds made.terms _ _ stands.place.is_at.is_in call in
-      (added.0, added.1, takes_asks sequence made.terms after moment added.0 event _ _ (takes sequence made.terms added.0 call added.1 _ _ stands.place.is_at))
+  pub take_somewhere_asks : Somewhere before → TakesEvent before after moment event out longer → AsksOnly (awaits after) out longer
+  take_somewhere_asks (made, ahead, place, prefix, at) call =
+      let added = take_adds made place.stage (sight_over place prefix) at.is_at.is_in call in
+      (added.0, added.1, takes_asks sequence made after moment added.0 event place prefix (takes sequence made added.0 call added.1 place prefix at.is_at))
 
-  pub take_sequence_left : IsSound StandsInSequence before → TakesEvent before after moment event out longer → sequence_left after ≤ sequence_left before
-  take_sequence_left (made, past, given, stands) call =
-      let added = take_adds made.terms _ _ stands.place.is_at.is_in call in
-      takes_left sequence_left stages_left sequence_measures made.terms sequence before after moment event added.0 _ _ stands.place.is_at (takes sequence made.terms added.0 call added.1 _ _ stands.place.is_at)
+  pub take_somewhere_left : Somewhere before → TakesEvent before after moment event out longer → sequence_left after ≤ sequence_left before
+  take_somewhere_left (made, ahead, place, prefix, at) call =
+      let added = take_adds made place.stage (sight_over place prefix) at.is_at.is_in call in
+      takes_left sequence_left stages_left sequence_measures made sequence before after moment event added.0 place prefix at.is_at (takes sequence made added.0 call added.1 place prefix at.is_at)
+
+  pub take_sequence_goes : TakesAnywhere before after moment event out longer → Goes StandsInSequence before after (Took moment event) out longer
+  take_sequence_goes call =
+      take_goes (λ (m : Stream). http_chain sequence m.terms) (λ m. settles sequence m.terms) (λ m. first_of m) (λ m. IsInSequence m.terms (ahead_of m.numbers)) before after moment event call.more out longer call.grown
+      (λ m place prefix _ at. call.takes m.terms (ahead_of m.numbers) place prefix at)
+
+-- flows in sequence stand somewhere
+pub sequence_somewhere : (state : Stream) → IsSound StandsInSequence state → Somewhere state
+sequence_somewhere state (made, past, given, stands) = (made.terms, ahead_of made.numbers, _, _, stands.place)
 
 -- ---- an answer
 
 -- what is seen behind a reply
 abbrev behind_reply : Terms → ℕ → Reply → Stage → Sight → Sight
 behind_reply made moment reply stage seen =
-    sight_behind (side_of stage) seen moment (side_of (turn made stage seen (record { moment = moment; value = reply })).stage)
+    sight_behind stage seen moment (turn made stage seen (record { moment = moment; value = reply })).stage
 
 module _ (made : Terms) (before : Stream) (moment : ℕ) (reply : Reply) (here : Asked) (live : before.phase ≡ phase.Asked here) where
   abbrev told : Timed Reply
@@ -355,33 +388,33 @@ module _ (made : Terms) (before : Stream) (moment : ℕ) (reply : Reply) (here :
       let same_asked : one ≡ here = cc in
       let P : Asked → Type 0 = λ a. IsAsked made before.requests a stage seen in
       subst P same_asked there
-  asked_by (Ends owed) stage seen (same, there) = absurd (let e : phase.Ready (last_of stage) ≡ phase.Asked here = sym same ∙ live in cc)
+  asked_by (Ends owed) stage seen (last, same, there) = absurd (let e : phase.Ready last ≡ phase.Asked here = sym same ∙ live in cc)
 
   -- where the chain leads, and what is seen there
   abbrev behind : Stage → Sight → Sight
   behind stage seen = behind_reply made moment reply stage seen
 
   turned : (stage : Stage) (seen : Sight) → IsIn made before stage seen →
-      Turned (turn made stage seen told) (behind stage seen) before.requests (asked_owes before.terms.place before.numbers.flow here reply moment seen.closed) (asked_leads before.terms.place before.numbers.flow here reply)
-      (behind_ready (behind_asked before.numbers here) (asked_leads before.terms.place before.numbers.flow here reply)) before.client_closed moment
+      Turned (turn made stage seen told) (behind stage seen) before.requests (asked_owes before.terms.place before.numbers.flow before.spare here reply moment seen.closed) (asked_leads before.terms.place before.numbers.flow before.spare here reply)
+      (behind_ready (behind_asked before.numbers here) (asked_leads before.terms.place before.numbers.flow before.spare here reply)) before.client_closed moment
   turned stage seen at =
-      let P : Terms → Type 0 = λ t. Turned (turn made stage seen told) (behind stage seen) before.requests (asked_owes t.place before.numbers.flow here reply moment seen.closed) (asked_leads t.place before.numbers.flow here reply)
-      (behind_ready (behind_asked before.numbers here) (asked_leads t.place before.numbers.flow here reply)) before.client_closed moment in
-      subst P (sym at.terms) (answered made seen before.requests before.numbers before.client_closed told stage here at.place at.dials (asked_by (look made stage seen) stage seen at.phase))
+      let P : Terms → Type 0 = λ t. Turned (turn made stage seen told) (behind stage seen) before.requests (asked_owes t.place before.numbers.flow before.spare here reply moment seen.closed) (asked_leads t.place before.numbers.flow before.spare here reply)
+      (behind_ready (behind_asked before.numbers here) (asked_leads t.place before.numbers.flow before.spare here reply)) before.client_closed moment in
+      subst P (sym at.terms) (answered made seen before.requests before.numbers before.client_closed before.spare told at.spare stage here at.place at.dials (asked_by (look made stage seen) stage seen at.phase))
 
   -- so it may look there
-  pub may_look_on : (stage : Stage) (seen : Sight) → IsIn made before stage seen → MayLook (asked_leads before.terms.place before.numbers.flow here reply) before.requests
+  pub may_look_on : (stage : Stage) (seen : Sight) → IsIn made before stage seen → MayLook (asked_leads before.terms.place before.numbers.flow before.spare here reply) before.requests
   may_look_on stage seen at =
       let there = turned stage seen at in
-      may_look (behind stage seen) before.requests there.sent (turn made stage seen told).stage (asked_leads before.terms.place before.numbers.flow here reply) there.is_ready
+      may_look (behind stage seen) before.requests there.sent (turn made stage seen told).stage (asked_leads before.terms.place before.numbers.flow before.spare here reply) there.is_ready
 
 pub alone_answers : (before : Stream) (moment : ℕ) (reply : Reply) (here : Asked) → IsSound (Stands alone) before → before.phase ≡ phase.Asked here →
-    MayLook (asked_leads before.terms.place before.numbers.flow here reply) before.requests
+    MayLook (asked_leads before.terms.place before.numbers.flow before.spare here reply) before.requests
 alone_answers before moment reply here (made, past, given, stands) live = may_look_on made.terms before moment reply here live _ _ stands.place.is_in
 
-pub sequence_answers : (before : Stream) (moment : ℕ) (reply : Reply) (here : Asked) → IsSound StandsInSequence before → before.phase ≡ phase.Asked here →
-    MayLook (asked_leads before.terms.place before.numbers.flow here reply) before.requests
-sequence_answers before moment reply here (made, past, given, stands) live = may_look_on made.terms before moment reply here live _ _ stands.place.is_at.is_in
+pub answers_anywhere : (before : Stream) (moment : ℕ) (reply : Reply) (here : Asked) → Somewhere before → before.phase ≡ phase.Asked here →
+    MayLook (asked_leads before.terms.place before.numbers.flow before.spare here reply) before.requests
+answers_anywhere before moment reply here (made, ahead, place, prefix, at) live = may_look_on made before moment reply here live place.stage (sight_over place prefix) at.is_at.is_in
 
 -- where the next flow begins its reader may look too
 pub may_look_onward : (looked : Wanted) (requests : State) → MayLook looked requests → MayLook (ready_onward looked) (requests_onward looked requests)
@@ -393,25 +426,27 @@ may_look_onward (ready.Returning flow link body) requests may = may
 may_look_onward (ready.GivenHead flow) requests may = tt
 may_look_onward (ready.GivenBody flow) requests may = tt
 may_look_onward ready.Finished requests may = tt
+may_look_onward (ready.Connects address) requests may = tt
+may_look_onward (ready.Upgraded flow link) requests may = tt
 may_look_onward ready.Over requests may = tt
 
 module _ (onward_to : Stage → Stage) (goes : IsOnward onward_to) (before after : Stream) (moment : ℕ) (reply : Reply) (here : Asked) (looked : Wanted) (requests : State) (out longer : List Command)
     (live : before.phase ≡ phase.Asked here) (call : Answers before after moment reply here looked requests out longer) where
   abbrev Led : Terms → Stage → Sight → Type 0
   Led made stage seen = Turned (onto onward_to (turn made stage seen (record { moment = moment; value = reply }))) (behind_reply made moment reply stage seen) requests
-      (asked_owes before.terms.place before.numbers.flow here reply moment seen.closed) looked after.numbers before.client_closed moment
+      (asked_owes before.terms.place before.numbers.flow before.spare here reply moment seen.closed) looked after.numbers before.client_closed moment
 
   answer_adds : (made : Terms) (stage : Stage) (seen : Sight) → Led made stage seen → (more : List Command) × (longer ≡ out ++ more)
   answer_adds made stage seen led =
       let there = look_adds before.terms after.numbers (behind_reply made moment reply stage seen) requests after.requests moment before.client_closed call.between longer after.phase led.sent
       (onward_to (turn made stage seen (record { moment = moment; value = reply })).stage) looked led.is_ready call.looks in
-      grown_by out call.between longer (asked_owes before.terms.place before.numbers.flow here reply moment before.client_closed) there.0 call.owes there.1
+      grown_by out call.between longer (asked_owes before.terms.place before.numbers.flow before.spare here reply moment before.client_closed) there.0 call.owes there.1
 
   -- where it goes, and what it adds
   resumes : (made : Terms) (more : List Command) → longer ≡ out ++ more → (place : Standing) (prefix : List (Timed Event)) → IsAt made before place prefix → Led made place.stage (sight_over place prefix) →
       Resumes (http_chain onward_to made) (IsAt made) after moment reply more place prefix
   resumes made more grown place prefix at led =
-      resumes_answer onward_to goes made before after moment reply here looked requests out call.between longer more live call.terms call.client call.owes call.looks grown place prefix at (λ _. led)
+      resumes_answer onward_to goes made before after moment reply here looked requests out call.between longer more live call.terms call.client call.spare call.owes call.looks grown place prefix at (λ _. led)
 
 module _ (before after : Stream) (moment : ℕ) (reply : Reply) (here : Asked) (out longer : List Command) (live : before.phase ≡ phase.Asked here) where
   abbrev answer : Timed Reply
@@ -419,15 +454,15 @@ module _ (before after : Stream) (moment : ℕ) (reply : Reply) (here : Asked) (
 
   -- what the machine looks for next
   abbrev leads : Wanted
-  leads = asked_leads before.terms.place before.numbers.flow here reply
+  leads = asked_leads before.terms.place before.numbers.flow before.spare here reply
 
   -- the numbers are those that were counted
   counted : (turned_to : Turn Stage Command) (seen : Sight) (closed : Bool) (requests : State) (looked : Wanted) →
       after.numbers ≡ behind_ready (behind_asked before.numbers here) leads →
-      Turned turned_to seen requests (asked_owes before.terms.place before.numbers.flow here reply moment closed) looked (behind_ready (behind_asked before.numbers here) leads) before.client_closed moment →
-      Turned turned_to seen requests (asked_owes before.terms.place before.numbers.flow here reply moment closed) looked after.numbers before.client_closed moment
+      Turned turned_to seen requests (asked_owes before.terms.place before.numbers.flow before.spare here reply moment closed) looked (behind_ready (behind_asked before.numbers here) leads) before.client_closed moment →
+      Turned turned_to seen requests (asked_owes before.terms.place before.numbers.flow before.spare here reply moment closed) looked after.numbers before.client_closed moment
   counted turned_to seen closed requests looked is there =
-      let P : Numbers → Type 0 = λ n. Turned turned_to seen requests (asked_owes before.terms.place before.numbers.flow here reply moment closed) looked n before.client_closed moment in
+      let P : Numbers → Type 0 = λ n. Turned turned_to seen requests (asked_owes before.terms.place before.numbers.flow before.spare here reply moment closed) looked n before.client_closed moment in
       subst P (sym is) there
 
   -- ---- alone
@@ -453,7 +488,7 @@ module _ (before after : Stream) (moment : ℕ) (reply : Reply) (here : Asked) (
     pub resume_alone_goes : IsSound (Stands alone) before → Goes (Stands alone) before after (Replied moment reply) out longer
     resume_alone_goes (made, past, given, stands) =
         let added = alone_adds made.terms _ _ stands.place.is_in in
-        resume_goes (λ (m : Stream). http_chain alone m.terms) (λ m. settles alone m.terms) (λ m. begin (idle (start_of m.numbers))) (λ m. IsAt m.terms) before after moment reply added.0 out longer added.1
+        resume_goes (λ (m : Stream). http_chain alone m.terms) (λ m. settles alone m.terms) (λ m. first_of m) (λ m. IsAt m.terms) before after moment reply added.0 out longer added.1
         (λ m place prefix _ at. alone_resumes m.terms added.0 added.1 place prefix at)
 
     pub resume_alone_asks : IsSound (Stands alone) before → AsksOnly (awaits after) out longer
@@ -471,64 +506,72 @@ module _ (before after : Stream) (moment : ℕ) (reply : Reply) (here : Asked) (
   -- ---- in sequence
 
   module _ (call : Answers before after moment reply here (ready_onward leads) (requests_onward leads before.requests) out longer) where
-    onward_led : (made : Terms) (stage : Stage) (seen : Sight) (ask : Command) → look made stage seen ≡ Asks ask → IsIn made before stage seen → IsFew stage →
+    onward_led : (made : Terms) (ahead : ℕ) (stage : Stage) (seen : Sight) (ask : Command) → look made stage seen ≡ Asks ask → IsIn made before stage seen → IsFew ahead stage → ahead ≤ 1 →
         Led sequence (is_sequence refl) before after moment reply here (ready_onward leads) (requests_onward leads before.requests) out longer live call made stage seen
-    onward_led made stage seen ask is at few =
+    onward_led made ahead stage seen ask is at few small =
         counted (onto sequence (turn made stage seen answer)) (behind_reply made moment reply stage seen) seen.closed (requests_onward leads before.requests) (ready_onward leads) call.numbers
-        (led_onward (turn made stage seen answer) (behind_reply made moment reply stage seen) before.requests _ leads _ before.client_closed moment
-        (turn_few made stage seen answer ask is few) (turned made before moment reply here live stage seen at))
+        (led_onward ahead (turn made stage seen answer) (behind_reply made moment reply stage seen) before.requests _ leads _ before.client_closed moment small
+        (turn_few ahead made stage seen answer ask is few) (turned made before moment reply here live stage seen at))
 
     asks_there : (made : Terms) (l : Look Command) (stage : Stage) (seen : Sight) → look made stage seen ≡ l → PhaseAt l made before.requests before.phase stage seen →
         (ask : Command) × (look made stage seen ≡ Asks ask)
     asks_there made NotYet stage seen is (looked, sent, same, ready, gave) = absurd (let e : phase.Ready looked ≡ phase.Asked here = sym same ∙ live in cc)
     asks_there made (Asks ask) stage seen is there = (ask, is)
-    asks_there made (Ends owed) stage seen is (same, there) = absurd (let e : phase.Ready (last_of stage) ≡ phase.Asked here = sym same ∙ live in cc)
+    asks_there made (Ends owed) stage seen is (last, same, there) = absurd (let e : phase.Ready last ≡ phase.Asked here = sym same ∙ live in cc)
 
-    sequence_led : (made : Terms) (stage : Stage) (seen : Sight) → IsIn made before stage seen → IsFew stage →
+    sequence_led : (made : Terms) (ahead : ℕ) (stage : Stage) (seen : Sight) → IsIn made before stage seen → IsFew ahead stage → ahead ≤ 1 →
         Led sequence (is_sequence refl) before after moment reply here (ready_onward leads) (requests_onward leads before.requests) out longer live call made stage seen
-    sequence_led made stage seen at few =
-        let asks_now = asks_there made (look made stage seen) stage seen refl at.phase in onward_led made stage seen asks_now.0 asks_now.1 at few
+    sequence_led made ahead stage seen at few small =
+        let asks_now = asks_there made (look made stage seen) stage seen refl at.phase in onward_led made ahead stage seen asks_now.0 asks_now.1 at few small
 
-    sequence_resumes : (made : Terms) (more : List Command) → longer ≡ out ++ more → (place : Standing) (prefix : List (Timed Event)) → IsInSequence made before place prefix →
+    sequence_resumes : (made : Terms) (ahead : ℕ) (more : List Command) → longer ≡ out ++ more → (place : Standing) (prefix : List (Timed Event)) → IsInSequence made ahead before place prefix →
         Resumes (http_chain sequence made) (IsAt made) after moment reply more place prefix
-    sequence_resumes made more grown place prefix at =
+    sequence_resumes made ahead more grown place prefix at =
         resumes sequence (is_sequence refl) before after moment reply here (ready_onward leads) (requests_onward leads before.requests) out longer live call made more grown place prefix at.is_at
-        (sequence_led made place.stage (sight_over place prefix) at.is_at.is_in at.few)
+        (sequence_led made ahead place.stage (sight_over place prefix) at.is_at.is_in at.few at.small)
 
-    few_resumes : (made : Terms) (more : List Command) → longer ≡ out ++ more → (place : Standing) (prefix : List (Timed Event)) → IsInSequence made before place prefix →
-        Resumes (http_chain sequence made) (IsInSequence made) after moment reply more place prefix
-    few_resumes made more grown place prefix at =
-        let there = sequence_resumes made more grown place prefix at in
+    few_resumes : (made : Terms) (ahead : ℕ) (more : List Command) → longer ≡ out ++ more → (place : Standing) (prefix : List (Timed Event)) → IsInSequence made ahead before place prefix →
+        Resumes (http_chain sequence made) (IsInSequence made ahead) after moment reply more place prefix
+    few_resumes made ahead more grown place prefix at =
+        let there = sequence_resumes made ahead more grown place prefix at in
         let seen : Sight = sight_over place prefix in
         let further : Standing = stands place moment prefix (sequence (turn made place.stage seen answer).stage) in
         record {
           ask = there.ask;
           asked = there.asked;
-          place = record { is_at = there.place; few = sequence_few made place.stage seen (sight_over further prefix) answer there.ask there.asked at.few };
+          place = record { is_at = there.place; few = sequence_few ahead made place.stage seen (sight_over further prefix) answer there.ask there.asked at.few; small = at.small };
           gives = there.gives;
         }
 
-    sequence_adds : (made : Terms) (stage : Stage) (seen : Sight) → IsIn made before stage seen → IsFew stage → (more : List Command) × (longer ≡ out ++ more)
-    sequence_adds made stage seen at few =
-        answer_adds sequence (is_sequence refl) before after moment reply here (ready_onward leads) (requests_onward leads before.requests) out longer live call made stage seen (sequence_led made stage seen at few)
+    sequence_adds : (made : Terms) (ahead : ℕ) (stage : Stage) (seen : Sight) → IsIn made before stage seen → IsFew ahead stage → ahead ≤ 1 → (more : List Command) × (longer ≡ out ++ more)
+    sequence_adds made ahead stage seen at few small =
+        answer_adds sequence (is_sequence refl) before after moment reply here (ready_onward leads) (requests_onward leads before.requests) out longer live call made stage seen
+        (sequence_led made ahead stage seen at few small)
 
-    pub resume_sequence_goes : IsSound StandsInSequence before → Goes StandsInSequence before after (Replied moment reply) out longer
-    resume_sequence_goes (made, past, given, stands) =
-        let added = sequence_adds made.terms _ _ stands.place.is_at.is_in stands.place.few in
-        resume_goes (λ (m : Stream). http_chain sequence m.terms) (λ m. settles sequence m.terms) (λ m. begin (idle (start_of m.numbers))) (λ m. IsInSequence m.terms) before after moment reply added.0 out longer added.1
-        (λ m place prefix _ at. few_resumes m.terms added.0 added.1 place prefix at)
+    -- wherever it stood
+    pub resume_somewhere : Somewhere before → ResumesAnywhere before after moment reply out longer
+    resume_somewhere (made, ahead, place, prefix, at) =
+        let added = sequence_adds made ahead place.stage (sight_over place prefix) at.is_at.is_in at.few at.small in
+        record { more = added.0; grown = added.1; resumes = λ terms most there front is. few_resumes terms most added.0 added.1 there front is }
 
-    pub resume_sequence_asks : IsSound StandsInSequence before → AsksOnly (awaits after) out longer
-    resume_sequence_asks (made, past, given, stands) =
-        let added = sequence_adds made.terms _ _ stands.place.is_at.is_in stands.place.few in
-        (added.0, added.1, resumes_asks sequence made.terms after moment added.0 reply _ _ (sequence_resumes made.terms added.0 added.1 _ _ stands.place))
+    pub resume_somewhere_asks : Somewhere before → AsksOnly (awaits after) out longer
+    resume_somewhere_asks (made, ahead, place, prefix, at) =
+        let added = sequence_adds made ahead place.stage (sight_over place prefix) at.is_at.is_in at.few at.small in
+        (added.0, added.1, resumes_asks sequence made after moment added.0 reply place prefix (sequence_resumes made ahead added.0 added.1 place prefix at))
 
-    pub resume_sequence_left : IsSound StandsInSequence before → sequence_left after < sequence_left before
-    resume_sequence_left (made, past, given, stands) =
-        let added = sequence_adds made.terms _ _ stands.place.is_at.is_in stands.place.few in
-        let there = sequence_resumes made.terms added.0 added.1 _ _ stands.place in
-        resumes_left sequence_left stages_left sequence_measures made.terms sequence before after moment reply added.0 _ _ stands.place.is_at
-        (sequence_falls made.terms _ _ answer there.ask there.asked) there
+    pub resume_somewhere_left : Somewhere before → sequence_left after < sequence_left before
+    resume_somewhere_left (made, ahead, place, prefix, at) =
+        let added = sequence_adds made ahead place.stage (sight_over place prefix) at.is_at.is_in at.few at.small in
+        let there = sequence_resumes made ahead added.0 added.1 place prefix at in
+        resumes_left sequence_left stages_left sequence_measures made sequence before after moment reply added.0 place prefix at.is_at
+        (sequence_falls made place.stage (sight_over place prefix) answer there.ask there.asked) there
+
+-- flows in sequence go where they go anywhere
+pub resume_sequence_goes : (before after : Stream) (moment : ℕ) (reply : Reply) (out longer : List Command) → ResumesAnywhere before after moment reply out longer →
+    Goes StandsInSequence before after (Replied moment reply) out longer
+resume_sequence_goes before after moment reply out longer call =
+    resume_goes (λ (m : Stream). http_chain sequence m.terms) (λ m. settles sequence m.terms) (λ m. first_of m) (λ m. IsInSequence m.terms (ahead_of m.numbers)) before after moment reply call.more out longer call.grown
+    (λ m place prefix _ at. call.resumes m.terms (ahead_of m.numbers) place prefix at)
 
 -- where the next flow begins
 pub may_look_begun : (leads now : Wanted) (turned requests : State) → now ≡ ready_onward leads → requests ≡ requests_onward leads turned → MayLook leads turned → MayLook now requests
@@ -536,44 +579,3 @@ may_look_begun leads now turned requests is same may =
     let P : State → Type 0 = λ s. MayLook now s in
     let Q : Wanted → Type 0 = λ r. MayLook r (requests_onward leads turned) in
     subst P (sym same) (subst Q (sym is) (may_look_onward leads turned may))
-
--- ---- a new flow
-
-module _ (made : Stream) (open_still : made.client_closed ≡ false) (waits : made.phase ≡ phase.Ready ready.Idle) (fresh : made.requests ≡ before_all request [] false) (fits : made.numbers.server ≤ 4294967295) where
-  abbrev first : Stage
-  first = idle (start_of made.numbers)
-
-  -- what a conversation sees before all
-  abbrev nothing : Sight
-  nothing = sight_over (begin first) []
-
-  -- no bytes are no request
-  finds_nothing : look made.terms first nothing ≡ NotYet
-  finds_nothing =
-      let none : request_item [] ≡ missing = refl in
-      ap (λ i. or_leaves false [] (look_head made.terms made.numbers.flow i 0 false)) none
-
-  begins_in : IsIn made.terms made first nothing
-  begins_in =
-      let P : Look Command → Type 0 = λ l. PhaseAt l made.terms made.requests made.phase first nothing in
-      let Q : State → Type 0 = λ s. Reads request [] [] false s in
-      let reads : Reads request [] [] false made.requests = subst Q (sym fresh) (begun_again []) in
-      record {
-        terms = refl;
-        place = record { index = refl; servers = λ small. refl; client = open_still; used = omega arith };
-        phase = subst P (sym finds_nothing) (ready.Idle, [], waits, record { phase = refl; reads = reads }, refl);
-        dials = fits;
-      }
-
-  begins_there : IsAt made.terms made (begin first) []
-  begins_there = record { within = record { since = omega arith; opened = omega arith }; is_in = begins_in }
-
-  -- it stands for no moves, and has given nothing
-  pub stands_first : (onward_to : Stage → Stage) → Stands onward_to made made [] []
-  stands_first onward_to =
-      begins (http_chain onward_to made.terms) (settles onward_to made.terms) (begin first) (IsAt made.terms) made begins_there (λ view. ap (λ l. seen_of view (found l)) finds_nothing)
-
-  pub stands_first_in_sequence : made.numbers.flow < 1000000 → made.numbers.server ≤ made.numbers.flow + 1 → StandsInSequence made made [] []
-  stands_first_in_sequence few dials =
-      begins (http_chain sequence made.terms) (settles sequence made.terms) (begin first) (IsInSequence made.terms) made
-      (record { is_at = begins_there; few = record { few = few; dials = dials } }) (λ view. ap (λ l. seen_of view (found l)) finds_nothing)

@@ -13,12 +13,16 @@ use Rattle.px_message.specs.declared.request.Request.{Request}
 use Rattle.px_stream.specs.declared.link.Link.{Link as KeptLink}
 use Rattle.px_stream.specs.declared.phase.Wanted.{Wanted}
 use Rattle.px_stream.specs.declared.numbers.Numbers.{Numbers}
-use Rattle.px_stream.specs.Heard.{feeds, shuts, link_hears, link_closes, link_takes, requests_take, ready_takes, closes_client}
+use Rattle.px_stream.specs.Heard.{feeds, shuts, link_hears, link_closes, link_takes, requests_take, ready_takes, spare_takes, closes_client}
+use Rattle.px_event.specs.Chain.{NotYet, Ends}
+use Rattle.px_exchange.specs.Finds.{or_leaves}
 use Rattle.px_exchange.specs.Requests.{is_head}
-use Rattle.px_chain.specs.Sights.{Sight, sight_with}
-use Rattle.px_chain.specs.Stages.{At, ServerSide, Stage, busy, connection, given_body, given_head, idle, next, over, request_body, response_body, response_head, side_in, side_of}
+use Rattle.px_exchange.specs.declared.terms.Terms.{Terms}
+use Rattle.px_chain.specs.Chain.{look}
+use Rattle.px_chain.specs.Sights.{Sight, Unused, sight_with, unused_with}
+use Rattle.px_chain.specs.Stages.{At, ServerSide, Stage, busy, connection, given_body, given_head, idle, next, over, request_body, response_body, response_head, side_in, side_of, upgraded}
 use Rattle.px_chain.specs.Streams.{closes, piece_of}
-use Rattle.px_stream.specs.Stands.{Passes, Keeps, IsLink, KeepsBehind, IsReady, IsPlaced, HasPlace}
+use Rattle.px_stream.specs.Stands.{Passes, Keeps, IsLink, IsSpare, IsUnused, KeepsBehind, IsReady, IsPlaced, HasPlace}
 use Rattle.px_stream.proofs.ReadLemmas.{fed_on, shut_on}
 
 -- ---- the server's side
@@ -181,44 +185,51 @@ module _ (seen : Sight) (event : Event) (now : ℕ) where
     open_still = shut_took state event ∙ is.open_still;
   }
 
-  -- the flow stands where it stood, and its readers have heard the event
+module _ (made : Terms) (seen : Sight) (event : Event) (now : ℕ) where
+  -- what has ended finds something
+  ended : (shut : Bool) → or_leaves shut [] (Ends []) ≡ NotYet → ⊥
+  ended true is = let no : Ends [] ≡ NotYet = is in cc
+  ended false is = let no : Ends [] ≡ NotYet = is in cc
+
+  -- the flow stands where it stood, if nothing was found, and its readers have heard the event
   pub ready_on : (stage : Stage) (requests : State) (looked : Wanted) (sent : List ResponseHead) (numbers : Numbers) (closed : Bool) →
-      HasPlace stage seen numbers closed → IsReady requests looked stage seen sent →
+      HasPlace stage seen numbers closed → look made stage seen ≡ NotYet → IsReady requests looked stage seen sent →
       IsReady (requests_take event requests) (ready_takes event looked) stage (sight_with (side_of stage) seen event now) sent
-  ready_on (idle at) requests looked sent numbers closed place is = record {
+  ready_on (idle at) requests looked sent numbers closed place waits is = record {
     phase = ap (ready_takes event) is.phase;
-    reads = reads_on [] request at.used requests place.used is.reads;
+    reads = reads_on seen event now [] request at.used requests place.used is.reads;
   }
-  ready_on (busy at flow (request_body given)) requests looked sent numbers closed place is = record {
+  ready_on (busy at flow (request_body given)) requests looked sent numbers closed place waits is = record {
     head = is.head;
     marks = is.marks;
     phase = ap (ready_takes event) is.phase;
-    reads = reads_on (asks is.head ∷ is.marks) request at.used requests place.used is.reads;
+    reads = reads_on seen event now (asks is.head ∷ is.marks) request at.used requests place.used is.reads;
   }
-  ready_on (busy at flow connection) requests looked sent numbers closed place is =
-      record { phase = ap (ready_takes event) is.phase; keeps = keeps_on None at.used requests place.used is.keeps }
-  ready_on (busy at flow (response_head side how)) requests looked sent numbers closed place is = record {
+  ready_on (busy at flow connection) requests looked sent numbers closed place waits is =
+      record { phase = ap (ready_takes event) is.phase; keeps = keeps_on seen event now None at.used requests place.used is.keeps }
+  ready_on (busy at flow (response_head side how)) requests looked sent numbers closed place waits is = record {
     kept = link_takes event is.kept;
     phase = ap (ready_takes event) is.phase;
     is_link = link_on flow.request side seen event now sent [] is.kept is.is_link;
-    keeps = keeps_on (Some side) at.used requests place.used is.keeps;
+    keeps = keeps_on seen event now (Some side) at.used requests place.used is.keeps;
   }
-  ready_on (busy at flow (response_body side how)) requests looked sent numbers closed place is = record {
+  ready_on (busy at flow (response_body side how)) requests looked sent numbers closed place waits is = record {
     kept = link_takes event is.kept;
     head = is.head;
     marks = is.marks;
     phase = ap (ready_takes event) is.phase;
     final = is.final;
     is_link = link_on flow.request side seen event now sent (answers is.head ∷ is.marks) is.kept is.is_link;
-    keeps = keeps_on (Some side) at.used requests place.used is.keeps;
+    keeps = keeps_on seen event now (Some side) at.used requests place.used is.keeps;
   }
-  ready_on (busy at flow given_head) requests looked sent numbers closed place is =
-      record { phase = ap (ready_takes event) is.phase; keeps = keeps_on None at.used requests place.used is.keeps }
-  ready_on (busy at flow given_body) requests looked sent numbers closed place is =
-      record { phase = ap (ready_takes event) is.phase; keeps = keeps_on None at.used requests place.used is.keeps }
-  ready_on (next at) requests looked sent numbers closed place is =
-      record { phase = ap (ready_takes event) is.phase; keeps = keeps_on None at.used requests place.used is.keeps }
-  ready_on over requests looked sent numbers closed place is = ap (ready_takes event) is
+  ready_on (busy at flow (upgraded side)) requests looked sent numbers closed place waits is = absurd (ended seen.closed waits)
+  ready_on (busy at flow given_head) requests looked sent numbers closed place waits is =
+      record { phase = ap (ready_takes event) is.phase; keeps = keeps_on seen event now None at.used requests place.used is.keeps }
+  ready_on (busy at flow given_body) requests looked sent numbers closed place waits is =
+      record { phase = ap (ready_takes event) is.phase; keeps = keeps_on seen event now None at.used requests place.used is.keeps }
+  ready_on (next at) requests looked sent numbers closed place waits is =
+      record { phase = ap (ready_takes event) is.phase; keeps = keeps_on seen event now None at.used requests place.used is.keeps }
+  ready_on over requests looked sent numbers closed place waits is = ap (ready_takes event) is
 
 closes_by_event : (event : Event) (was : Bool) → closes_client event was ≡ (was || closes Client event)
 closes_by_event events.Begun true = refl
@@ -251,3 +262,64 @@ place_on (idle at) seen event now numbers closed place = placed_on at None seen 
 place_on (busy at flow doing) seen event now numbers closed place = placed_on at (side_in doing) seen event now numbers closed place
 place_on (next at) seen event now numbers closed place = placed_on at None seen event now numbers closed place
 place_on over seen event now numbers closed place = tt
+
+-- ---- the spare side
+
+abbrev IsFresh : ℕ → List ℕ → Bool → KeptLink → Type 0
+IsFresh number bytes shut kept = IsUnused (record { server = number; bytes = bytes; shut = shut }) kept
+
+-- nothing of it
+fresh_same : (number : ℕ) (bytes : List ℕ) (was : Bool) (kept : KeptLink) → IsFresh number bytes was kept → IsFresh number (if was then bytes else (bytes ++ [])) (was || false) kept
+fresh_same number bytes true kept is = is
+fresh_same number bytes false kept is = let P : List ℕ → Type 0 = λ l. IsFresh number l false kept in subst P (sym (append-nil bytes)) is
+
+fresh_hears : (number : ℕ) (bytes more : List ℕ) (was mine : Bool) (kept : KeptLink) → IsFresh number bytes was kept →
+    IsFresh number (if was then bytes else (bytes ++ (if mine then more else []))) (was || false)
+    (if mine then (if was then kept else record kept { responses = feeds more kept.responses }) else kept)
+fresh_hears number bytes more was false kept is = fresh_same number bytes was kept is
+fresh_hears number bytes more true true kept is = is
+fresh_hears number bytes more false true kept is = record { server = is.server; closed = is.closed; responses = ap (feeds more) is.responses }
+
+fresh_closes : (number : ℕ) (bytes : List ℕ) (was mine : Bool) (kept : KeptLink) → IsFresh number bytes was kept →
+    IsFresh number (if was then bytes else (bytes ++ [])) (was || mine) (if mine then record kept { responses = shuts kept.responses; closed = true } else kept)
+fresh_closes number bytes was false kept is = fresh_same number bytes was kept is
+fresh_closes number bytes true true kept is = record { server = is.server; closed = refl; responses = ap shuts is.responses }
+fresh_closes number bytes false true kept is =
+    let P : List ℕ → Type 0 = λ l. IsFresh number l true (record kept { responses = shuts kept.responses; closed = true }) in
+    subst P (sym (append-nil bytes)) (record { server = is.server; closed = refl; responses = ap shuts is.responses })
+
+fresh_heard : (number : ℕ) (bytes : List ℕ) (was : Bool) (kept : KeptLink) (server : ℕ) (more : List ℕ) → IsFresh number bytes was kept →
+    IsFresh number (if was then bytes else (bytes ++ (if server == number then more else []))) (was || false) (link_hears server more kept)
+fresh_heard number bytes was kept server more is =
+    let P : ℕ → Bool → Type 0 = λ n w. IsFresh number (if was then bytes else (bytes ++ (if server == number then more else []))) (was || false)
+    (if server == n then (if w then kept else record kept { responses = feeds more kept.responses }) else kept) in
+    let Q : Bool → Type 0 = λ w. P number w in
+    let R : ℕ → Type 0 = λ n. P n kept.closed in
+    subst R (sym is.server) (subst Q (sym is.closed) (fresh_hears number bytes more was (server == number) kept is))
+
+fresh_shut : (number : ℕ) (bytes : List ℕ) (was : Bool) (kept : KeptLink) (server : ℕ) → IsFresh number bytes was kept →
+    IsFresh number (if was then bytes else (bytes ++ [])) (was || (server == number)) (link_closes server kept)
+fresh_shut number bytes was kept server is =
+    let R : ℕ → Type 0 = λ n. IsFresh number (if was then bytes else (bytes ++ [])) (was || (server == number))
+    (if server == n then record kept { responses = shuts kept.responses; closed = true } else kept) in
+    subst R (sym is.server) (fresh_closes number bytes was (server == number) kept is)
+
+fresh_took : (number : ℕ) (bytes : List ℕ) (was : Bool) (kept : KeptLink) (event : Event) → IsFresh number bytes was kept →
+    IsFresh number (if was then bytes else (bytes ++ piece_of (Server number) event)) (was || closes (Server number) event) (link_takes event kept)
+fresh_took number bytes was kept events.Begun is = fresh_same number bytes was kept is
+fresh_took number bytes was kept (events.Piece Client more) is = fresh_same number bytes was kept is
+fresh_took number bytes was kept (events.Piece (Server server) more) is = fresh_heard number bytes was kept server more is
+fresh_took number bytes was kept (events.Closed Client) is = fresh_same number bytes was kept is
+fresh_took number bytes was kept (events.Closed (Server server)) is = fresh_shut number bytes was kept server is
+fresh_took number bytes was kept (events.Answered ask reply) is = fresh_same number bytes was kept is
+
+spare_took : (event : Event) (unused : Option Unused) (spare : Option KeptLink) → IsSpare unused spare → IsSpare (unused_with unused event) (spare_takes event spare)
+spare_took event None None is = tt
+spare_took event None (Some spare) is = absurd is
+spare_took event (Some unused) None is = absurd is
+spare_took event (Some unused) (Some spare) is = fresh_took unused.server unused.bytes unused.shut spare event is
+
+-- It has heard the event too.
+pub spare_on : (side : Option ServerSide) (seen : Sight) (event : Event) (moment : ℕ) (spare : Option KeptLink) → IsSpare seen.spare spare →
+    IsSpare (sight_with side seen event moment).spare (spare_takes event spare)
+spare_on side seen event moment spare is = spare_took event seen.spare spare is

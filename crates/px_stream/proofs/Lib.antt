@@ -13,6 +13,7 @@ pub mod TakeLemmas
 pub mod ResumeLemmas
 pub mod MoveLemmas
 pub mod CallLemmas
+pub mod AnywhereLemmas
 pub mod LookingLemmas
 pub mod RestLemmas
 pub mod OutcomeLemmas

@@ -10,7 +10,7 @@ use Rattle.px_event.specs.declared.command.Command.{Command}
 use Rattle.px_event.specs.declared.command.Command.TheVariants as commands
 use Rattle.px_event.specs.Chain.{Look, NotYet, Asks, Ends, found}
 use Rattle.px_read.specs.Chunks.{Reading}
-use Rattle.px_read.specs.Items.{Body, Item, missing, part, complete, bad_head, bad_body, body_of, content_in, request_told, request_item}
+use Rattle.px_read.specs.Items.{Body, Item, missing, part, complete, bad_head, bad_body, body_of, content_in, no_body, request_told, request_item}
 use Rattle.px_read.specs.Laws.{head_in}
 use Rattle.px_read.specs.Marks.{Mark, asks}
 use Rattle.px_read.specs.Reader.{request, State, Reads}
@@ -27,19 +27,21 @@ use Rattle.px_exchange.specs.Bodies.{HasRead, content_of}
 use Rattle.px_exchange.specs.Places.{dialled_for}
 use Rattle.px_stream.specs.Bodies.{BodyFound}
 use Rattle.px_exchange.specs.Flows.{ask_of, with_body, with_end, with_start}
-use Rattle.px_chain.specs.Chain.{look, pass, pass_body, so_far, used_more}
+use Rattle.px_chain.specs.Chain.{Connect, connect_in, look, pass, pass_body, so_far, used_more}
 use Rattle.px_chain.specs.Sights.{Sight, request_in}
 use Rattle.px_chain.specs.Stages.{At, Stage, busy, connection, given_body, given_head, idle, request_body}
 use Rattle.px_exchange.specs.Finds.{look_head, look_judged, or_leaves}
 use Rattle.px_exchange.specs.Endings.{closed_message, ends_by_fault, ends_early, refuses}
+use Rattle.px_message.specs.declared.address.Address.{Address}
 use Rattle.px_stream.specs.Found.{LookedAt}
+use Rattle.px_stream.specs.Looking.{HeadRead}
 use Rattle.px_stream.specs.Looks.{body_gives, body_phase, where_left}
 use Rattle.px_stream.specs.Phases.{head_phase, is_over, judged_phase, marks_at, unless_left}
 use Rattle.px_exchange.specs.Requests.{expects, flow_of, is_head, judged}
 use Rattle.px_exchange.specs.declared.asked.Judged.{Judged}
-use Rattle.px_exchange.specs.declared.asked.Judged.TheVariants.{Refused, Accepted}
-use Rattle.px_stream.proofs.HeadLemmas.{gives_at, gives_missing, look_at_head, phase_at}
-use Rattle.px_stream.specs.Stands.{KeepsBehind, IsReceiving, PhaseAt}
+use Rattle.px_exchange.specs.declared.asked.Judged.TheVariants.{Refused, Accepted, Connects}
+use Rattle.px_stream.proofs.HeadLemmas.{connect_there, connect_whole, gives_at, gives_missing, look_at_head, no_connect, phase_at}
+use Rattle.px_stream.specs.Stands.{KeepsBehind, IsLastAt, IsReceiving, PhaseAt}
 
 -- ---- from what is found to where the flow is
 
@@ -130,7 +132,7 @@ module _ (terms : Terms) (at : At) (flow : Flow) (seen : Sight) (requests : Stat
       LookedAt terms (busy at flow (request_body given)) seen requests is_now [] out longer
   missing_by given head all content true shut is same reads grown there =
       at_look terms (busy at flow (request_body given)) seen requests is_now [] out longer (ends_early flow closed_message seen.now NoServer true)
-      (Ends (ends_early flow closed_message seen.now NoServer true)) (rw (shut, is) refl) grown refl (there, tt)
+      (Ends (ends_early flow closed_message seen.now NoServer true)) (rw (shut, is) refl) grown refl (ready.Over, there, refl)
   missing_by given head all content false shut is same reads grown there =
       at_look terms (busy at flow (request_body given)) seen requests is_now [] out longer [] NotYet (rw (shut, is) refl) grown refl (
         ready.Receiving flow given content,
@@ -145,7 +147,7 @@ module _ (terms : Terms) (at : At) (flow : Flow) (seen : Sight) (requests : Stat
       LookedAt terms (busy at flow (request_body given)) seen requests is_now [] out longer
   bad_by given head body fault is grown there =
       at_look terms (busy at flow (request_body given)) seen requests is_now [] out longer (ends_by_fault flow fault seen.now NoServer seen.closed)
-      (Ends (ends_by_fault flow fault seen.now NoServer seen.closed)) (rw is refl) grown refl (there, tt)
+      (Ends (ends_by_fault flow fault seen.now NoServer seen.closed)) (rw is refl) grown refl (ready.Over, there, refl)
 
   behind_bytes_used : (used : ℕ) → requests.rest ≡ drop used (drop at.used seen.client) → requests.closed ≡ false → KeepsBehind (at.used + used) seen requests
   behind_bytes_used used rest open_still = record { rest = rest ∙ drop-drop used at.used seen.client; open_still = open_still }
@@ -231,68 +233,102 @@ receiving_looked terms at flow given seen old new content moment closed out long
 -- ---- a request's head
 
 module _ (terms : Terms) (at : At) (seen : Sight) (requests : State) (out longer : List Command) (is_now : Phase) where
-  judged_by : (head : ReadRequest) (made : Judged) → judged terms.place head ≡ made → head_in (request_in at seen) ≡ Some head →
-      Reads request (asks head ∷ []) (drop at.used seen.client) false requests →
+  abbrev here : Item ReadRequest
+  here = request_in at seen
+
+  abbrev fed : List ℕ
+  fed = drop at.used seen.client
+
+  -- what was read, where it is known whether a CONNECT is there
+  read_as : (connects : Option Connect) → connect_in terms.place here ≡ connects → HeadRead (connect_in terms.place here) here fed requests → HeadRead connects here fed requests
+  read_as connects is reads = let P : Option Connect → Type 0 = λ c. HeadRead c here fed requests in subst P is reads
+
+  -- the conversation ends, unless a CONNECT is there
+  over_by : connect_in terms.place here ≡ None → IsLastAt (connect_in terms.place here) at seen requests ready.Over
+  over_by is = let P : Option Connect → Type 0 = λ c. IsLastAt c at seen requests ready.Over in subst P (sym is) refl
+
+  finds_by : (head : ReadRequest) (made : Judged) → judged terms.place head ≡ made → head_in here ≡ Some head →
+      look terms (idle at) seen ≡ or_leaves seen.closed [] (look_judged terms at.flow head made seen.now seen.closed)
+  finds_by head made accepts stands =
+      ap (or_leaves seen.closed []) (look_at_head terms at.flow here head seen.now seen.closed stands ∙ ap (λ j. look_judged terms at.flow head j seen.now seen.closed) accepts)
+
+  tunnel_by : (head : ReadRequest) (address : Address) (used : ℕ) → judged terms.place head ≡ Connects address → head_in here ≡ Some head → here ≡ complete head no_body [] used → at.used ≤ length seen.client →
+      HeadRead (connect_in terms.place here) here fed requests → longer ≡ out ++ [] → is_now ≡ phase.Ready (ready.Connects address) → LookedAt terms (idle at) seen requests is_now [] out longer
+  tunnel_by head address used accepts stands whole within reads grown there =
+      let connects : Connect = record { address = address; used = used } in
+      let found_there : connect_in terms.place here ≡ Some connects = connect_there terms.place here head used address whole accepts in
+      let (rest, open_still, most) = read_as (Some connects) found_there reads in
+      let P : Option Connect → Type 0 = λ c. IsLastAt c at seen requests (ready.Connects address) in
+      let last : IsLastAt (Some connects) at seen requests (ready.Connects address) = record {
+        phase = refl;
+        keeps = record { rest = rest ∙ drop-drop used at.used seen.client; open_still = open_still };
+        within = (let l = length-drop at.used seen.client in omega arith);
+      } in
+      at_look terms (idle at) seen requests is_now [] out longer [] (Ends []) (finds_by head (Connects address) accepts stands) grown refl
+      (ready.Connects address, there, subst P (sym found_there) last)
+
+  judged_by : (head : ReadRequest) (made : Judged) → judged terms.place head ≡ made → head_in here ≡ Some head → at.used ≤ length seen.client → HeadRead (connect_in terms.place here) here fed requests →
       longer ≡ out ++ found (look_judged terms at.flow head made seen.now seen.closed) →
       is_now ≡ judged_phase terms at.flow head made seen.now → LookedAt terms (idle at) seen requests is_now [] out longer
-  judged_by head (Refused fault) accepts stands reads grown there =
-      let ends : look terms (idle at) seen ≡ Ends (refuses fault (is_head head.method) seen.closed) =
-      ap (or_leaves seen.closed []) (look_at_head terms at.flow (request_in at seen) head seen.now seen.closed stands
-      ∙ ap (λ j. look_judged terms at.flow head j seen.now seen.closed) accepts) in
-      at_look terms (idle at) seen requests is_now [] out longer (refuses fault (is_head head.method) seen.closed) _ ends grown refl (there, tt)
-  judged_by head (Accepted message) accepts stands reads grown there =
+  judged_by head (Refused fault) accepts stands within reads grown there =
+      let none : connect_in terms.place here ≡ None = no_connect terms.place here head (Refused fault) stands accepts tt in
+      at_look terms (idle at) seen requests is_now [] out longer (refuses fault (is_head head.method) seen.closed) _ (finds_by head (Refused fault) accepts stands) grown refl
+      (ready.Over, there, over_by none)
+  judged_by head (Accepted message) accepts stands within reads grown there =
       let flow : Flow = flow_of terms at.flow message seen.now in
-      let asks_now : look terms (idle at) seen ≡ Asks (ask_of flow RequestHead) =
-      ap (or_leaves seen.closed []) (look_at_head terms at.flow (request_in at seen) head seen.now seen.closed stands
-      ∙ ap (λ j. look_judged terms at.flow head j seen.now seen.closed) accepts) in
-      at_look terms (idle at) seen requests is_now [] out longer (ask_of flow RequestHead ∷ []) _ asks_now grown refl
-      (asked.Head flow (expects head), there, record { head = head; message = message; stands = stands; accepts = accepts; phase = refl; reads = reads })
+      let none : connect_in terms.place here ≡ None = no_connect terms.place here head (Accepted message) stands accepts tt in
+      let P : Option ReadRequest → Type 0 = λ o. Reads request (marks_at o) fed false requests in
+      at_look terms (idle at) seen requests is_now [] out longer (ask_of flow RequestHead ∷ []) _ (finds_by head (Accepted message) accepts stands) grown refl (
+        asked.Head flow (expects head),
+        there,
+        record { head = head; message = message; stands = stands; accepts = accepts; phase = refl; reads = subst P stands (read_as None none reads) },
+      )
+  judged_by head (Connects address) accepts stands within reads grown there =
+      let whole = connect_whole terms.place fed head address stands accepts in
+      tunnel_by head address whole.0 accepts stands whole.1 within reads grown there
 
-  head_by : (head : ReadRequest) → head_in (request_in at seen) ≡ Some head →
-      Reads request (marks_at (head_in (request_in at seen))) (drop at.used seen.client) false requests →
-      longer ≡ out ++ found (or_leaves seen.closed [] (look_head terms at.flow (request_in at seen) seen.now seen.closed)) →
-      is_now ≡ head_phase terms at.flow (request_in at seen) seen.now seen.closed → LookedAt terms (idle at) seen requests is_now [] out longer
-  head_by head stands reads grown there =
-      let P : Option ReadRequest → Type 0 = λ o. Reads request (marks_at o) (drop at.used seen.client) false requests in
-      judged_by head (judged terms.place head) refl stands (subst P stands reads)
-      (grown ∙ ap (λ l. out ++ l) (sym (gives_at terms at.flow (request_in at seen) head seen.now seen.closed stands)))
-      (there ∙ sym (phase_at terms at.flow (request_in at seen) head seen.now seen.closed stands))
+  head_by : (head : ReadRequest) → head_in here ≡ Some head → at.used ≤ length seen.client → HeadRead (connect_in terms.place here) here fed requests →
+      longer ≡ out ++ found (or_leaves seen.closed [] (look_head terms at.flow here seen.now seen.closed)) →
+      is_now ≡ head_phase terms at.flow here seen.now seen.closed → LookedAt terms (idle at) seen requests is_now [] out longer
+  head_by head stands within reads grown there =
+      judged_by head (judged terms.place head) refl stands within reads
+      (grown ∙ ap (λ l. out ++ l) (sym (gives_at terms at.flow here head seen.now seen.closed stands)))
+      (there ∙ sym (phase_at terms at.flow here head seen.now seen.closed stands))
 
-  no_head_by : (shut : Bool) → seen.closed ≡ shut → request_in at seen ≡ missing → Reads request [] (drop at.used seen.client) false requests →
+  no_head_by : (shut : Bool) → seen.closed ≡ shut → here ≡ missing → Reads request [] fed false requests →
       longer ≡ out ++ [] → is_now ≡ unless_left shut ready.Idle → LookedAt terms (idle at) seen requests is_now [] out longer
   no_head_by true shut is reads grown there =
-      at_look terms (idle at) seen requests is_now [] out longer [] (Ends []) (rw (shut, is) refl) grown refl (there, tt)
+      at_look terms (idle at) seen requests is_now [] out longer [] (Ends []) (rw (shut, is) refl) grown refl (ready.Over, there, over_by (ap (connect_in terms.place) is))
   no_head_by false shut is reads grown there =
       at_look terms (idle at) seen requests is_now [] out longer [] NotYet (rw (shut, is) refl) grown refl
       (ready.Idle, [], there, record { phase = refl; reads = reads }, refl)
 
-  idle_by : (item : Item ReadRequest) → request_in at seen ≡ item →
-      Reads request (marks_at (head_in (request_in at seen))) (drop at.used seen.client) false requests →
-      longer ≡ out ++ found (or_leaves seen.closed [] (look_head terms at.flow (request_in at seen) seen.now seen.closed)) →
-      is_now ≡ head_phase terms at.flow (request_in at seen) seen.now seen.closed → LookedAt terms (idle at) seen requests is_now [] out longer
-  idle_by missing is reads grown there =
-      let P : Item ReadRequest → Type 0 = λ i. Reads request (marks_at (head_in i)) (drop at.used seen.client) false requests in
+  idle_by : (item : Item ReadRequest) → here ≡ item → at.used ≤ length seen.client → HeadRead (connect_in terms.place here) here fed requests →
+      longer ≡ out ++ found (or_leaves seen.closed [] (look_head terms at.flow here seen.now seen.closed)) →
+      is_now ≡ head_phase terms at.flow here seen.now seen.closed → LookedAt terms (idle at) seen requests is_now [] out longer
+  idle_by missing is within reads grown there =
+      let P : Item ReadRequest → Type 0 = λ i. HeadRead (connect_in terms.place i) i fed requests in
       no_head_by seen.closed refl is (subst P is reads)
-      (grown ∙ ap (λ l. out ++ l) (gives_missing terms at.flow (request_in at seen) seen.now seen.closed is))
+      (grown ∙ ap (λ l. out ++ l) (gives_missing terms at.flow here seen.now seen.closed is))
       (there ∙ ap (λ i. head_phase terms at.flow i seen.now seen.closed) is)
-  idle_by (part head body) is reads grown there = head_by head (ap head_in is) reads grown there
-  idle_by (complete head body trailers used) is reads grown there = head_by head (ap head_in is) reads grown there
-  idle_by (bad_body fault head body) is reads grown there = head_by head (ap head_in is) reads grown there
-  idle_by (bad_head fault) is reads grown there =
+  idle_by (part head body) is within reads grown there = head_by head (ap head_in is) within reads grown there
+  idle_by (complete head body trailers used) is within reads grown there = head_by head (ap head_in is) within reads grown there
+  idle_by (bad_body fault head body) is within reads grown there = head_by head (ap head_in is) within reads grown there
+  idle_by (bad_head fault) is within reads grown there =
       let ends : look terms (idle at) seen ≡ Ends (refuses fault false seen.closed) = rw is refl in
       at_look terms (idle at) seen requests is_now [] out longer (refuses fault false seen.closed) _ ends
       (grown ∙ ap (λ i. out ++ found (or_leaves seen.closed [] (look_head terms at.flow i seen.now seen.closed))) is) refl
-      (there ∙ ap (λ i. head_phase terms at.flow i seen.now seen.closed) is, tt)
+      (ready.Over, there ∙ ap (λ i. head_phase terms at.flow i seen.now seen.closed) is, over_by (ap (connect_in terms.place) is))
 
-  pub idle_looked : (index moment : ℕ) (closed : Bool) → index ≡ at.flow → moment ≡ seen.now → closed ≡ seen.closed →
-      Reads request (marks_at (head_in (request_in at seen))) (drop at.used seen.client) false requests →
-      longer ≡ out ++ found (or_leaves closed [] (look_head terms index (request_in at seen) moment closed)) →
-      is_now ≡ head_phase terms index (request_in at seen) moment closed → LookedAt terms (idle at) seen requests is_now [] out longer
-  idle_looked index moment closed flow now shut reads grown there =
-      idle_by (request_in at seen) refl reads
-      (grown ∙ (ap (λ n. out ++ found (or_leaves closed [] (look_head terms n (request_in at seen) moment closed))) flow
-      ∙ (ap (λ m. out ++ found (or_leaves closed [] (look_head terms at.flow (request_in at seen) m closed))) now
-      ∙ ap (λ b. out ++ found (or_leaves b [] (look_head terms at.flow (request_in at seen) seen.now b))) shut)))
-      (there ∙ (ap (λ n. head_phase terms n (request_in at seen) moment closed) flow
-      ∙ (ap (λ m. head_phase terms at.flow (request_in at seen) m closed) now
-      ∙ ap (λ b. head_phase terms at.flow (request_in at seen) seen.now b) shut)))
+  pub idle_looked : (index moment : ℕ) (closed : Bool) → index ≡ at.flow → moment ≡ seen.now → closed ≡ seen.closed → at.used ≤ length seen.client →
+      HeadRead (connect_in terms.place here) here fed requests →
+      longer ≡ out ++ found (or_leaves closed [] (look_head terms index here moment closed)) →
+      is_now ≡ head_phase terms index here moment closed → LookedAt terms (idle at) seen requests is_now [] out longer
+  idle_looked index moment closed flow now shut within reads grown there =
+      idle_by here refl within reads
+      (grown ∙ (ap (λ n. out ++ found (or_leaves closed [] (look_head terms n here moment closed))) flow
+      ∙ (ap (λ m. out ++ found (or_leaves closed [] (look_head terms at.flow here m closed))) now
+      ∙ ap (λ b. out ++ found (or_leaves b [] (look_head terms at.flow here seen.now b))) shut)))
+      (there ∙ (ap (λ n. head_phase terms n here moment closed) flow
+      ∙ (ap (λ m. head_phase terms at.flow here m closed) now
+      ∙ ap (λ b. head_phase terms at.flow here seen.now b) shut)))

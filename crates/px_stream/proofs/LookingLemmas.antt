@@ -1,14 +1,25 @@
 -- What one look gives, from what each of its ways gives.
-use Rattle.std.proofs.Common.{◌≡◌, ℕ, Bool, false, List, [], ◌++◌, Option, Result, Ok, Err, refl, sym, subst}
+use Rattle.std.proofs.Common.{◌≡◌, ℕ, ◌≤◌, Bool, false, List, [], ◌∷◌, ◌++◌, length, Option, Some, None, Result, Ok, Err, refl, ap, sym, subst}
 use Rattle.std.specs.Prelude.{OnOk, IfOk}
 use Rattle.std.proofs.lemmas.List.{append-nil}
 use Rattle.px_message.specs.declared.flow.Flow.{Flow}
 use Rattle.px_message.specs.declared.response.Response.{Response}
 use Rattle.px_event.specs.declared.command.Command.{Command}
 use Rattle.px_event.specs.Chain.{found}
-use Rattle.px_read.specs.Items.{request_item}
+use Rattle.px_read.specs.Heads.{asks_tunnel}
+use Rattle.px_read.specs.Items.{Item, bad_head, missing, no_body, request_item}
 use Rattle.px_read.specs.Laws.{head_in}
+use Rattle.px_read.specs.Marks.{asks}
+use Rattle.px_message.specs.declared.fault.Fault.{Fault}
+use Rattle.px_read.proofs.ItemLemmas.{request_used}
+use Rattle.px_read.proofs.LawLemmas.{chunk_laws}
+use Rattle.px_read.proofs.TunnelLemmas.{connect-read}
 use Rattle.px_read.specs.Reader.{request, State, Reads}
+use Rattle.px_read.specs.declared.head.RequestHead.{RequestHead}
+use Rattle.px_exchange.specs.declared.asked.Judged.{Judged}
+use Rattle.px_exchange.specs.declared.asked.Judged.TheVariants.{Refused, Accepted, Connects}
+use Rattle.px_exchange.specs.declared.place.Place.{Place}
+use Rattle.px_exchange.specs.Requests.{judged}
 use Rattle.px_stream.specs.declared.link.Link.{Link as KeptLink}
 use Rattle.px_stream.specs.declared.phase.Phase.{Phase}
 use Rattle.px_stream.specs.declared.phase.Wanted.{Wanted}
@@ -19,17 +30,55 @@ use Rattle.px_exchange.specs.declared.terms.Terms.{Terms}
 use Rattle.px_exchange.specs.Bodies.{HasRead}
 use Rattle.px_stream.specs.Bodies.{BodyFound, ReturnFound}
 use Rattle.px_exchange.specs.Finds.{look_head, or_leaves}
-use Rattle.px_stream.specs.Looking.{HeadFound, FoundAtOnce, LookFound, MayLook}
+use Rattle.px_chain.specs.Chain.{Connect, connect_in}
+use Rattle.px_stream.specs.Looking.{BehindJudged, HeadFound, HeadRead, FoundAtOnce, LookFound, MayLook}
 use Rattle.px_stream.specs.Looks.{answer_gives, answer_phase, body_gives, body_phase, returned_gives, returned_phase}
 use Rattle.px_stream.specs.Phases.{head_phase, marks_at}
+use Rattle.px_stream.proofs.HeadLemmas.{connect_asks, connect_there, no_connect}
 use Rattle.px_exchange.specs.Requests.{is_http11}
 use Rattle.px_stream.specs.Responses.{AnswerFound, ReadsAnswer}
+
+-- ---- what the client's reader keeps of a head
+
+abbrev pub KeptOf : Place → List ℕ → State → Type 0
+KeptOf place fed new = HeadRead (connect_in place (request_item fed)) (request_item fed) fed new
+
+-- of one that is no CONNECT, or of none
+kept_marks : (place : Place) (fed : List ℕ) (seen : Option RequestHead) (new : State) → head_in (request_item fed) ≡ seen → connect_in place (request_item fed) ≡ None →
+    Reads request (marks_at seen) fed false new → KeptOf place fed new
+kept_marks place fed seen new stands none reads =
+    let P : Option RequestHead → Type 0 = λ o. Reads request (marks_at o) fed false new in
+    let Q : Option Connect → Type 0 = λ c. HeadRead c (request_item fed) fed new in
+    subst Q (sym none) (subst P (sym stands) reads)
+
+pub head_kept : (place : Place) (fed : List ℕ) (head : RequestHead) (old new : State) (made : Judged) → head_in (request_item fed) ≡ Some head → judged place head ≡ made →
+    Reads request (asks head ∷ []) fed false old → BehindJudged made old new → KeptOf place fed new
+head_kept place fed head old new (Refused fault) stands is reads same =
+    let P : State → Type 0 = λ s. Reads request (asks head ∷ []) fed false s in
+    kept_marks place fed (Some head) new stands (no_connect place (request_item fed) head (Refused fault) stands is tt) (subst P (sym same) reads)
+head_kept place fed head old new (Accepted message) stands is reads same =
+    let P : State → Type 0 = λ s. Reads request (asks head ∷ []) fed false s in
+    kept_marks place fed (Some head) new stands (no_connect place (request_item fed) head (Accepted message) stands is tt) (subst P (sym same) reads)
+head_kept place fed head old new (Connects address) stands is reads gave =
+    let after = gave.gives request (asks head ∷ []) fed false reads in
+    let ended = connect-read head [] fed false old new gave.got (connect_asks place head address is) reads gave.next after gave.stopped in
+    let within = (request_used chunk_laws fed head no_body [] ended.1 ended.2).1 in
+    let Q : Option Connect → Type 0 = λ c. HeadRead c (request_item fed) fed new in
+    subst Q (sym (connect_there place (request_item fed) head ended.1 address ended.2 is)) (ended.3, after.closed, within)
+
+pub fault_kept : (place : Place) (fed : List ℕ) (fault : Fault) (new : State) → request_item fed ≡ bad_head fault → Reads request [] fed false new → KeptOf place fed new
+fault_kept place fed fault new is reads = kept_marks place fed None new (ap head_in is) (ap (connect_in place) is) reads
+
+pub missing_kept : (place : Place) (fed : List ℕ) (new : State) → request_item fed ≡ missing → Reads request [] fed false new → KeptOf place fed new
+missing_kept place fed new is reads = kept_marks place fed None new (ap head_in is) (ap (connect_in place) is) reads
+
+-- ---- what is found
 
 -- the head of a request
 pub head_looked : {E : Type 0} (result : Result Phase E) (terms : Terms) (index : ℕ) (old new : State) (moment : ℕ) (closed : Bool) (out longer : List Command) →
     ((fed : List ℕ) → Reads request [] fed false old → OnOk result (longer ≡ out ++ found (or_leaves closed [] (look_head terms index (request_item fed) moment closed)))) →
     ((fed : List ℕ) → Reads request [] fed false old → IfOk result (λ next. next ≡ head_phase terms index (request_item fed) moment closed)) →
-    ((fed : List ℕ) → Reads request [] fed false old → OnOk result (Reads request (marks_at (head_in (request_item fed))) fed false new)) →
+    ((fed : List ℕ) → Reads request [] fed false old → OnOk result (HeadRead (connect_in terms.place (request_item fed)) (request_item fed) fed new)) →
     IfOk result (λ next. HeadFound terms index old new moment closed out longer next)
 head_looked (Ok next) terms index old new moment closed out longer gives phase reads = record { gives = gives; phase = phase; reads = reads }
 head_looked (Err e) terms index old new moment closed out longer gives phase reads = tt

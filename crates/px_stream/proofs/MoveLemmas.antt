@@ -27,13 +27,16 @@ use Rattle.px_stream.specs.declared.phase.Asked.{Asked}
 use Rattle.px_stream.specs.declared.phase.Phase.{Phase}
 use Rattle.px_stream.specs.declared.phase.Phase.TheVariants as phase
 use Rattle.px_stream.specs.declared.phase.Wanted.{Wanted}
+use Rattle.px_stream.specs.declared.phase.Wanted.TheVariants as ready
+use Rattle.px_stream.specs.declared.link.Link.{Link as KeptLink}
+use Rattle.px_message.specs.declared.address.Address.{Address}
 use Rattle.px_stream.specs.declared.stream.Stream.{Stream}
 use Rattle.px_stream.specs.declared.numbers.Numbers.{Numbers}
 use Rattle.px_exchange.specs.declared.terms.Terms.{Terms}
 use Rattle.px_exchange.specs.Places.{dialled_for}
-use Rattle.px_chain.specs.Chain.{http_chain, look, pass, pass_body, sequence, so_far, stands, turn}
+use Rattle.px_chain.specs.Chain.{Connect, connect_in, http_chain, look, pass, pass_body, sequence, so_far, stands, turn}
 use Rattle.px_chain.specs.Sights.{Sight, Standing, answers_in, request_in, server_in, sight_over}
-use Rattle.px_chain.specs.Stages.{At, Stage, busy, connection, given_body, given_head, idle, next, over, place_of, request_body, response_body, response_head}
+use Rattle.px_chain.specs.Stages.{At, Stage, busy, connection, given_body, given_head, idle, next, over, place_of, request_body, response_body, response_head, upgraded}
 use Rattle.px_exchange.specs.Flows.{ask_of, response_of, with_answer, with_body, with_end, with_returned, with_start}
 use Rattle.px_exchange.specs.Finds.{look_answer, look_answer_head, look_body, look_head, look_judged, look_returned, or_leaves}
 use Rattle.px_chain.specs.Left.{behind_left, stage_left, stages_left}
@@ -41,20 +44,20 @@ use Rattle.px_stream.specs.Left.{asked_left, flow_left, phase_left, ready_left, 
 use Rattle.px_chain.proofs.Quiet.{AllQuiet, LooksQuiet, IsBehind, any_flow}
 use Rattle.px_exchange.specs.Requests.{flow_of}
 use Rattle.px_stream.specs.Sequence.{IsCounted, IsFew}
-use Rattle.px_stream.specs.Stands.{IsAsked, IsIn, IsReady, HasPlace, PhaseAt, IsAt, asked_of, awaited_in, awaits, last_of}
+use Rattle.px_stream.specs.Stands.{IsAsked, IsIn, IsReady, HasPlace, PhaseAt, IsLast, IsLastAt, IsAt, asked_of, awaited_in, awaits}
 use Rattle.px_chain.proofs.QuietLemmas.{IsGoing, finds_quiet_end, so_far_quiet, turn_behind, turn_quiet}
 use Rattle.px_stream.proofs.HeadLemmas.{look_at_head}
 use Rattle.px_stream.proofs.WalkLemmas.{passed}
 
 -- ---- the asks among commands
 
-abbrev ask_atoms : Atom → List Ask
+abbrev pub ask_atoms : Atom → List Ask
 ask_atoms (asked ask) = ask ∷ []
 ask_atoms (dialled server address) = asking.Dial server ∷ []
 ask_atoms _ = []
 
 -- a view of questions has them all
-asks_seen : (l : List Command) → flat_map asks_in l ≡ flat_map ask_atoms (seen_of questions l)
+pub asks_seen : (l : List Command) → flat_map asks_in l ≡ flat_map ask_atoms (seen_of questions l)
 asks_seen [] = refl
 asks_seen (commands.Send side bytes ∷ rest) = asks_seen rest
 asks_seen (commands.Close side ∷ rest) = asks_seen rest
@@ -110,17 +113,18 @@ module _ (terms : Terms) (requests : State) (here : Asked) (seen : Sight) (ask :
       let now : ℕ = seen.now in
       one_ask seen.closed _ (look_returned flow (answers_in flow.request side seen).final now (server_in side seen) seen.closed) (ask_of (with_returned flow there.body.content there.trailers now) ResponseBody) ask here _
       (ap (λ i. look_returned flow i now (server_in side seen) seen.closed) there.stands) is there.phase refl
+  asked_here (busy at flow (upgraded side)) is there = absurd there
   asked_here (busy at flow given_head) is there = one_ask seen.closed [] _ (ask_of (with_start flow seen.now) ResponseHead) ask here _ refl is there.phase refl
   asked_here (busy at flow given_body) is there = one_ask seen.closed [] _ (ask_of (with_end flow seen.now) ResponseBody) ask here _ refl is there.phase refl
   asked_here (next at) is there = absurd there
   asked_here over is there = absurd there
 
-asks_by : (l : Look Command) (terms : Terms) (requests : State) (is_now : Phase) (stage : Stage) (seen : Sight) → look terms stage seen ≡ l → PhaseAt l terms requests is_now stage seen →
+pub asks_by : (l : Look Command) (terms : Terms) (requests : State) (is_now : Phase) (stage : Stage) (seen : Sight) → look terms stage seen ≡ l → PhaseAt l terms requests is_now stage seen →
     flat_map ask_atoms (seen_of questions (found l)) ≡ option_to_list (awaited_in is_now)
 asks_by NotYet terms requests is_now stage seen is (looked, sent, same, there, gave) = ap (λ p. option_to_list (awaited_in p)) (sym same)
 asks_by (Asks ask) terms requests is_now stage seen is (here, same, there) =
     sym (asks_seen (ask ∷ [])) ∙ (append-nil (asks_in ask) ∙ (asked_here terms requests here seen ask stage is there ∙ ap (λ p. option_to_list (awaited_in p)) (sym same)))
-asks_by (Ends owed) terms requests is_now stage seen is (same, there) =
+asks_by (Ends owed) terms requests is_now stage seen is (last, same, there) =
     let P : Look Command → Type 0 = LooksQuiet any_flow in
     let quiet : AllQuiet any_flow owed = subst P is (finds_quiet_end terms stage seen) in
     ap (flat_map ask_atoms) (quiet_seen owed quiet) ∙ ap (λ p. option_to_list (awaited_in p)) (sym same)
@@ -150,7 +154,7 @@ module _ (onward_to : Stage → Stage) (made : Terms) (after : Stream) (moment :
       let seen : Sight = sight_over place prefix in
       let P : Look Command → Type 0 = λ l. PhaseAt l made after.requests after.phase place.stage seen in
       let there : PhaseAt (Ends owed) made after.requests after.phase place.stage seen = subst P is at.is_in.phase in
-      asks_seen more ∙ (ap (flat_map ask_atoms) (gives questions) ∙ ap (λ p. option_to_list (awaited_in p)) (sym there.0))
+      asks_seen more ∙ (ap (flat_map ask_atoms) (gives questions) ∙ ap (λ p. option_to_list (awaited_in p)) (sym there.1))
 
   -- and behind a reply
   pub resumes_asks : (reply : Reply) (place : Standing) (prefix : List (Timed Event)) → Resumes (http_chain onward_to made) (IsAt made) after moment reply more place prefix →
@@ -170,56 +174,57 @@ module _ (onward_to : Stage → Stage) (made : Terms) (after : Stream) (moment :
 
 -- ---- few
 
-weaker : (at : At) → IsCounted 1 at → IsCounted 2 at
-weaker at is = let d = is.dials in record { few = is.few; dials = omega arith }
+module _ (ahead : ℕ) where
+  pass_few_by : (at : At) (flow : Flow) (given : Option Response) (item : Item ReadRequest) (moment : ℕ) → IsCounted ahead at → IsFew ahead (pass_body at flow given item moment)
+  pass_few_by at flow None item moment is = is
+  pass_few_by at flow (Some response) missing moment is = is
+  pass_few_by at flow (Some response) (part head body) moment is = is
+  pass_few_by at flow (Some response) (complete head body trailers used) moment is = let d = is.dials in record { few = is.few; dials = omega arith }
+  pass_few_by at flow (Some response) (bad_head fault) moment is = is
+  pass_few_by at flow (Some response) (bad_body fault head body) moment is = is
 
-pass_few_by : (at : At) (flow : Flow) (given : Option Response) (item : Item ReadRequest) (moment : ℕ) → IsCounted 1 at → IsFew (pass_body at flow given item moment)
-pass_few_by at flow None item moment is = is
-pass_few_by at flow (Some response) missing moment is = is
-pass_few_by at flow (Some response) (part head body) moment is = is
-pass_few_by at flow (Some response) (complete head body trailers used) moment is = let d = is.dials in record { few = is.few; dials = omega arith }
-pass_few_by at flow (Some response) (bad_head fault) moment is = is
-pass_few_by at flow (Some response) (bad_body fault head body) moment is = is
+  -- passing stays with the flow
+  pub pass_few : (stage : Stage) (seen : Sight) → IsFew ahead stage → IsFew ahead (pass stage seen)
+  pass_few (idle at) seen is = is
+  pass_few (busy at flow (request_body given)) seen is = pass_few_by at flow given (request_in at seen) seen.now is
+  pass_few (busy at flow connection) seen is = is
+  pass_few (busy at flow (response_head side how)) seen is = is
+  pass_few (busy at flow (response_body side how)) seen is = is
+  pass_few (busy at flow (upgraded side)) seen is = is
+  pass_few (busy at flow given_head) seen is = is
+  pass_few (busy at flow given_body) seen is = is
+  pass_few (next at) seen is = is
+  pass_few over seen is = is
 
--- passing stays with the flow
-pub pass_few : (stage : Stage) (seen : Sight) → IsFew stage → IsFew (pass stage seen)
-pass_few (idle at) seen is = is
-pass_few (busy at flow (request_body given)) seen is = pass_few_by at flow given (request_in at seen) seen.now is
-pass_few (busy at flow connection) seen is = is
-pass_few (busy at flow (response_head side how)) seen is = is
-pass_few (busy at flow (response_body side how)) seen is = is
-pass_few (busy at flow given_head) seen is = is
-pass_few (busy at flow given_body) seen is = is
-pass_few (next at) seen is = is
-pass_few over seen is = is
+  -- where a reply leads from a flow of this number
+  module _ (flow dials count : ℕ) (few : flow < 1000000) (early : 3 ≤ count → dials ≤ flow + ahead) (late : dials ≤ flow + (ahead + 1)) where
+    few_behind : (stage : Stage) → IsBehind flow dials count stage → IsFew ahead stage
+    few_behind (idle at) is = absurd is
+    few_behind (busy at told (request_body given)) ((same, most), more) = let l = early (omega arith) in record { few = omega arith; dials = omega arith }
+    few_behind (busy at told connection) ((same, most), more) = let l = early (omega arith) in record { few = omega arith; dials = omega arith }
+    few_behind (busy at told (response_head side how)) ((same, most), more) = let l = early (omega arith) in record { few = omega arith; dials = omega arith }
+    few_behind (busy at told (response_body side how)) ((same, most), more) = record { few = omega arith; dials = omega arith }
+    few_behind (busy at told (upgraded side)) ((same, most), more) = record { few = omega arith; dials = omega arith }
+    few_behind (busy at told given_head) ((same, most), more) = record { few = omega arith; dials = omega arith }
+    few_behind (busy at told given_body) ((same, most), more) = record { few = omega arith; dials = omega arith }
+    few_behind (next at) ((same, most), less) = record { few = omega arith; dials = omega arith }
+    few_behind over is = tt
 
--- where a reply leads from a flow of this number
-module _ (flow dials count : ℕ) (few : flow < 1000000) (early : 3 ≤ count → dials ≤ flow + 1) (late : dials ≤ flow + 2) where
-  few_behind : (stage : Stage) → IsBehind flow dials count stage → IsFew stage
-  few_behind (idle at) is = absurd is
-  few_behind (busy at told (request_body given)) ((same, most), more) = let l = early (omega arith) in record { few = omega arith; dials = omega arith }
-  few_behind (busy at told connection) ((same, most), more) = let l = early (omega arith) in record { few = omega arith; dials = omega arith }
-  few_behind (busy at told (response_head side how)) ((same, most), more) = let l = early (omega arith) in record { few = omega arith; dials = omega arith }
-  few_behind (busy at told (response_body side how)) ((same, most), more) = record { few = omega arith; dials = omega arith }
-  few_behind (busy at told given_head) ((same, most), more) = record { few = omega arith; dials = omega arith }
-  few_behind (busy at told given_body) ((same, most), more) = record { few = omega arith; dials = omega arith }
-  few_behind (next at) ((same, most), less) = record { few = omega arith; dials = omega arith }
-  few_behind over is = tt
+  few_over : (there : Stage) → IsBehind 0 0 0 there → IsFew ahead there
+  few_over there behind = few_behind 0 0 0 (omega arith) (λ (no : 3 ≤ 0). absurd (omega arith)) (omega arith) there behind
 
--- the stage behind a reply is one of a few flows too
-few_turn : (stage there : Stage) → IsGoing stage → IsFew stage → IsBehind (place_of stage).flow (place_of stage).dials (stage_left stage) there → IsFew there
-few_turn (idle at) there goes is behind = let f = is.few in let d = is.dials in few_behind at.flow at.dials 5 f (λ _. d) (omega arith) there behind
-few_turn (busy at flow (request_body given)) there goes is behind = let f = is.few in let d = is.dials in few_behind at.flow at.dials 4 f (λ _. d) (omega arith) there behind
-few_turn (busy at flow connection) there goes is behind = let f = is.few in let d = is.dials in few_behind at.flow at.dials 3 f (λ _. d) (omega arith) there behind
-few_turn (busy at flow (response_head side how)) there goes is behind = few_behind at.flow at.dials 2 is.few (λ (no : 3 ≤ 2). absurd (omega arith)) is.dials there behind
-few_turn (busy at flow (response_body side how)) there goes is behind = few_behind at.flow at.dials 1 is.few (λ (no : 3 ≤ 1). absurd (omega arith)) is.dials there behind
-few_turn (busy at flow given_head) there goes is behind = few_behind at.flow at.dials 2 is.few (λ (no : 3 ≤ 2). absurd (omega arith)) is.dials there behind
-few_turn (busy at flow given_body) there goes is behind = few_behind at.flow at.dials 1 is.few (λ (no : 3 ≤ 1). absurd (omega arith)) is.dials there behind
-few_turn (next at) there goes is behind = absurd goes
-few_turn over there goes is behind = few_over there behind
-  where
-    few_over : (there : Stage) → IsBehind 0 0 0 there → IsFew there
-    few_over there behind = few_behind 0 0 0 (omega arith) (λ (no : 3 ≤ 0). absurd (omega arith)) (omega arith) there behind
+  -- the stage behind a reply is one of a few flows too
+  few_turn : (stage there : Stage) → IsGoing stage → IsFew ahead stage → IsBehind (place_of stage).flow (place_of stage).dials (stage_left stage) there → IsFew ahead there
+  few_turn (idle at) there goes is behind = let f = is.few in let d = is.dials in few_behind at.flow at.dials 5 f (λ _. d) (omega arith) there behind
+  few_turn (busy at flow (request_body given)) there goes is behind = let f = is.few in let d = is.dials in few_behind at.flow at.dials 4 f (λ _. d) (omega arith) there behind
+  few_turn (busy at flow connection) there goes is behind = let f = is.few in let d = is.dials in few_behind at.flow at.dials 3 f (λ _. d) (omega arith) there behind
+  few_turn (busy at flow (response_head side how)) there goes is behind = few_behind at.flow at.dials 2 is.few (λ (no : 3 ≤ 2). absurd (omega arith)) is.dials there behind
+  few_turn (busy at flow (response_body side how)) there goes is behind = few_behind at.flow at.dials 1 is.few (λ (no : 3 ≤ 1). absurd (omega arith)) is.dials there behind
+  few_turn (busy at flow (upgraded side)) there goes is behind = few_behind at.flow at.dials 0 is.few (λ (no : 3 ≤ 0). absurd (omega arith)) is.dials there behind
+  few_turn (busy at flow given_head) there goes is behind = few_behind at.flow at.dials 2 is.few (λ (no : 3 ≤ 2). absurd (omega arith)) is.dials there behind
+  few_turn (busy at flow given_body) there goes is behind = few_behind at.flow at.dials 1 is.few (λ (no : 3 ≤ 1). absurd (omega arith)) is.dials there behind
+  few_turn (next at) there goes is behind = absurd goes
+  few_turn over there goes is behind = few_over there behind
 
 -- at the end nothing is asked
 ends_go : (closed : Bool) (ask : Command) → or_leaves closed [] (Ends []) ≡ Asks ask → ⊥
@@ -232,22 +237,23 @@ goes_on terms (busy at flow doing) seen ask is = tt
 goes_on terms (next at) seen ask is = absurd (ends_go seen.closed ask is)
 goes_on terms over seen ask is = tt
 
--- an answer leads to one of a few flows
-pub turn_few : (terms : Terms) (stage : Stage) (seen : Sight) (answer : Timed Reply) (ask : Command) → look terms stage seen ≡ Asks ask → IsFew stage → IsFew (turn terms stage seen answer).stage
-turn_few terms stage seen answer ask is few =
-    let goes = goes_on terms stage seen ask is in few_turn stage (turn terms stage seen answer).stage goes few (turn_behind terms stage seen answer goes)
+module _ (ahead : ℕ) where
+  -- an answer leads to one of a few flows
+  pub turn_few : (terms : Terms) (stage : Stage) (seen : Sight) (answer : Timed Reply) (ask : Command) → look terms stage seen ≡ Asks ask → IsFew ahead stage → IsFew ahead (turn terms stage seen answer).stage
+  turn_few terms stage seen answer ask is few =
+      let goes = goes_on terms stage seen ask is in few_turn ahead stage (turn terms stage seen answer).stage goes few (turn_behind terms stage seen answer goes)
 
-few_onward : (stage : Stage) → IsFew stage → IsFew (sequence stage)
-few_onward (idle at) is = is
-few_onward (busy at flow doing) is = is
-few_onward (next at) is = is
-few_onward over is = is
+  few_onward : (stage : Stage) → IsFew ahead stage → IsFew ahead (sequence stage)
+  few_onward (idle at) is = is
+  few_onward (busy at flow doing) is = is
+  few_onward (next at) is = is
+  few_onward over is = is
 
--- and so does the next flow
-pub sequence_few : (terms : Terms) (stage : Stage) (seen later : Sight) (answer : Timed Reply) (ask : Command) → look terms stage seen ≡ Asks ask → IsFew stage →
-    IsFew (pass (sequence (turn terms stage seen answer).stage) later)
-sequence_few terms stage seen later answer ask is few =
-    pass_few (sequence (turn terms stage seen answer).stage) later (few_onward (turn terms stage seen answer).stage (turn_few terms stage seen answer ask is few))
+  -- and so does the next flow
+  pub sequence_few : (terms : Terms) (stage : Stage) (seen later : Sight) (answer : Timed Reply) (ask : Command) → look terms stage seen ≡ Asks ask → IsFew ahead stage →
+      IsFew ahead (pass (sequence (turn terms stage seen answer).stage) later)
+  sequence_few terms stage seen later answer ask is few =
+      pass_few ahead (sequence (turn terms stage seen answer).stage) later (few_onward (turn terms stage seen answer).stage (turn_few terms stage seen answer ask is few))
 
 -- ---- left
 
@@ -257,6 +263,7 @@ ready_left_at requests looked (busy at flow (request_body given)) seen sent is =
 ready_left_at requests looked (busy at flow connection) seen sent is = ap ready_left is.phase
 ready_left_at requests looked (busy at flow (response_head side how)) seen sent is = ap ready_left is.phase
 ready_left_at requests looked (busy at flow (response_body side how)) seen sent is = ap ready_left is.phase
+ready_left_at requests looked (busy at flow (upgraded side)) seen sent is = ap ready_left is.phase
 ready_left_at requests looked (busy at flow given_head) seen sent is = ap ready_left is.phase
 ready_left_at requests looked (busy at flow given_body) seen sent is = ap ready_left is.phase
 ready_left_at requests looked (next at) seen sent is = ap ready_left is.phase
@@ -269,16 +276,33 @@ asked_left_at terms requests here (busy at flow (request_body (Some given))) see
 asked_left_at terms requests here (busy at flow connection) seen is = ap asked_left is.phase
 asked_left_at terms requests here (busy at flow (response_head side how)) seen (sent, is) = ap asked_left is.phase
 asked_left_at terms requests here (busy at flow (response_body side how)) seen is = ap asked_left is.phase
+asked_left_at terms requests here (busy at flow (upgraded side)) seen is = absurd is
 asked_left_at terms requests here (busy at flow given_head) seen is = ap asked_left is.phase
 asked_left_at terms requests here (busy at flow given_body) seen is = ap asked_left is.phase
 asked_left_at terms requests here (next at) seen is = absurd is
 asked_left_at terms requests here over seen is = absurd is
 
-last_left : (stage : Stage) → ready_left (last_of stage) ≡ 0
-last_left (idle at) = refl
-last_left (busy at flow doing) = refl
-last_left (next at) = refl
-last_left over = refl
+-- at an end nothing is left
+module _ (count : Wanted → ℕ) (over_counts : count ready.Over ≡ 0) (finished_counts : count ready.Finished ≡ 0) (connects_counts : (address : Address) → count (ready.Connects address) ≡ 0)
+    (upgraded_counts : (flow : Flow) (link : KeptLink) → count (ready.Upgraded flow link) ≡ 0) where
+  none_at : (connects : Option Connect) (at : At) (seen : Sight) (requests : State) (last : Wanted) → IsLastAt connects at seen requests last → count last ≡ 0
+  none_at None at seen requests last is = ap count is ∙ over_counts
+  none_at (Some connects) at seen requests last is = ap count is.phase ∙ connects_counts connects.address
+
+  none_last : (terms : Terms) (stage : Stage) (seen : Sight) (requests : State) (last : Wanted) → IsLast terms stage seen requests last → count last ≡ 0
+  none_last terms (idle at) seen requests last is = none_at (connect_in terms.place (request_in at seen)) at seen requests last is
+  none_last terms (busy at flow (request_body given)) seen requests last is = ap count is ∙ over_counts
+  none_last terms (busy at flow connection) seen requests last is = ap count is ∙ over_counts
+  none_last terms (busy at flow (response_head side how)) seen requests last is = ap count is ∙ over_counts
+  none_last terms (busy at flow (response_body side how)) seen requests last is = ap count is ∙ over_counts
+  none_last terms (busy at flow (upgraded side)) seen requests last is = ap count is.phase ∙ upgraded_counts flow is.kept
+  none_last terms (busy at flow given_head) seen requests last is = ap count is ∙ over_counts
+  none_last terms (busy at flow given_body) seen requests last is = ap count is ∙ over_counts
+  none_last terms (next at) seen requests last is = ap count is.phase ∙ finished_counts
+  none_last terms over seen requests last is = ap count is ∙ over_counts
+
+last_left : (terms : Terms) (stage : Stage) (seen : Sight) (requests : State) (last : Wanted) → IsLast terms stage seen requests last → ready_left last ≡ 0
+last_left terms stage seen requests last is = none_last ready_left refl refl (λ address. refl) (λ flow link. refl) terms stage seen requests last is
 
 pass_left_by : (at : At) (flow : Flow) (given : Option Response) (item : Item ReadRequest) (moment : ℕ) → stage_left (pass_body at flow given item moment) ≤ 4
 pass_left_by at flow None item moment = omega arith
@@ -294,6 +318,7 @@ pass_left (busy at flow (request_body given)) seen = pass_left_by at flow given 
 pass_left (busy at flow connection) seen = omega arith
 pass_left (busy at flow (response_head side how)) seen = omega arith
 pass_left (busy at flow (response_body side how)) seen = omega arith
+pass_left (busy at flow (upgraded side)) seen = omega arith
 pass_left (busy at flow given_head) seen = omega arith
 pass_left (busy at flow given_body) seen = omega arith
 pass_left (next at) seen = omega arith
@@ -356,7 +381,7 @@ flow_measures = record {
   ends = λ made state stage seen owed at is.
       let P : Look Command → Type 0 = λ l. PhaseAt l made state.requests state.phase stage seen in
       let there : PhaseAt (Ends owed) made state.requests state.phase stage seen = subst P is at.phase in
-      ap phase_left there.0 ∙ last_left stage;
+      ap phase_left there.1 ∙ last_left made stage seen state.requests there.0 there.2;
   passes = pass_left;
 }
 
@@ -367,6 +392,7 @@ flow_behind flow dials count (busy at told (request_body given)) some (same, mor
 flow_behind flow dials count (busy at told connection) some (same, more) = more
 flow_behind flow dials count (busy at told (response_head side how)) some (same, more) = more
 flow_behind flow dials count (busy at told (response_body side how)) some (same, more) = more
+flow_behind flow dials count (busy at told (upgraded side)) some (same, more) = more
 flow_behind flow dials count (busy at told given_head) some (same, more) = more
 flow_behind flow dials count (busy at told given_body) some (same, more) = more
 flow_behind flow dials count (next at) some is = some
@@ -381,6 +407,7 @@ some_left terms (busy at flow (request_body given)) seen ask is = omega arith
 some_left terms (busy at flow connection) seen ask is = omega arith
 some_left terms (busy at flow (response_head side how)) seen ask is = omega arith
 some_left terms (busy at flow (response_body side how)) seen ask is = omega arith
+some_left terms (busy at flow (upgraded side)) seen ask is = absurd (ends_go seen.closed ask is)
 some_left terms (busy at flow given_head) seen ask is = omega arith
 some_left terms (busy at flow given_body) seen ask is = omega arith
 some_left terms (next at) seen ask is = absurd (ends_go seen.closed ask is)
@@ -394,24 +421,29 @@ flow_falls terms stage seen answer ask is =
 
 -- ---- of flows in sequence
 
-ready_sequence_at : (numbers : Numbers) (closed : Bool) (requests : State) (looked : Wanted) (stage : Stage) (seen : Sight) (sent : List ReadResponse) →
+never_waits : (closed : Bool) → or_leaves closed [] (Ends []) ≡ NotYet → ⊥
+never_waits true is = let no : Ends [] ≡ NotYet = is in cc
+never_waits false is = let no : Ends [] ≡ NotYet = is in cc
+
+ready_sequence_at : (terms : Terms) (numbers : Numbers) (closed : Bool) (requests : State) (looked : Wanted) (stage : Stage) (seen : Sight) (sent : List ReadResponse) → look terms stage seen ≡ NotYet →
     HasPlace stage seen numbers closed → IsReady requests looked stage seen sent → sequence_by numbers (phase.Ready looked) ≡ stages_left stage
-ready_sequence_at numbers closed requests looked (idle at) seen sent place is =
+ready_sequence_at terms numbers closed requests looked (idle at) seen sent waits place is =
     ap (λ r. sequence_by numbers (phase.Ready r)) is.phase ∙ ap (λ n. behind_left n + 5) place.index
-ready_sequence_at numbers closed requests looked (busy at flow (request_body given)) seen sent place is =
+ready_sequence_at terms numbers closed requests looked (busy at flow (request_body given)) seen sent waits place is =
     ap (λ r. sequence_by numbers (phase.Ready r)) is.phase ∙ ap (λ n. behind_left n + 4) place.index
-ready_sequence_at numbers closed requests looked (busy at flow connection) seen sent place is =
+ready_sequence_at terms numbers closed requests looked (busy at flow connection) seen sent waits place is =
     ap (λ r. sequence_by numbers (phase.Ready r)) is.phase ∙ ap (λ n. behind_left n + 3) place.index
-ready_sequence_at numbers closed requests looked (busy at flow (response_head side how)) seen sent place is =
+ready_sequence_at terms numbers closed requests looked (busy at flow (response_head side how)) seen sent waits place is =
     ap (λ r. sequence_by numbers (phase.Ready r)) is.phase ∙ ap (λ n. behind_left n + 2) place.index
-ready_sequence_at numbers closed requests looked (busy at flow (response_body side how)) seen sent place is =
+ready_sequence_at terms numbers closed requests looked (busy at flow (response_body side how)) seen sent waits place is =
     ap (λ r. sequence_by numbers (phase.Ready r)) is.phase ∙ ap (λ n. behind_left n + 1) place.index
-ready_sequence_at numbers closed requests looked (busy at flow given_head) seen sent place is =
+ready_sequence_at terms numbers closed requests looked (busy at flow (upgraded side)) seen sent waits place is = absurd (never_waits seen.closed waits)
+ready_sequence_at terms numbers closed requests looked (busy at flow given_head) seen sent waits place is =
     ap (λ r. sequence_by numbers (phase.Ready r)) is.phase ∙ ap (λ n. behind_left n + 2) place.index
-ready_sequence_at numbers closed requests looked (busy at flow given_body) seen sent place is =
+ready_sequence_at terms numbers closed requests looked (busy at flow given_body) seen sent waits place is =
     ap (λ r. sequence_by numbers (phase.Ready r)) is.phase ∙ ap (λ n. behind_left n + 1) place.index
-ready_sequence_at numbers closed requests looked (next at) seen sent place is = ap (λ r. sequence_by numbers (phase.Ready r)) is.phase
-ready_sequence_at numbers closed requests looked over seen sent place is = ap (λ r. sequence_by numbers (phase.Ready r)) is
+ready_sequence_at terms numbers closed requests looked (next at) seen sent waits place is = ap (λ r. sequence_by numbers (phase.Ready r)) is.phase
+ready_sequence_at terms numbers closed requests looked over seen sent waits place is = ap (λ r. sequence_by numbers (phase.Ready r)) is
 
 asked_sequence_at : (numbers : Numbers) (closed : Bool) (terms : Terms) (requests : State) (here : Asked) (stage : Stage) (seen : Sight) →
     HasPlace stage seen numbers closed → IsAsked terms requests here stage seen → behind_left numbers.flow + asked_left here ≡ stages_left stage
@@ -425,6 +457,7 @@ asked_sequence_at numbers closed terms requests here (busy at flow (response_hea
     ap (λ k. behind_left numbers.flow + k) (asked_left_at terms requests here (busy at flow (response_head side how)) seen is) ∙ ap (λ n. behind_left n + 2) place.index
 asked_sequence_at numbers closed terms requests here (busy at flow (response_body side how)) seen place is =
     ap (λ k. behind_left numbers.flow + k) (asked_left_at terms requests here (busy at flow (response_body side how)) seen is) ∙ ap (λ n. behind_left n + 1) place.index
+asked_sequence_at numbers closed terms requests here (busy at flow (upgraded side)) seen place is = absurd is
 asked_sequence_at numbers closed terms requests here (busy at flow given_head) seen place is =
     ap (λ k. behind_left numbers.flow + k) (asked_left_at terms requests here (busy at flow given_head) seen is) ∙ ap (λ n. behind_left n + 2) place.index
 asked_sequence_at numbers closed terms requests here (busy at flow given_body) seen place is =
@@ -432,11 +465,9 @@ asked_sequence_at numbers closed terms requests here (busy at flow given_body) s
 asked_sequence_at numbers closed terms requests here (next at) seen place is = absurd is
 asked_sequence_at numbers closed terms requests here over seen place is = absurd is
 
-last_sequence : (numbers : Numbers) (stage : Stage) → sequence_by numbers (phase.Ready (last_of stage)) ≡ 0
-last_sequence numbers (idle at) = refl
-last_sequence numbers (busy at flow doing) = refl
-last_sequence numbers (next at) = refl
-last_sequence numbers over = refl
+last_sequence : (numbers : Numbers) (terms : Terms) (stage : Stage) (seen : Sight) (requests : State) (last : Wanted) → IsLast terms stage seen requests last → sequence_by numbers (phase.Ready last) ≡ 0
+last_sequence numbers terms stage seen requests last is =
+    none_last (λ l. sequence_by numbers (phase.Ready l)) refl refl (λ address. refl) (λ flow link. refl) terms stage seen requests last is
 
 passed_by : (at : At) (flow : Flow) (given : Option Response) (item : Item ReadRequest) (moment : ℕ) → stages_left (pass_body at flow given item moment) ≤ behind_left at.flow + 4
 passed_by at flow None item moment = omega arith
@@ -452,6 +483,7 @@ pass_stages (busy at flow (request_body given)) seen = passed_by at flow given (
 pass_stages (busy at flow connection) seen = omega arith
 pass_stages (busy at flow (response_head side how)) seen = omega arith
 pass_stages (busy at flow (response_body side how)) seen = omega arith
+pass_stages (busy at flow (upgraded side)) seen = omega arith
 pass_stages (busy at flow given_head) seen = omega arith
 pass_stages (busy at flow given_body) seen = omega arith
 pass_stages (next at) seen = omega arith
@@ -462,7 +494,7 @@ sequence_measures = record {
   waits = λ made state stage seen at is.
       let P : Look Command → Type 0 = λ l. PhaseAt l made state.requests state.phase stage seen in
       let there : PhaseAt NotYet made state.requests state.phase stage seen = subst P is at.phase in
-      ap (sequence_by state.numbers) there.2 ∙ ready_sequence_at state.numbers state.client_closed state.requests there.0 stage seen there.1 at.place there.3;
+      ap (sequence_by state.numbers) there.2 ∙ ready_sequence_at made state.numbers state.client_closed state.requests there.0 stage seen there.1 is at.place there.3;
   asks = λ made state stage seen ask at is.
       let P : Look Command → Type 0 = λ l. PhaseAt l made state.requests state.phase stage seen in
       let there : PhaseAt (Asks ask) made state.requests state.phase stage seen = subst P is at.phase in
@@ -470,7 +502,7 @@ sequence_measures = record {
   ends = λ made state stage seen owed at is.
       let P : Look Command → Type 0 = λ l. PhaseAt l made state.requests state.phase stage seen in
       let there : PhaseAt (Ends owed) made state.requests state.phase stage seen = subst P is at.phase in
-      ap (sequence_by state.numbers) there.0 ∙ last_sequence state.numbers stage;
+      ap (sequence_by state.numbers) there.1 ∙ last_sequence state.numbers made stage seen state.requests there.0 there.2;
   passes = pass_stages;
 }
 
@@ -480,6 +512,7 @@ sequence_behind flow dials count (busy at told (request_body given)) some ((same
 sequence_behind flow dials count (busy at told connection) some ((same, most), more) = omega arith
 sequence_behind flow dials count (busy at told (response_head side how)) some ((same, most), more) = omega arith
 sequence_behind flow dials count (busy at told (response_body side how)) some ((same, most), more) = omega arith
+sequence_behind flow dials count (busy at told (upgraded side)) some ((same, most), more) = omega arith
 sequence_behind flow dials count (busy at told given_head) some ((same, most), more) = omega arith
 sequence_behind flow dials count (busy at told given_body) some ((same, most), more) = omega arith
 sequence_behind flow dials count (next at) some ((same, most), less) = omega arith

@@ -1,5 +1,5 @@
 -- One answer taken, where the walk stopped: what the machine does is what the chain does.
-use Rattle.std.proofs.Common.{◌≡◌, ℕ, Bool, false, List, [], ◌++◌, arith, refl, ap, sym, ◌∙◌, subst, append_assoc}
+use Rattle.std.proofs.Common.{◌≡◌, ◌≤◌, ℕ, Bool, false, List, [], ◌++◌, Option, arith, refl, ap, sym, ◌∙◌, subst, append_assoc}
 use Rattle.px_message.specs.declared.flow.Flow.{Flow}
 use Rattle.px_event.specs.declared.command.Command.{Command}
 use Rattle.px_event.specs.declared.event.Event.{Event}
@@ -8,13 +8,13 @@ use Rattle.px_event.specs.Chain.{Timed, Look, NotYet, Asks, Ends, Turn, found}
 use Rattle.px_event.specs.View.{seen_of}
 use Rattle.px_event.proofs.Seen.{seen_append}
 use Rattle.px_event.proofs.Steps.{Resumes}
-use Rattle.px_read.specs.Reader.{State, request, before_all, reading_from, Reads}
+use Rattle.px_read.specs.Reader.{State, request, before_all, Reads}
 use Rattle.px_read.specs.declared.head.ResponseHead.{ResponseHead as ReadResponse}
 use Rattle.px_exchange.specs.declared.terms.Terms.{Terms}
 use Rattle.px_chain.specs.Chain.{IsOnward, alone, http_chain, look, pass, sequence, so_far, stands, turn}
 use Rattle.px_chain.specs.Sights.{Sight, Standing, sight_behind, sight_over}
-use Rattle.px_chain.specs.Stages.{At, Doing, Stage, busy, connection, given_body, given_head, idle, next, over, request_body, response_body, response_head, side_of}
-use Rattle.px_chain.proofs.SightLaws.{side_onward, sight_turned, within_stood}
+use Rattle.px_chain.specs.Stages.{At, Doing, Stage, busy, connection, given_body, given_head, idle, next, over, request_body, response_body, response_head, upgraded}
+use Rattle.px_chain.proofs.SightLaws.{behind_onward, sight_turned, within_stood}
 use Rattle.px_stream.specs.declared.phase.Asked.{Asked}
 use Rattle.px_stream.specs.declared.phase.Phase.TheVariants as phase
 use Rattle.px_stream.specs.declared.phase.Wanted.{Wanted}
@@ -24,11 +24,12 @@ use Rattle.px_stream.specs.declared.numbers.Numbers.{Numbers}
 use Rattle.px_stream.specs.Led.{Turned}
 use Rattle.px_stream.specs.Looking.{LookFound}
 use Rattle.px_stream.specs.Sequence.{IsFew, ready_onward, requests_onward}
-use Rattle.px_stream.specs.Stands.{Dials, IsNow, IsAsked, IsReady, IsReadyFor, IsIdle, KeepsBehind, HasPlace, PhaseAt, IsAt, last_of, sent_on}
-use Rattle.px_stream.specs.Turns.{asked_owes}
+use Rattle.px_stream.specs.Stands.{Dials, IsNow, IsAsked, IsReady, IsReadyFor, IsIdle, KeepsBehind, HasPlace, PhaseAt, IsAt, IsSpare, sent_on}
+use Rattle.px_stream.specs.Turns.{asked_owes, behind_spare}
+use Rattle.px_stream.specs.declared.link.Link.{Link as KeptLink}
 use Rattle.px_stream.proofs.AdvanceLemmas.{advanced}
 use Rattle.px_stream.proofs.TakeLemmas.{pass_dials, same_tail}
-use Rattle.px_stream.proofs.TurnLemmas.{same_reading}
+use Rattle.px_stream.proofs.TurnLemmas.{reads_first, spared}
 use Rattle.px_stream.proofs.WalkLemmas.{at_walked, gives_walked}
 
 -- a stage that asks knows whether the client has closed
@@ -51,19 +52,10 @@ pub led_alone : (turned : Turn Stage Command) (seen : Sight) (requests : State) 
 led_alone turned seen requests owes looked numbers closed moment is =
     record { owed = is.owed; sent = is.sent; none_sent = is.none_sent; is_ready = is.is_ready; place = is.place; now = is.now; dials = is.dials }
 
--- a reader that begins, with these bytes
-pub begun_again : (fed : List ℕ) → Reads request [] fed false (before_all request fed false)
-begun_again fed = record {
-  closed = refl;
-  used = [];
-  bytes = refl;
-  reading = λ more later follows. same_reading (reading_from (before_all request fed false).place later (fed ++ more));
-}
-
 idle_again : (at : At) (seen : Sight) (requests : State) → KeepsBehind at.used seen requests → IsIdle at seen (before_all request requests.rest false) ready.Idle
 idle_again at seen requests keeps =
     let P : List ℕ → Type 0 = λ l. Reads request [] l false (before_all request requests.rest false) in
-    record { phase = refl; reads = subst P keeps.rest (begun_again requests.rest) }
+    record { phase = refl; reads = subst P keeps.rest (reads_first request requests.rest false) }
 
 module _ (seen : Sight) (requests : State) (sent : List ReadResponse) where
   -- what is looked for at a stage, where the flow goes on
@@ -82,6 +74,8 @@ module _ (seen : Sight) (requests : State) (sent : List ReadResponse) where
   ready_for at flow (response_body side how) looked is =
       as_looked (busy at flow (response_body side how)) looked _ is.phase
       (record { kept = is.kept; head = is.head; marks = is.marks; phase = refl; final = is.final; is_link = is.is_link; keeps = is.keeps })
+  ready_for at flow (upgraded side) looked is =
+      as_looked (busy at flow (upgraded side)) looked _ is.phase (record { kept = is.kept; phase = refl; server = is.server; closed = is.closed; rest = is.rest; within = is.within; keeps = is.keeps })
   ready_for at flow given_head looked is = as_looked (busy at flow given_head) looked _ is.phase (record { phase = refl; keeps = is.keeps })
   ready_for at flow given_body looked is = as_looked (busy at flow given_body) looked _ is.phase (record { phase = refl; keeps = is.keeps })
 
@@ -110,24 +104,24 @@ now_led (next at) seen moment is = is
 now_led over seen moment is = is
 
 -- the server of the next flow has a number that fits
-dials_led : (stage : Stage) → IsFew stage → Dials stage → Dials (sequence stage)
-dials_led (idle at) few dials = dials
-dials_led (busy at flow doing) few dials = dials
-dials_led (next at) few dials = let n = few.few in let d = few.dials in omega arith
-dials_led over few dials = dials
+dials_led : (ahead : ℕ) (stage : Stage) → ahead ≤ 1 → IsFew ahead stage → Dials stage → Dials (sequence stage)
+dials_led ahead (idle at) small few dials = dials
+dials_led ahead (busy at flow doing) small few dials = dials
+dials_led ahead (next at) small few dials = let n = few.few in let d = few.dials in omega arith
+dials_led ahead over small few dials = dials
 
 -- in sequence the next flow begins
-pub led_onward : (turned : Turn Stage Command) (seen : Sight) (requests : State) (owes : List Command) (looked : Wanted) (numbers : Numbers) (closed : Bool) (moment : ℕ) →
-    IsFew turned.stage → Turned turned seen requests owes looked numbers closed moment →
+pub led_onward : (ahead : ℕ) (turned : Turn Stage Command) (seen : Sight) (requests : State) (owes : List Command) (looked : Wanted) (numbers : Numbers) (closed : Bool) (moment : ℕ) →
+    ahead ≤ 1 → IsFew ahead turned.stage → Turned turned seen requests owes looked numbers closed moment →
     Turned (onto sequence turned) seen (requests_onward looked requests) owes (ready_onward looked) numbers closed moment
-led_onward turned seen requests owes looked numbers closed moment few is = record {
+led_onward ahead turned seen requests owes looked numbers closed moment small few is = record {
   owed = is.owed;
   sent = is.sent;
   none_sent = nothing_sent turned.stage is.sent is.none_sent;
   is_ready = ready_led seen requests is.sent turned.stage looked is.is_ready;
   place = place_led turned.stage seen numbers closed is.place;
   now = now_led turned.stage seen moment is.now;
-  dials = dials_led turned.stage few is.dials;
+  dials = dials_led ahead turned.stage small few is.dials;
 }
 
 -- ---- an answer
@@ -135,26 +129,26 @@ led_onward turned seen requests owes looked numbers closed moment few is = recor
 -- what the walk sees behind a reply
 pub walked_behind : (onward : Stage → Stage) → IsOnward onward → (made : Terms) (place : Standing) (prefix : List (Timed Event)) (answer : Timed Reply) →
     sight_over (stands place answer.moment prefix (onward (turn made place.stage (sight_over place prefix) answer).stage)) prefix
-    ≡ sight_behind (side_of place.stage) (sight_over place prefix) answer.moment (side_of (turn made place.stage (sight_over place prefix) answer).stage)
+    ≡ sight_behind place.stage (sight_over place prefix) answer.moment (turn made place.stage (sight_over place prefix) answer).stage
 walked_behind onward goes made place prefix answer =
     let seen : Sight = sight_over place prefix in
-    sight_turned onward goes made place prefix seen answer
-    ∙ ap (λ side. sight_behind (side_of place.stage) seen answer.moment side) (side_onward onward goes (turn made place.stage seen answer).stage)
+    sight_turned onward goes made place prefix answer ∙ behind_onward onward goes place.stage seen answer.moment (turn made place.stage seen answer).stage
 
 module _ (onward_to : Stage → Stage) (goes : IsOnward onward_to) (made : Terms) (before after : Stream) (moment : ℕ) (reply : Reply) (asked : Asked) (looked : Wanted) (requests : State) (out between longer more : List Command)
     (live : before.phase ≡ phase.Asked asked) (same_terms : after.terms ≡ before.terms) (same_closed : after.client_closed ≡ before.client_closed)
-    (owed : between ≡ out ++ asked_owes before.terms.place before.numbers.flow asked reply moment before.client_closed)
+    (left : after.spare ≡ behind_spare before.terms.place asked reply before.spare)
+    (owed : between ≡ out ++ asked_owes before.terms.place before.numbers.flow before.spare asked reply moment before.client_closed)
     (look_found : LookFound before.terms after.numbers looked requests after.requests moment before.client_closed between longer after.phase)
     (grown : longer ≡ out ++ more) where
   abbrev answer : Timed Reply
   answer = record { moment = moment; value = reply }
 
   abbrev behind_reply : Stage → Sight → Sight
-  behind_reply stage seen = sight_behind (side_of stage) seen moment (side_of (turn made stage seen answer).stage)
+  behind_reply stage seen = sight_behind stage seen moment (turn made stage seen answer).stage
 
   -- where the chain leads it is, in the sight behind the reply
   abbrev pub Led : Stage → Sight → Type 0
-  Led stage seen = Turned (onto onward_to (turn made stage seen answer)) (behind_reply stage seen) requests (asked_owes before.terms.place before.numbers.flow asked reply moment seen.closed) looked after.numbers before.client_closed moment
+  Led stage seen = Turned (onto onward_to (turn made stage seen answer)) (behind_reply stage seen) requests (asked_owes before.terms.place before.numbers.flow before.spare asked reply moment seen.closed) looked after.numbers before.client_closed moment
 
   -- where it goes, and what it adds
   abbrev pub ResumesHere : Standing → List (Timed Event) → Type 0
@@ -173,7 +167,7 @@ module _ (onward_to : Stage → Stage) (goes : IsOnward onward_to) (made : Terms
       looked led.is_ready led.place led.now led.dials (subst T at.is_in.terms look_found) in
       let shut : before.client_closed ≡ seen.closed = asked_shut made before.requests asked place.stage seen before.numbers before.client_closed is_asked at.is_in.place in
       let owes : between ≡ out ++ turned.owed =
-      owed ∙ (ap (λ b. out ++ asked_owes before.terms.place before.numbers.flow asked reply moment b) shut ∙ ap (λ l. out ++ l) (sym led.owed)) in
+      owed ∙ (ap (λ b. out ++ asked_owes before.terms.place before.numbers.flow before.spare asked reply moment b) shut ∙ ap (λ l. out ++ l) (sym led.owed)) in
       let all : out ++ more ≡ out ++ (turned.owed ++ there.0.more) =
       sym grown ∙ (there.0.grown ∙ (ap (λ l. l ++ there.0.more) owes ∙ append_assoc out turned.owed there.0.more)) in
       let parts : more ≡ turned.owed ++ there.0.more = same_tail out more _ all in
@@ -181,6 +175,9 @@ module _ (onward_to : Stage → Stage) (goes : IsOnward onward_to) (made : Terms
       let none : there.0.more ≡ so_far (pass further behind) behind ++ found (look made (pass further behind) behind) =
       ap (λ l. l ++ there.0.more) (sym led.none_sent) ∙ there.0.owes in
       let sees : sight_over stood prefix ≡ behind = walked_behind onward_to goes made place prefix answer in
+      let S : Terms → Type 0 = λ t. IsSpare behind.spare (behind_spare t.place asked reply before.spare) in
+      let L : Option KeptLink → Type 0 = λ s. IsSpare behind.spare s in
+      let spare : IsSpare behind.spare after.spare = subst L (sym left) (subst S (sym at.is_in.terms) (spared made seen before.requests before.spare answer at.is_in.spare place.stage asked is_asked)) in
       record {
         ask = ask;
         asked = is;
@@ -190,6 +187,7 @@ module _ (onward_to : Stage → Stage) (goes : IsOnward onward_to) (made : Terms
               place = subst C (sym same_closed) there.1;
               phase = there.0.phase;
               dials = pass_dials further behind led.dials;
+              spare = spare;
             });
         gives = λ view. ap (seen_of view) parts ∙ (seen_append view turned.owed there.0.more
             ∙ (ap (λ l. seen_of view turned.owed ++ l) (gives_walked made stood prefix behind sees onward_to view [] there.0.more none)
@@ -206,7 +204,7 @@ module _ (onward_to : Stage → Stage) (goes : IsOnward onward_to) (made : Terms
       let P : Asked → Type 0 = λ a. IsAsked made before.requests a place.stage (sight_over place prefix) in
       let this = subst P same_asked is_asked in
       resumes_by place prefix ask is at this (led this)
-  resumes_look (Ends owed_there) place prefix is (same, _) at led = absurd (let e : phase.Ready (last_of place.stage) ≡ phase.Asked asked = sym same ∙ live in cc)
+  resumes_look (Ends owed_there) place prefix is (last, same, _) at led = absurd (let e : phase.Ready last ≡ phase.Asked asked = sym same ∙ live in cc)
 
   pub resumes_answer : (place : Standing) (prefix : List (Timed Event)) → IsAt made before place prefix →
       (IsAsked made before.requests asked place.stage (sight_over place prefix) → Led place.stage (sight_over place prefix)) → ResumesHere place prefix

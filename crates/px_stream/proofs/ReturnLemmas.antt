@@ -128,7 +128,7 @@ module _ (terms : Terms) (at : At) (flow : Flow) (side : ServerSide) (how : Sent
       is_now ≡ unless_left shut (ready.Returning flow kept content) → LookedAt terms (busy at flow (response_body side how)) seen requests is_now [] out longer
   by_shut marks kept content true shut is same is_link grown there =
       at_look terms (busy at flow (response_body side how)) seen requests is_now [] out longer (ends_early (without_response flow) closed_message seen.now (server_in side seen) true)
-      (Ends (ends_early (without_response flow) closed_message seen.now (server_in side seen) true)) (rw (shut, is) refl) grown refl (there, tt)
+      (Ends (ends_early (without_response flow) closed_message seen.now (server_in side seen) true)) (rw (shut, is) refl) grown refl (ready.Over, there, refl)
   by_shut marks kept content false shut is same is_link grown there =
       at_look terms (busy at flow (response_body side how)) seen requests is_now [] out longer [] NotYet (rw (shut, is) refl) grown refl (
         ready.Returning flow kept content,
@@ -149,14 +149,14 @@ module _ (terms : Terms) (at : At) (flow : Flow) (side : ServerSide) (how : Sent
   by_got (progress.Bad fault) kept new content within (body, is) used server closed grown there =
       at_look terms (busy at flow (response_body side how)) seen requests is_now [] out longer (ends_by_fault flow fault seen.now (server_in side seen) seen.closed)
       (Ends (ends_by_fault flow fault seen.now (server_in side seen) seen.closed)) (rw is refl)
-      (grown ∙ ap (λ u. out ++ ends_by_fault flow fault seen.now u seen.closed) used) refl (there, tt)
+      (grown ∙ ap (λ u. out ++ ends_by_fault flow fault seen.now u seen.closed) used) refl (ready.Over, there, refl)
   by_got (progress.Whole trailers) kept new content within (body, size, is, same, rest) used server closed grown there =
       let told : Flow = with_returned flow body.content trailers seen.now in
       at_look terms (busy at flow (response_body side how)) seen requests is_now [] out longer (ask_of told ResponseBody ∷ []) (Asks (ask_of told ResponseBody)) (rw is refl)
       (grown ∙ ap (λ l. out ++ ask_of (with_returned flow l trailers seen.now) ResponseBody ∷ []) same) refl (
         asked.Returned told (record kept { responses = new }),
         there ∙ ap (λ l. phase.Asked (asked.Returned (with_returned flow l trailers seen.now) (record kept { responses = new }))) same,
-        record { kept = record kept { responses = new }; head = head; body = body; trailers = trailers; size = size; stands = is; phase = refl; server = server; closed = closed; rest = rest; keeps = keeps_rest },
+        record { kept = record kept { responses = new }; head = head; body = body; trailers = trailers; size = size; stands = is; phase = refl; server = server; closed = closed; rest = rest; within = within; keeps = keeps_rest },
       )
 
 pub returning_looked : (terms : Terms) (at : At) (flow : Flow) (side : ServerSide) (how : Sent) (seen : Sight) (requests : State) (sent : List ReadResponse) (old new : KeptLink) (content : List ℕ) (moment : ℕ) (closed : Bool)

@@ -13,26 +13,21 @@ use Rattle.px_read.specs.declared.head.ResponseHead.{ResponseHead as ReadRespons
 use Rattle.px_exchange.specs.declared.terms.Terms.{Terms}
 use Rattle.px_chain.specs.Chain.{http_chain, look, pass, pass_body, so_far}
 use Rattle.px_chain.specs.Sights.{Sight, Standing, request_in, sight_over, sight_with}
-use Rattle.px_chain.specs.Stages.{At, Stage, busy, connection, given_body, given_head, idle, next, over, request_body, response_body, response_head, side_of}
+use Rattle.px_chain.specs.Stages.{At, Stage, busy, connection, given_body, given_head, idle, next, over, request_body, response_body, response_head, side_of, upgraded}
 use Rattle.px_chain.proofs.ChainLaws.{open_still}
 use Rattle.px_chain.proofs.SightLaws.{sight_more, within_more}
 use Rattle.px_stream.specs.declared.phase.Phase.TheVariants as phase
 use Rattle.px_stream.specs.declared.phase.Wanted.{Wanted}
 use Rattle.px_stream.specs.declared.stream.Stream.{Stream}
 use Rattle.px_stream.specs.declared.numbers.Numbers.{Numbers}
-use Rattle.px_stream.specs.Heard.{closes_client, ready_takes, requests_take}
+use Rattle.px_stream.specs.Heard.{closes_client, ready_takes, requests_take, spare_takes}
+use Rattle.px_stream.specs.StateLaws.{ends_last}
+use Rattle.px_stream.specs.declared.link.Link.{Link as KeptLink}
 use Rattle.px_stream.specs.Looking.{LookFound}
-use Rattle.px_stream.specs.Stands.{Dials, IsIn, IsReady, IsNow, HasPlace, PhaseAt, IsAt, is_last, last_of, sent_on}
+use Rattle.px_stream.specs.Stands.{Dials, IsIn, IsReady, IsNow, HasPlace, PhaseAt, IsAt, IsSpare, is_last, sent_on}
 use Rattle.px_stream.proofs.AdvanceLemmas.{advanced}
-use Rattle.px_stream.proofs.HearLemmas.{place_on, ready_on}
+use Rattle.px_stream.proofs.HearLemmas.{place_on, ready_on, spare_on}
 use Rattle.px_stream.proofs.WalkLemmas.{at_walked, gives_walked}
-
--- the end is the last
-pub never_last : (stage : Stage) → is_last (phase.Ready (last_of stage)) ≡ false → ⊥
-never_last (idle at) is = let e : true ≡ false = is in cc
-never_last (busy at flow doing) is = let e : true ≡ false = is in cc
-never_last (next at) is = let e : true ≡ false = is in cc
-never_last over is = let e : true ≡ false = is in cc
 
 -- behind one list the rest is one
 pub same_tail : (xs ys zs : List Command) → xs ++ ys ≡ xs ++ zs → ys ≡ zs
@@ -56,6 +51,7 @@ pass_dials (busy at flow (request_body given)) seen dials = body_dials at flow g
 pass_dials (busy at flow connection) seen dials = dials
 pass_dials (busy at flow (response_head side how)) seen dials = tt
 pass_dials (busy at flow (response_body side how)) seen dials = tt
+pass_dials (busy at flow (upgraded side)) seen dials = tt
 pass_dials (busy at flow given_head) seen dials = tt
 pass_dials (busy at flow given_body) seen dials = tt
 pass_dials (next at) seen dials = tt
@@ -71,7 +67,7 @@ is_now over seen moment is = tt
 -- ---- one event
 
 module _ (made : Terms) (before after : Stream) (moment : ℕ) (event : Event) (looked : Wanted) (out longer more : List Command)
-    (same_terms : after.terms ≡ before.terms) (same_numbers : after.numbers ≡ before.numbers) (client : after.client_closed ≡ closes_client event before.client_closed)
+    (same_terms : after.terms ≡ before.terms) (same_numbers : after.numbers ≡ before.numbers) (client : after.client_closed ≡ closes_client event before.client_closed) (spare : after.spare ≡ spare_takes event before.spare)
     (look_found : LookFound before.terms before.numbers (ready_takes event looked) (requests_take event before.requests) after.requests moment (closes_client event before.client_closed) out longer after.phase)
     (grown : longer ≡ out ++ more) where
   -- what it does, in the sight with this event more
@@ -79,18 +75,19 @@ module _ (made : Terms) (before after : Stream) (moment : ℕ) (event : Event) (
     pub owes : sent_on stage sent ++ more ≡ so_far (pass stage seen) seen ++ found (look made (pass stage seen) seen)
     pub there : IsIn made after (pass stage seen) seen
 
-  takes_in : (stage : Stage) (seen : Sight) → IsIn made before stage seen → (sent : List ReadResponse) → IsReady before.requests looked stage seen sent →
+  takes_in : (stage : Stage) (seen : Sight) → IsIn made before stage seen → look made stage seen ≡ NotYet → (sent : List ReadResponse) → IsReady before.requests looked stage seen sent →
       TakesIn stage (sight_with (side_of stage) seen event moment) sent
-  takes_in stage seen at sent ready =
+  takes_in stage seen at waits sent ready =
       let later : Sight = sight_with (side_of stage) seen event moment in
       let place : HasPlace stage later before.numbers (closes_client event before.client_closed) = place_on stage seen event moment before.numbers before.client_closed at.place in
-      let is_ready = ready_on seen event moment stage before.requests looked sent before.numbers before.client_closed at.place ready in
+      let is_ready = ready_on made seen event moment stage before.requests looked sent before.numbers before.client_closed at.place waits ready in
       let T : Terms → Type 0 = λ t. LookFound t before.numbers (ready_takes event looked) (requests_take event before.requests) after.requests moment (closes_client event before.client_closed) out longer after.phase in
       let there = advanced made later before.numbers (requests_take event before.requests) after.requests moment (closes_client event before.client_closed) out longer after.phase sent
       stage (ready_takes event looked) is_ready place (is_now stage later moment refl) at.dials (subst T at.terms look_found) in
       let same_more : there.0.more ≡ more = same_tail out there.0.more more (sym there.0.grown ∙ grown) in
       let N : Numbers → Type 0 = λ n. HasPlace (pass stage later) later n after.client_closed in
       let C : Bool → Type 0 = λ c. HasPlace (pass stage later) later before.numbers c in
+      let S : Option KeptLink → Type 0 = λ s. IsSpare later.spare s in
       let M : List Command → Type 0 = λ l. sent_on stage sent ++ l ≡ so_far (pass stage later) later ++ found (look made (pass stage later) later) in
       record {
         owes = subst M same_more there.0.owes;
@@ -99,12 +96,13 @@ module _ (made : Terms) (before after : Stream) (moment : ℕ) (event : Event) (
           place = subst N (sym same_numbers) (subst C (sym client) there.1);
           phase = there.0.phase;
           dials = pass_dials stage later at.dials;
+          spare = subst S (sym spare) (spare_on (side_of stage) seen event moment before.spare at.spare);
         };
       }
 
 module _ (onward_to : Stage → Stage) (made : Terms) (before after : Stream) (moment : ℕ) (event : Event) (looked : Wanted) (out longer more : List Command)
     (live : before.phase ≡ phase.Ready looked) (goes : is_last (phase.Ready looked) ≡ false) (same_terms : after.terms ≡ before.terms) (same_numbers : after.numbers ≡ before.numbers)
-    (client : after.client_closed ≡ closes_client event before.client_closed)
+    (client : after.client_closed ≡ closes_client event before.client_closed) (spare : after.spare ≡ spare_takes event before.spare)
     (look_found : LookFound before.terms before.numbers (ready_takes event looked) (requests_take event before.requests) after.requests moment (closes_client event before.client_closed) out longer after.phase)
     (grown : longer ≡ out ++ more) where
   -- where it goes, and what it adds
@@ -119,7 +117,7 @@ module _ (onward_to : Stage → Stage) (made : Terms) (before after : Stream) (m
       let seen : Sight = sight_over place prefix in
       let later : Sight = sight_with (side_of place.stage) seen event moment in
       let same : sight_over place (prefix ++ now ∷ []) ≡ later = sight_more place prefix now (open_still made place.stage seen is) at.within in
-      let took = takes_in made before after moment event looked out longer more same_terms same_numbers client look_found grown place.stage seen at.is_in sent ready in
+      let took = takes_in made before after moment event looked out longer more same_terms same_numbers client spare look_found grown place.stage seen at.is_in is sent ready in
       onward is (at_walked made place (prefix ++ now ∷ []) later same after (within_more place prefix now at.within) took.there)
       (λ view. ap (λ l. seen_of view l ++ seen_of view more) gave
       ∙ gives_walked made place (prefix ++ now ∷ []) later same onward_to view (sent_on place.stage sent) more took.owes)
@@ -132,8 +130,8 @@ module _ (onward_to : Stage → Stage) (made : Terms) (before after : Stream) (m
       let P : Wanted → Type 0 = λ r. IsReady before.requests r place.stage (sight_over place prefix) sent in
       takes_by place prefix at is sent (subst P same_ready ready) gave
   takes_look (Asks ask) place prefix is (asked, same, _) at = absurd (let e : phase.Asked asked ≡ phase.Ready looked = sym same ∙ live in cc)
-  takes_look (Ends owed) place prefix is (same, _) at =
-      let last : is_last (phase.Ready (last_of place.stage)) ≡ false = ap is_last (sym same ∙ live) ∙ goes in absurd (never_last place.stage last)
+  takes_look (Ends owed) place prefix is (last, same, there) at =
+      absurd (let no : true ≡ false = sym (ends_last made place.stage (sight_over place prefix) before.requests last there) ∙ (ap is_last (sym same ∙ live) ∙ goes) in cc)
 
   pub takes_event : (place : Standing) (prefix : List (Timed Event)) → IsAt made before place prefix → TakesHere place prefix
   takes_event place prefix at = takes_look (look made place.stage (sight_over place prefix)) place prefix refl at.is_in.phase at

@@ -4,14 +4,15 @@ use Rattle.px_event.specs.declared.command.Command.{Command}
 use Rattle.px_event.specs.declared.event.Event.{Event}
 use Rattle.px_event.specs.declared.reply.Reply.{Reply}
 use Rattle.px_read.specs.Reader.{State}
+use Rattle.px_stream.specs.declared.link.Link.{Link}
 use Rattle.px_stream.specs.declared.phase.Asked.{Asked}
 use Rattle.px_stream.specs.declared.phase.Phase.TheVariants as phase
 use Rattle.px_stream.specs.declared.phase.Wanted.{Wanted}
 use Rattle.px_stream.specs.declared.stream.Stream.{Stream}
-use Rattle.px_stream.specs.Heard.{LinkAgrees, closes_client, ready_takes, requests_take}
+use Rattle.px_stream.specs.Heard.{LinkAgrees, SpareAgrees, closes_client, ready_takes, requests_take, spare_takes}
 use Rattle.px_stream.specs.Looking.{LookFound, MayLook}
 use Rattle.px_stream.specs.Stands.{is_last}
-use Rattle.px_stream.specs.Turns.{asked_leads, asked_owes, behind_asked, behind_ready}
+use Rattle.px_stream.specs.Turns.{asked_leads, asked_owes, behind_asked, behind_ready, behind_spare}
 
 -- something is there
 abbrev pub IsSome : {A : Type 0} → Option A → Type 0
@@ -23,6 +24,7 @@ pub record LooksOnce (before after : Stream) (moment : ℕ) (looked : Wanted) (o
   pub terms : after.terms ≡ before.terms
   pub numbers : after.numbers ≡ before.numbers
   pub client : after.client_closed ≡ before.client_closed
+  pub spare : after.spare ≡ before.spare
   pub looks : LookFound before.terms before.numbers looked before.requests after.requests moment before.client_closed out longer after.phase
 
 -- it took this answer, and is to look for that
@@ -30,14 +32,16 @@ pub record TurnsTo (before after : Stream) (moment : ℕ) (reply : Reply) (await
   pub terms : after.terms ≡ before.terms
   pub requests : after.requests ≡ before.requests
   pub client : after.client_closed ≡ before.client_closed
-  pub numbers : after.numbers ≡ behind_ready (behind_asked before.numbers awaits) (asked_leads before.terms.place before.numbers.flow awaits reply)
-  pub gives : longer ≡ out ++ asked_owes before.terms.place before.numbers.flow awaits reply moment before.client_closed
-  pub leads : looked ≡ asked_leads before.terms.place before.numbers.flow awaits reply
+  pub spare : after.spare ≡ behind_spare before.terms.place awaits reply before.spare
+  pub numbers : after.numbers ≡ behind_ready (behind_asked before.numbers awaits) (asked_leads before.terms.place before.numbers.flow before.spare awaits reply)
+  pub gives : longer ≡ out ++ asked_owes before.terms.place before.numbers.flow before.spare awaits reply moment before.client_closed
+  pub leads : looked ≡ asked_leads before.terms.place before.numbers.flow before.spare awaits reply
 
 -- its readers may hear this event, and then look
-pub record MayHear (event : Event) (requests : State) (looked : Wanted) : Type 0 where
+pub record MayHear (event : Event) (requests : State) (spare : Option Link) (looked : Wanted) : Type 0 where
   pub open_still : requests.closed ≡ false
   pub agrees : LinkAgrees looked
+  pub spare_agrees : SpareAgrees spare
   pub looks : MayLook (ready_takes event looked) (requests_take event requests)
 
 -- its readers heard this event, and it looked once
@@ -45,6 +49,7 @@ pub record Hears (before after : Stream) (moment : ℕ) (event : Event) (looked 
   pub terms : after.terms ≡ before.terms
   pub numbers : after.numbers ≡ before.numbers
   pub client : after.client_closed ≡ closes_client event before.client_closed
+  pub spare : after.spare ≡ spare_takes event before.spare
   pub looks : LookFound before.terms before.numbers (ready_takes event looked) (requests_take event before.requests) after.requests moment
       (closes_client event before.client_closed) out longer after.phase
 
@@ -58,7 +63,8 @@ pub data TakesEvent (before after : Stream) (moment : ℕ) (event : Event) (out 
 pub record Answers (before after : Stream) (moment : ℕ) (reply : Reply) (awaits : Asked) (looked : Wanted) (requests : State) (out longer : List Command) : Type 0 where
   pub terms : after.terms ≡ before.terms
   pub client : after.client_closed ≡ before.client_closed
-  pub numbers : after.numbers ≡ behind_ready (behind_asked before.numbers awaits) (asked_leads before.terms.place before.numbers.flow awaits reply)
+  pub spare : after.spare ≡ behind_spare before.terms.place awaits reply before.spare
+  pub numbers : after.numbers ≡ behind_ready (behind_asked before.numbers awaits) (asked_leads before.terms.place before.numbers.flow before.spare awaits reply)
   pub between : List Command
-  pub owes : between ≡ out ++ asked_owes before.terms.place before.numbers.flow awaits reply moment before.client_closed
+  pub owes : between ≡ out ++ asked_owes before.terms.place before.numbers.flow before.spare awaits reply moment before.client_closed
   pub looks : LookFound before.terms after.numbers looked requests after.requests moment before.client_closed between longer after.phase

@@ -1,5 +1,5 @@
 -- What the reader of a side has heard.
-use Rattle.std.specs.Prelude.{◌≡◌, ℕ, Bool, true, ◌==◌, if◌then◌else◌, List, ◌++◌, ⊤}
+use Rattle.std.specs.Prelude.{◌≡◌, ℕ, Bool, true, ◌==◌, if◌then◌else◌, List, ◌++◌, Option, Some, None, ⊤}
 use Rattle.px_event.specs.declared.event.Event.{Event}
 use Rattle.px_event.specs.declared.event.Event.TheVariants as events
 use Rattle.px_event.specs.declared.side.Side.TheVariants.{Client, Server}
@@ -48,6 +48,19 @@ ready_takes event (ready.Answering flow link) = ready.Answering flow (link_takes
 ready_takes event (ready.Returning flow link body) = ready.Returning flow (link_takes event link) body
 ready_takes event looked = looked
 
+-- the spare side
+abbrev pub spare_takes : Event → Option Link → Option Link
+spare_takes event None = None
+spare_takes event (Some spare) = Some (link_takes event spare)
+
+abbrev pub spare_hears : ℕ → List ℕ → Option Link → Option Link
+spare_hears server bytes None = None
+spare_hears server bytes (Some spare) = Some (link_hears server bytes spare)
+
+abbrev pub spare_closes : ℕ → Option Link → Option Link
+spare_closes server None = None
+spare_closes server (Some spare) = Some (link_closes server spare)
+
 -- bytes of a server, and its close, where it is looked for
 abbrev pub ready_hears : ℕ → List ℕ → Wanted → Wanted
 ready_hears server bytes (ready.Answering flow link) = ready.Answering flow (link_hears server bytes link)
@@ -62,6 +75,10 @@ ready_closes server looked = looked
 -- the fields of a link agree on whether its server closed
 abbrev pub Agrees : Link → Type 0
 Agrees link = link.responses.closed ≡ link.closed
+
+abbrev pub SpareAgrees : Option Link → Type 0
+SpareAgrees None = ⊤
+SpareAgrees (Some spare) = Agrees spare
 
 abbrev pub LinkAgrees : Wanted → Type 0
 LinkAgrees (ready.Answering flow link) = Agrees link

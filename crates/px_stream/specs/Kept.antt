@@ -1,7 +1,7 @@
 -- How many bytes a flow keeps: the sum over all its fields, of what its readers keep and of the content that has come of a body.
 -- What does not count is the flow itself with its messages (a response that was given in place of the server's among them),
 -- addresses, and the bytes that wait behind a message, of which a reader says that it does not keep them.
-use Rattle.std.specs.Prelude.{ℕ, ◌+◌, length}
+use Rattle.std.specs.Prelude.{ℕ, ◌+◌, length, Option, Some, None}
 use Rattle.px_read.specs.Reader.{keeps}
 use Rattle.px_stream.specs.declared.link.Link.{Link}
 use Rattle.px_stream.specs.declared.phase.Asked.{Asked}
@@ -16,6 +16,11 @@ use Rattle.px_stream.specs.declared.stream.Stream.{Stream}
 abbrev pub link_keeps : Link → ℕ
 link_keeps link = keeps link.responses
 
+-- and of the spare one, all that was heard of it
+abbrev pub spare_keeps : Option Link → ℕ
+spare_keeps None = 0
+spare_keeps (Some spare) = link_keeps spare
+
 -- of the content and of the server's side
 abbrev pub ready_keeps : Wanted → ℕ
 ready_keeps ready.Idle = 0
@@ -26,6 +31,8 @@ ready_keeps (ready.Returning flow link body) = length body + link_keeps link
 ready_keeps (ready.GivenHead flow) = 0
 ready_keeps (ready.GivenBody flow) = 0
 ready_keeps ready.Finished = 0
+ready_keeps (ready.Connects address) = 0
+ready_keeps (ready.Upgraded flow link) = link_keeps link
 ready_keeps ready.Over = 0
 
 abbrev pub asked_keeps : Asked → ℕ
@@ -43,4 +50,4 @@ phase_keeps (phase.Asked awaits) = asked_keeps awaits
 
 -- and of the client's; its terms have addresses alone, and its numbers none
 abbrev pub stream_keeps : Stream → ℕ
-stream_keeps state = keeps state.requests + phase_keeps state.phase
+stream_keeps state = keeps state.requests + (spare_keeps state.spare + phase_keeps state.phase)

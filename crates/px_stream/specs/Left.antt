@@ -20,6 +20,8 @@ ready_left (ready.Returning flow link body) = 1
 ready_left (ready.GivenHead flow) = 2
 ready_left (ready.GivenBody flow) = 1
 ready_left ready.Finished = 0
+ready_left (ready.Connects address) = 0
+ready_left (ready.Upgraded flow link) = 0
 ready_left ready.Over = 0
 
 abbrev pub asked_left : Asked → ℕ
@@ -41,6 +43,8 @@ flow_left state = phase_left state.phase
 -- a conversation that has ended asks nothing more
 abbrev pub sequence_by : Numbers → Phase → ℕ
 sequence_by numbers (phase.Ready ready.Finished) = 0
+sequence_by numbers (phase.Ready (ready.Connects address)) = 0
+sequence_by numbers (phase.Ready (ready.Upgraded flow link)) = 0
 sequence_by numbers (phase.Ready ready.Over) = 0
 sequence_by numbers found = behind_left numbers.flow + phase_left found
 

@@ -1,3 +1,4 @@
+pub mod Anywhere
 pub mod Bodies
 pub mod Calls
 pub mod Found

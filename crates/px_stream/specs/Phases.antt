@@ -1,5 +1,5 @@
 -- What is looked for, or asked, behind what was found and behind an answer.
-use Rattle.std.specs.Prelude.{ℕ, Bool, true, false, List, [], ◌∷◌, Option, Some, None}
+use Rattle.std.specs.Prelude.{ℕ, ◌==◌, Bool, true, false, List, [], ◌∷◌, Option, Some, None}
 use Rattle.px_message.specs.declared.flow.Flow.{Flow}
 use Rattle.px_message.specs.declared.request.Request.{Request}
 use Rattle.px_message.specs.declared.response.Response.{Response}
@@ -10,7 +10,7 @@ use Rattle.px_read.specs.Marks.{Mark, asks}
 use Rattle.px_read.specs.Reader.{before_all, response}
 use Rattle.px_read.specs.declared.head.RequestHead.{RequestHead as ReadRequest}
 use Rattle.px_exchange.specs.declared.asked.Judged.{Judged}
-use Rattle.px_exchange.specs.declared.asked.Judged.TheVariants.{Refused, Accepted}
+use Rattle.px_exchange.specs.declared.asked.Judged.TheVariants.{Refused, Accepted, Connects}
 use Rattle.px_stream.specs.declared.link.Link.{Link as KeptLink}
 use Rattle.px_stream.specs.declared.phase.Asked.TheVariants as asked
 use Rattle.px_stream.specs.declared.phase.Phase.{Phase}
@@ -20,15 +20,17 @@ use Rattle.px_stream.specs.declared.phase.Wanted.TheVariants as ready
 use Rattle.px_exchange.specs.declared.taken.Taken.{Taken}
 use Rattle.px_exchange.specs.declared.taken.Taken.TheVariants.{GoesOn, Responds, Kills}
 use Rattle.px_exchange.specs.declared.place.Place.{Place}
+use Rattle.px_exchange.specs.declared.place.Place.TheVariants as places
 use Rattle.px_exchange.specs.declared.terms.Terms.{Terms}
 use Rattle.px_exchange.specs.Endings.{connection_goes_on}
-use Rattle.px_exchange.specs.Places.{dialled_for}
+use Rattle.px_exchange.specs.Places.{goes_home}
 use Rattle.px_exchange.specs.Requests.{expects, flow_of, is_head, judged}
+use Rattle.px_chain.specs.Chain.{reached}
 use Rattle.px_chain.specs.Stages.{At, ServerSide}
 
 -- a flow of this number; nothing else of where it stands is looked at
 abbrev pub numbered : ℕ → At
-numbered index = record { flow = index; dials = 0; used = 0; kept = None }
+numbered index = record { flow = index; dials = 0; used = 0 }
 
 -- a side; what a reply to the hook of a response's head owes does not look at it
 abbrev pub no_side : ServerSide
@@ -48,6 +50,7 @@ unless_left false looks = phase.Ready looks
 abbrev pub judged_phase : Terms → ℕ → ReadRequest → Judged → ℕ → Phase
 judged_phase terms index head (Refused fault) moment = is_over
 judged_phase terms index head (Accepted message) moment = phase.Asked (asked.Head (flow_of terms index message moment) (expects head))
+judged_phase terms index head (Connects address) moment = phase.Ready (ready.Connects address)
 
 abbrev pub head_phase : Terms → ℕ → Item ReadRequest → ℕ → Bool → Phase
 head_phase terms index missing moment closed = unless_left closed ready.Idle
@@ -68,19 +71,40 @@ behind_request_head flow (GoesOn message) = ready.Receiving (record flow { reque
 behind_request_head flow (Responds given) = ready.Receiving flow (Some given) []
 behind_request_head flow Kills = ready.Over
 
-abbrev pub behind_request : Flow → Taken Request → Wanted
-behind_request flow (GoesOn message) = ready.Dialling (record flow { request = message })
-behind_request flow (Responds given) = ready.GivenHead (record flow { response = Some given })
-behind_request flow Kills = ready.Over
+-- the side of a server of which no flow has used a byte, for the answer to a request
+abbrev pub fresh_link : ℕ → Bool → List ℕ → Bool → KeptLink
+fresh_link server asked_head bytes closed =
+    record { server = server; asked_head = asked_head; responses = before_all (response asked_head) bytes closed; closed = closed }
 
--- the side of a server that has sent nothing yet
+-- of one that has sent nothing yet
 abbrev pub new_link : ℕ → Bool → KeptLink
-new_link server asked_head =
-    record { server = server; asked_head = asked_head; responses = before_all (response asked_head) [] false; closed = false }
+new_link server asked_head = fresh_link server asked_head [] false
+
+-- the spare side of a place, if it has one
+abbrev pub spare_at : Place → Option KeptLink
+spare_at (places.Fixed address (Some server) inside) = Some (new_link server false)
+spare_at place = None
+
+-- of the spare side, with all that was heard of it
+abbrev pub link_for : Bool → KeptLink → KeptLink
+link_for asked_head spare = fresh_link spare.server asked_head spare.responses.rest spare.closed
 
 abbrev pub connected : Place → Flow → ℕ → Wanted
-connected place flow server =
-    ready.Answering (record flow { server = Some (dialled_for place flow.request) }) (new_link server (is_head flow.request.method))
+connected place flow server = ready.Answering (reached place flow) (new_link server (is_head flow.request.method))
+
+-- the spare side, where this request goes there
+abbrev pub link_home : Bool → Option KeptLink → Option KeptLink
+link_home true spare = spare
+link_home false spare = None
+
+abbrev pub goes_on_to : Option KeptLink → Place → Flow → Wanted
+goes_on_to None place flow = ready.Dialling flow
+goes_on_to (Some spare) place flow = ready.Answering (reached place flow) (link_for (is_head flow.request.method) spare)
+
+abbrev pub behind_request : Place → Flow → Option KeptLink → Taken Request → Wanted
+behind_request place flow spare (GoesOn message) = goes_on_to (link_home (goes_home place message) spare) place (record flow { request = message })
+behind_request place flow spare (Responds given) = ready.GivenHead (record flow { response = Some given })
+behind_request place flow spare Kills = ready.Over
 
 abbrev pub behind_dial : Place → Flow → ℕ → Reply → Wanted
 behind_dial place flow server reply.Dialled = connected place flow server
@@ -101,6 +125,15 @@ behind_flow false = ready.Over
 abbrev pub behind_response : ℕ → Flow → Taken Response → Wanted
 behind_response index flow (GoesOn message) = behind_flow (connection_goes_on index flow.request message)
 behind_response index flow _ = ready.Over
+
+-- a whole response of a server: one of code 101 ends HTTP
+abbrev pub upgrades_by : Bool → ℕ → Flow → Response → KeptLink → Wanted
+upgrades_by true index flow message link = ready.Upgraded (record flow { response = Some message }) link
+upgrades_by false index flow message link = behind_flow (connection_goes_on index flow.request message)
+
+abbrev pub behind_whole : ℕ → Flow → KeptLink → Taken Response → Wanted
+behind_whole index flow link (GoesOn message) = upgrades_by (message.status == 101) index flow message link
+behind_whole index flow link _ = ready.Over
 
 -- a flow whose response is there
 abbrev pub where_response : Option Response → (Response → Taken Response) → (Taken Response → Wanted) → Wanted

@@ -1,5 +1,5 @@
 -- What a flow did not use of the bytes of its two sides.
-use Rattle.std.specs.Prelude.{◌≡◌, ℕ, ◌+◌, Bool, false, List, [], drop, ⊤}
+use Rattle.std.specs.Prelude.{◌≡◌, ℕ, ◌+◌, Bool, false, List, [], drop, Option, Some, None, ⊤}
 use Rattle.px_event.specs.declared.command.Command.{Command}
 use Rattle.px_event.specs.Chain.{Look, NotYet, Asks, Ends}
 use Rattle.px_message.specs.declared.flow.Flow.{Flow}
@@ -14,9 +14,11 @@ use Rattle.px_stream.specs.declared.phase.Phase.{Phase}
 use Rattle.px_stream.specs.declared.phase.Phase.TheVariants as phase
 use Rattle.px_stream.specs.declared.phase.Wanted.{Wanted}
 use Rattle.px_stream.specs.declared.phase.Wanted.TheVariants as ready
+use Rattle.px_exchange.specs.declared.place.Place.{Place}
+use Rattle.px_chain.specs.Chain.{Connect, connect_in}
 use Rattle.px_chain.specs.Sights.{Sight, answers_in, request_in}
 use Rattle.px_exchange.specs.Requests.{is_head}
-use Rattle.px_chain.specs.Stages.{At, Doing, ServerSide, Stage, busy, idle, next, over, request_body, response_body, response_head}
+use Rattle.px_chain.specs.Stages.{At, Doing, ServerSide, Stage, busy, idle, next, over, request_body, response_body, response_head, upgraded}
 use Rattle.px_stream.specs.Stands.{Passes}
 
 -- ---- what is kept of the server's side
@@ -24,6 +26,7 @@ use Rattle.px_stream.specs.Stands.{Passes}
 abbrev pub ready_rest : Wanted → List ℕ
 ready_rest (ready.Answering flow link) = link.responses.rest
 ready_rest (ready.Returning flow link body) = link.responses.rest
+ready_rest (ready.Upgraded flow link) = link.responses.rest
 ready_rest looked = []
 
 abbrev pub asked_rest : Asked → List ℕ
@@ -34,6 +37,11 @@ asked_rest awaits = []
 abbrev pub phase_rest : Phase → List ℕ
 phase_rest (phase.Ready looked) = ready_rest looked
 phase_rest (phase.Asked awaits) = asked_rest awaits
+
+-- the flow, where another protocol follows it
+abbrev pub phase_flow : Phase → Option Flow
+phase_flow (phase.Ready (ready.Upgraded flow link)) = Some flow
+phase_flow found = None
 
 -- ---- what that is of the joined bytes
 
@@ -91,10 +99,16 @@ abbrev pub ClientAsked : Stage → Sight → List ℕ → Type 0
 ClientAsked (busy at flow doing) seen rest = ClientAskedFor at doing seen rest
 ClientAsked stage seen rest = ClientWaiting stage seen rest
 
--- and at the end: behind a finished flow
-abbrev pub ClientLast : Stage → Sight → List ℕ → Type 0
-ClientLast (next at) seen rest = rest ≡ drop at.used seen.client
-ClientLast stage seen rest = ⊤
+-- and at the end: behind a CONNECT, behind the request of a flow that another protocol follows, and behind a finished flow
+abbrev pub ClientBehind : Option Connect → At → Sight → List ℕ → Type 0
+ClientBehind None at seen rest = ⊤
+ClientBehind (Some connects) at seen rest = rest ≡ drop (at.used + connects.used) seen.client
+
+abbrev pub ClientLast : Place → Stage → Sight → List ℕ → Type 0
+ClientLast place (idle at) seen rest = ClientBehind (connect_in place (request_in at seen)) at seen rest
+ClientLast place (busy at flow (upgraded side)) seen rest = rest ≡ drop at.used seen.client
+ClientLast place (next at) seen rest = rest ≡ drop at.used seen.client
+ClientLast place stage seen rest = ⊤
 
 -- the server's bytes
 abbrev pub ServerWaitingFor : Flow → Doing → Sight → List ℕ → Type 0
@@ -116,8 +130,19 @@ abbrev pub ServerAsked : Stage → Sight → List ℕ → Type 0
 ServerAsked (busy at flow doing) seen rest = ServerAskedFor flow doing seen rest
 ServerAsked stage seen rest = rest ≡ []
 
--- What is left of the client's and of the server's bytes, where the walk stopped with this look.
-abbrev pub LeavesRests : Look Command → Stage → Sight → List ℕ → List ℕ → Type 0
-LeavesRests NotYet stage seen client server = ClientWaiting stage seen client × ServerWaiting stage seen server
-LeavesRests (Asks ask) stage seen client server = ClientAsked stage seen client × ServerAsked stage seen server
-LeavesRests (Ends owed) stage seen client server = ClientLast stage seen client × (server ≡ [])
+-- and at the end: behind a response of code 101
+abbrev pub ServerLast : Stage → Sight → List ℕ → Type 0
+ServerLast (busy at flow (upgraded side)) seen rest = rest ≡ side_bytes side seen
+ServerLast stage seen rest = rest ≡ []
+
+-- the flow there
+abbrev pub flow_last : Stage → Option Flow
+flow_last (busy at flow (upgraded side)) = Some flow
+flow_last stage = None
+
+-- What is left of the client's and of the server's bytes, and the flow that another protocol follows, where the walk stopped with
+-- this look.
+abbrev pub LeavesRests : Place → Look Command → Stage → Sight → List ℕ → List ℕ → Option Flow → Type 0
+LeavesRests place NotYet stage seen client server flow = ClientWaiting stage seen client × ServerWaiting stage seen server × (flow ≡ None)
+LeavesRests place (Asks ask) stage seen client server flow = ClientAsked stage seen client × ServerAsked stage seen server × (flow ≡ None)
+LeavesRests place (Ends owed) stage seen client server flow = ClientLast place stage seen client × ServerLast stage seen server × (flow ≡ flow_last stage)

@@ -13,7 +13,7 @@ use Rattle.px_read.specs.Heads.{is_interim}
 use Rattle.px_read.specs.Items.{Body, complete, answer_list}
 use Rattle.px_read.specs.Laws.{head_in}
 use Rattle.px_read.specs.Marks.{Mark, asks, answers}
-use Rattle.px_read.specs.Reader.{State, request, response, Reads}
+use Rattle.px_read.specs.Reader.{State, request, response, before_all, Reads}
 use Rattle.px_read.specs.declared.head.RequestHead.{RequestHead as ReadRequest}
 use Rattle.px_read.specs.declared.head.ResponseHead.{ResponseHead as ReadResponse}
 use Rattle.px_exchange.specs.declared.asked.Judged.TheVariants.{Accepted}
@@ -30,10 +30,10 @@ use Rattle.px_exchange.specs.declared.terms.Terms.{Terms}
 use Rattle.px_exchange.specs.Finds.{is_relayed}
 use Rattle.px_exchange.specs.Bodies.{content_of}
 use Rattle.px_exchange.specs.Flows.{hook_of, response_of, with_answer, with_body, with_end, with_returned, with_start}
-use Rattle.px_chain.specs.Chain.{look, so_far}
-use Rattle.px_chain.specs.Sights.{Sight, Standing, IsWithin, answers_in, request_in, sight_over}
+use Rattle.px_chain.specs.Chain.{connect_in, look, so_far, Connect}
+use Rattle.px_chain.specs.Sights.{Sight, Standing, Unused, IsWithin, answers_in, request_in, sight_over}
 use Rattle.px_exchange.specs.Requests.{is_head, expects, flow_of, judged}
-use Rattle.px_chain.specs.Stages.{At, Doing, ServerSide, Stage, busy, connection, given_body, given_head, idle, next, over, request_body, response_body, response_head}
+use Rattle.px_chain.specs.Stages.{At, Doing, ServerSide, Stage, busy, connection, given_body, given_head, idle, next, over, request_body, response_body, response_head, upgraded}
 use Rattle.px_exchange.specs.Texts.{interim_commands}
 
 -- ---- the client's reader
@@ -104,12 +104,29 @@ pub record IsHeld (at : At) (seen : Sight) (requests : State) (looks : Wanted) (
   pub phase : found ≡ looks
   pub keeps : KeepsBehind at.used seen requests
 
+-- what stands behind the response on the server's side is kept, and the flow
+pub record IsUpgraded (at : At) (seen : Sight) (requests : State) (flow : Flow) (side : ServerSide) (found : Wanted) : Type 0 where
+  pub kept : KeptLink
+  pub phase : found ≡ ready.Upgraded flow kept
+  pub server : kept.server ≡ side.server
+  pub closed : kept.closed ≡ seen.shut
+  pub rest : kept.responses.rest ≡ drop side.used seen.server
+  pub within : side.used ≤ length seen.server
+  pub keeps : KeepsBehind at.used seen requests
+
+-- a CONNECT was read, and what stands behind it is kept
+pub record IsConnecting (at : At) (seen : Sight) (requests : State) (connects : Connect) (found : Wanted) : Type 0 where
+  pub phase : found ≡ ready.Connects connects.address
+  pub keeps : KeepsBehind (at.used + connects.used) seen requests
+  pub within : at.used + connects.used ≤ length seen.client
+
 -- what it looks for, where it sent these interim responses on
 abbrev pub IsReadyFor : At → Flow → Doing → State → Wanted → Sight → List ReadResponse → Type 0
 IsReadyFor at flow (request_body given) requests found seen sent = IsReceiving at seen requests flow given found
 IsReadyFor at flow connection requests found seen sent = IsHeld at seen requests (ready.Dialling flow) found
 IsReadyFor at flow (response_head side how) requests found seen sent = IsAnswering at seen requests flow side sent found
 IsReadyFor at flow (response_body side how) requests found seen sent = IsReturning at seen requests flow side sent found
+IsReadyFor at flow (upgraded side) requests found seen sent = IsUpgraded at seen requests flow side found
 IsReadyFor at flow given_head requests found seen sent = IsHeld at seen requests (ready.GivenHead flow) found
 IsReadyFor at flow given_body requests found seen sent = IsHeld at seen requests (ready.GivenBody flow) found
 
@@ -169,6 +186,7 @@ pub record IsReturnedAsked (at : At) (seen : Sight) (requests : State) (flow : F
   pub server : kept.server ≡ side.server
   pub closed : kept.closed ≡ seen.shut
   pub rest : kept.responses.rest ≡ drop ((answers_in flow.request side seen).used + size) (drop side.used seen.server)
+  pub within : side.used ≤ length seen.server
   pub keeps : KeepsBehind at.used seen requests
 
 pub record IsHeldAsked (at : At) (seen : Sight) (requests : State) (awaits : Asked) (found : Asked) : Type 0 where
@@ -183,6 +201,7 @@ IsAskedFor at flow connection requests found seen = IsHeldAsked at seen requests
 IsAskedFor at flow (response_head side how) requests found seen =
     (sent : List ReadResponse) × IsAnswerAsked at seen requests flow side sent found
 IsAskedFor at flow (response_body side how) requests found seen = IsReturnedAsked at seen requests flow side found
+IsAskedFor at flow (upgraded side) requests found seen = ⊥
 IsAskedFor at flow given_head requests found seen = IsHeldAsked at seen requests (asked.GivenHead (with_start flow seen.now)) found
 IsAskedFor at flow given_body requests found seen = IsHeldAsked at seen requests (asked.GivenBody (with_end flow seen.now)) found
 
@@ -212,21 +231,40 @@ abbrev pub IsNow : Stage → Sight → ℕ → Type 0
 IsNow over seen moment = ⊤
 IsNow stage seen moment = moment ≡ seen.now
 
--- where the walk stopped at the end: the flow is finished, or the conversation has ended
-abbrev pub last_of : Stage → Wanted
-last_of (next at) = ready.Finished
-last_of _ = ready.Over
+-- where the walk stopped at the end: the flow is finished, a tunnel or another protocol follows, or the conversation has ended
+abbrev pub IsLastAt : Option Connect → At → Sight → State → Wanted → Type 0
+IsLastAt None at seen requests found = found ≡ ready.Over
+IsLastAt (Some connects) at seen requests found = IsConnecting at seen requests connects found
 
-abbrev pub KeepsLast : Stage → Sight → State → Type 0
-KeepsLast (next at) seen requests = KeepsBehind at.used seen requests
-KeepsLast _ seen requests = ⊤
+abbrev pub IsLastFor : At → Flow → Doing → Sight → State → Wanted → Type 0
+IsLastFor at flow (upgraded side) seen requests found = IsUpgraded at seen requests flow side found
+IsLastFor at flow doing seen requests found = found ≡ ready.Over
+
+abbrev pub IsLast : Terms → Stage → Sight → State → Wanted → Type 0
+IsLast terms (idle at) seen requests found = IsLastAt (connect_in terms.place (request_in at seen)) at seen requests found
+IsLast terms (busy at flow doing) seen requests found = IsLastFor at flow doing seen requests found
+IsLast terms (next at) seen requests found = IsHeld at seen requests ready.Finished found
+IsLast terms over seen requests found = found ≡ ready.Over
 
 abbrev pub PhaseAt : Look Command → Terms → State → Phase → Stage → Sight → Type 0
 PhaseAt NotYet terms requests found stage seen =
     (looked : Wanted) × (sent : List ReadResponse) × (found ≡ phase.Ready looked) × IsReady requests looked stage seen sent
     × (so_far stage seen ≡ sent_on stage sent)
 PhaseAt (Asks ask) terms requests found stage seen = (awaits : Asked) × (found ≡ phase.Asked awaits) × IsAsked terms requests awaits stage seen
-PhaseAt (Ends owed) terms requests found stage seen = (found ≡ phase.Ready (last_of stage)) × KeepsLast stage seen requests
+PhaseAt (Ends owed) terms requests found stage seen = (last : Wanted) × (found ≡ phase.Ready last) × IsLast terms stage seen requests last
+
+-- ---- the spare side
+
+-- a reader of no request's response, which was fed what was heard of the side, and nothing of it was read
+pub record IsUnused (unused : Unused) (kept : KeptLink) : Type 0 where
+  pub server : kept.server ≡ unused.server
+  pub closed : kept.closed ≡ unused.shut
+  pub responses : kept.responses ≡ before_all (response false) unused.bytes unused.shut
+
+abbrev pub IsSpare : Option Unused → Option KeptLink → Type 0
+IsSpare None None = ⊤
+IsSpare (Some unused) (Some kept) = IsUnused unused kept
+IsSpare unused kept = ⊥
 
 -- a server's number fits where it is dialled
 abbrev pub DialsFor : At → Doing → Type 0
@@ -245,6 +283,7 @@ pub record IsIn (made : Terms) (state : Stream) (stage : Stage) (seen : Sight) :
   pub place : HasPlace stage seen state.numbers state.client_closed
   pub phase : PhaseAt (look made stage seen) made state.requests state.phase stage seen
   pub dials : Dials stage
+  pub spare : IsSpare seen.spare state.spare
 
 -- where the walk stopped at this stage and over this prefix
 pub record IsAt (made : Terms) (state : Stream) (place : Standing) (prefix : List (Timed Event)) : Type 0 where
@@ -273,10 +312,12 @@ awaits state = awaited_in state.phase
 abbrev pub is_last : Phase → Bool
 is_last (phase.Ready ready.Finished) = true
 is_last (phase.Ready ready.Over) = true
+is_last (phase.Ready (ready.Connects address)) = true
+is_last (phase.Ready (ready.Upgraded flow link)) = true
 is_last _ = false
 
 -- ---- what a state stands for
 
 -- where a flow of this number starts, whose server has that one
 abbrev pub start_of : Numbers → At
-start_of numbers = record { flow = numbers.flow; dials = numbers.server; used = 0; kept = None }
+start_of numbers = record { flow = numbers.flow; dials = numbers.server; used = 0 }

@@ -1,5 +1,5 @@
 -- What is awaited of a state, and whether it has ended, where it is.
-use Rattle.std.proofs.Common.{◌≡◌, Bool, true, false, List, [], Some, None, refl, ap, sym, ◌∙◌}
+use Rattle.std.proofs.Common.{◌≡◌, Bool, true, false, List, [], Option, Some, None, refl, ap, sym, ◌∙◌}
 use Rattle.px_event.specs.declared.ask.Ask.{Ask}
 use Rattle.px_event.specs.declared.command.Command.{Command}
 use Rattle.px_event.specs.Chain.{Look, NotYet, Asks, Ends}
@@ -9,12 +9,13 @@ use Rattle.px_read.specs.declared.head.ResponseHead.{ResponseHead}
 use Rattle.px_stream.specs.declared.phase.Phase.{Phase}
 use Rattle.px_stream.specs.declared.phase.Phase.TheVariants as phase
 use Rattle.px_stream.specs.declared.phase.Wanted.{Wanted}
+use Rattle.px_stream.specs.declared.phase.Wanted.TheVariants as ready
 use Rattle.px_exchange.specs.declared.terms.Terms.{Terms}
 use Rattle.px_exchange.specs.Finds.{or_leaves}
-use Rattle.px_chain.specs.Chain.{http_chain, look}
-use Rattle.px_chain.specs.Sights.{Sight, sight_over}
-use Rattle.px_chain.specs.Stages.{Stage, busy, connection, given_body, given_head, idle, next, over, request_body, response_body, response_head}
-use Rattle.px_stream.specs.Stands.{IsReady, PhaseAt, IsAt, asked_of, awaited_in, awaits, is_last, last_of}
+use Rattle.px_chain.specs.Chain.{Connect, connect_in, http_chain, look}
+use Rattle.px_chain.specs.Sights.{Sight, request_in, sight_over}
+use Rattle.px_chain.specs.Stages.{At, Stage, busy, connection, given_body, given_head, idle, next, over, request_body, response_body, response_head, upgraded}
+use Rattle.px_stream.specs.Stands.{IsLast, IsLastAt, IsReady, PhaseAt, IsAt, asked_of, awaited_in, awaits, is_last}
 
 free_by : (l : Look Command) (terms : Terms) (requests : State) (found : Phase) (stage : Stage) (seen : Sight) (ask : Command) →
     PhaseAt l terms requests found stage seen → awaited_in found ≡ None → l ≡ Asks ask → ⊥
@@ -28,7 +29,7 @@ asks_by : (l : Look Command) (terms : Terms) (requests : State) (found : Phase) 
 asks_by NotYet terms requests found stage seen ask (looked, sent, same, at, gave) is =
     absurd (let none : None ≡ Some ask = ap awaited_in (sym same) ∙ is in cc)
 asks_by (Asks command) terms requests found stage seen ask at is = (command, refl)
-asks_by (Ends owed) terms requests found stage seen ask (same, at) is =
+asks_by (Ends owed) terms requests found stage seen ask (last, same, at) is =
     absurd (let none : None ≡ Some ask = ap awaited_in (sym same) ∙ is in cc)
 
 -- Something is awaited exactly where the stage asks.
@@ -55,6 +56,7 @@ looks_on terms requests looked (busy at flow (request_body given)) seen sent is 
 looks_on terms requests looked (busy at flow connection) seen sent is waits last = let no : false ≡ true = ap (λ r. is_last (phase.Ready r)) (sym is.phase) ∙ last in cc
 looks_on terms requests looked (busy at flow (response_head side how)) seen sent is waits last = let no : false ≡ true = ap (λ r. is_last (phase.Ready r)) (sym is.phase) ∙ last in cc
 looks_on terms requests looked (busy at flow (response_body side how)) seen sent is waits last = let no : false ≡ true = ap (λ r. is_last (phase.Ready r)) (sym is.phase) ∙ last in cc
+looks_on terms requests looked (busy at flow (upgraded side)) seen sent is waits last = not_yet seen.closed waits
 looks_on terms requests looked (busy at flow given_head) seen sent is waits last = let no : false ≡ true = ap (λ r. is_last (phase.Ready r)) (sym is.phase) ∙ last in cc
 looks_on terms requests looked (busy at flow given_body) seen sent is waits last = let no : false ≡ true = ap (λ r. is_last (phase.Ready r)) (sym is.phase) ∙ last in cc
 looks_on terms requests looked (next at) seen sent is waits last = not_yet seen.closed waits
@@ -69,17 +71,32 @@ ends_by (Asks command) terms requests found stage seen at (asked, same, is) last
 ends_by (Ends owed) terms requests found stage seen at is last = (owed, refl)
 
 -- where the walk stopped at an end nothing more is looked for
-ends_last : (stage : Stage) → is_last (phase.Ready (last_of stage)) ≡ true
-ends_last (idle at) = refl
-ends_last (busy at flow doing) = refl
-ends_last (next at) = refl
-ends_last over = refl
+last_phase : (looked known : Wanted) → looked ≡ known → is_last (phase.Ready known) ≡ true → is_last (phase.Ready looked) ≡ true
+last_phase looked known is last = ap (λ r. is_last (phase.Ready r)) is ∙ last
+
+ends_idle : (connects : Option Connect) (at : At) (seen : Sight) (requests : State) (looked : Wanted) → IsLastAt connects at seen requests looked →
+    is_last (phase.Ready looked) ≡ true
+ends_idle None at seen requests looked is = last_phase looked ready.Over is refl
+ends_idle (Some connects) at seen requests looked is = last_phase looked (ready.Connects connects.address) is.phase refl
+
+pub ends_last : (terms : Terms) (stage : Stage) (seen : Sight) (requests : State) (looked : Wanted) → IsLast terms stage seen requests looked →
+    is_last (phase.Ready looked) ≡ true
+ends_last terms (idle at) seen requests looked is = ends_idle (connect_in terms.place (request_in at seen)) at seen requests looked is
+ends_last terms (busy at flow (request_body given)) seen requests looked is = last_phase looked ready.Over is refl
+ends_last terms (busy at flow connection) seen requests looked is = last_phase looked ready.Over is refl
+ends_last terms (busy at flow (response_head side how)) seen requests looked is = last_phase looked ready.Over is refl
+ends_last terms (busy at flow (response_body side how)) seen requests looked is = last_phase looked ready.Over is refl
+ends_last terms (busy at flow (upgraded side)) seen requests looked is = last_phase looked (ready.Upgraded flow is.kept) is.phase refl
+ends_last terms (busy at flow given_head) seen requests looked is = last_phase looked ready.Over is refl
+ends_last terms (busy at flow given_body) seen requests looked is = last_phase looked ready.Over is refl
+ends_last terms (next at) seen requests looked is = last_phase looked ready.Finished is.phase refl
+ends_last terms over seen requests looked is = last_phase looked ready.Over is refl
 
 there_by : (l : Look Command) (terms : Terms) (requests : State) (found : Phase) (stage : Stage) (seen : Sight) (owed : List Command) → l ≡ Ends owed →
     PhaseAt l terms requests found stage seen → is_last found ≡ true
 there_by NotYet terms requests found stage seen owed is at = absurd (cc)
 there_by (Asks command) terms requests found stage seen owed is at = absurd (cc)
-there_by (Ends other) terms requests found stage seen owed is (same, at) = ap is_last same ∙ ends_last stage
+there_by (Ends other) terms requests found stage seen owed is (looked, same, at) = ap is_last same ∙ ends_last terms stage seen requests looked at
 
 -- It has ended exactly where the stage ends.
 pub ends_where_it_ends : (onward : Stage → Stage) (terms : Terms) → EndsWhereItEnds (http_chain onward terms) (IsAt terms) (λ state. is_last state.phase)

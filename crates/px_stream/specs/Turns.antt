@@ -15,10 +15,15 @@ use Rattle.px_stream.specs.declared.numbers.Numbers.{Numbers}
 use Rattle.px_message.specs.declared.flow.Flow.{Flow}
 use Rattle.px_message.specs.declared.response.Response.{Response}
 use Rattle.px_exchange.specs.Dials.{dial_owes}
-use Rattle.px_chain.specs.Chain.{turn_response, turn_taken_answer, turn_taken_body, turn_taken_given, turn_taken_head, turn_taken_returned}
-use Rattle.px_stream.specs.Phases.{behind_dial, behind_given_head, behind_request, behind_request_head, behind_response, behind_response_head, no_side, numbered, where_response}
+use Rattle.px_chain.specs.Chain.{turn_response, turn_taken_answer, turn_taken_body, turn_taken_given, turn_taken_head, turn_taken_returned, turn_taken_whole}
+use Rattle.px_message.specs.declared.request.Request.{Request}
+use Rattle.px_exchange.specs.Places.{goes_home}
+use Rattle.px_exchange.specs.declared.taken.Taken.TheVariants.{GoesOn}
+use Rattle.px_chain.specs.Sights.{Unused, unless_taken}
+use Rattle.px_stream.specs.Phases.{behind_dial, behind_given_head, behind_request, behind_request_head, behind_response, behind_response_head, behind_whole, no_side, numbered, where_response}
 use Rattle.px_exchange.specs.Replies.{taken_at_request_body, taken_at_request_head, taken_at_response_body, taken_at_response_head}
 
+-- a response in place of the server's
 abbrev pub returned_owes : ℕ → Flow → Used → Reply → ℕ → Bool → List Command
 returned_owes index flow used answer moment closed =
     (turn_response flow.response (λ message. taken_at_response_body message answer)
@@ -28,32 +33,56 @@ abbrev pub returned_leads : ℕ → Flow → Reply → Wanted
 returned_leads index flow answer =
     where_response flow.response (λ message. taken_at_response_body message answer) (λ taken. behind_response index flow taken)
 
-abbrev pub asked_owes : Place → ℕ → Asked → Reply → ℕ → Bool → List Command
-asked_owes place index (asked.Head flow expected) answer moment closed =
+-- a response of the server
+abbrev pub read_owes : ℕ → Flow → Used → Reply → ℕ → Bool → List Command
+read_owes index flow used answer moment closed =
+    (turn_response flow.response (λ message. taken_at_response_body message answer)
+    (λ taken. turn_taken_whole (numbered index) flow no_side taken moment used closed)).owed
+
+abbrev pub read_leads : ℕ → Flow → KeptLink → Reply → Wanted
+read_leads index flow link answer =
+    where_response flow.response (λ message. taken_at_response_body message answer) (λ taken. behind_whole index flow link taken)
+
+-- the spare side, as it is seen
+abbrev pub unused_in : Option KeptLink → Option Unused
+unused_in None = None
+unused_in (Some spare) = Some (record { server = spare.server; bytes = spare.responses.rest; shut = spare.closed })
+
+abbrev pub asked_owes : Place → ℕ → Option KeptLink → Asked → Reply → ℕ → Bool → List Command
+asked_owes place index spare (asked.Head flow expected) answer moment closed =
     (turn_taken_head (numbered 0) flow expected (taken_at_request_head flow.request answer) moment closed).owed
-asked_owes place index (asked.Body flow) answer moment closed =
-    (turn_taken_body (numbered 0) flow (taken_at_request_body flow.request answer) moment closed).owed
-asked_owes place index (asked.Dial flow server) answer moment closed = dial_owes place flow server answer moment closed
-asked_owes place index (asked.Answer flow link) answer moment closed =
+asked_owes place index spare (asked.Body flow) answer moment closed =
+    (turn_taken_body place (numbered 0) flow (unused_in spare) (taken_at_request_body flow.request answer) moment closed).owed
+asked_owes place index spare (asked.Dial flow server) answer moment closed = dial_owes place flow server answer moment closed
+asked_owes place index spare (asked.Answer flow link) answer moment closed =
     (turn_response flow.response (λ message. taken_at_response_head message answer)
     (λ taken. turn_taken_answer (numbered 0) flow no_side taken moment (ByServer link.server link.closed) closed)).owed
-asked_owes place index (asked.Returned flow link) answer moment closed =
-    returned_owes index flow (ByServer link.server link.closed) answer moment closed
-asked_owes place index (asked.GivenHead flow) answer moment closed =
+asked_owes place index spare (asked.Returned flow link) answer moment closed =
+    read_owes index flow (ByServer link.server link.closed) answer moment closed
+asked_owes place index spare (asked.GivenHead flow) answer moment closed =
     (turn_response flow.response (λ message. taken_at_response_head message answer)
     (λ taken. turn_taken_given (numbered 0) flow taken moment closed)).owed
-asked_owes place index (asked.GivenBody flow) answer moment closed = returned_owes index flow NoServer answer moment closed
+asked_owes place index spare (asked.GivenBody flow) answer moment closed = returned_owes index flow NoServer answer moment closed
 
-abbrev pub asked_leads : Place → ℕ → Asked → Reply → Wanted
-asked_leads place index (asked.Head flow expected) answer = behind_request_head flow (taken_at_request_head flow.request answer)
-asked_leads place index (asked.Body flow) answer = behind_request flow (taken_at_request_body flow.request answer)
-asked_leads place index (asked.Dial flow server) answer = behind_dial place flow server answer
-asked_leads place index (asked.Answer flow link) answer =
+abbrev pub asked_leads : Place → ℕ → Option KeptLink → Asked → Reply → Wanted
+asked_leads place index spare (asked.Head flow expected) answer = behind_request_head flow (taken_at_request_head flow.request answer)
+asked_leads place index spare (asked.Body flow) answer = behind_request place flow spare (taken_at_request_body flow.request answer)
+asked_leads place index spare (asked.Dial flow server) answer = behind_dial place flow server answer
+asked_leads place index spare (asked.Answer flow link) answer =
     where_response flow.response (λ message. taken_at_response_head message answer) (λ taken. behind_response_head flow link taken)
-asked_leads place index (asked.Returned flow link) answer = returned_leads index flow answer
-asked_leads place index (asked.GivenHead flow) answer =
+asked_leads place index spare (asked.Returned flow link) answer = read_leads index flow link answer
+asked_leads place index spare (asked.GivenHead flow) answer =
     where_response flow.response (λ message. taken_at_response_head message answer) (λ taken. behind_given_head flow taken)
-asked_leads place index (asked.GivenBody flow) answer = returned_leads index flow answer
+asked_leads place index spare (asked.GivenBody flow) answer = returned_leads index flow answer
+
+-- the spare side behind it: a request that goes there takes it
+abbrev pub request_spares : Place → Taken Request → Option KeptLink → Option KeptLink
+request_spares place (GoesOn message) spare = unless_taken (goes_home place message) spare
+request_spares place _ spare = spare
+
+abbrev pub behind_spare : Place → Asked → Reply → Option KeptLink → Option KeptLink
+behind_spare place (asked.Body flow) answer spare = request_spares place (taken_at_request_body flow.request answer) spare
+behind_spare place _ answer spare = spare
 
 -- ---- by what the reply was taken for, where the flow has a response
 
@@ -81,6 +110,14 @@ whole_owes index flow (Some taken) moment used closed = (turn_taken_returned (nu
 abbrev pub whole_leads : ℕ → Flow → Option (Taken Response) → Wanted
 whole_leads index flow None = ready.Over
 whole_leads index flow (Some taken) = behind_response index flow taken
+
+abbrev pub read_whole_owes : ℕ → Flow → Option (Taken Response) → ℕ → Used → Bool → List Command
+read_whole_owes index flow None moment used closed = []
+read_whole_owes index flow (Some taken) moment used closed = (turn_taken_whole (numbered index) flow no_side taken moment used closed).owed
+
+abbrev pub read_whole_leads : ℕ → Flow → KeptLink → Option (Taken Response) → Wanted
+read_whole_leads index flow link None = ready.Over
+read_whole_leads index flow link (Some taken) = behind_whole index flow link taken
 
 -- one more, as far as a number of 32 bits goes
 abbrev pub one_on : ℕ → ℕ

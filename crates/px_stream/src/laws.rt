@@ -1,29 +1,28 @@
 //! Where the machine stands beside the chain, each law the contract of a function that does nothing.
 ghost use Rattle.std.specs.Prelude.{◌≡◌, ◌≤◌, ◌++◌, [], ℕ, Bool, false, drop, length, List, Option};
-ghost use Rattle.px_event.specs.Chain.{Timed, found};
+ghost use Rattle.px_event.specs.Chain.{NotYet, Timed, found};
 ghost use Rattle.px_event.specs.Stands.{AwaitsWhatItAsks, EndsWhereItEnds};
 ghost use Rattle.px_event.specs.declared.command.Command.{Command as Given};
 ghost use Rattle.px_event.specs.declared.event.Event.{Event as Heard};
 ghost use Rattle.px_event.specs.declared.reply.Reply.{Reply as Answer};
 ghost use Rattle.px_message.specs.declared.flow.Flow.{Flow as Told};
 ghost use Rattle.px_message.specs.declared.response.Response.{Response as Answered};
-ghost use Rattle.px_read.specs.Laws.{head_in};
-ghost use Rattle.px_read.specs.Reader.{Reads, State, request as OfRequest};
+ghost use Rattle.px_read.specs.Reader.{State};
 ghost use Rattle.px_read.specs.declared.head.ResponseHead.{ResponseHead};
 ghost use Rattle.px_exchange.specs.Finds.{look_head, or_leaves};
 ghost use Rattle.px_exchange.specs.declared.terms.Terms.{Terms as Made};
-ghost use Rattle.px_chain.specs.Chain.{http_chain, pass, turn};
+ghost use Rattle.px_chain.specs.Chain.{connect_in, http_chain, look, pass, turn};
 ghost use Rattle.px_chain.specs.Sights.{Sight, request_in, sight_behind, sight_with};
 ghost use Rattle.px_chain.specs.Stages.{At, Sent, ServerSide, Stage, busy, idle, request_body, response_body, response_head, side_of};
 ghost use Rattle.px_stream.specs.Bodies.{BodyFound, ReturnFound};
 ghost use Rattle.px_stream.specs.Found.{LookedAt};
-ghost use Rattle.px_stream.specs.Heard.{closes_client, ready_takes, requests_take};
+ghost use Rattle.px_stream.specs.Heard.{closes_client, ready_takes, requests_take, spare_takes};
 ghost use Rattle.px_stream.specs.Led.{Turned};
-ghost use Rattle.px_stream.specs.Looking.{LookFound};
-ghost use Rattle.px_stream.specs.Phases.{head_phase, marks_at};
+ghost use Rattle.px_stream.specs.Looking.{HeadRead, LookFound};
+ghost use Rattle.px_stream.specs.Phases.{head_phase};
 ghost use Rattle.px_stream.specs.Responses.{AnswerFound};
-ghost use Rattle.px_stream.specs.Stands.{Dials, HasPlace, IsAnswering, IsAsked, IsAt, IsNow, IsReady, IsReceiving, IsReturning, awaits, is_last, sent_on};
-ghost use Rattle.px_stream.specs.Turns.{asked_leads, asked_owes, behind_asked, behind_ready};
+ghost use Rattle.px_stream.specs.Stands.{Dials, HasPlace, IsAnswering, IsAsked, IsAt, IsNow, IsReady, IsReceiving, IsReturning, IsSpare, awaits, is_last, sent_on};
+ghost use Rattle.px_stream.specs.Turns.{asked_leads, asked_owes, behind_asked, behind_ready, behind_spare};
 ghost use Rattle.px_stream.specs.declared.link.Link.{Link as Kept};
 ghost use Rattle.px_stream.specs.declared.numbers.Numbers.{Numbers as Counted};
 ghost use Rattle.px_stream.specs.declared.phase.Asked.{Asked as Awaited};
@@ -37,22 +36,27 @@ fn states_follow()
     ensures ends { (onward : Stage → Stage) (made : Made) → EndsWhereItEnds (http_chain onward made) (IsAt made) (λ state. is_last state.phase) }
 {}
 
-/// In the sight with one event more a flow stands where it stood, and its readers have heard the event.
+/// In the sight with one event more a flow stands where it stood, if nothing was found, and its readers have heard the event.
 fn readers_follow()
-    ensures ready { (seen : Sight) (event : Heard) (moment : ℕ) (stage : Stage) (requests : State) (looked : Looked) (sent : List ResponseHead) (numbers : Counted) (closed : Bool) →
-        HasPlace stage seen numbers closed → IsReady requests looked stage seen sent →
+    ensures ready { (made : Made) (seen : Sight) (event : Heard) (moment : ℕ) (stage : Stage) (requests : State) (looked : Looked) (sent : List ResponseHead) (numbers : Counted) (closed : Bool) →
+        HasPlace stage seen numbers closed → look made stage seen ≡ NotYet → IsReady requests looked stage seen sent →
         IsReady (requests_take event requests) (ready_takes event looked) stage (sight_with (side_of stage) seen event moment) sent }
     ensures place { (stage : Stage) (seen : Sight) (event : Heard) (moment : ℕ) (numbers : Counted) (closed : Bool) →
         HasPlace stage seen numbers closed → HasPlace stage (sight_with (side_of stage) seen event moment) numbers (closes_client event closed) }
+    ensures spare { (side : Option ServerSide) (seen : Sight) (event : Heard) (moment : ℕ) (spare : Option Kept) → IsSpare seen.spare spare →
+        IsSpare (sight_with side seen event moment).spare (spare_takes event spare) }
 {}
 
-/// An answer to what was asked leads where the chain leads, and owes what it owes.
+/// An answer to what was asked leads where the chain leads, and owes what it owes; the spare side is there that the stage leaves.
 fn answers_lead()
-    ensures { (made : Made) (seen : Sight) (requests : State) (numbers : Counted) (closed : Bool) (answer : Timed Answer) (stage : Stage) (asked : Awaited) →
-        HasPlace stage seen numbers closed → Dials stage → IsAsked made requests asked stage seen →
-        Turned (turn made stage seen answer) (sight_behind (side_of stage) seen answer.moment (side_of (turn made stage seen answer).stage)) requests
-        (asked_owes made.place numbers.flow asked answer.value answer.moment seen.closed) (asked_leads made.place numbers.flow asked answer.value)
-        (behind_ready (behind_asked numbers asked) (asked_leads made.place numbers.flow asked answer.value)) closed answer.moment }
+    ensures leads { (made : Made) (seen : Sight) (requests : State) (numbers : Counted) (closed : Bool) (spare : Option Kept) (answer : Timed Answer) (stage : Stage) (asked : Awaited) →
+        HasPlace stage seen numbers closed → Dials stage → IsSpare seen.spare spare → IsAsked made requests asked stage seen →
+        Turned (turn made stage seen answer) (sight_behind stage seen answer.moment (turn made stage seen answer).stage) requests
+        (asked_owes made.place numbers.flow spare asked answer.value answer.moment seen.closed) (asked_leads made.place numbers.flow spare asked answer.value)
+        (behind_ready (behind_asked numbers asked) (asked_leads made.place numbers.flow spare asked answer.value)) closed answer.moment }
+    ensures spare { (made : Made) (seen : Sight) (requests : State) (spare : Option Kept) (answer : Timed Answer) (stage : Stage) (asked : Awaited) →
+        IsSpare seen.spare spare → IsAsked made requests asked stage seen →
+        IsSpare (sight_behind stage seen answer.moment (turn made stage seen answer).stage).spare (behind_spare made.place asked answer.value spare) }
 {}
 
 /// Where the request's body is looked for, what is given is what the stage owes that was passed to, and the flow is there.
@@ -66,8 +70,8 @@ fn bodies_follow()
 /// And where the head of a request is looked for.
 fn heads_follow()
     ensures { (made : Made) (at : At) (seen : Sight) (requests : State) (out longer : List Given) (is_now : Standing) (index moment : ℕ) (closed : Bool) →
-        index ≡ at.flow → moment ≡ seen.now → closed ≡ seen.closed →
-        Reads OfRequest (marks_at (head_in (request_in at seen))) (drop at.used seen.client) false requests →
+        index ≡ at.flow → moment ≡ seen.now → closed ≡ seen.closed → at.used ≤ length seen.client →
+        HeadRead (connect_in made.place (request_in at seen)) (request_in at seen) (drop at.used seen.client) requests →
         longer ≡ out ++ found (or_leaves closed [] (look_head made index (request_in at seen) moment closed)) →
         is_now ≡ head_phase made index (request_in at seen) moment closed → LookedAt made (idle at) seen requests is_now [] out longer }
 {}

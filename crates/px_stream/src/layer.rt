@@ -1,9 +1,9 @@
 //! One flow as a layer: what is due of it is the chain of one flow.
 ghost use Rattle.px_chain.proofs.ChainLaws.{settles};
-ghost use Rattle.px_chain.specs.Chain.{alone, begin, http_chain};
+ghost use Rattle.px_chain.specs.Chain.{alone, http_chain};
 ghost use Rattle.px_chain.specs.Sights.{Standing};
-ghost use Rattle.px_chain.specs.Stages.{idle};
-ghost use Rattle.px_stream.specs.Stands.{IsAt, is_last, start_of};
+ghost use Rattle.px_stream.specs.Sequence.{first_of};
+ghost use Rattle.px_stream.specs.Stands.{IsAt, is_last};
 ghost use Rattle.px_stream.specs.Law.{awaits_alone, ends_alone, grows_alone};
 
 use crate::Stream;
@@ -61,7 +61,7 @@ impl Chained for Stream {
 
     ghost chain = { λ made. http_chain alone made.terms };
 
-    ghost start = { λ made. begin (idle (start_of made.numbers)) };
+    ghost start = { first_of };
 
     ghost is_at = { λ made. IsAt made.terms };
 

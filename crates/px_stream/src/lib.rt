@@ -14,6 +14,15 @@
 //! `Wanted::Receiving`, where the request is whole and its hook is asked; then `Asked::Dial` awaits the server, whose connection owes
 //! it the request's text and leads to `Wanted::Answering`.
 //!
+//! Two ends lead to something else: a CONNECT, which is read to its end (`Wanted::Connects`), and a response of code 101, once it
+//! was sent (`Wanted::Upgraded`). Whoever goes on takes out what neither side's reader used (`Stream::into_rests`). And where flows follow
+//! something else over the same events, `Stream::begin` starts a stream with what was not used there, and `take_anywhere` and
+//! `resume_anywhere` say what a call does at whatever place of a walk it stands (`specs/Anywhere.antt`).
+//!
+//! A place may have a server's side that is connected before its first flow: it is spare. Its bytes and its close are heard beside the
+//! others' and not read, until a request goes where it is connected to: that request is sent to it with no dial, and all that was heard
+//! of it is what its responses begin with.
+//!
 //! `laws` says that the machine follows the chain, step by step.
 #![tactic(auto)]
 
@@ -27,5 +36,6 @@ mod reading;
 mod stream;
 mod turning;
 
+pub use numbers::Numbers;
 pub use px_exchange::{Outcome, Place};
 pub use stream::Stream;

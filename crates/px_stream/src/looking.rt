@@ -48,6 +48,8 @@ pub fn look(
         Wanted::GivenHead { flow } => ask_given_head(now, flow, out),
         Wanted::GivenBody { flow } => ask_given_body(now, flow, out),
         Wanted::Finished => Ok(Phase::Ready(Wanted::Finished)),
+        Wanted::Connects { address } => Ok(Phase::Ready(Wanted::Connects { address })),
+        Wanted::Upgraded { flow, link } => Ok(Phase::Ready(Wanted::Upgraded { flow, link })),
         Wanted::Over => Ok(Phase::Ready(Wanted::Over)),
     }
 }

@@ -6,7 +6,7 @@ use crate::link::Link;
 use px_event::{Ask, Hook};
 use px_exchange::content::Content;
 use px_exchange::flows::hook_of;
-use px_message::{Flow, Response, Shared};
+use px_message::{Address, Flow, Response, Shared};
 
 /// What a flow looks for, while no answer is awaited.
 #[derive(Drop)]
@@ -44,6 +44,15 @@ pub enum Wanted {
     },
     /// Nothing: the flow is finished, and the client's connection goes on.
     Finished,
+    /// Nothing: a CONNECT was read, which asks for a tunnel to there.
+    Connects {
+        address: Address,
+    },
+    /// Nothing: a response of code 101 was sent, and what follows on both sides is of another protocol.
+    Upgraded {
+        flow: Flow,
+        link: Link,
+    },
     /// Nothing: the conversation has ended.
     Over,
 }

@@ -2,30 +2,35 @@
 //!
 //! Each event goes to the reader of its side, and then the flow looks once: where it finds an ask it waits, and where it
 //! finds the end it says what is owed there. A reply leads to what is looked for next.
-ghost use Rattle.std.specs.Prelude.{◌≡◌, ◌≤◌, ◌<◌, ◌+◌, ◌-◌, ◌^◌, List, [], false, None, IfOk, OnOk, min};
+//!
+//! A spare side, which is connected and which no flow has used, is heard beside them and not read, until a request goes there.
+ghost use Rattle.std.specs.Prelude.{◌≡◌, ◌≤◌, ◌<◌, ◌+◌, ◌-◌, ◌^◌, List, [], false, None, IfOk, OnOk, min, option_map};
 ghost use Rattle.px_event.specs.Layer.{Move, Took, Replied, IsSound, Goes, AsksOnly, MayAnswer};
 ghost use Rattle.px_event.specs.declared.command.Command.{Command as GivenCommand};
 ghost use Rattle.px_read.specs.Reader.{before_all, request};
+ghost use Rattle.px_stream.specs.Anywhere.{Begins, IsNew, ResumesAnywhere, Somewhere, TakesAnywhere};
 ghost use Rattle.px_stream.specs.Calls.{Answers, Hears, IsSome, LooksOnce, MayHear, TakesEvent, TurnsTo};
 ghost use Rattle.px_chain.specs.Chain.{alone, look as look_at};
-ghost use Rattle.px_stream.specs.Heard.{LinkAgrees, closes_client, ready_closes, ready_hears, ready_takes, requests_take};
-ghost use Rattle.px_stream.specs.Kept.{asked_keeps, phase_keeps, ready_keeps, stream_keeps};
+ghost use Rattle.px_stream.specs.Heard.{LinkAgrees, SpareAgrees, closes_client, ready_closes, ready_hears, ready_takes, requests_take, spare_takes};
+ghost use Rattle.px_stream.specs.Kept.{asked_keeps, phase_keeps, ready_keeps, spare_keeps, stream_keeps};
 ghost use Rattle.px_stream.specs.Left.{flow_left, sequence_left};
 ghost use Rattle.px_stream.specs.Looking.{MayLook};
-ghost use Rattle.px_exchange.specs.Places.{IsDialled, terms_of};
-ghost use Rattle.px_stream.specs.Rests.{LeavesRests, asked_rest, phase_rest, ready_rest};
-ghost use Rattle.px_stream.specs.Sequence.{Stands, StandsInSequence, is_end, outcome_at, outcome_in, ready_onward, requests_onward, seen_at, stage_at};
+ghost use Rattle.px_exchange.specs.Places.{IsDirect, terms_of};
+ghost use Rattle.px_stream.specs.Phases.{spare_at};
+ghost use Rattle.px_stream.specs.Rests.{LeavesRests, asked_rest, phase_flow, phase_rest, ready_rest};
+ghost use Rattle.px_stream.specs.Sequence.{IsSideBelow, Stands, StandsInSequence, asked_tunnel, is_end, open_spare, outcome_at, outcome_in, ready_onward, requests_onward, seen_at, stage_at, upgraded_side};
 ghost use Rattle.px_chain.specs.Stages.{Stage};
 ghost use Rattle.px_stream.specs.Stands.{awaited_in, awaits, is_last};
 ghost use Rattle.px_stream.specs.Turns.{asked_leads, behind_asked, behind_ready};
 ghost use Rattle.px_stream.specs.declared.phase.Wanted.{Wanted as Looked};
 
-use crate::link::Link;
+use crate::link::{Link, close_spare, hear_spare, open_number, spare_side};
 use crate::looking::look;
 use crate::numbers::Numbers;
 use crate::phase::{Asked, Phase, Wanted};
 use crate::turning::turn;
 use px_event::{Ask, Command, Event, Reply, Rests, Side};
+use px_exchange::ending::Used;
 use px_exchange::terms::{Now, Terms};
 use px_exchange::{Outcome, Place};
 use px_message::{Address, Flow, FlowId};
@@ -42,12 +47,13 @@ pub struct Stream {
     numbers: Numbers,
     requests: MessageReader,
     client_closed: bool,
+    spare: Option<Link>,
     phase: Phase,
 }
 
 impl Stream {
     /// A flow of this number, of a client there, whose requests go to this place. Its server is dialled as the one of
-    /// number `next_server`.
+    /// number `next_server`, unless the place has a side that is connected, which then has a lower number, and the request goes there.
     ///
     /// It stands for itself by no moves and has given nothing, alone and as the first of flows in sequence.
     pub fn new(
@@ -58,13 +64,17 @@ impl Stream {
         next_server: u32,
     ) -> Stream
         requires few { id.index < 1000000 }
-        requires dialled { IsDialled place }
+        requires direct { IsDirect place }
+        requires side { IsSideBelow place next_server }
         ensures stands { (onward : Stage → Stage) → Stands onward result result [] [] }
         ensures in_sequence { next_server ≤ id.index + 1 → StandsInSequence result result [] [] }
         ensures terms { result.terms ≡ terms_of id.conv client place }
         ensures numbers { result.numbers ≡ record { flow = id.index; server = next_server } }
+        ensures spare { result.spare ≡ spare_at place }
+        ensures new { IsNew result }
         ensures free { awaits result ≡ None }
     {
+        let spare = spare_side(alloc, &place);
         Stream {
             alloc,
             terms: Terms {
@@ -78,24 +88,89 @@ impl Stream {
             },
             requests: MessageReader::request(alloc),
             client_closed: false,
+            spare,
             phase: Phase::Ready(Wanted::Idle),
         }
     }
 
-    /// What became of the flow: it is finished and the client's connection goes on, the conversation has ended, or it
-    /// goes on.
+    /// What became of the flow: it is finished and the client's connection goes on; a CONNECT was read in its place; another
+    /// protocol follows it; the conversation has ended; or it goes on.
     pub fn outcome(&self) -> Outcome
         ensures phase { result ≡ outcome_in self.now.phase }
         ensures ended { is_last self.now.phase ≡ is_end result }
         ensures of_walk { (onward : Stage → Stage) (made : Stream) (moves : List Move) (given : List GivenCommand) → Stands onward made self.now moves given →
-            result ≡ outcome_at (look_at made.terms (stage_at onward made moves) (seen_at onward made moves)) (stage_at onward made moves) }
+            result ≡ outcome_at made.terms.place (look_at made.terms (stage_at onward made moves) (seen_at onward made moves)) (stage_at onward made moves) (seen_at onward made moves) }
     {
         match &self.phase {
             Phase::Ready(Wanted::Finished) => Outcome::Next,
+            Phase::Ready(Wanted::Connects { .. }) => Outcome::Connects,
+            Phase::Ready(Wanted::Upgraded { .. }) => Outcome::Upgraded,
             Phase::Ready(Wanted::Over) => Outcome::Over,
             Phase::Ready(_) => Outcome::Going,
             Phase::Asked(_) => Outcome::Going,
         }
+    }
+
+    /// Where a CONNECT asks for a tunnel to: exactly where the outcome is `Connects`.
+    pub fn connects(&self) -> Option<&Address>
+        ensures { option_map (λ address. address.now) result ≡ asked_tunnel self.now.phase }
+    {
+        match &self.phase {
+            Phase::Ready(Wanted::Connects { address }) => Some(address),
+            _ => None,
+        }
+    }
+
+    /// The server's side on which another protocol follows: exactly where the outcome is `Upgraded`.
+    pub fn upgraded(&self) -> Option<Used>
+        ensures { result ≡ upgraded_side self.now.phase }
+    {
+        match &self.phase {
+            Phase::Ready(Wanted::Upgraded { link, .. }) => Some(link.used()),
+            _ => None,
+        }
+    }
+
+    /// The numbers of the next flow and of the next server.
+    pub fn numbers(&self) -> Numbers
+        ensures { result ≡ self.now.numbers }
+    {
+        self.numbers
+    }
+
+    /// Whether the client has closed.
+    pub fn client_closed(&self) -> bool
+        ensures { result ≡ self.now.client_closed }
+    {
+        self.client_closed
+    }
+
+    /// The number of the spare side, if there is one and its server has not closed.
+    pub fn spare(&self) -> Option<u32>
+        ensures { result ≡ open_spare self.now.spare }
+    {
+        open_number(&self.spare)
+    }
+
+    /// Hears what the client sent behind what others read of it, before the stream was made, and whether it has closed, and looks
+    /// once. A stream that was handed something already may not begin so.
+    ///
+    /// It is then where the chain of flows in sequence is that begins there, over all events, and gave what is owed there.
+    pub fn begin(
+        &mut self,
+        moment: u64,
+        closed: bool,
+        rest: &Bytes,
+        out: &mut Vec<Command>,
+    ) -> Result<(), NoMemory>
+        requires new { IsNew self.old }
+        ensures begins { OnOk result (Begins self.old self.new moment closed rest.now out.old.items out.new.items) }
+        ensures asks { OnOk result (AsksOnly (awaits self.new) out.old.items out.new.items) }
+        ensures left { OnOk result (sequence_left self.new ≤ sequence_left self.old) }
+    {
+        self.client_closed = closed;
+        self.requests.feed(rest)?;
+        self.advance(moment, Wanted::Idle, out)
     }
 
     // Takes an event, where the flow is alone.
@@ -115,6 +190,23 @@ impl Stream {
         self.take_event(moment, event, out)
     }
 
+    /// Takes an event where flows follow one another, wherever it stands: also where something else came before them in the
+    /// same conversation.
+    pub fn take_anywhere(
+        &mut self,
+        moment: u64,
+        event: Event,
+        out: &mut Vec<Command>,
+    ) -> Result<(), NoMemory>
+        requires somewhere { Somewhere self.old }
+        requires free { awaits self.old ≡ None }
+        ensures takes { OnOk result (TakesAnywhere self.old self.new moment event out.old.items out.new.items) }
+        ensures asks { OnOk result (AsksOnly (awaits self.new) out.old.items out.new.items) }
+        ensures left { OnOk result (sequence_left self.new ≤ sequence_left self.old) }
+    {
+        self.take_event(moment, &event, out)
+    }
+
     /// Takes an event, as `take`, where flows follow one another.
     pub fn take_in_sequence(
         &mut self,
@@ -129,7 +221,7 @@ impl Stream {
         ensures asks { OnOk result (AsksOnly (awaits self.new) out.old.items out.new.items) }
         ensures left { OnOk result (sequence_left self.new ≤ sequence_left self.old) }
     {
-        self.take_event(moment, &event, out)
+        self.take_anywhere(moment, event, out)
     }
 
     /// What is awaited.
@@ -139,13 +231,14 @@ impl Stream {
         self.phase.waiting()
     }
 
-    /// How many bytes it keeps, or 2^64 - 1 where that is more: what its readers keep, and the content that has come of the
-    /// body that it reads. The flow does not count, nor do bytes that wait behind a message.
+    /// How many bytes it keeps, or 2^64 - 1 where that is more: what its readers keep, what was heard of a spare side, and the
+    /// content that has come of the body that it reads. The flow does not count, nor do bytes that wait behind a message.
     pub(crate) fn size(&self) -> usize
         ensures { result ≡ min (stream_keeps self.now) (2 ^ 64 - 1) }
     {
         self.requests
             .kept()
+            .saturating_add(size_of_spare(&self.spare))
             .saturating_add(size_of_phase(&self.phase))
     }
 
@@ -157,7 +250,7 @@ impl Stream {
         out: &mut Vec<Command>,
     ) -> Result<(), NoMemory>
         requires free { awaits self.old ≡ None }
-        requires may_hear { (looked : Looked) → self.old.phase ≡ Phase.Ready looked → is_last (Phase.Ready looked) ≡ false → MayHear event.now self.old.requests looked }
+        requires may_hear { (looked : Looked) → self.old.phase ≡ Phase.Ready looked → is_last (Phase.Ready looked) ≡ false → MayHear event.now self.old.requests self.old.spare looked }
         ensures { OnOk result (TakesEvent self.old self.new moment event.now out.old.items out.new.items) }
     {
         if self.has_ended() {
@@ -173,6 +266,8 @@ impl Stream {
     {
         match &self.phase {
             Phase::Ready(Wanted::Finished) => true,
+            Phase::Ready(Wanted::Connects { .. }) => true,
+            Phase::Ready(Wanted::Upgraded { .. }) => true,
             Phase::Ready(Wanted::Over) => true,
             Phase::Ready(_) => false,
             Phase::Asked(_) => false,
@@ -187,13 +282,14 @@ impl Stream {
         event: &Event,
         out: &mut Vec<Command>,
     ) -> Result<(), NoMemory>
-        requires { MayHear event.now self.old.requests ready }
+        requires { MayHear event.now self.old.requests self.old.spare ready }
         ensures { OnOk result (Hears self.old self.new moment event.now ready out.old.items out.new.items) }
     {
         let mut ready = ready;
         match hear(
             &mut self.requests,
             &mut self.client_closed,
+            &mut self.spare,
             &mut ready,
             event,
         ) {
@@ -257,6 +353,23 @@ impl Stream {
         self.answer(moment, asked, reply, out)
     }
 
+    /// Takes the reply to what is awaited where flows follow one another, wherever it stands.
+    pub fn resume_anywhere(
+        &mut self,
+        moment: u64,
+        reply: Reply,
+        out: &mut Vec<Command>,
+    ) -> Result<(), NoMemory>
+        requires somewhere { Somewhere self.old }
+        requires answers { MayAnswer (awaits self.old) reply }
+        ensures resumes { OnOk result (ResumesAnywhere self.old self.new moment reply out.old.items out.new.items) }
+        ensures asks { OnOk result (AsksOnly (awaits self.new) out.old.items out.new.items) }
+        ensures left { OnOk result (sequence_left self.new < sequence_left self.old) }
+    {
+        let asked = take_asked(&mut self.phase);
+        self.answer_in_sequence(moment, asked, reply, out)
+    }
+
     /// Takes the reply to what is awaited, as `resume`; where the flow is finished, the next one begins with what the
     /// client sent behind it.
     pub fn resume_in_sequence(
@@ -272,8 +385,7 @@ impl Stream {
         ensures asks { OnOk result (AsksOnly (awaits self.new) out.old.items out.new.items) }
         ensures left { OnOk result (sequence_left self.new < sequence_left self.old) }
     {
-        let asked = take_asked(&mut self.phase);
-        self.answer_in_sequence(moment, asked, reply, out)
+        self.resume_anywhere(moment, reply, out)
     }
 
     fn answer_in_sequence(
@@ -283,9 +395,9 @@ impl Stream {
         reply: Reply,
         out: &mut Vec<Command>,
     ) -> Result<(), NoMemory>
-        requires { MayLook (asked_leads self.old.terms.place self.old.numbers.flow asked reply) self.old.requests }
-        ensures { OnOk result (Answers self.old self.new moment reply asked (ready_onward (asked_leads self.old.terms.place self.old.numbers.flow asked reply))
-            (requests_onward (asked_leads self.old.terms.place self.old.numbers.flow asked reply) self.old.requests) out.old.items out.new.items) }
+        requires { MayLook (asked_leads self.old.terms.place self.old.numbers.flow self.old.spare asked reply) self.old.requests }
+        ensures { OnOk result (Answers self.old self.new moment reply asked (ready_onward (asked_leads self.old.terms.place self.old.numbers.flow self.old.spare asked reply))
+            (requests_onward (asked_leads self.old.terms.place self.old.numbers.flow self.old.spare asked reply) self.old.requests) out.old.items out.new.items) }
     {
         let turned = self.turn(moment, asked, reply, out)?;
         let ready = self.go_onward(turned)?;
@@ -299,8 +411,8 @@ impl Stream {
         reply: Reply,
         out: &mut Vec<Command>,
     ) -> Result<(), NoMemory>
-        requires { MayLook (asked_leads self.old.terms.place self.old.numbers.flow asked reply) self.old.requests }
-        ensures { OnOk result (Answers self.old self.new moment reply asked (asked_leads self.old.terms.place self.old.numbers.flow asked reply) self.old.requests out.old.items out.new.items) }
+        requires { MayLook (asked_leads self.old.terms.place self.old.numbers.flow self.old.spare asked reply) self.old.requests }
+        ensures { OnOk result (Answers self.old self.new moment reply asked (asked_leads self.old.terms.place self.old.numbers.flow self.old.spare asked reply) self.old.requests out.old.items out.new.items) }
     {
         let turned = self.turn(moment, asked, reply, out)?;
         self.advance(moment, turned, out)
@@ -319,7 +431,15 @@ impl Stream {
         let now = self.now(moment);
         let index = self.numbers.flow;
         self.numbers = count_server(self.numbers, &asked);
-        let ready = turn(&self.terms.place, now, index, asked, reply, out)?;
+        let ready = turn(
+            &self.terms.place,
+            now,
+            index,
+            &mut self.spare,
+            asked,
+            reply,
+            out,
+        )?;
         self.numbers = count_flow(self.numbers, &ready);
         Ok(ready)
     }
@@ -329,6 +449,7 @@ impl Stream {
         ensures terms { OnOk result (self.new.terms ≡ self.old.terms) }
         ensures numbers { OnOk result (self.new.numbers ≡ self.old.numbers) }
         ensures client { OnOk result (self.new.client_closed ≡ self.old.client_closed) }
+        ensures spare { OnOk result (self.new.spare ≡ self.old.spare) }
         ensures requests { OnOk result (self.new.requests ≡ requests_onward ready self.old.requests) }
         ensures ready { IfOk result (λ next. next ≡ ready_onward ready) }
     {
@@ -344,41 +465,46 @@ impl Stream {
             Wanted::Returning { flow, link, body } => Ok(Wanted::Returning { flow, link, body }),
             Wanted::GivenHead { flow } => Ok(Wanted::GivenHead { flow }),
             Wanted::GivenBody { flow } => Ok(Wanted::GivenBody { flow }),
+            Wanted::Connects { address } => Ok(Wanted::Connects { address }),
+            Wanted::Upgraded { flow, link } => Ok(Wanted::Upgraded { flow, link }),
             Wanted::Over => Ok(Wanted::Over),
         }
     }
 
-    /// The bytes that the flow did not use, of the client and of its server's side, for whoever goes on; and the flow, where
-    /// a protocol follows it on the same connection, which none does yet.
+    /// The bytes that the flow did not use, of the client and of its server's side, for whoever goes on; and the flow, exactly
+    /// where the outcome is `Upgraded`: another protocol follows it on the same connections.
     ///
-    /// Behind a whole message they are exactly the side's bytes behind it; while one is read, those from where its reader
-    /// stands. Of the server there are none where the flow has no side of it, or is finished.
+    /// Behind a whole message they are exactly the side's bytes behind it, also behind a CONNECT and behind a response of code
+    /// 101; while one is read, those from where its reader stands. Of the server there are none where the flow has no side of it,
+    /// or is finished.
     pub fn into_rests(self) -> Result<(Rests, Option<Flow>), NoMemory>
         ensures client { IfOk result (λ left. left.0.client ≡ self.requests.rest) }
         ensures server { IfOk result (λ left. left.0.server ≡ phase_rest self.phase) }
-        ensures flow { IfOk result (λ left. left.1 ≡ None) }
+        ensures flow { IfOk result (λ left. left.1 ≡ phase_flow self.phase) }
         ensures behind { (onward : Stage → Stage) (made : Stream) (moves : List Move) (given : List GivenCommand) → Stands onward made self moves given →
-            IfOk result (λ left. LeavesRests (look_at made.terms (stage_at onward made moves) (seen_at onward made moves)) (stage_at onward made moves)
-            (seen_at onward made moves) left.0.client left.0.server) }
+            IfOk result (λ left. LeavesRests made.terms.place (look_at made.terms (stage_at onward made moves) (seen_at onward made moves)) (stage_at onward made moves)
+            (seen_at onward made moves) left.0.client left.0.server left.1) }
     {
         let Stream {
             requests,
             phase,
             ..
         } = self;
-        let server = rest_of_phase(phase)?;
         let client = requests.into_rest()?;
-        Ok((Rests { client, server }, None))
+        let (server, flow) = rest_of_phase(phase)?;
+        Ok((Rests { client, server }, flow))
     }
 }
 
-// What was not used of the server's side.
-fn rest_of_phase(phase: Phase) -> Result<Bytes, NoMemory>
-    ensures { IfOk result (λ rest. rest ≡ phase_rest phase) }
+// What was not used of the server's side, and the flow that another protocol follows.
+fn rest_of_phase(phase: Phase) -> Result<(Bytes, Option<Flow>), NoMemory>
+    ensures server { IfOk result (λ left. left.0 ≡ phase_rest phase) }
+    ensures flow { IfOk result (λ left. left.1 ≡ phase_flow phase) }
 {
     match phase {
-        Phase::Ready(ready) => rest_of_ready(ready),
-        Phase::Asked(asked) => rest_of_asked(asked),
+        Phase::Ready(Wanted::Upgraded { flow, link }) => Ok((link.into_rest()?, Some(flow))),
+        Phase::Ready(ready) => Ok((rest_of_ready(ready)?, None)),
+        Phase::Asked(asked) => Ok((rest_of_asked(asked)?, None)),
     }
 }
 
@@ -388,6 +514,7 @@ fn rest_of_ready(ready: Wanted) -> Result<Bytes, NoMemory>
     match ready {
         Wanted::Answering { flow, link } => rest_of_link(flow, link),
         Wanted::Returning { flow, link, .. } => rest_of_link(flow, link),
+        Wanted::Upgraded { flow, link } => rest_of_link(flow, link),
         other => {
             leave_ready(other);
             Ok(Bytes::empty())
@@ -415,6 +542,16 @@ fn rest_of_link(flow: Flow, link: Link) -> Result<Bytes, NoMemory>
     link.into_rest()
 }
 
+// How much a spare side keeps.
+fn size_of_spare(spare: &Option<Link>) -> usize
+    ensures { result ≡ min (spare_keeps spare.now) (2 ^ 64 - 1) }
+{
+    match spare {
+        Some(link) => link.responses.kept(),
+        None => 0,
+    }
+}
+
 // How much a phase keeps.
 fn size_of_phase(phase: &Phase) -> usize
     ensures { result ≡ min (phase_keeps phase.now) (2 ^ 64 - 1) }
@@ -437,6 +574,8 @@ fn size_of_ready(ready: &Wanted) -> usize
         Wanted::GivenHead { .. } => 0,
         Wanted::GivenBody { .. } => 0,
         Wanted::Finished => 0,
+        Wanted::Connects { .. } => 0,
+        Wanted::Upgraded { link, .. } => link.responses.kept(),
         Wanted::Over => 0,
     }
 }
@@ -500,7 +639,9 @@ fn leave_ready(ready: Wanted) {
         Wanted::GivenHead { flow } => leave_flow(flow),
         Wanted::GivenBody { flow } => leave_flow(flow),
         Wanted::Idle => {}
+        Wanted::Upgraded { flow, .. } => leave_flow(flow),
         Wanted::Finished => {}
+        Wanted::Connects { .. } => {}
         Wanted::Over => {}
     }
 }
@@ -553,6 +694,8 @@ fn count_flow(numbers: Numbers, ready: &Wanted) -> Numbers
         Wanted::Returning { .. } => numbers,
         Wanted::GivenHead { .. } => numbers,
         Wanted::GivenBody { .. } => numbers,
+        Wanted::Connects { .. } => numbers,
+        Wanted::Upgraded { .. } => numbers,
         Wanted::Over => numbers,
     }
 }
@@ -570,14 +713,17 @@ fn begin_again(alloc: Global, requests: &mut MessageReader) -> Result<(), NoMemo
 fn hear(
     requests: &mut MessageReader,
     client_closed: &mut bool,
+    spare: &mut Option<Link>,
     ready: &mut Wanted,
     event: &Event,
 ) -> Result<(), NoMemory>
     requires open_still { requests.old.closed ≡ false }
     requires agrees { LinkAgrees ready.old }
+    requires spare { SpareAgrees spare.old }
     ensures requests { OnOk result (requests.new ≡ requests_take event.now requests.old) }
     ensures client { OnOk result (client_closed.new ≡ closes_client event.now client_closed.old) }
     ensures ready { OnOk result (ready.new ≡ ready_takes event.now ready.old) }
+    ensures spare { OnOk result (spare.new ≡ spare_takes event.now spare.old) }
 {
     match event {
         Event::Piece {
@@ -587,7 +733,10 @@ fn hear(
         Event::Piece {
             side: Side::Server(server),
             bytes,
-        } => hear_server(ready, *server, bytes),
+        } => {
+            hear_spare(spare, *server, bytes)?;
+            hear_server(ready, *server, bytes)
+        }
         Event::Closed { side: Side::Client } => {
             *client_closed = true;
             Ok(())
@@ -595,6 +744,7 @@ fn hear(
         Event::Closed {
             side: Side::Server(server),
         } => {
+            close_spare(spare, *server);
             close_server(ready, *server);
             Ok(())
         }

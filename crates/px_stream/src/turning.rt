@@ -1,9 +1,15 @@
 //! What the answer to an ask leads to.
-ghost use Rattle.std.specs.Prelude.{◌≡◌, ◌++◌, IfOk, OnOk};
+ghost use Rattle.std.specs.Prelude.{◌≡◌, ◌++◌, ◌==◌, ◌∷◌, [], Some, IfOk, OnOk};
 ghost use Rattle.px_exchange.specs.Dials.{connected_owes, dial_owes};
-ghost use Rattle.px_chain.specs.Chain.{killed as kills_flow, turn_taken_answer, turn_taken_body, turn_taken_given, turn_taken_head, turn_taken_returned};
-ghost use Rattle.px_stream.specs.Phases.{behind_dial, behind_flow, behind_given_head, behind_request, behind_request_head, behind_response, behind_response_head, connected, no_side, numbered};
-ghost use Rattle.px_stream.specs.Turns.{answer_leads, answer_owes, asked_leads, asked_owes, given_leads, given_owes, whole_leads, whole_owes};
+ghost use Rattle.px_event.specs.declared.command.Command.TheVariants as commands;
+ghost use Rattle.px_event.specs.declared.side.Side.TheVariants.{Client as ToClient};
+ghost use Rattle.px_exchange.specs.Texts.{returned_text as returned};
+ghost use Rattle.px_chain.specs.Chain.{finish as finishes, finish_by, goes_on_by, killed as kills_flow, reached, turn_taken_answer, turn_taken_body, turn_taken_given, turn_taken_head, turn_taken_returned, turn_taken_whole};
+ghost use Rattle.px_chain.specs.Sights.{unless_taken};
+ghost use Rattle.px_exchange.specs.Endings.{connection_goes_on};
+ghost use Rattle.px_exchange.specs.Places.{goes_home};
+ghost use Rattle.px_stream.specs.Phases.{behind_dial, behind_flow, behind_given_head, behind_request, behind_request_head, behind_response, behind_response_head, behind_whole, connected, goes_on_to, link_home, no_side, numbered, upgrades_by};
+ghost use Rattle.px_stream.specs.Turns.{answer_leads, answer_owes, asked_leads, asked_owes, behind_spare, given_leads, given_owes, read_whole_leads, read_whole_owes, request_spares, unused_in, whole_leads, whole_owes};
 ghost use Rattle.px_exchange.specs.Replies.{taken_at_body_of, taken_at_head_of, taken_at_request_body, taken_at_request_head};
 
 use crate::link::Link;
@@ -12,40 +18,39 @@ use px_event::{Command, Reply, Side};
 use px_exchange::Place;
 use px_exchange::asked::is_head;
 use px_exchange::content::Content;
-use px_exchange::ending::{Used, end_by_fault, end_early, finish};
+use px_exchange::ending::{Used, end_by_fault, end_early, finish, settled};
 use px_exchange::flows::{self, dialled_for};
 use px_exchange::said::{meet_expectation, send};
 use px_exchange::taken::{
     Taken, take_at_body_of, take_at_head_of, take_at_request_body, take_at_request_head,
 };
 use px_exchange::terms::Now;
-use px_exchange::texts::onward_text;
+use px_exchange::texts::{onward_text, returned_text};
 use px_message::{Flow, Request, Response, Shared};
 use px_text::NoMemory;
 
-/// Takes the answer to what was asked of the flow of this number, whose requests go to this place.
+/// Takes the answer to what was asked of the flow of this number, whose requests go to this place, where this side may be spare.
 pub fn turn(
     place: &Place,
     now: Now,
     index: u32,
+    spare: &mut Option<Link>,
     asked: Asked,
     reply: Reply,
     out: &mut Vec<Command>,
 ) -> Result<Wanted, NoMemory>
-    ensures gives { OnOk result (out.new.items ≡ out.old.items ++ asked_owes place.now index asked reply now.moment now.client_closed) }
-    ensures ready { IfOk result (λ next. next ≡ asked_leads place.now index asked reply) }
+    ensures gives { OnOk result (out.new.items ≡ out.old.items ++ asked_owes place.now index spare.old asked reply now.moment now.client_closed) }
+    ensures ready { IfOk result (λ next. next ≡ asked_leads place.now index spare.old asked reply) }
+    ensures spare { OnOk result (spare.new ≡ behind_spare place.now asked reply spare.old) }
 {
     match asked {
         Asked::Head { flow, expects } => turn_head(now, flow, expects, reply, out),
-        Asked::Body { flow } => turn_body(now, flow, reply, out),
+        Asked::Body { flow } => turn_body(place, now, flow, spare, reply, out),
         Asked::Dial { flow, server } => turn_dial(place, now, flow, server, reply, out),
         Asked::Answer { flow, link } => turn_answer(now, flow, link, reply, out),
-        Asked::Returned { flow, link } => {
-            let used = link.into_used();
-            turn_returned(now, index, flow, used, reply, out)
-        }
+        Asked::Returned { flow, link } => turn_returned(now, index, flow, link, reply, out),
         Asked::GivenHead { flow } => turn_given_head(now, flow, reply, out),
-        Asked::GivenBody { flow } => turn_returned(now, index, flow, Used::NoServer, reply, out),
+        Asked::GivenBody { flow } => turn_given_body(now, index, flow, reply, out),
     }
 }
 
@@ -114,33 +119,90 @@ fn receive(
 }
 
 // The hook of the whole request is answered.
-fn turn_body(now: Now, flow: Flow, reply: Reply, out: &mut Vec<Command>) -> Result<Wanted, NoMemory>
-    ensures gives { OnOk result (out.new.items ≡ out.old.items ++ (turn_taken_body (numbered 0) flow (taken_at_request_body flow.request reply) now.moment now.client_closed).owed) }
-    ensures ready { IfOk result (λ next. next ≡ behind_request flow (taken_at_request_body flow.request reply)) }
-{
-    let taken = take_at_request_body(now.alloc, &flow.request, reply)?;
-    send_onward(now, flow, taken, out)
-}
-
-// The server is to be dialled, unless a response is given in its place or the flow is killed.
-fn send_onward(
+fn turn_body(
+    place: &Place,
     now: Now,
     flow: Flow,
+    spare: &mut Option<Link>,
+    reply: Reply,
+    out: &mut Vec<Command>,
+) -> Result<Wanted, NoMemory>
+    ensures gives { OnOk result (out.new.items ≡ out.old.items ++ (turn_taken_body place.now (numbered 0) flow (unused_in spare.old) (taken_at_request_body flow.request reply) now.moment now.client_closed).owed) }
+    ensures ready { IfOk result (λ next. next ≡ behind_request place.now flow spare.old (taken_at_request_body flow.request reply)) }
+    ensures spare { OnOk result (spare.new ≡ request_spares place.now (taken_at_request_body flow.request reply) spare.old) }
+{
+    let taken = take_at_request_body(now.alloc, &flow.request, reply)?;
+    send_onward(place, now, flow, spare, taken, out)
+}
+
+// The request goes on, unless a response is given in its server's place or the flow is killed.
+fn send_onward(
+    place: &Place,
+    now: Now,
+    flow: Flow,
+    spare: &mut Option<Link>,
     taken: Taken<Shared<Request>>,
     out: &mut Vec<Command>,
 ) -> Result<Wanted, NoMemory>
-    ensures gives { OnOk result (out.new.items ≡ out.old.items ++ (turn_taken_body (numbered 0) flow taken now.moment now.client_closed).owed) }
-    ensures ready { IfOk result (λ next. next ≡ behind_request flow taken) }
+    ensures gives { OnOk result (out.new.items ≡ out.old.items ++ (turn_taken_body place.now (numbered 0) flow (unused_in spare.old) taken now.moment now.client_closed).owed) }
+    ensures ready { IfOk result (λ next. next ≡ behind_request place.now flow spare.old taken) }
+    ensures spare { OnOk result (spare.new ≡ request_spares place.now taken spare.old) }
 {
     match taken {
-        Taken::GoesOn(request) => Ok(Wanted::Dialling {
-            flow: flows::with_request(flow, request),
-        }),
+        Taken::GoesOn(request) => {
+            let flow = flows::with_request(flow, request);
+            let link = take_home(place, flow.request.get(), spare);
+            go_on(place, now, flow, link, out)
+        }
         Taken::Responds(response) => Ok(Wanted::GivenHead {
             flow: flows::with_response(flow, response),
         }),
         Taken::Kills => kill(now, flow, Used::NoServer, out),
     }
+}
+
+// Takes the spare side, where this request goes there.
+fn take_home(place: &Place, request: &Request, spare: &mut Option<Link>) -> Option<Link>
+    ensures taken { result ≡ link_home (goes_home place.now request.now) spare.old }
+    ensures left { spare.new ≡ unless_taken (goes_home place.now request.now) spare.old }
+{
+    if place.is_home(request) {
+        return spare.take();
+    }
+    None
+}
+
+// The request goes to this side, which was spare; else the server is to be dialled.
+fn go_on(
+    place: &Place,
+    now: Now,
+    flow: Flow,
+    link: Option<Link>,
+    out: &mut Vec<Command>,
+) -> Result<Wanted, NoMemory>
+    ensures gives { OnOk result (out.new.items ≡ out.old.items ++ (goes_on_by (unused_in link) place.now (numbered 0) flow).owed) }
+    ensures ready { IfOk result (λ next. next ≡ goes_on_to link place.now flow) }
+{
+    match link {
+        Some(link) => go_home(place, now, flow, link, out),
+        None => Ok(Wanted::Dialling { flow }),
+    }
+}
+
+// The request goes to a side that was spare.
+fn go_home(
+    place: &Place,
+    now: Now,
+    flow: Flow,
+    link: Link,
+    out: &mut Vec<Command>,
+) -> Result<Wanted, NoMemory>
+    ensures gives { OnOk result (out.new.items ≡ out.old.items ++ connected_owes place.now flow link.server) }
+    ensures ready { IfOk result (λ next. next ≡ goes_on_to (Some link) place.now flow) }
+{
+    let server = link.server;
+    let link = link.into_unread(now.alloc, is_head(flow.request.get().method.bytes()))?;
+    send_request(place, now, flow, server, link, out)
 }
 
 // The dial is answered.
@@ -176,17 +238,32 @@ fn connect(
     ensures gives { OnOk result (out.new.items ≡ out.old.items ++ connected_owes place.now flow server) }
     ensures ready { IfOk result (λ next. next ≡ connected place.now flow server) }
 {
+    let link = Link::new(
+        now.alloc,
+        server,
+        is_head(flow.request.get().method.bytes()),
+    );
+    send_request(place, now, flow, server, link, out)
+}
+
+// The request goes to the server of this number, whose response is awaited on this side.
+fn send_request(
+    place: &Place,
+    now: Now,
+    flow: Flow,
+    server: u32,
+    link: Link,
+    out: &mut Vec<Command>,
+) -> Result<Wanted, NoMemory>
+    ensures gives { OnOk result (out.new.items ≡ out.old.items ++ connected_owes place.now flow server) }
+    ensures ready { IfOk result (λ next. next ≡ Wanted.Answering (reached place.now flow) link) }
+{
     send(
         Side::Server(server),
         onward_text(now.alloc, place.form(), flow.request.get())?,
         out,
     )?;
     let address = dialled_for(place, &flow)?;
-    let link = Link::new(
-        now.alloc,
-        server,
-        is_head(flow.request.get().method.bytes()),
-    );
     Ok(Wanted::Answering {
         flow: flows::with_server(flow, address),
         link,
@@ -265,43 +342,131 @@ fn give_body(
     }
 }
 
-// The hook of the whole response is answered.
+// The hook of the whole response of a server is answered.
 fn turn_returned(
     now: Now,
     index: u32,
     flow: Flow,
-    used: Used,
+    link: Link,
     reply: Reply,
     out: &mut Vec<Command>,
 ) -> Result<Wanted, NoMemory>
-    ensures gives { OnOk result (out.new.items ≡ out.old.items ++ whole_owes index flow (taken_at_body_of flow.response reply) now.moment used now.client_closed) }
-    ensures ready { IfOk result (λ next. next ≡ whole_leads index flow (taken_at_body_of flow.response reply)) }
+    ensures gives { OnOk result (out.new.items ≡ out.old.items ++ read_whole_owes index flow (taken_at_body_of flow.response reply) now.moment (Used.ByServer link.server link.closed) now.client_closed) }
+    ensures ready { IfOk result (λ next. next ≡ read_whole_leads index flow link (taken_at_body_of flow.response reply)) }
 {
     match take_at_body_of(now.alloc, &flow, reply)? {
-        Some(taken) => end_flow(now, index, flow, taken, used, out),
+        Some(taken) => end_exchange(now, index, flow, link, taken, out),
         None => Ok(give_up(flow)),
     }
 }
 
-// The flow is finished, or killed.
+// The response is sent, unless the flow is killed.
+fn end_exchange(
+    now: Now,
+    index: u32,
+    flow: Flow,
+    link: Link,
+    taken: Taken<Shared<Response>>,
+    out: &mut Vec<Command>,
+) -> Result<Wanted, NoMemory>
+    ensures gives { OnOk result (out.new.items ≡ out.old.items ++ (turn_taken_whole (numbered index) flow no_side taken now.moment (Used.ByServer link.server link.closed) now.client_closed).owed) }
+    ensures ready { IfOk result (λ next. next ≡ behind_whole index flow link taken) }
+{
+    match taken {
+        Taken::GoesOn(response) => answer_client(now, index, flow, link, response, out),
+        _ => kill(now, flow, link.into_used(), out),
+    }
+}
+
+// The response is sent. One of code 101 ends HTTP; any other finishes the flow.
+fn answer_client(
+    now: Now,
+    index: u32,
+    flow: Flow,
+    link: Link,
+    response: Shared<Response>,
+    out: &mut Vec<Command>,
+) -> Result<Wanted, NoMemory>
+    ensures gives { OnOk result (out.new.items ≡ out.old.items ++ (finish_by (response.status == 101) (numbered index) flow response no_side (Used.ByServer link.server link.closed) now.client_closed).owed) }
+    ensures ready { IfOk result (λ next. next ≡ upgrades_by (response.status == 101) index flow response link) }
+{
+    if response.get().status.code() == 101 {
+        return upgrade(now, flow, link, response, out);
+    }
+    finish_flow(now, index, flow, response, link.into_used(), out)
+}
+
+// Sends a response of code 101: what follows on both sides is of another protocol, and the flow is not finished.
+fn upgrade(
+    now: Now,
+    flow: Flow,
+    link: Link,
+    response: Shared<Response>,
+    out: &mut Vec<Command>,
+) -> Result<Wanted, NoMemory>
+    ensures gives { OnOk result (out.new.items ≡ out.old.items ++ commands.Send ToClient (returned flow.request response) ∷ []) }
+    ensures ready { IfOk result (λ next. next ≡ Wanted.Upgraded (record flow { response = Some response }) link) }
+{
+    let sent = settled(flow.request.get(), response.get())?;
+    send(
+        Side::Client,
+        returned_text(now.alloc, flow.request.get(), &sent)?,
+        out,
+    )?;
+    Ok(Wanted::Upgraded {
+        flow: flows::with_response(flow, response),
+        link,
+    })
+}
+
+// The hook of the whole of a response that was given in place of the server's is answered.
+fn turn_given_body(
+    now: Now,
+    index: u32,
+    flow: Flow,
+    reply: Reply,
+    out: &mut Vec<Command>,
+) -> Result<Wanted, NoMemory>
+    ensures gives { OnOk result (out.new.items ≡ out.old.items ++ whole_owes index flow (taken_at_body_of flow.response reply) now.moment Used.NoServer now.client_closed) }
+    ensures ready { IfOk result (λ next. next ≡ whole_leads index flow (taken_at_body_of flow.response reply)) }
+{
+    match take_at_body_of(now.alloc, &flow, reply)? {
+        Some(taken) => end_flow(now, index, flow, taken, out),
+        None => Ok(give_up(flow)),
+    }
+}
+
+// The flow is finished with a response that was given in place of the server's, or killed.
 fn end_flow(
     now: Now,
     index: u32,
     flow: Flow,
     taken: Taken<Shared<Response>>,
-    used: Used,
     out: &mut Vec<Command>,
 ) -> Result<Wanted, NoMemory>
-    ensures gives { OnOk result (out.new.items ≡ out.old.items ++ (turn_taken_returned (numbered index) flow taken now.moment used now.client_closed).owed) }
+    ensures gives { OnOk result (out.new.items ≡ out.old.items ++ (turn_taken_returned (numbered index) flow taken now.moment Used.NoServer now.client_closed).owed) }
     ensures ready { IfOk result (λ next. next ≡ behind_response index flow taken) }
 {
     match taken {
-        Taken::GoesOn(response) => {
-            let stays = finish(now, index, flow, response, used, out)?;
-            Ok(next_of(stays))
-        }
-        _ => kill(now, flow, used, out),
+        Taken::GoesOn(response) => finish_flow(now, index, flow, response, Used::NoServer, out),
+        _ => kill(now, flow, Used::NoServer, out),
     }
+}
+
+// The flow is finished with this response.
+fn finish_flow(
+    now: Now,
+    index: u32,
+    flow: Flow,
+    response: Shared<Response>,
+    used: Used,
+    out: &mut Vec<Command>,
+) -> Result<Wanted, NoMemory>
+    ensures gives { OnOk result (out.new.items ≡ out.old.items ++ (finishes (numbered index) flow response used now.client_closed).owed) }
+    ensures ready { IfOk result (λ next. next ≡ behind_flow (connection_goes_on index flow.request response)) }
+{
+    let stays = finish(now, index, flow, response, used, out)?;
+    Ok(next_of(stays))
 }
 
 // What is looked for behind a finished flow.

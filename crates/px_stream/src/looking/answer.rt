@@ -64,7 +64,7 @@ fn look_at_answer(
     }
 }
 
-// Asks the hook of the response's head. A code that switches protocols is not built.
+// Asks the hook of the response's head, unless its code is none of a final response.
 fn relay_head(
     now: Now,
     flow: Flow,

@@ -3,16 +3,17 @@ ghost use Rattle.std.specs.Prelude.{◌≡◌, ◌++◌, ◌∷◌, ℕ, List, [
 ghost use Rattle.px_event.specs.Chain.{found};
 ghost use Rattle.px_event.specs.declared.ask.Hook.TheVariants.{RequestHead as AtHead};
 ghost use Rattle.px_read.specs.Items.{request_item};
-ghost use Rattle.px_read.specs.Laws.{head_in};
 ghost use Rattle.px_read.specs.declared.head.RequestHead.{RequestHead as ReadHead};
 ghost use Rattle.px_read.specs.Reader.{Reads, request as OfRequest};
 ghost use Rattle.px_exchange.specs.Bodies.{IsReading};
 ghost use Rattle.px_stream.specs.Bodies.{BodyFound};
+ghost use Rattle.px_chain.specs.Chain.{connect_in};
+ghost use Rattle.px_stream.specs.Looking.{BehindJudged, GaveNext, HeadRead};
 ghost use Rattle.px_stream.specs.Looks.{body_gives, body_phase, whole_gives, whole_phase};
 ghost use Rattle.px_exchange.specs.Flows.{ask_of};
 ghost use Rattle.px_exchange.specs.Finds.{look_head, look_judged, or_leaves};
 ghost use Rattle.px_exchange.specs.Endings.{refuses};
-ghost use Rattle.px_stream.specs.Phases.{head_phase, is_over, judged_phase, marks_at, unless_left};
+ghost use Rattle.px_stream.specs.Phases.{head_phase, is_over, judged_phase, unless_left};
 ghost use Rattle.px_exchange.specs.Requests.{expects as expecting, flow_of, judged, is_head as asks_head};
 
 use super::{ask_given_head, fail, leave};
@@ -25,7 +26,7 @@ use px_exchange::ending::{Used, refuse};
 use px_exchange::flows;
 use px_exchange::said::ask;
 use px_exchange::terms::{Now, Terms};
-use px_message::{Fault, Flow, Request, Response, Shared};
+use px_message::{Address, Fault, Flow, Request, Response, Shared};
 use px_read::{MessageReader, Part, RequestHead};
 use px_text::NoMemory;
 
@@ -39,10 +40,10 @@ pub fn look_for_head(
 ) -> Result<Phase, NoMemory>
     ensures gives { (fed : List ℕ) → Reads OfRequest [] fed false requests.old → OnOk result (out.new.items ≡ out.old.items ++ found (or_leaves now.client_closed [] (look_head terms.now index (request_item fed) now.moment now.client_closed))) }
     ensures phase { (fed : List ℕ) → Reads OfRequest [] fed false requests.old → IfOk result (λ next. next ≡ head_phase terms.now index (request_item fed) now.moment now.client_closed) }
-    ensures reads { (fed : List ℕ) → Reads OfRequest [] fed false requests.old → OnOk result (Reads OfRequest (marks_at (head_in (request_item fed))) fed false requests.new) }
+    ensures reads { (fed : List ℕ) → Reads OfRequest [] fed false requests.old → OnOk result (HeadRead (connect_in terms.now.place (request_item fed)) (request_item fed) fed requests.new) }
 {
     match requests.next()? {
-        Part::Request(head) => look_at_head(terms, now, index, head, out),
+        Part::Request(head) => look_at_head(terms, now, index, requests, head, out),
         Part::Bad(fault) => refuse_head(now, fault, false, out),
         _ => Ok(wait_for_head(now)),
     }
@@ -73,21 +74,25 @@ fn refuse_head(
     Ok(Phase::Ready(Wanted::Over))
 }
 
-// Judges the head, and asks its hook.
+// Judges the head, and asks its hook, or reads on to the end of a CONNECT.
 fn look_at_head(
     terms: &Terms,
     now: Now,
     index: u32,
+    requests: &mut MessageReader,
     head: RequestHead,
     out: &mut Vec<Command>,
 ) -> Result<Phase, NoMemory>
     ensures gives { OnOk result (out.new.items ≡ out.old.items ++ found (look_judged terms.now index head (judged terms.now.place head) now.moment now.client_closed)) }
     ensures phase { IfOk result (λ next. next ≡ judged_phase terms.now index head (judged terms.now.place head) now.moment) }
+    ensures reads { OnOk result (BehindJudged (judged terms.now.place head) requests.old requests.new) }
 {
     let asked_head = is_head(head.method.bytes());
     let expected = expects(&head);
     let judged = judge(now.alloc, &terms.place, head)?;
-    begin_flow(terms, now, index, judged, asked_head, expected, out)
+    begin_flow(
+        terms, now, index, requests, judged, asked_head, expected, out,
+    )
 }
 
 // Asks the hook of the request's head, unless the head makes no flow.
@@ -95,6 +100,7 @@ fn begin_flow(
     terms: &Terms,
     now: Now,
     index: u32,
+    requests: &mut MessageReader,
     made: Judged,
     asked_head: bool,
     expected: bool,
@@ -102,11 +108,22 @@ fn begin_flow(
 ) -> Result<Phase, NoMemory>
     ensures gives { (head : ReadHead) → asked_head ≡ asks_head head.method → OnOk result (out.new.items ≡ out.old.items ++ found (look_judged terms.now index head made now.moment now.client_closed)) }
     ensures phase { (head : ReadHead) → expected ≡ expecting head → IfOk result (λ next. next ≡ judged_phase terms.now index head made now.moment) }
+    ensures reads { OnOk result (BehindJudged made requests.old requests.new) }
 {
     match made {
         Judged::Refused(fault) => refuse_head(now, fault, asked_head, out),
         Judged::Accepted(request) => ask_head(terms, now, index, request, expected, out),
+        Judged::Connects(address) => read_connect(requests, address),
     }
+}
+
+// Reads the end of a CONNECT, which follows its head: the reader keeps what stands behind it.
+fn read_connect(requests: &mut MessageReader, address: Address) -> Result<Phase, NoMemory>
+    ensures reads { OnOk result (GaveNext requests.old requests.new) }
+    ensures phase { IfOk result (λ next. next ≡ Phase.Ready (Wanted.Connects address)) }
+{
+    requests.next()?;
+    Ok(Phase::Ready(Wanted::Connects { address }))
 }
 
 // Asks the hook of the request's head.

@@ -90,6 +90,14 @@ pub returns-in-Finished : goal.returns-in-Finished
 returns-in-Finished c =
     record { looks = rw c.in-Finished.is (nothing_given c.args.requests.now c.args.out.now.items (phase.Ready ready.Finished)) }
 
+pub returns-in-Connects : goal.returns-in-Connects
+returns-in-Connects c =
+    record { looks = rw c.in-Connects.is (nothing_given c.args.requests.now c.args.out.now.items (phase.Ready (ready.Connects c.in-Connects.address))) }
+
+pub returns-in-Upgraded : goal.returns-in-Upgraded
+returns-in-Upgraded c =
+    record { looks = rw c.in-Upgraded.is (nothing_given c.args.requests.now c.args.out.now.items (phase.Ready (ready.Upgraded c.in-Upgraded.flow c.in-Upgraded.link))) }
+
 pub returns-in-Over : goal.returns-in-Over
 returns-in-Over c =
     record { looks = rw c.in-Over.is (nothing_given c.args.requests.now c.args.out.now.items (phase.Ready ready.Over)) }

@@ -1,6 +1,7 @@
-use Rattle.std.proofs.Common.{◌≡◌, ℕ, false, List, [], ◌∷◌, ◌++◌, Option, Some, ap, sym, ◌∙◌, subst}
+use Rattle.std.proofs.Common.{◌≡◌, ℕ, false, List, [], ◌∷◌, ◌++◌, Some, ap, refl, sym, ◌∙◌, subst}
 use Rattle.std.specs.Prelude.{OnOk, IfOk}
 use Rattle.std.proofs.lemmas.List.{append-nil}
+use Rattle.std.proofs.lemmas.Result.{on_ok_weaker}
 use Rattle.px_event.specs.declared.command.Command.{Command}
 use Rattle.px_event.specs.Chain.{found}
 use Rattle.px_read.specs.Items.{Item, missing, bad_head, request_item}
@@ -12,9 +13,10 @@ use Rattle.px_read.specs.declared.part.Part.{Part}
 use Rattle.px_read.specs.declared.part.Part.TheVariants as given
 use Rattle.px_stream.specs.declared.phase.Phase.{Phase}
 use Rattle.px_exchange.specs.Finds.{look_head, or_leaves}
-use Rattle.px_stream.specs.Phases.{head_phase, marks_at}
+use Rattle.px_stream.specs.Phases.{head_phase}
 use Rattle.px_stream.proofs.ReadLemmas.{head_shown}
 use Rattle.px_stream.proofs.HeadLemmas.{always, gives_at, phase_at, gives_missing, shows_missing}
+use Rattle.px_stream.proofs.LookingLemmas.{fault_kept, head_kept, missing_kept}
 use Rattle.px_stream.proofs.looking.request.look_for_head.Goals as goal
 
 pub returns-in-Request-clause-gives : goal.returns-in-Request-clause-gives
@@ -37,8 +39,8 @@ returns-in-Request-clause-reads c = λ fed reads.
     let shown : head_in (request_item fed) ≡ Some c.in-Request.head = head_shown (given.Request c.in-Request.head) fed c.args.requests.now reads next in
     let P : Part → Type 0 = λ got. Reads request ([] ++ marks_of got) fed false c.next.new.self in
     let after : Reads request (asks c.in-Request.head ∷ []) fed false c.next.new.self = subst P c.in-Request.is (c.in_ok-head.ensures.reads request [] fed false reads) in
-    let Q : Option RequestHead → Type 0 = λ o. Reads request (marks_at o) fed false c.next.new.self in
-    always c.look_at_head.result (subst Q (sym shown) after)
+    on_ok_weaker c.look_at_head.result
+    (λ behind. head_kept c.args.terms.now.place fed c.in-Request.head c.next.new.self c.look_at_head.new.requests _ shown refl after behind) c.look_at_head.ensures.reads
 
 pub returns-in-Bad-clause-gives : goal.returns-in-Bad-clause-gives
 returns-in-Bad-clause-gives c = λ fed reads.
@@ -61,8 +63,7 @@ returns-in-Bad-clause-reads c = λ fed reads.
     let shown : request_item fed ≡ bad_head c.in-Bad.fault = head_shown (given.Bad c.in-Bad.fault) fed c.args.requests.now reads next in
     let P : Part → Type 0 = λ got. Reads request ([] ++ marks_of got) fed false c.next.new.self in
     let after : Reads request [] fed false c.next.new.self = subst P c.in-Bad.is (c.in_ok-head.ensures.reads request [] fed false reads) in
-    let Q : Item RequestHead → Type 0 = λ item. Reads request (marks_at (head_in item)) fed false c.next.new.self in
-    always c.refuse_head.result (subst Q (sym shown) after)
+    always c.refuse_head.result (fault_kept c.args.terms.now.place fed c.in-Bad.fault c.next.new.self shown after)
 
 pub returns : goal.returns
 returns c =
@@ -78,6 +79,5 @@ returns c =
           subst P (sym (gone fed reads).0) c.wait_for_head.ensures;
       reads = λ fed reads.
           let P : List Mark → Type 0 = λ l. Reads request l fed false c.next.new.self in
-          let Q : Item RequestHead → Type 0 = λ item. Reads request (marks_at (head_in item)) fed false c.next.new.self in
-          subst Q (sym (gone fed reads).0) (subst P (gone fed reads).1 (c.in_ok-head.ensures.reads request [] fed false reads));
+          missing_kept c.args.terms.now.place fed c.next.new.self (gone fed reads).0 (subst P (gone fed reads).1 (c.in_ok-head.ensures.reads request [] fed false reads));
     }

@@ -7,6 +7,7 @@ returns c = record {
   terms = refl;
   numbers = refl;
   client = refl;
+  spare = refl;
   looks = look_as c.args.self.now.terms _ c.args.self.now.numbers _ c.args.ready _ c.args.self.now.requests _ _ c.args.moment _ c.args.self.now.client_closed _ c.args.out.now.items _ _ _
       refl refl refl refl c.now-now.ensures.moment c.now-now.ensures.client (sym c.enter.ensures) c.in_ok-phase.ensures.looks;
 }

@@ -1,9 +1,15 @@
 use Rattle.std.proofs.Common.{refl, arith}
-use Rattle.px_stream.proofs.CallLemmas.{stands_first, stands_first_in_sequence}
+use Rattle.px_stream.specs.Anywhere.{IsNew}
+use Rattle.px_stream.proofs.AnywhereLemmas.{stands_first, stands_first_in_sequence}
 use Rattle.px_stream.proofs.stream.Stream.new.Goals as goal
 
 pub returns-clause-stands : goal.returns-clause-stands
-returns-clause-stands c = stands_first _ refl refl c.request.ensures.state (let small = c.ranges.next_server in omega arith)
+returns-clause-stands c =
+    stands_first _ (record { requests = c.request.ensures.state; client = refl; phase = refl; fits = (let small = c.ranges.next_server in omega arith) }) c.spare_side-spare.ensures (let small = c.ranges.next_server in omega arith)
 
 pub returns-clause-in_sequence : goal.returns-clause-in_sequence
-returns-clause-in_sequence c dials = stands_first_in_sequence _ refl refl c.request.ensures.state (let small = c.ranges.next_server in omega arith) c.requires.few dials
+returns-clause-in_sequence c dials =
+    stands_first_in_sequence _ (record { requests = c.request.ensures.state; client = refl; phase = refl; fits = (let small = c.ranges.next_server in omega arith) }) c.spare_side-spare.ensures (let small = c.ranges.next_server in omega arith) c.requires.few dials
+
+pub returns-clause-new : goal.returns-clause-new
+returns-clause-new c = record { requests = c.request.ensures.state; client = refl; phase = refl; fits = (let small = c.ranges.next_server in omega arith) }

@@ -9,6 +9,16 @@ returns-in-Ready-Finished-clause-of_walk c = λ onward made moves given stands.
     let is : outcomes.Next ≡ outcome_in c.args.self.now.phase = search rules in
     is ∙ outcome_walked onward made c.args.self.now moves given stands
 
+pub returns-in-Ready-Connects-clause-of_walk : goal.returns-in-Ready-Connects-clause-of_walk
+returns-in-Ready-Connects-clause-of_walk c = λ onward made moves given stands.
+    let is : outcomes.Connects ≡ outcome_in c.args.self.now.phase = search rules in
+    is ∙ outcome_walked onward made c.args.self.now moves given stands
+
+pub returns-in-Ready-Upgraded-clause-of_walk : goal.returns-in-Ready-Upgraded-clause-of_walk
+returns-in-Ready-Upgraded-clause-of_walk c = λ onward made moves given stands.
+    let is : outcomes.Upgraded ≡ outcome_in c.args.self.now.phase = search rules in
+    is ∙ outcome_walked onward made c.args.self.now moves given stands
+
 pub returns-in-Ready-Over-clause-of_walk : goal.returns-in-Ready-Over-clause-of_walk
 returns-in-Ready-Over-clause-of_walk c = λ onward made moves given stands.
     let is : outcomes.Over ≡ outcome_in c.args.self.now.phase = search rules in

@@ -1,0 +1,79 @@
+-- The machine beside a longer chain, which flows in sequence are a part of: what a call does wherever it stands. So whoever goes on
+-- from flows to something else, over the same events, has the calls of a stream for the part that is theirs.
+use Rattle.std.specs.Prelude.{◌≡◌, ◌≤◌, ℕ, Bool, false, List, [], ◌++◌, drop, length}
+use Rattle.px_event.specs.declared.command.Command.{Command}
+use Rattle.px_event.specs.declared.event.Event.{Event}
+use Rattle.px_event.specs.declared.reply.Reply.{Reply}
+use Rattle.px_event.specs.declared.side.Side.TheVariants.{Client}
+use Rattle.px_event.specs.Chain.{Timed}
+use Rattle.px_event.specs.Laws.{owed_over}
+use Rattle.px_event.specs.View.{View, seen_of}
+use Rattle.px_event.proofs.Steps.{Takes, Resumes}
+use Rattle.px_read.specs.Reader.{before_all, request}
+use Rattle.px_exchange.specs.declared.terms.Terms.{Terms}
+use Rattle.px_chain.specs.Chain.{http_chain, sequence}
+use Rattle.px_chain.specs.Sights.{IsWithin, Standing, unused_over}
+use Rattle.px_chain.specs.Stages.{At, idle}
+use Rattle.px_chain.specs.Streams.{bytes_of, client_closed, now_over}
+use Rattle.px_stream.specs.declared.phase.Phase.TheVariants as phase
+use Rattle.px_stream.specs.declared.phase.Wanted.TheVariants as ready
+use Rattle.px_stream.specs.declared.stream.Stream.{Stream}
+use Rattle.px_stream.specs.Sequence.{IsCounted, IsInSequence}
+use Rattle.px_stream.specs.Stands.{IsSpare}
+
+-- it stands where some walk over flows in sequence stopped
+abbrev pub Somewhere : Stream → Type 0
+Somewhere state = (made : Terms) × (ahead : ℕ) × (place : Standing) × (prefix : List (Timed Event)) × IsInSequence made ahead state place prefix
+
+-- It took an event: wherever it stood, it goes one event on, or has ended.
+pub record TakesAnywhere (before after : Stream) (moment : ℕ) (event : Event) (out longer : List Command) : Type 0 where
+  pub more : List Command
+  pub grown : longer ≡ out ++ more
+  pub takes : (made : Terms) (ahead : ℕ) (place : Standing) (prefix : List (Timed Event)) → IsInSequence made ahead before place prefix →
+      Takes (http_chain sequence made) (IsInSequence made ahead) after moment event more place prefix
+
+-- And a reply.
+pub record ResumesAnywhere (before after : Stream) (moment : ℕ) (reply : Reply) (out longer : List Command) : Type 0 where
+  pub more : List Command
+  pub grown : longer ≡ out ++ more
+  pub resumes : (made : Terms) (ahead : ℕ) (place : Standing) (prefix : List (Timed Event)) → IsInSequence made ahead before place prefix →
+      Resumes (http_chain sequence made) (IsInSequence made ahead) after moment reply more place prefix
+
+-- ---- a stream that begins where others have been
+
+-- it was handed nothing yet
+pub record IsNew (state : Stream) : Type 0 where
+  pub requests : state.requests ≡ before_all request [] false
+  pub client : state.client_closed ≡ false
+  pub phase : state.phase ≡ phase.Ready ready.Idle
+  -- a server's number is one of 32 bits
+  pub fits : state.numbers.server ≤ 4294967295
+
+-- A new stream may begin at this place and over this prefix, where a request is awaited: it was made for it, these are the client's
+-- bytes that were not used before, and it is known whether the client has closed.
+pub record MayBegin (made : Terms) (ahead : ℕ) (state : Stream) (moment : ℕ) (closed : Bool) (rest : List ℕ) (place : Standing) (prefix : List (Timed Event)) : Type 0 where
+  pub terms : state.terms ≡ made
+  pub at : At
+  pub stage : place.stage ≡ idle at
+  pub flow : state.numbers.flow ≡ at.flow
+  pub server : state.numbers.server ≡ at.dials
+  pub few : IsCounted ahead at
+  pub small : ahead ≤ 1
+  pub used : at.used ≤ length (bytes_of Client prefix)
+  pub come : drop at.used (bytes_of Client prefix) ≡ rest
+  pub client : client_closed prefix ≡ closed
+  -- of the spare side nothing was heard
+  pub spare : IsSpare (unused_over place.spare prefix) state.spare
+  pub within : IsWithin place prefix
+  pub now : moment ≡ now_over place.since prefix
+
+-- It heard them and looked once: it is where the chain is there, and gave what is owed there.
+pub record BeginsThere (made : Terms) (ahead : ℕ) (after : Stream) (more : List Command) (place : Standing) (prefix : List (Timed Event)) : Type 0 where
+  pub is_there : IsInSequence made ahead after ((http_chain sequence made).pass place prefix).stage prefix
+  pub gives : (view : View) → seen_of view more ≡ seen_of view (owed_over (http_chain sequence made) place prefix)
+
+pub record Begins (before after : Stream) (moment : ℕ) (closed : Bool) (rest : List ℕ) (out longer : List Command) : Type 0 where
+  pub more : List Command
+  pub grown : longer ≡ out ++ more
+  pub begins : (made : Terms) (ahead : ℕ) (place : Standing) (prefix : List (Timed Event)) → MayBegin made ahead before moment closed rest place prefix →
+      BeginsThere made ahead after more place prefix
