@@ -20,11 +20,11 @@ use Rattle.px_http.specs.declared.conversation.HttpConv.{HttpConv}
 use Rattle.px_http.specs.Stands.{HttpStands, chain_of, start_at}
 
 -- the number is of a flow of the conversation
-abbrev OfConversation : ℕ → FlowId → Type 0
+abbrev pub OfConversation : ℕ → FlowId → Type 0
 OfConversation conv id = id.conv ≡ conv
 
 -- what asks nothing names the conversation
-quiet_named : (conv : ℕ) (l : List Command) → AllQuiet (OfConversation conv) l → AllNamed conv l
+pub quiet_named : (conv : ℕ) (l : List Command) → AllQuiet (OfConversation conv) l → AllNamed conv l
 quiet_named conv [] all = tt
 quiet_named conv (commands.Send side bytes ∷ rest) (here, all) = (tt, quiet_named conv rest all)
 quiet_named conv (commands.Close side ∷ rest) (here, all) = (tt, quiet_named conv rest all)
@@ -47,7 +47,7 @@ look_named conv (Asks ask) is = (ask_named conv ask is, tt)
 look_named conv (Ends owed) is = quiet_named conv owed is
 
 -- the flow of a place is the conversation's
-abbrev IsOfIts : Terms → Standing → Type 0
+abbrev pub IsOfIts : Terms → Standing → Type 0
 IsOfIts terms place = IsOf terms (OfConversation terms.conv) place.stage
 
 -- and so is the next one
@@ -68,7 +68,7 @@ turned terms (busy at flow doing) seen answer is = let led = turn_led terms (OfC
 turned terms (next at) seen answer is = (tt, tt)
 turned terms over seen answer is = (tt, tt)
 
-stays : (terms : Terms) → StaysNamed terms.conv (http_chain sequence terms) (IsOfIts terms)
+pub stays : (terms : Terms) → StaysNamed terms.conv (http_chain sequence terms) (IsOfIts terms)
 stays terms = record {
   pass = λ place prefix is. (tt, pass_of terms (OfConversation terms.conv) place.stage (sight_over place prefix) is);
   look = λ place prefix is. look_named terms.conv (look terms place.stage (sight_over place prefix)) (looks_quiet (OfConversation terms.conv) terms place.stage (sight_over place prefix) is);

@@ -10,12 +10,12 @@ use Rattle.px_event.specs.Laws.{Settles, SoFarGrows}
 use Rattle.px_event.specs.Layer.{Move, IsSound, Goes}
 use Rattle.px_event.specs.Stands.{StandsAt, AwaitsWhatItAsks, EndsWhereItEnds, stop_of}
 use Rattle.px_event.specs.View.{View, seen_of}
-use Rattle.px_chain.specs.Chain.{begin, http_chain, sequence}
+use Rattle.px_chain.specs.Chain.{http_chain, sequence}
 use Rattle.px_chain.proofs.ChainLaws.{settles, so_far_grows}
 use Rattle.px_chain.specs.Sights.{Sight, Standing, sight_over}
-use Rattle.px_stream.specs.Sequence.{IsInSequence, Stands, StandsInSequence}
-use Rattle.px_chain.specs.Stages.{Stage, idle}
-use Rattle.px_stream.specs.Stands.{is_last, start_of}
+use Rattle.px_stream.specs.Sequence.{IsInSequence, Stands, StandsInSequence, ahead_of, first_of}
+use Rattle.px_chain.specs.Stages.{Stage}
+use Rattle.px_stream.specs.Stands.{is_last}
 use Rattle.px_stream.specs.Stands as flows
 use Rattle.px_stream.specs.StateLaws.{awaits_what_it_asks, ends_where_it_ends}
 use Rattle.px_http.specs.declared.conversation.HttpConv.{HttpConv}
@@ -32,7 +32,7 @@ abbrev pub chain_of : HttpConv → Chain Standing Event Reply Command
 chain_of made = http_chain sequence made.stream.terms
 
 abbrev pub start_at : HttpConv → Standing
-start_at made = begin (idle (start_of made.stream.numbers))
+start_at made = first_of made.stream
 
 abbrev pub stop_at : HttpConv → List Move → Stop Standing Event Reply Command
 stop_at made moves = stop_of (chain_of made) (start_at made) moves
@@ -46,7 +46,7 @@ seen_at made moves = sight_over (stop_at made moves).stage (stop_at made moves).
 
 -- what the fields are, where the walk stopped
 abbrev pub is_there : HttpConv → HttpConv → Standing → List (Timed Event) → Type 0
-is_there made state place prefix = IsInSequence made.stream.terms state.stream place prefix
+is_there made state place prefix = IsInSequence made.stream.terms (ahead_of made.stream.numbers) state.stream place prefix
 
 pub stands_there : (made state : HttpConv) (moves : List Move) (given : List Command) → HttpStands made state moves given → StandsAt (chain_of made) (start_at made) (is_there made) state moves given
 stands_there made state moves given stands = record { place = stands.place; used = stands.used; seen = stands.seen; gave = stands.gave }

@@ -1,10 +1,9 @@
 //! What is due of a conversation is a chain of stages, and names this conversation alone.
 ghost use Rattle.px_http.specs.Names.{http_names, keeps_number};
 ghost use Rattle.px_http.specs.Stands.{asks_there, ends_there, grows_there, is_there, settles_there, stands_there};
-ghost use Rattle.px_chain.specs.Chain.{begin, http_chain, sequence};
+ghost use Rattle.px_chain.specs.Chain.{http_chain, sequence};
 ghost use Rattle.px_chain.specs.Sights.{Standing};
-ghost use Rattle.px_chain.specs.Stages.{idle};
-ghost use Rattle.px_stream.specs.Stands.{start_of};
+ghost use Rattle.px_stream.specs.Sequence.{first_of};
 
 use crate::HttpConv;
 use px_core::Numbered;
@@ -15,7 +14,7 @@ impl Chained for HttpConv {
 
     ghost chain = { λ made. http_chain sequence made.stream.terms };
 
-    ghost start = { λ made. begin (idle (start_of made.stream.numbers)) };
+    ghost start = { λ made. first_of made.stream };
 
     ghost is_at = { is_there };
 

@@ -1,18 +1,22 @@
 //! A conversation: one flow after the other.
-ghost use Rattle.std.specs.Prelude.{◌≡◌, ◌≤◌, ◌<◌, ◌+◌, List, [], None, IfOk};
-ghost use Rattle.px_event.specs.Layer.{Move};
+ghost use Rattle.std.specs.Prelude.{◌≡◌, ◌≤◌, ◌<◌, ◌+◌, List, [], None, IfOk, OnOk, option_map};
+ghost use Rattle.px_event.specs.Layer.{AsksOnly, MayAnswer, Move};
 ghost use Rattle.px_event.specs.declared.command.Command.{Command as GivenCommand};
 ghost use Rattle.px_http.specs.Stands.{HttpStands, awaits, seen_at, stage_at};
 ghost use Rattle.px_chain.specs.Chain.{look};
-ghost use Rattle.px_exchange.specs.Places.{IsDialled, terms_of};
-ghost use Rattle.px_stream.specs.Rests.{LeavesRests, phase_rest};
-ghost use Rattle.px_stream.specs.Sequence.{is_end, outcome_at, outcome_in};
+ghost use Rattle.px_exchange.specs.Places.{IsDirect, terms_of};
+ghost use Rattle.px_stream.specs.Anywhere.{Begins, IsNew, ResumesAnywhere, Somewhere, TakesAnywhere};
+ghost use Rattle.px_stream.specs.Left.{sequence_left};
+ghost use Rattle.px_stream.specs.Phases.{spare_at};
+ghost use Rattle.px_stream.specs.Rests.{LeavesRests, phase_flow, phase_rest};
+ghost use Rattle.px_stream.specs.Sequence.{IsSideBelow, asked_tunnel, is_end, open_spare, outcome_at, outcome_in, upgraded_side};
 ghost use Rattle.px_stream.specs.Stands.{is_last};
 
 use px_event::{Ask, Command, Event, Layer, Reply, Rests};
+use px_exchange::ending::Used;
 use px_message::{Address, Flow, FlowId};
-use px_stream::{Outcome, Place, Stream};
-use px_text::NoMemory;
+use px_stream::{Numbers, Outcome, Place, Stream};
+use px_text::{Bytes, NoMemory};
 use std::alloc::Global;
 
 /// The flows of one client's connection.
@@ -23,9 +27,10 @@ pub struct HttpConv {
 
 impl HttpConv {
     /// A conversation of this number, of a client there, whose requests go to this place. Its first flow has the index
-    /// `first_flow`, and its first server is dialled as the one of number `next_server`.
+    /// `first_flow`, and the next server that it dials is the one of number `next_server`. Where a side of the place is connected
+    /// already, its number is below that one.
     ///
-    /// It stands for itself by no moves, has given nothing and awaits nothing.
+    /// It stands for itself by no moves, has given nothing and awaits nothing; it was handed nothing, so it may `begin`.
     pub fn new(
         alloc: Global,
         conv: u32,
@@ -36,10 +41,13 @@ impl HttpConv {
     ) -> HttpConv
         requires few { first_flow < 1000000 }
         requires dials { next_server ≤ first_flow + 1 }
-        requires dialled { IsDialled place }
+        requires direct { IsDirect place }
+        requires side { IsSideBelow place next_server }
         ensures stands { HttpStands result result [] [] }
         ensures terms { result.stream.terms ≡ terms_of conv client place }
         ensures numbers { result.stream.numbers ≡ record { flow = first_flow; server = next_server } }
+        ensures spare { result.stream.spare ≡ spare_at place }
+        ensures new { IsNew result.stream }
         ensures free { awaits result ≡ None }
     {
         let id = FlowId {
@@ -51,29 +59,115 @@ impl HttpConv {
         }
     }
 
-    /// What became of the conversation: `Over` exactly where it has ended, else `Going`, since behind a finished flow the
-    /// next one begins.
+    /// What became of the conversation: `Connects` where a CONNECT was read that asks for a tunnel, `Upgraded` where a response of
+    /// code 101 was sent, `Over` where it has ended, and else `Going`, since behind a finished flow the next one begins.
     pub fn outcome(&self) -> Outcome
         ensures phase { result ≡ outcome_in self.now.stream.phase }
         ensures ended { is_last self.now.stream.phase ≡ is_end result }
         ensures of_walk { (made : HttpConv) (moves : List Move) (given : List GivenCommand) → HttpStands made self.now moves given →
-            result ≡ outcome_at (look made.stream.terms (stage_at made moves) (seen_at made moves)) (stage_at made moves) }
+            result ≡ outcome_at made.stream.terms.place (look made.stream.terms (stage_at made moves) (seen_at made moves)) (stage_at made moves) (seen_at made moves) }
     {
         self.stream.outcome()
     }
 
-    /// The bytes that its flows did not use, of the client and of the present flow's server side; and the flow, where a
-    /// protocol follows it on the same connection, which none does yet.
+    /// Where a CONNECT asks for a tunnel to: exactly where the outcome is `Connects`.
+    pub fn connects(&self) -> Option<&Address>
+        ensures { option_map (λ address. address.now) result ≡ asked_tunnel self.now.stream.phase }
+    {
+        self.stream.connects()
+    }
+
+    /// The server's side on which another protocol follows: exactly where the outcome is `Upgraded`.
+    pub fn upgraded(&self) -> Option<Used>
+        ensures { result ≡ upgraded_side self.now.stream.phase }
+    {
+        self.stream.upgraded()
+    }
+
+    /// The numbers of the next flow and of the next server.
+    pub fn numbers(&self) -> Numbers
+        ensures { result ≡ self.now.stream.numbers }
+    {
+        self.stream.numbers()
+    }
+
+    /// Whether the client has closed.
+    pub fn client_closed(&self) -> bool
+        ensures { result ≡ self.now.stream.client_closed }
+    {
+        self.stream.client_closed()
+    }
+
+    /// The number of the side that was connected before and that no flow has used, if there is one and its server has not closed.
+    pub fn spare(&self) -> Option<u32>
+        ensures { result ≡ open_spare self.now.stream.spare }
+    {
+        self.stream.spare()
+    }
+
+    /// Hears what the client sent behind what others read of it, before this conversation was made, and looks once; `closed` is
+    /// whether the client has closed. One that was handed something already may not begin so.
     ///
-    /// Behind a whole message they are exactly the side's bytes behind it; while one is read, those from where its reader
-    /// stands. Of the server there are none where the flow has no side of it.
+    /// It is then where the chain of flows in sequence is that begins there, over all events, and gave what is owed there.
+    pub fn begin(
+        &mut self,
+        moment: u64,
+        closed: bool,
+        rest: &Bytes,
+        out: &mut Vec<Command>,
+    ) -> Result<(), NoMemory>
+        requires new { IsNew self.old.stream }
+        ensures begins { OnOk result (Begins self.old.stream self.new.stream moment closed rest.now out.old.items out.new.items) }
+        ensures asks { OnOk result (AsksOnly (awaits self.new) out.old.items out.new.items) }
+        ensures left { OnOk result (sequence_left self.new.stream ≤ sequence_left self.old.stream) }
+    {
+        self.stream.begin(moment, closed, rest, out)
+    }
+
+    /// Takes an event as `take`, wherever in a longer chain it stands that flows in sequence are a part of.
+    pub fn take_anywhere(
+        &mut self,
+        moment: u64,
+        event: Event,
+        out: &mut Vec<Command>,
+    ) -> Result<(), NoMemory>
+        requires somewhere { Somewhere self.old.stream }
+        requires free { awaits self.old ≡ None }
+        ensures takes { OnOk result (TakesAnywhere self.old.stream self.new.stream moment event out.old.items out.new.items) }
+        ensures asks { OnOk result (AsksOnly (awaits self.new) out.old.items out.new.items) }
+        ensures left { OnOk result (sequence_left self.new.stream ≤ sequence_left self.old.stream) }
+    {
+        self.stream.take_anywhere(moment, event, out)
+    }
+
+    /// Takes the reply to what is awaited as `resume`, wherever in a longer chain it stands that flows in sequence are a part of.
+    pub fn resume_anywhere(
+        &mut self,
+        moment: u64,
+        reply: Reply,
+        out: &mut Vec<Command>,
+    ) -> Result<(), NoMemory>
+        requires somewhere { Somewhere self.old.stream }
+        requires answers { MayAnswer (awaits self.old) reply }
+        ensures resumes { OnOk result (ResumesAnywhere self.old.stream self.new.stream moment reply out.old.items out.new.items) }
+        ensures asks { OnOk result (AsksOnly (awaits self.new) out.old.items out.new.items) }
+        ensures left { OnOk result (sequence_left self.new.stream < sequence_left self.old.stream) }
+    {
+        self.stream.resume_anywhere(moment, reply, out)
+    }
+
+    /// The bytes that its flows did not use, of the client and of the present flow's server side; and the flow, exactly where the
+    /// outcome is `Upgraded`: another protocol follows it on the same connections.
+    ///
+    /// Behind a whole message they are exactly the side's bytes behind it, also behind a CONNECT and behind a response of code 101;
+    /// while one is read, those from where its reader stands. Of the server there are none where the flow has no side of it.
     pub fn into_rests(self) -> Result<(Rests, Option<Flow>), NoMemory>
         ensures client { IfOk result (λ left. left.0.client ≡ self.stream.requests.rest) }
         ensures server { IfOk result (λ left. left.0.server ≡ phase_rest self.stream.phase) }
-        ensures flow { IfOk result (λ left. left.1 ≡ None) }
+        ensures flow { IfOk result (λ left. left.1 ≡ phase_flow self.stream.phase) }
         ensures behind { (made : HttpConv) (moves : List Move) (given : List GivenCommand) → HttpStands made self moves given →
-            IfOk result (λ left. LeavesRests (look made.stream.terms (stage_at made moves) (seen_at made moves)) (stage_at made moves) (seen_at made moves)
-            left.0.client left.0.server) }
+            IfOk result (λ left. LeavesRests made.stream.terms.place (look made.stream.terms (stage_at made moves) (seen_at made moves)) (stage_at made moves)
+            (seen_at made moves) left.0.client left.0.server left.1) }
     {
         self.stream.into_rests()
     }

@@ -54,7 +54,7 @@ seen_sent : (view : View) (side : Side) (text : List ℕ) → seen_of view (sent
 seen_sent view side [] = sym (seen_empty view side)
 seen_sent view side (first ∷ text) = refl
 
-seen_given : (view : View) (server : ℕ) (rests : Rests) (event : Event) → seen_of view (given_for server rests event)
+pub seen_given : (view : View) (server : ℕ) (rests : Rests) (event : Event) → seen_of view (given_for server rests event)
     ≡ seen_of view (both_ways server (brought Client rests event) (brought (Server server) rests event)) ++ seen_of view (closing (left_alone server event))
 seen_given view server rests event =
     let up : List ℕ = brought Client rests event in

@@ -18,7 +18,8 @@
 //!
 //! A tunnel asks nothing, so no reply ever comes to it, and it is no `Layer` by itself: nothing could call its `resume`. A
 //! layer that turns into a tunnel holds one and calls `take`, which has `goes` and `asks` of `Layer::take`; its chain goes on
-//! with this one, by the same laws (`laws`).
+//! with this one, by the same laws (`laws`). One whose chain has a stage of its own for tunnels (px_stack) calls `go_on`, which
+//! says what one event has the tunnel give.
 #![tactic(auto)]
 
 pub mod laws;

@@ -28,6 +28,7 @@ impl RawTunnel {
         ensures ok { IsOk result }
         ensures server { IfOk result (λ made. server_of made ≡ server) }
         ensures rests { IfOk result (λ made. rests_of made ≡ rests) }
+        ensures open { IfOk result (λ made. has_ended made ≡ false) }
         ensures stands { IfOk result (λ made. TunnelStands made made [] []) }
     {
         Ok(RawTunnel {
@@ -50,6 +51,23 @@ impl RawTunnel {
         Ok(())
     }
 
+    /// Takes an event, where no side has closed, for a layer whose own chain goes on with this one: what it gives hangs on the event and
+    /// on what is left of the sides alone. After `NoMemory` the tunnel may only be dropped.
+    pub fn go_on(&mut self, event: &Event, out: &mut Vec<Command>) -> Result<(), NoMemory>
+        requires { has_ended self.old ≡ false }
+        ensures server { server_of self.new ≡ server_of self.old }
+        ensures rests { OnOk result (rests_of self.new ≡ left_behind (rests_of self.old) event.now) }
+        ensures closed { OnOk result (has_ended self.new ≡ is_alone (left_alone (server_of self.old) event.now)) }
+        ensures gives { OnOk result (out.new.items ≡ out.old.items ++ given_for (server_of self.old) (rests_of self.old) event.now) }
+    {
+        match event {
+            Event::Begun => self.begin(out),
+            Event::Piece { side, bytes } => self.hand_on(*side, bytes, out),
+            Event::Closed { side } => self.close_across(*side, out),
+            Event::Answered { .. } => Ok(()),
+        }
+    }
+
     /// How many bytes it keeps, or 2^64 - 1 where that is more.
     pub fn kept(&self) -> usize
         ensures { result ≡ min (kept_in self.now) (2 ^ 64 - 1) }
@@ -65,22 +83,6 @@ impl RawTunnel {
         ensures { result ≡ has_ended self.now }
     {
         self.closed
-    }
-
-    /// Takes an event, where no side has closed.
-    fn go_on(&mut self, event: &Event, out: &mut Vec<Command>) -> Result<(), NoMemory>
-        requires { self.old.closed ≡ false }
-        ensures server { self.new.server ≡ self.old.server }
-        ensures rests { OnOk result (self.new.rests ≡ left_behind self.old.rests event.now) }
-        ensures closed { OnOk result (self.new.closed ≡ is_alone (left_alone self.old.server event.now)) }
-        ensures gives { OnOk result (out.new.items ≡ out.old.items ++ given_for self.old.server self.old.rests event.now) }
-    {
-        match event {
-            Event::Begun => self.begin(out),
-            Event::Piece { side, bytes } => self.hand_on(*side, bytes, out),
-            Event::Closed { side } => self.close_across(*side, out),
-            Event::Answered { .. } => Ok(()),
-        }
     }
 
     /// Sends what was left of both sides, the client's first.

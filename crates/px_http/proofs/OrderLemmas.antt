@@ -22,10 +22,8 @@ use Rattle.px_chain.specs.Sights.{Sight, Standing, request_in, sight_over}
 use Rattle.px_exchange.specs.Finds.{or_leaves}
 use Rattle.px_chain.specs.Left.{stage_left}
 use Rattle.px_chain.proofs.Quiet.{AllQuiet, EndsNone, IsAskOf, IsBehind, IsOf, LooksQuiet, no_flow}
-use Rattle.px_chain.specs.Stages.{At, Doing, Stage, busy, connection, given_body, given_head, idle, next, over, place_of, request_body, response_body, response_head}
+use Rattle.px_chain.specs.Stages.{At, Doing, Stage, busy, connection, given_body, given_head, idle, next, over, place_of, request_body, response_body, response_head, upgraded}
 use Rattle.px_chain.proofs.QuietLemmas.{IsGoing, looks_quiet, so_far_quiet, turn_led}
-use Rattle.px_http.specs.declared.conversation.HttpConv.{HttpConv}
-use Rattle.px_http.specs.Stands.{chain_of, start_at}
 
 -- ---- the tests
 
@@ -178,6 +176,7 @@ module _ (here : ℕ) (owed : List Command) where
     leads_past (busy at flow connection) behind is none = goes_on at flow connection behind.0.0 is none
     leads_past (busy at flow (response_head side how)) behind is none = goes_on at flow (response_head side how) behind.0.0 is none
     leads_past (busy at flow (response_body side how)) behind is none = goes_on at flow (response_body side how) behind.0.0 is none
+    leads_past (busy at flow (upgraded side)) behind is none = goes_on at flow (upgraded side) behind.0.0 is none
     leads_past (busy at flow given_head) behind is none = goes_on at flow given_head behind.0.0 is none
     leads_past (busy at flow given_body) behind is none = goes_on at flow given_body behind.0.0 is none
     leads_past (next at) behind is none = record {
@@ -267,6 +266,7 @@ module _ (terms : Terms) where
   passes (busy at flow connection) seen is = stays (busy at flow connection) is
   passes (busy at flow (response_head side how)) seen is = stays (busy at flow (response_head side how)) is
   passes (busy at flow (response_body side how)) seen is = stays (busy at flow (response_body side how)) is
+  passes (busy at flow (upgraded side)) seen is = stays (busy at flow (upgraded side)) is
   passes (busy at flow given_head) seen is = stays (busy at flow given_head) is
   passes (busy at flow given_body) seen is = stays (busy at flow given_body) is
   passes (next at) seen is = stays (next at) is
@@ -291,6 +291,3 @@ module _ (terms : Terms) where
   -- What is due of them asks no hook of a flow behind its end.
   pub ordered_from : (at : At) (moves : List Move) → AsksBeforeEnds (due_by (http_chain sequence terms) (begin (idle at)) moves)
   ordered_from at moves = leaving_ordered (http_chain sequence terms) is_counted_at is_past_at leaves_flows (begin (idle at)) refl (events_in 1 moves) (replies_in 1 moves)
-
-pub http_ordered : (made : HttpConv) (moves : List Move) → AsksBeforeEnds (due_by (chain_of made) (start_at made) moves)
-http_ordered made moves = ordered_from made.stream.terms _ moves
