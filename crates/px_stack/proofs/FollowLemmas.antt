@@ -1,0 +1,476 @@
+-- What follows HTTP is where the chain is, and gives what it owes beside what HTTP did.
+use Rattle.std.proofs.Common.{◌≡◌, inl, inr, ℕ, ◌+◌, ◌<◌, ◌≤◌, Bool, true, false, List, [], ◌∷◌, ◌++◌, length, drop, Option, Some, None, refl, ap, sym, ◌∙◌, subst, append_assoc, arith, zero-add}
+use Rattle.std.specs.Prelude.{◌⊎◌, Result, Ok, Err, IfOk, OnOk}
+use Rattle.std.specs.Global.{Box}
+use Rattle.std.proofs.lemmas.List.{append-nil}
+use Rattle.px_message.specs.declared.address.Address.{Address}
+use Rattle.px_message.specs.declared.flow.Flow.{Flow}
+use Rattle.px_event.specs.declared.command.Command.{Command}
+use Rattle.px_event.specs.declared.command.Command.TheVariants as commands
+use Rattle.px_event.specs.declared.event.Event.{Event}
+use Rattle.px_event.specs.declared.event.Rests.{Rests}
+use Rattle.px_event.specs.Chain.{Timed, Look, NotYet, Asks, Ends, found}
+use Rattle.px_event.specs.Laws.{owed_here, owed_over}
+use Rattle.px_event.specs.View.{View, seen_of}
+use Rattle.px_event.proofs.Seen.{seen_append}
+use Rattle.px_read.specs.Reader.{State}
+use Rattle.px_exchange.specs.declared.ending.Used.{Used}
+use Rattle.px_exchange.specs.declared.ending.Used.TheVariants.{ByServer}
+use Rattle.px_exchange.specs.declared.outcome.Outcome.{Outcome}
+use Rattle.px_exchange.specs.declared.outcome.Outcome.TheVariants as outcomes
+use Rattle.px_exchange.specs.declared.place.Place.{Place}
+use Rattle.px_exchange.specs.declared.place.Place.TheVariants as places
+use Rattle.px_exchange.specs.declared.terms.Terms.{Terms}
+use Rattle.px_exchange.specs.Places.{terms_of}
+use Rattle.px_chain.specs.Chain.{Connect, connect_in, look, sequence, so_far, used_more}
+use Rattle.px_chain.specs.Sights.{Sight, Spare, Standing, Unused, request_in, sight_over, unused_over}
+use Rattle.px_chain.specs.Stages.{At, ServerSide, busy, connection, given_body, given_head, idle, next, request_body, response_body, response_head, upgraded}
+use Rattle.px_chain.specs.Stages as stages
+use Rattle.px_chain.specs.Streams.{Since, bytes_of, client_closed}
+use Rattle.px_http.specs.declared.conversation.HttpConv.{HttpConv}
+use Rattle.px_stream.specs.declared.link.Link.{Link}
+use Rattle.px_stream.specs.declared.phase.Phase.{Phase}
+use Rattle.px_stream.specs.declared.phase.Phase.TheVariants as phase
+use Rattle.px_stream.specs.declared.phase.Wanted.{Wanted}
+use Rattle.px_stream.specs.declared.phase.Wanted.TheVariants as ready
+use Rattle.px_stream.specs.Left.{sequence_left}
+use Rattle.px_stream.specs.Rests.{phase_flow, phase_rest}
+use Rattle.px_stream.specs.Sequence.{IsCounted, IsInSequence, asked_tunnel, open_spare, outcome_in, unless_closed, upgraded_side}
+use Rattle.px_stream.specs.Stands.{IsConnecting as IsTunnelAsked, IsLast, IsLastAt, IsSpare, IsUpgraded, KeepsBehind, PhaseAt, is_last}
+use Rattle.px_stream.specs.StateLaws.{ends_where_it_ends}
+use Rattle.px_stack.specs.declared.child.Child.{Child}
+use Rattle.px_stack.specs.declared.child.Child.TheVariants as children
+use Rattle.px_stack.specs.declared.child.Opening.{Opening}
+use Rattle.px_stack.specs.declared.closing.Sides.{Sides}
+use Rattle.px_stack.specs.Chain.{flows_at, hands_by, hands_over, opening_text, or_stays, shut_unused, stack_chain, tunnel_for, with_closes}
+use Rattle.px_stack.specs.Kept.{connecting_left, left_by, shut_open, tunnel_left}
+use Rattle.px_stack.specs.Laws.{hands, never_connects}
+use Rattle.px_stack.specs.Stages.{Ends as TunnelEnds, Stage, Tunnel, connecting, http, over, raw}
+use Rattle.px_stack.specs.Stands.{IsChild, IsConnecting, IsHttp, IsInFlows, IsOpening, KeepsBy, ahead_at, open_unused, unless_shut}
+use Rattle.px_stack.specs.Steps.{Arrives, Follows, FollowsAt, MayRelay, Relays}
+
+-- ---- what became of HTTP
+
+-- it goes on, or not
+going_on : (found : Phase) → outcome_in found ≡ outcomes.Going → is_last found ≡ true → ⊥
+going_on (phase.Asked awaits) is last = let no : false ≡ true = last in cc
+going_on (phase.Ready ready.Finished) is last = let no : outcomes.Next ≡ outcomes.Going = is in cc
+going_on (phase.Ready ready.Over) is last = let no : outcomes.Over ≡ outcomes.Going = is in cc
+going_on (phase.Ready (ready.Connects address)) is last = let no : outcomes.Connects ≡ outcomes.Going = is in cc
+going_on (phase.Ready (ready.Upgraded flow link)) is last = let no : outcomes.Upgraded ≡ outcomes.Going = is in cc
+going_on (phase.Ready ready.Idle) is last = let no : false ≡ true = last in cc
+going_on (phase.Ready (ready.Receiving flow given body)) is last = let no : false ≡ true = last in cc
+going_on (phase.Ready (ready.Dialling flow)) is last = let no : false ≡ true = last in cc
+going_on (phase.Ready (ready.Answering flow link)) is last = let no : false ≡ true = last in cc
+going_on (phase.Ready (ready.Returning flow link body)) is last = let no : false ≡ true = last in cc
+going_on (phase.Ready (ready.GivenHead flow)) is last = let no : false ≡ true = last in cc
+going_on (phase.Ready (ready.GivenBody flow)) is last = let no : false ≡ true = last in cc
+
+-- every outcome but `Going` is a last one
+last_when : (found : Phase) → (outcome_in found ≡ outcomes.Going → ⊥) → is_last found ≡ true
+last_when (phase.Asked awaits) ends = absurd (ends refl)
+last_when (phase.Ready ready.Finished) ends = refl
+last_when (phase.Ready ready.Over) ends = refl
+last_when (phase.Ready (ready.Connects address)) ends = refl
+last_when (phase.Ready (ready.Upgraded flow link)) ends = refl
+last_when (phase.Ready ready.Idle) ends = absurd (ends refl)
+last_when (phase.Ready (ready.Receiving flow given body)) ends = absurd (ends refl)
+last_when (phase.Ready (ready.Dialling flow)) ends = absurd (ends refl)
+last_when (phase.Ready (ready.Answering flow link)) ends = absurd (ends refl)
+last_when (phase.Ready (ready.Returning flow link body)) ends = absurd (ends refl)
+last_when (phase.Ready (ready.GivenHead flow)) ends = absurd (ends refl)
+last_when (phase.Ready (ready.GivenBody flow)) ends = absurd (ends refl)
+
+-- where it ended, how
+pub data EndsAs (place : Place) (standing : Standing) (stage : stages.Stage) (seen : Sight) (requests : State) (found : Phase) : Type 0 where
+  by_connect : (at : At) (connects : Connect) → stage ≡ idle at → connect_in place (request_in at seen) ≡ Some connects →
+      (last : Wanted) → found ≡ phase.Ready last → IsTunnelAsked at seen requests connects last → EndsAs place standing stage seen requests found
+  by_upgrade : (at : At) (flow : Flow) (side : ServerSide) → stage ≡ busy at flow (upgraded side) →
+      (last : Wanted) → found ≡ phase.Ready last → IsUpgraded at seen requests flow side last → EndsAs place standing stage seen requests found
+  by_end : hands_by place standing stage seen ≡ None → (last : Wanted) → found ≡ phase.Ready last → outcome_in (phase.Ready last) ≡ outcomes.Over → EndsAs place standing stage seen requests found
+  by_next : hands_by place standing stage seen ≡ None → (last : Wanted) → found ≡ phase.Ready last → outcome_in (phase.Ready last) ≡ outcomes.Next → EndsAs place standing stage seen requests found
+
+over_as : (place : Place) (standing : Standing) (stage : stages.Stage) (seen : Sight) (requests : State) (found : Phase) (last : Wanted) → hands_by place standing stage seen ≡ None →
+    found ≡ phase.Ready last → last ≡ ready.Over → EndsAs place standing stage seen requests found
+over_as place standing stage seen requests found last stays same is = by_end stays last same (ap (λ r. outcome_in (phase.Ready r)) is)
+
+idle_as : (place : Place) (standing : Standing) (at : At) (seen : Sight) (requests : State) (found : Phase) (last : Wanted) (connects : Option Connect) →
+    connect_in place (request_in at seen) ≡ connects → found ≡ phase.Ready last → IsLastAt connects at seen requests last → EndsAs place standing (idle at) seen requests found
+idle_as place standing at seen requests found last None is same ends =
+    over_as place standing (idle at) seen requests found last (ap (tunnel_for at) is) same ends
+idle_as place standing at seen requests found last (Some connects) is same ends = by_connect at connects refl is last same ends
+
+ends_as : (terms : Terms) (standing : Standing) (stage : stages.Stage) (seen : Sight) (requests : State) (found : Phase) (last : Wanted) →
+    found ≡ phase.Ready last → IsLast terms stage seen requests last → EndsAs terms.place standing stage seen requests found
+ends_as terms standing (idle at) seen requests found last same is = idle_as terms.place standing at seen requests found last (connect_in terms.place (request_in at seen)) refl same is
+ends_as terms standing (busy at flow (request_body given)) seen requests found last same is = over_as terms.place standing (busy at flow (request_body given)) seen requests found last refl same is
+ends_as terms standing (busy at flow connection) seen requests found last same is = over_as terms.place standing (busy at flow connection) seen requests found last refl same is
+ends_as terms standing (busy at flow (response_head side how)) seen requests found last same is = over_as terms.place standing (busy at flow (response_head side how)) seen requests found last refl same is
+ends_as terms standing (busy at flow (response_body side how)) seen requests found last same is = over_as terms.place standing (busy at flow (response_body side how)) seen requests found last refl same is
+ends_as terms standing (busy at flow (upgraded side)) seen requests found last same is = by_upgrade at flow side refl last same is
+ends_as terms standing (busy at flow given_head) seen requests found last same is = over_as terms.place standing (busy at flow given_head) seen requests found last refl same is
+ends_as terms standing (busy at flow given_body) seen requests found last same is = over_as terms.place standing (busy at flow given_body) seen requests found last refl same is
+ends_as terms standing (next at) seen requests found last same is = by_next refl last same (ap (λ r. outcome_in (phase.Ready r)) is.phase)
+ends_as terms standing stages.over seen requests found last same is = over_as terms.place standing stages.over seen requests found last refl same is
+
+-- the phase is a last one, so the end was found
+ends_by : (l : Look Command) (terms : Terms) (requests : State) (found : Phase) (standing : Standing) (stage : stages.Stage) (seen : Sight) →
+    (owed : List Command) × (l ≡ Ends owed) → PhaseAt l terms requests found stage seen → EndsAs terms.place standing stage seen requests found
+ends_by NotYet terms requests found standing stage seen (owed, is) at = absurd (let no : NotYet ≡ Ends owed = is in cc)
+ends_by (Asks ask) terms requests found standing stage seen (owed, is) at = absurd (let no : Asks ask ≡ Ends owed = is in cc)
+ends_by (Ends owed) terms requests found standing stage seen is (last, same, at) = ends_as terms standing stage seen requests found last same at
+
+-- ---- the spare side
+
+shut_same : (unused : Option Unused) → shut_open (open_unused unused) ≡ shut_unused unused
+shut_same None = refl
+shut_same (Some unused) = by unused.shut
+  where
+    by : (shut : Bool) → shut_open (unless_shut unused shut) ≡ shut_unused (Some (record unused { shut = shut }))
+    by true = refl
+    by false = refl
+
+spare_same : (unused : Option Unused) (kept : Option Link) → IsSpare unused kept → open_spare kept ≡ open_unused unused
+spare_same None None is = refl
+spare_same None (Some kept) is = absurd is
+spare_same (Some unused) None is = absurd is
+spare_same (Some unused) (Some kept) is = ap (unless_closed kept) is.closed ∙ by unused.shut
+  where
+    by : (shut : Bool) → unless_closed kept shut ≡ unless_shut unused shut
+    by true = refl
+    by false = ap Some is.server
+
+-- ---- by the stage that follows
+
+module _ (conv : ℕ) (client : Option Address) (place : Place) (flows : HttpConv) (standing : Standing) (prefix : List (Timed Event)) where
+  abbrev terms : Terms
+  terms = terms_of conv client place
+
+  abbrev seen : Sight
+  seen = sight_over standing prefix
+
+  -- HTTP's own look, and what it owes there
+  abbrev looked : Look Command
+  looked = look terms standing.stage seen
+
+  record FollowsBy (next : Child) (more : List Command) (to : Option Stage) : Type 0 where
+    there : IsChild conv client next (or_stays (http place standing) to) prefix
+    gives : (view : View) → seen_of view (owed_here (flows_at conv client place) standing prefix) ++ seen_of view more
+        ≡ seen_of view (owed_here (stack_chain conv client) (or_stays (http place standing) to) prefix)
+    left : left_by next ≤ sequence_left flows.stream + tunnel_left place
+
+  as_follows : (next : Child) (more : List Command) (to : Option Stage) → hands_over place standing prefix ≡ to → FollowsBy next more to →
+      FollowsAt conv client flows next more place standing prefix
+  as_follows child more to is by =
+      let P : Option Stage → Type 0 = FollowsBy child more in
+      let there = subst P (sym is) by in
+      record { there = there.there; gives = there.gives; left = there.left }
+
+  module _ (at : IsInFlows conv client place flows standing prefix) where
+    -- where HTTP goes on nothing follows it
+    none_follows : (is_last flows.stream.phase ≡ true → ⊥) → (to : Option Stage) → hands_over place standing prefix ≡ to → hands_over place standing prefix ≡ None
+    none_follows open_still None is = is
+    none_follows open_still (Some to) is =
+        let over = hands terms standing standing.stage seen to is in
+        absurd (open_still ((ends_where_it_ends sequence terms).there flows.stream standing prefix [] at.is_at over.ends))
+
+    no_end : (is_last flows.stream.phase ≡ true → ⊥) → (owed : List Command) → looked ≡ Ends owed → ⊥
+    no_end open_still owed is = open_still ((ends_where_it_ends sequence terms).there flows.stream standing prefix owed at.is_at is)
+
+    keeps_by : (boxed : Box HttpConv) → boxed.value ≡ flows → (l : Look Command) → ((owed : List Command) → l ≡ Ends owed → ⊥) → (unused : Option Unused) →
+        KeepsBy (with_closes conv client unused l) conv client (children.Http boxed) (http place standing) prefix
+    keeps_by boxed same NotYet goes unused =
+        let P : HttpConv → Type 0 = λ f. IsInFlows conv client place f standing prefix in record { flows = boxed; is = refl; there = subst P (sym same) at }
+    keeps_by boxed same (Asks ask) goes unused =
+        let P : HttpConv → Type 0 = λ f. IsInFlows conv client place f standing prefix in record { flows = boxed; is = refl; there = subst P (sym same) at }
+    keeps_by boxed same (Ends owed) goes unused = absurd (goes owed refl)
+
+    found_same : (l : Look Command) → ((owed : List Command) → l ≡ Ends owed → ⊥) → (unused : Option Unused) → found (with_closes conv client unused l) ≡ found l
+    found_same NotYet goes unused = refl
+    found_same (Asks ask) goes unused = refl
+    found_same (Ends owed) goes unused = absurd (goes owed refl)
+
+    pub goes_on : (boxed : Box HttpConv) → boxed.value ≡ flows → outcome_in flows.stream.phase ≡ outcomes.Going →
+        FollowsAt conv client flows (children.Http boxed) [] place standing prefix
+    goes_on boxed same is =
+        let open_still : is_last flows.stream.phase ≡ true → ⊥ = going_on flows.stream.phase is in
+        let goes = no_end open_still in
+        let unused : Option Unused = unused_over standing.spare prefix in
+        let P : HttpConv → Type 0 = λ f. sequence_left f.stream + tunnel_left f.stream.terms.place ≤ sequence_left flows.stream + tunnel_left flows.stream.terms.place in
+        let Q : Terms → Type 0 = λ t. sequence_left boxed.value.stream + tunnel_left boxed.value.stream.terms.place ≤ sequence_left flows.stream + tunnel_left t.place in
+        as_follows (children.Http boxed) [] None (none_follows open_still (hands_over place standing prefix) refl) (record {
+          there = keeps_by boxed same looked goes unused;
+          gives = λ view. append-nil _ ∙ ap (λ l. seen_of view (so_far standing.stage seen ++ l)) (sym (found_same looked goes unused));
+          left = subst Q at.is_at.is_in.terms (subst P (sym same) (omega arith));
+        })
+
+    -- at an end a spare side is closed
+    ends_there : (owed : List Command) (unused : Option Unused) (l : Look Command) → l ≡ Ends owed →
+        KeepsBy (with_closes conv client unused l) conv client children.Over (http place standing) prefix
+    ends_there owed unused NotYet is = absurd (let no : NotYet ≡ Ends owed = is in cc)
+    ends_there owed unused (Asks ask) is = absurd (let no : Asks ask ≡ Ends owed = is in cc)
+    ends_there owed unused (Ends other) is = refl
+
+    found_more : (owed : List Command) (unused : Option Unused) (l : Look Command) → l ≡ Ends owed → found (with_closes conv client unused l) ≡ found l ++ shut_unused unused
+    found_more owed unused NotYet is = absurd (let no : NotYet ≡ Ends owed = is in cc)
+    found_more owed unused (Asks ask) is = absurd (let no : Asks ask ≡ Ends owed = is in cc)
+    found_more owed unused (Ends other) is = refl
+
+    is_over : hands_over place standing prefix ≡ None → (owed : List Command) × (looked ≡ Ends owed) →
+        FollowsAt conv client flows children.Over (shut_open (open_spare flows.stream.spare)) place standing prefix
+    is_over stays (owed, is) =
+        let unused : Option Unused = unused_over standing.spare prefix in
+        let so_far_there : List Command = so_far standing.stage seen in
+        let closes : shut_open (open_spare flows.stream.spare) ≡ shut_unused unused =
+        ap shut_open (spare_same unused flows.stream.spare at.is_at.is_in.spare) ∙ shut_same unused in
+        as_follows children.Over (shut_open (open_spare flows.stream.spare)) None stays (record {
+          there = ends_there owed unused looked is;
+          gives = λ view.
+              ap (λ l. seen_of view (so_far_there ++ found looked) ++ seen_of view l) closes
+              ∙ (sym (seen_append view (so_far_there ++ found looked) (shut_unused unused))
+              ∙ ap (seen_of view) (append_assoc so_far_there (found looked) (shut_unused unused)
+              ∙ ap (λ l. so_far_there ++ l) (sym (found_more owed unused looked is))));
+          left = omega arith;
+        })
+
+    -- where the end is found, and how
+    found_end : is_last flows.stream.phase ≡ true → EndsAs place standing standing.stage seen flows.stream.requests flows.stream.phase
+    found_end last =
+        ends_by looked terms flows.stream.requests flows.stream.phase standing standing.stage seen
+        ((ends_where_it_ends sequence terms).ends flows.stream standing prefix at.is_at last) at.is_at.is_in.phase
+
+    end_by : (last : is_last flows.stream.phase ≡ true) → EndsAs place standing standing.stage seen flows.stream.requests flows.stream.phase →
+        (outcome_in flows.stream.phase ≡ outcomes.Connects → ⊥) → (outcome_in flows.stream.phase ≡ outcomes.Upgraded → ⊥) → hands_over place standing prefix ≡ None
+    end_by last (by_connect at connects is whole last_phase same asked) apart other =
+        absurd (apart (ap outcome_in same ∙ ap (λ r. outcome_in (phase.Ready r)) asked.phase))
+    end_by last (by_upgrade at flow side is last_phase same asked) apart other =
+        absurd (other (ap outcome_in same ∙ ap (λ r. outcome_in (phase.Ready r)) asked.phase))
+    end_by last (by_end stays last_phase same is) apart other = stays
+    end_by last (by_next stays last_phase same is) apart other = stays
+
+    -- it has ended
+    pub ends : is_last flows.stream.phase ≡ true → (outcome_in flows.stream.phase ≡ outcomes.Connects → ⊥) → (outcome_in flows.stream.phase ≡ outcomes.Upgraded → ⊥) →
+        FollowsAt conv client flows children.Over (shut_open (open_spare flows.stream.spare)) place standing prefix
+    ends last apart other =
+        is_over (end_by last (found_end last) apart other) ((ends_where_it_ends sequence terms).ends flows.stream standing prefix at.is_at last)
+
+-- ---- a CONNECT
+
+-- only where requests go where they ask to, a tunnel may follow
+record LeavesRoom (place : Place) : Type 0 where
+  none_ahead : ahead_at place ≡ 0
+  asks : tunnel_left place ≡ connecting_left
+
+leaves_room : (place : Place) (at : At) (seen : Sight) (connects : Connect) → connect_in place (request_in at seen) ≡ Some connects → LeavesRoom place
+leaves_room (places.Fixed address side inside) at seen connects is =
+    absurd (let no : None ≡ Some connects = sym (never_connects address side inside (request_in at seen)) ∙ is in cc)
+leaves_room places.Regular at seen connects is = record { none_ahead = refl; asks = refl }
+leaves_room (places.Upstream proxy) at seen connects is = record { none_ahead = refl; asks = refl }
+
+module _ (conv : ℕ) (client : Option Address) (place : Place) (flows : HttpConv) where
+  -- over plain parts of a standing
+  module _ (at : At) (since : Since) (opened : ℕ) (spare : Option Spare) (prefix : List (Timed Event)) where
+    abbrev here : Standing
+    here = record { stage = idle at; since = since; opened = opened; spare = spare }
+
+    abbrev sight : Sight
+    sight = sight_over here prefix
+
+    abbrev tunnel_of : Connect → Tunnel
+    tunnel_of connects = record { at = used_more at connects.used; address = connects.address }
+
+    connect_follows : IsInFlows conv client place flows here prefix → (connects : Connect) → connect_in place (request_in at sight) ≡ Some connects →
+        (last : Wanted) → flows.stream.phase ≡ phase.Ready last → IsTunnelAsked at sight flows.stream.requests connects last →
+        (kept : Opening) (closed : Bool) → kept.numbers ≡ flows.stream.numbers → asked_tunnel flows.stream.phase ≡ Some kept.address → kept.rest ≡ flows.stream.requests.rest →
+        closed ≡ flows.stream.client_closed →
+        FollowsAt conv client flows (children.Connecting kept closed) (commands.Dial kept.numbers.server kept.address None ∷ []) place here prefix
+    connect_follows in_flows connects is last same asked kept closed numbers address rest client_is =
+        let room = leaves_room place at sight connects is in
+        let tunnel : Tunnel = tunnel_of connects in
+        let to : hands_over place here prefix ≡ Some (connecting tunnel) = ap (tunnel_for at) is in
+        let over = hands (terms_of conv client place) here (idle at) sight (connecting tunnel) to in
+        let placed = in_flows.is_at.is_in.place in
+        let counted : IsCounted (ahead_at place) at = in_flows.few in
+        let few : at.dials ≤ at.flow + ahead_at place = counted.dials in
+        let none : ahead_at place ≡ 0 = room.none_ahead in
+        let below : at.flow < 1000000 = counted.few in
+        let servers : flows.stream.numbers.server ≡ at.dials = placed.servers (omega arith) in
+        let there : Some connects.address ≡ Some kept.address = sym (ap asked_tunnel same ∙ ap (λ r. asked_tunnel (phase.Ready r)) asked.phase) ∙ address in
+        let same_address : kept.address ≡ connects.address = let e : connects.address ≡ kept.address = cc in sym e in
+        let same_server : kept.numbers.server ≡ at.dials = ap (λ n. n.server) numbers ∙ servers in
+        as_follows conv client place flows here prefix (children.Connecting kept closed) _ (Some (connecting tunnel)) to (record {
+          there = record {
+            kept = kept;
+            closed = closed;
+            is = refl;
+            opening = record {
+              flow = ap (λ n. n.flow) numbers ∙ placed.index;
+              server = same_server;
+              address = same_address;
+              rest = rest ∙ asked.keeps.rest;
+              few = below;
+              used = asked.within;
+            };
+            dials = omega arith;
+            client = client_is ∙ placed.client;
+          };
+          gives = λ view.
+              ap (λ l. seen_of view (so_far (idle at) sight ++ found l) ++ seen_of view (commands.Dial kept.numbers.server kept.address None ∷ [])) over.ends
+              ∙ (ap (λ n. seen_of view (commands.Dial n kept.address None ∷ [])) same_server
+              ∙ ap (λ a. seen_of view (commands.Dial at.dials a None ∷ [])) same_address);
+          left = let room_left : tunnel_left place ≡ connecting_left = room.asks in omega arith;
+        })
+
+  -- whatever the standing
+  module _ (kept : Opening) (closed : Bool) (since : Since) (opened : ℕ) (spare : Option Spare) (prefix : List (Timed Event)) where
+    abbrev standing_at : stages.Stage → Standing
+    standing_at stage = record { stage = stage; since = since; opened = opened; spare = spare }
+
+    abbrev Dials : stages.Stage → Type 0
+    Dials stage = FollowsAt conv client flows (children.Connecting kept closed) (commands.Dial kept.numbers.server kept.address None ∷ []) place (standing_at stage) prefix
+
+    connect_by : (stage : stages.Stage) → IsInFlows conv client place flows (standing_at stage) prefix → outcome_in flows.stream.phase ≡ outcomes.Connects →
+        EndsAs place (standing_at stage) stage (sight_over (standing_at stage) prefix) flows.stream.requests flows.stream.phase →
+        kept.numbers ≡ flows.stream.numbers → asked_tunnel flows.stream.phase ≡ Some kept.address → kept.rest ≡ flows.stream.requests.rest →
+        closed ≡ flows.stream.client_closed → Dials stage
+    connect_by stage in_flows outcome (by_connect at connects is whole last same asked) numbers address rest client_is =
+        let P : stages.Stage → Type 0 = λ s. IsInFlows conv client place flows (standing_at s) prefix →
+        connect_in place (request_in at (sight_over (standing_at s) prefix)) ≡ Some connects →
+        IsTunnelAsked at (sight_over (standing_at s) prefix) flows.stream.requests connects last → Dials s in
+        subst P (sym is) (λ flows_there whole_there asked_there. connect_follows at since opened spare prefix flows_there connects whole_there last same asked_there kept closed numbers address rest client_is)
+        in_flows whole asked
+    connect_by stage in_flows outcome (by_upgrade at flow side is last same asked) numbers address rest client_is =
+        absurd (let no : outcomes.Upgraded ≡ outcomes.Connects = sym (ap outcome_in same ∙ ap (λ r. outcome_in (phase.Ready r)) asked.phase) ∙ outcome in cc)
+    connect_by stage in_flows outcome (by_end stays last same is) numbers address rest client_is =
+        absurd (let no : outcomes.Over ≡ outcomes.Connects = sym (ap outcome_in same ∙ is) ∙ outcome in cc)
+    connect_by stage in_flows outcome (by_next stays last same is) numbers address rest client_is =
+        absurd (let no : outcomes.Next ≡ outcomes.Connects = sym (ap outcome_in same ∙ is) ∙ outcome in cc)
+
+apart : (found : Phase) (a b : Outcome) → outcome_in found ≡ a → (a ≡ b → ⊥) → outcome_in found ≡ b → ⊥
+apart found a b is differ other = differ (sym is ∙ other)
+
+connects_not : outcomes.Connects ≡ outcomes.Going → ⊥
+connects_not is = let no : outcomes.Connects ≡ outcomes.Going = is in cc
+
+upgraded_not : outcomes.Upgraded ≡ outcomes.Going → ⊥
+upgraded_not is = let no : outcomes.Upgraded ≡ outcomes.Going = is in cc
+
+-- A CONNECT was read: its server is dialled.
+pub connects : (flows : HttpConv) (kept : Opening) (closed : Bool) → outcome_in flows.stream.phase ≡ outcomes.Connects →
+    kept.numbers ≡ flows.stream.numbers → asked_tunnel flows.stream.phase ≡ Some kept.address → kept.rest ≡ flows.stream.requests.rest → closed ≡ flows.stream.client_closed →
+    (conv : ℕ) (client : Option Address) (place : Place) (standing : Standing) (prefix : List (Timed Event)) → IsInFlows conv client place flows standing prefix →
+    FollowsAt conv client flows (children.Connecting kept closed) (commands.Dial kept.numbers.server kept.address None ∷ []) place standing prefix
+connects flows kept closed is numbers address rest client_is conv client place standing prefix at =
+    let last : is_last flows.stream.phase ≡ true = last_when flows.stream.phase (apart flows.stream.phase outcomes.Connects outcomes.Going is connects_not) in
+    connect_by conv client place flows kept closed standing.since standing.opened standing.spare prefix standing.stage at is
+    (found_end conv client place flows standing prefix at last) numbers address rest client_is
+
+-- ---- another protocol
+
+module _ (conv : ℕ) (client : Option Address) (place : Place) (flows : HttpConv) where
+  module _ (at : At) (flow : Flow) (side : ServerSide) (since : Since) (opened : ℕ) (spare : Option Spare) (prefix : List (Timed Event)) where
+    abbrev there_at : Standing
+    there_at = record { stage = busy at flow (upgraded side); since = since; opened = opened; spare = spare }
+
+    abbrev ends_of : TunnelEnds
+    ends_of = record { used = at.used; side = side; opened = opened; flow = Some flow; spare = spare }
+
+    same_used : (a b : Used) → a ≡ b → Some a ≡ Some b
+    same_used a b is = ap Some is
+
+    upgrade_follows : IsInFlows conv client place flows there_at prefix → (last : Wanted) → flows.stream.phase ≡ phase.Ready last →
+        IsUpgraded at (sight_over there_at prefix) flows.stream.requests flow side last →
+        (sides : Sides) (rests : Rests) (ended : Option Flow) (open_side : Option ℕ) (child : Child) (more : List Command) →
+        upgraded_side flows.stream.phase ≡ Some (ByServer sides.server sides.shut) → sides.closed ≡ flows.stream.client_closed →
+        rests.client ≡ flows.stream.requests.rest → rests.server ≡ phase_rest flows.stream.phase → ended ≡ phase_flow flows.stream.phase →
+        open_side ≡ open_spare flows.stream.spare → left_by child ≡ 0 → Relays sides rests ended open_side child more →
+        FollowsAt conv client flows child more place there_at prefix
+    upgrade_follows in_flows last same asked sides rests ended open_side child more sides_are closed_is client_rest server_rest ended_is spare_is none_left relays =
+        let seen_there : Sight = sight_over there_at prefix in
+        let kept : Link = asked.kept in
+        let phase_is : flows.stream.phase ≡ phase.Ready (ready.Upgraded flow kept) = same ∙ ap phase.Ready asked.phase in
+        let placed = in_flows.is_at.is_in.place in
+        let to : hands_over place there_at prefix ≡ Some (raw ends_of) = refl in
+        let over = hands (terms_of conv client place) there_at (busy at flow (upgraded side)) seen_there (raw ends_of) to in
+        let used_are : Some (ByServer sides.server sides.shut) ≡ Some (ByServer kept.server kept.closed) = sym sides_are ∙ ap upgraded_side phase_is in
+        let server_is : sides.server ≡ kept.server = cc in
+        let shut_is : sides.shut ≡ kept.closed = cc in
+        let may : MayRelay ends_of prefix sides rests ended open_side = record {
+          server = server_is ∙ asked.server;
+          shut = shut_is ∙ asked.closed;
+          closed = closed_is ∙ placed.client;
+          up = client_rest ∙ asked.keeps.rest;
+          down = server_rest ∙ (ap phase_rest phase_is ∙ asked.rest);
+          same_flow = ended_is ∙ ap phase_flow phase_is;
+          same_spare = spare_is ∙ spare_same (unused_over spare prefix) flows.stream.spare in_flows.is_at.is_in.spare;
+          used = placed.used;
+          side_used = asked.within;
+          opened = in_flows.is_at.within.opened;
+          within = in_flows.is_at.within.spare;
+        } in
+        let arrives = relays conv client ends_of prefix may in
+        as_follows conv client place flows there_at prefix child more (Some (raw ends_of)) to (record {
+          there = arrives.there;
+          gives = λ view. ap (λ l. seen_of view (found l) ++ seen_of view more) over.ends ∙ arrives.gives view;
+          left = omega arith;
+        })
+
+  module _ (sides : Sides) (rests : Rests) (ended : Option Flow) (open_side : Option ℕ) (child : Child) (more : List Command)
+      (since : Since) (opened : ℕ) (spare : Option Spare) (prefix : List (Timed Event)) where
+    abbrev stands_at : stages.Stage → Standing
+    stands_at stage = record { stage = stage; since = since; opened = opened; spare = spare }
+
+    upgrade_by : (stage : stages.Stage) → IsInFlows conv client place flows (stands_at stage) prefix → outcome_in flows.stream.phase ≡ outcomes.Upgraded →
+        EndsAs place (stands_at stage) stage (sight_over (stands_at stage) prefix) flows.stream.requests flows.stream.phase →
+        upgraded_side flows.stream.phase ≡ Some (ByServer sides.server sides.shut) → sides.closed ≡ flows.stream.client_closed →
+        rests.client ≡ flows.stream.requests.rest → rests.server ≡ phase_rest flows.stream.phase → ended ≡ phase_flow flows.stream.phase →
+        open_side ≡ open_spare flows.stream.spare → left_by child ≡ 0 → Relays sides rests ended open_side child more →
+        FollowsAt conv client flows child more place (stands_at stage) prefix
+    upgrade_by stage in_flows outcome (by_connect at tunnel is whole last same asked) a b c d e f g relays =
+        absurd (let no : outcomes.Connects ≡ outcomes.Upgraded = sym (ap outcome_in same ∙ ap (λ r. outcome_in (phase.Ready r)) asked.phase) ∙ outcome in cc)
+    upgrade_by stage in_flows outcome (by_upgrade at flow side is last same asked) a b c d e f g relays =
+        let P : stages.Stage → Type 0 = λ s. IsInFlows conv client place flows (stands_at s) prefix →
+        IsUpgraded at (sight_over (stands_at s) prefix) flows.stream.requests flow side last → FollowsAt conv client flows child more place (stands_at s) prefix in
+        subst P (sym is) (λ flows_there asked_there. upgrade_follows at flow side since opened spare prefix flows_there last same asked_there sides rests ended open_side child more a b c d e f g relays)
+        in_flows asked
+    upgrade_by stage in_flows outcome (by_end stays last same is) a b c d e f g relays =
+        absurd (let no : outcomes.Over ≡ outcomes.Upgraded = sym (ap outcome_in same ∙ is) ∙ outcome in cc)
+    upgrade_by stage in_flows outcome (by_next stays last same is) a b c d e f g relays =
+        absurd (let no : outcomes.Next ≡ outcomes.Upgraded = sym (ap outcome_in same ∙ is) ∙ outcome in cc)
+
+-- A response of code 101 was sent: what follows on both sides is not read.
+pub upgrades : (flows : HttpConv) (sides : Sides) (rests : Rests) (ended : Option Flow) (open_side : Option ℕ) (child : Child) (more : List Command) →
+    outcome_in flows.stream.phase ≡ outcomes.Upgraded → upgraded_side flows.stream.phase ≡ Some (ByServer sides.server sides.shut) → sides.closed ≡ flows.stream.client_closed →
+    rests.client ≡ flows.stream.requests.rest → rests.server ≡ phase_rest flows.stream.phase → ended ≡ phase_flow flows.stream.phase →
+    open_side ≡ open_spare flows.stream.spare → left_by child ≡ 0 → Relays sides rests ended open_side child more →
+    (conv : ℕ) (client : Option Address) (place : Place) (standing : Standing) (prefix : List (Timed Event)) → IsInFlows conv client place flows standing prefix →
+    FollowsAt conv client flows child more place standing prefix
+upgrades flows sides rests ended open_side child more is a b c d e f g relays conv client place standing prefix at =
+    let last : is_last flows.stream.phase ≡ true = last_when flows.stream.phase (apart flows.stream.phase outcomes.Upgraded outcomes.Going is upgraded_not) in
+    upgrade_by conv client place flows sides rests ended open_side child more standing.since standing.opened standing.spare prefix standing.stage at is
+    (found_end conv client place flows standing prefix at last) a b c d e f g relays
+
+-- ---- the end
+
+-- a result with two facts, where it is Ok
+pub both_ok : {A B : Type 0} (result : Result A B) (P Q : A → Type 0) (R : Type 0) → IfOk result P → OnOk result R → ((a : A) → P a → R → Q a) → IfOk result Q
+both_ok (Ok a) P Q R one two leads = leads a one two
+both_ok (Err b) P Q R one two leads = one
+
+pub two_ok : {A B : Type 0} (result : Result A B) (P Q R : A → Type 0) → IfOk result P → IfOk result Q → ((a : A) → P a → Q a → R a) → IfOk result R
+two_ok (Ok a) P Q R one two leads = leads a one two
+two_ok (Err b) P Q R one two leads = one
+
+ended : (found : Phase) (outcome : Outcome) → outcome ≡ outcome_in found → (outcome ≡ outcomes.Next) ⊎ (outcome ≡ outcomes.Over) →
+    (other : Outcome) → (other ≡ outcomes.Next → ⊥) → (other ≡ outcomes.Over → ⊥) → outcome_in found ≡ other → ⊥
+ended found outcome is (inl here) other a b there = a (sym there ∙ (sym is ∙ here))
+ended found outcome is (inr here) other a b there = b (sym there ∙ (sym is ∙ here))
+
+pub ends_with : (flows : HttpConv) (outcome : Outcome) → outcome ≡ outcome_in flows.stream.phase → (outcome ≡ outcomes.Next) ⊎ (outcome ≡ outcomes.Over) →
+    Follows flows children.Over (shut_open (open_spare flows.stream.spare))
+ends_with flows outcome is which conv client place standing prefix at =
+    let apart_from = ended flows.stream.phase outcome is which in
+    ends conv client place flows standing prefix at
+    (last_when flows.stream.phase (apart_from outcomes.Going (λ e. let no : outcomes.Going ≡ outcomes.Next = e in cc) (λ e. let no : outcomes.Going ≡ outcomes.Over = e in cc)))
+    (apart_from outcomes.Connects (λ e. let no : outcomes.Connects ≡ outcomes.Next = e in cc) (λ e. let no : outcomes.Connects ≡ outcomes.Over = e in cc))
+    (apart_from outcomes.Upgraded (λ e. let no : outcomes.Upgraded ≡ outcomes.Next = e in cc) (λ e. let no : outcomes.Upgraded ≡ outcomes.Over = e in cc))

@@ -1,0 +1,10 @@
+pub mod OrderLemmas
+pub mod DecideLemmas
+pub mod SilentLemmas
+pub mod FollowLemmas
+pub mod HttpLemmas
+pub mod RelayLemmas
+pub mod StackLemmas
+pub mod OpenedLemmas
+pub mod InsideLemmas
+pub mod CallLemmas

@@ -1,0 +1,214 @@
+-- A server is sent nothing before its dial was answered with the connection, whatever follows a CONNECT; and before the first call nobody is.
+use Rattle.std.proofs.Common.{◌≡◌, ℕ, ◌+◌, ◌<◌, ◌≤◌, Bool, true, false, cond, List, [], ◌∷◌, ◌++◌, drop, map, Option, Some, None, refl, ap, sym, ◌∙◌, arith}
+use Rattle.std.specs.Prelude.{◌==◌, ◌||◌, ⊤}
+use Rattle.std.proofs.lemmas.Bool.{eqb-true}
+use Rattle.px_message.specs.declared.address.Address.{Address}
+use Rattle.px_message.specs.declared.flow.Flow.{Flow}
+use Rattle.px_event.specs.declared.command.Command.{Command}
+use Rattle.px_event.specs.declared.command.Command.TheVariants as commands
+use Rattle.px_event.specs.declared.event.Event.{Event}
+use Rattle.px_event.specs.declared.reply.Reply.{Reply}
+use Rattle.px_event.specs.declared.reply.Reply.TheVariants as reply
+use Rattle.px_event.specs.declared.side.Side.TheVariants.{Client, Server}
+use Rattle.px_event.specs.Chain.{Timed, Look, NotYet, Asks, Ends, found}
+use Rattle.px_event.specs.Layer.{Move}
+use Rattle.px_event.specs.View.{byte, bytes_in, close, line, seen_of}
+use Rattle.px_read.specs.Items.{Item, missing, request_item}
+use Rattle.px_write.specs.Error.{error_text}
+use Rattle.px_exchange.specs.declared.mode.Mode.{Mode}
+use Rattle.px_exchange.specs.declared.place.Place.{Place}
+use Rattle.px_exchange.specs.Endings.{shut_client}
+use Rattle.px_exchange.specs.Places.{place_of, terms_of}
+use Rattle.px_exchange.specs.Texts.{connected_text}
+use Rattle.px_chain.specs.Chain.{Connect, connect_in, is_sequence, sequence}
+use Rattle.px_chain.specs.Sights.{Sight, Spare, Standing, Unused, request_in, sight_over, unused_over}
+use Rattle.px_chain.specs.Silent.{NoAnswer, connects}
+use Rattle.px_chain.specs.Stages.{At, busy, connection, given_body, given_head, idle, next, request_body, response_body, response_head, upgraded}
+use Rattle.px_chain.specs.Stages as flows
+use Rattle.px_chain.specs.Streams.{Since, client_closed, is_closed}
+use Rattle.px_chain.proofs.CountedLemmas.{Counts, CountsServers, IsSilent, counted_silent, silent_both}
+use Rattle.px_chain.proofs.SilentLemmas.{AreBelow, ServersBelow, dialled, dialled_at, http_counts}
+use Rattle.px_stack.specs.Chain.{begins, closes_all, finished_flow, flows_at, follows, hands_by, has_answered, is_shut, opening_text, or_stays, text_down, text_up, shut_unused, stack_chain, tunnel_for, tunnel_found, turn_dial, with_closes}
+use Rattle.px_stack.specs.Decides.{Decision, decided, is_http, is_raw, still}
+use Rattle.px_stack.specs.Modes.{mode_due}
+use Rattle.px_stack.specs.Stages.{Ends as TunnelEnds, Stage, Tunnel, connecting, http, over, raw, undecided}
+
+-- ---- what is counted
+
+-- how many servers a stage may send to
+abbrev dials_at : Stage → ℕ
+dials_at (http place standing) = dialled_at standing
+dials_at (connecting tunnel) = tunnel.at.dials
+dials_at (undecided tunnel spare since) = tunnel.at.dials
+dials_at (raw ends) = ends.side.server + 1
+dials_at over = 0
+
+-- the server's sides of a stage are among those that were dialled before it
+abbrev AllBelow : Stage → Type 0
+AllBelow (http place standing) = AreBelow standing
+AllBelow (undecided tunnel spare since) = spare.server < tunnel.at.dials
+AllBelow stage = ⊤
+
+-- ---- texts and closes
+
+module _ (server : ℕ) where
+  close_silent : (same : Bool) → bytes_in (cond same (close ∷ []) [] ++ []) ≡ []
+  close_silent true = refl
+  close_silent false = refl
+
+  server_silent : (number : ℕ) (shut : Bool) → IsSilent server (shut_unused (Some (record { server = number; bytes = []; shut = shut })))
+  server_silent number true = refl
+  server_silent number false = close_silent (number == server)
+
+  client_silent : (closed : Bool) → IsSilent server (shut_client closed)
+  client_silent true = refl
+  client_silent false = refl
+
+  unused_silent : (unused : Option Unused) → IsSilent server (shut_unused unused)
+  unused_silent None = refl
+  unused_silent (Some unused) = server_silent unused.server unused.shut
+
+  closes_silent : (number : ℕ) (shut closed : Bool) → IsSilent server (closes_all number shut closed)
+  closes_silent number shut closed =
+      silent_both server (shut_unused (Some (record { server = number; bytes = []; shut = shut }))) (shut_client closed) (server_silent number shut) (client_silent closed)
+
+  finished_silent : (flow : Option Flow) → IsSilent server (finished_flow flow)
+  finished_silent None = refl
+  finished_silent (Some flow) = refl
+
+  found_silent : (ends : Bool) (owed : List Command) → IsSilent server owed → IsSilent server (found (tunnel_found ends owed))
+  found_silent true owed is = is
+  found_silent false owed is = refl
+
+  -- another server's bytes
+  other : (number : ℕ) (same : Bool) → (number == server) ≡ same → number + 1 ≤ server → same ≡ false
+  other number true is below = absurd (let e : number ≡ server = eqb-true number server is in omega arith)
+  other number false is below = refl
+
+  both_silent : (number : ℕ) (up down : List ℕ) → number + 1 ≤ server → IsSilent server (commands.Send (Server number) up ∷ commands.Send Client down ∷ [])
+  both_silent number up down below =
+      ap (λ same. bytes_in (cond same (map byte up) [] ++ [])) (other number (number == server) refl below)
+
+-- ---- the chain
+
+module _ (conv : ℕ) (client : Option Address) where
+  abbrev Few : ℕ → Stage → Type 0
+  Few most stage = (dials_at stage ≤ most) × AllBelow stage
+
+  tunnel_few : (place : Place) (standing : Standing) (at : At) (connect : Option Connect) → standing.stage ≡ idle at → AreBelow standing →
+      Few (dialled_at standing) (or_stays (http place standing) (tunnel_for at connect))
+  tunnel_few place standing at None is below = (omega arith, below)
+  tunnel_few place standing at (Some connect) is below = let same : dialled standing.stage ≡ at.dials = ap dialled is in (omega arith, tt)
+
+  hands_few : (place : Place) (standing : Standing) (stage : flows.Stage) (seen : Sight) → standing.stage ≡ stage → AreBelow standing →
+      ServersBelow standing.spare stage → Few (dialled_at standing) (or_stays (http place standing) (hands_by place standing stage seen))
+  hands_few place standing (idle at) seen is below here = tunnel_few place standing at (connect_in place (request_in at seen)) is below
+  hands_few place standing (busy at flow (request_body given)) seen is below here = (omega arith, below)
+  hands_few place standing (busy at flow connection) seen is below here = (omega arith, below)
+  hands_few place standing (busy at flow (response_head side how)) seen is below here = (omega arith, below)
+  hands_few place standing (busy at flow (response_body side how)) seen is below here = (omega arith, below)
+  hands_few place standing (busy at flow (upgraded side)) seen is below here =
+      let same : dialled standing.stage ≡ at.dials = ap dialled is in let less : side.server < at.dials = here.1 in (omega arith, tt)
+  hands_few place standing (busy at flow given_head) seen is below here = (omega arith, below)
+  hands_few place standing (busy at flow given_body) seen is below here = (omega arith, below)
+  hands_few place standing (next at) seen is below here = (omega arith, below)
+  hands_few place standing flows.over seen is below here = (omega arith, below)
+
+  flows_count : (place : Place) → CountsServers (flows_at conv client place) dialled_at AreBelow
+  flows_count place = http_counts sequence (is_sequence refl) (terms_of conv client place)
+
+  quietly : (most : ℕ) (stage : Stage) → Few most stage → Counts dials_at AllBelow most (record { owed = []; stage = stage })
+  quietly most stage few = record { silent = λ server beyond. refl; few = few.0; stays = few.1 }
+
+  decided_few : (d : Decision) (tunnel : Tunnel) (spare : Spare) (since : Since) → spare.server < tunnel.at.dials → Few tunnel.at.dials (follows d tunnel spare since)
+  decided_few still tunnel spare since below = (omega arith, below)
+  decided_few is_http tunnel spare since below = (omega arith, below)
+  decided_few is_raw tunnel spare since below = (omega arith, tt)
+
+  passes : (stage : Stage) (prefix : List (Timed Event)) → AllBelow stage → Counts dials_at AllBelow (dials_at stage) ((stack_chain conv client).pass stage prefix)
+  passes (http place standing) prefix is =
+      let on = (flows_at conv client place).pass standing prefix in
+      let counts = (flows_count place).passes standing prefix is in
+      let few = hands_few place on.stage on.stage.stage (sight_over on.stage prefix) refl counts.stays counts.stays in
+      let fewer = counts.few in
+      let below = few.0 in
+      record { silent = counts.silent; few = omega arith; stays = few.1 }
+  passes (connecting tunnel) prefix is = quietly tunnel.at.dials (connecting tunnel) (omega arith, tt)
+  passes (undecided tunnel spare since) prefix is =
+      let d : Decision = decided (opening_text tunnel prefix) (has_answered spare prefix) in
+      quietly tunnel.at.dials (follows d tunnel spare since) (decided_few d tunnel spare since is)
+  passes (raw ends) prefix is = quietly (ends.side.server + 1) (raw ends) (omega arith, tt)
+  passes over prefix is = quietly 0 over (omega arith, tt)
+
+  with_silent : (server : ℕ) (unused : Option Unused) (l : Look Command) → IsSilent server (found l) → IsSilent server (found (with_closes conv client unused l))
+  with_silent server unused NotYet is = is
+  with_silent server unused (Asks ask) is = is
+  with_silent server unused (Ends owed) is = silent_both server owed (shut_unused unused) is (unused_silent server unused)
+
+  looks : (stage : Stage) (prefix : List (Timed Event)) → AllBelow stage → (server : ℕ) → dials_at stage ≤ server → IsSilent server (found ((stack_chain conv client).look stage prefix))
+  looks (http place standing) prefix is server beyond =
+      with_silent server (unused_over standing.spare prefix) ((flows_at conv client place).look standing prefix) ((flows_count place).looks standing prefix is server beyond)
+  looks (connecting tunnel) prefix is server beyond = refl
+  looks (undecided tunnel spare since) prefix is server beyond =
+      let shut : Bool = is_closed (Server spare.server) (drop spare.opened prefix) in
+      let closed : Bool = client_closed prefix in
+      found_silent server (closed || shut) (closes_all spare.server shut closed) (closes_silent server spare.server shut closed)
+  looks (raw ends) prefix is server beyond =
+      let closed : Bool = client_closed prefix in
+      let shut : Bool = is_shut ends prefix in
+      let unused : Option Unused = unused_over ends.spare prefix in
+      let closes : List Command = closes_all ends.side.server shut closed in
+      found_silent server (closed || shut) (finished_flow ends.flow ++ (shut_unused unused ++ closes))
+      (silent_both server (finished_flow ends.flow) (shut_unused unused ++ closes) (finished_silent server ends.flow)
+      (silent_both server (shut_unused unused) closes (unused_silent server unused) (closes_silent server ends.side.server shut closed)))
+  looks over prefix is server beyond = refl
+
+  waits : (stage : Stage) (prefix : List (Timed Event)) → AllBelow stage → (server : ℕ) → dials_at stage ≤ server → IsSilent server ((stack_chain conv client).so_far stage prefix)
+  waits (http place standing) prefix is server beyond = (flows_count place).waits standing prefix is server beyond
+  waits (connecting tunnel) prefix is server beyond = refl
+  waits (undecided tunnel spare since) prefix is server beyond = refl
+  waits (raw ends) prefix is server beyond = both_silent server ends.side.server (text_up ends prefix) (text_down ends prefix) beyond
+  waits over prefix is server beyond = refl
+
+  dial_turns : (tunnel : Tunnel) (prefix : List (Timed Event)) (answer : Reply) (moment : ℕ) →
+      Counts dials_at AllBelow (tunnel.at.dials + connects answer) (turn_dial conv client tunnel prefix answer moment)
+  dial_turns tunnel prefix (reply.Go given stream) moment = quietly (tunnel.at.dials + 0) over (omega arith, tt)
+  dial_turns tunnel prefix (reply.Respond response) moment = quietly (tunnel.at.dials + 0) over (omega arith, tt)
+  dial_turns tunnel prefix reply.Kill moment = quietly (tunnel.at.dials + 0) over (omega arith, tt)
+  dial_turns tunnel prefix reply.Discard moment = quietly (tunnel.at.dials + 0) over (omega arith, tt)
+  dial_turns tunnel prefix reply.Dialled moment = record { silent = λ server beyond. refl; few = omega arith; stays = omega arith }
+  dial_turns tunnel prefix (reply.Refused fault) moment =
+      record { silent = λ server beyond. client_silent server (client_closed prefix); few = omega arith; stays = tt }
+
+  http_asked : (unused : Option Unused) (l : Look Command) (ask : Command) → with_closes conv client unused l ≡ Asks ask → l ≡ Asks ask
+  http_asked unused NotYet ask is = absurd (let no : NotYet ≡ Asks ask = is in cc)
+  http_asked unused (Asks one) ask is = is
+  http_asked unused (Ends owed) ask is = absurd (let no : Ends (owed ++ shut_unused unused) ≡ Asks ask = is in cc)
+
+  asks_not : (ends : Bool) (owed : List Command) (ask : Command) → tunnel_found ends owed ≡ Asks ask → ⊥
+  asks_not true owed ask is = let no : Ends owed ≡ Asks ask = is in cc
+  asks_not false owed ask is = let no : NotYet ≡ Asks ask = is in cc
+
+  turns : (stage : Stage) (prefix : List (Timed Event)) (ask : Command) (answer : Timed Reply) → AllBelow stage → (stack_chain conv client).look stage prefix ≡ Asks ask →
+      Counts dials_at AllBelow (dials_at stage + connects answer.value) ((stack_chain conv client).turn stage prefix answer)
+  turns (http place standing) prefix ask answer is asked =
+      let counts = (flows_count place).turns standing prefix ask answer is
+      (http_asked (unused_over standing.spare prefix) ((flows_at conv client place).look standing prefix) ask asked) in
+      record { silent = counts.silent; few = counts.few; stays = counts.stays }
+  turns (connecting tunnel) prefix ask answer is asked = dial_turns tunnel prefix answer.value answer.moment
+  turns (undecided tunnel spare since) prefix ask answer is asked = absurd (asks_not _ _ ask asked)
+  turns (raw ends) prefix ask answer is asked = absurd (asks_not _ _ ask asked)
+  turns over prefix ask answer is asked = absurd (let no : Ends [] ≡ Asks ask = asked in cc)
+
+  pub stack_counts : CountsServers (stack_chain conv client) dials_at AllBelow
+  stack_counts = record { passes = passes; looks = looks; waits = waits; turns = turns }
+
+-- No byte is due to a server while no call answers its dial with the connection. Servers are numbered from 0 in the order of their dials.
+pub mode_silent : (mode : Mode) (conv : ℕ) (peer : Address) (server : ℕ) (moves : List Move) → NoAnswer server moves →
+    bytes_in (seen_of (line (Server server)) (mode_due mode conv peer moves)) ≡ []
+mode_silent mode conv peer server moves none =
+    counted_silent (stack_chain conv (Some peer)) dials_at AllBelow (stack_counts conv (Some peer)) server (begins mode) moves tt refl none
+
+-- Nothing at all is due before the first call.
+pub mode_nothing_yet : (mode : Mode) (conv : ℕ) (peer : Address) → mode_due mode conv peer [] ≡ []
+mode_nothing_yet mode conv peer = refl

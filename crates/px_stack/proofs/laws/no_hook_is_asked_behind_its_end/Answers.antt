@@ -1,0 +1,7 @@
+use Rattle.std.proofs.Common.{Some, refl}
+use Rattle.px_stack.specs.Chain.{begins}
+use Rattle.px_stack.proofs.OrderLemmas.{ordered_from}
+use Rattle.px_stack.proofs.laws.no_hook_is_asked_behind_its_end.Goals as goal
+
+pub returns : goal.returns
+returns c = λ mode conv peer moves. ordered_from conv (Some peer) (begins mode) refl moves

@@ -1,0 +1,60 @@
+-- What a conversation keeps, by where it stands.
+use Rattle.std.specs.Prelude.{ℕ, ◌+◌, Bool, true, false, if◌then◌else◌, List, [], ◌∷◌, length, Option, Some, None}
+use Rattle.px_event.specs.declared.ask.Ask.{Ask}
+use Rattle.px_event.specs.declared.ask.Ask.TheVariants as asks
+use Rattle.px_event.specs.declared.command.Command.{Command}
+use Rattle.px_event.specs.declared.event.Event.{Event}
+use Rattle.px_event.specs.declared.command.Command.TheVariants as commands
+use Rattle.px_event.specs.declared.side.Side.TheVariants.{Server}
+use Rattle.px_exchange.specs.declared.place.Place.{Place}
+use Rattle.px_exchange.specs.declared.place.Place.TheVariants as places
+use Rattle.px_chain.specs.Streams.{closes}
+use Rattle.px_http.specs.Stands.{awaits}
+use Rattle.px_stream.specs.Kept.{stream_keeps}
+use Rattle.px_stream.specs.Left.{sequence_left}
+use Rattle.px_stack.specs.declared.child.Child.{Child}
+use Rattle.px_stack.specs.declared.child.Child.TheVariants as children
+
+-- the close of a spare side that is still connected
+abbrev pub shut_open : Option ℕ → List Command
+shut_open None = []
+shut_open (Some server) = commands.Close (Server server) ∷ []
+
+-- the spare side behind an event, unless that closes it
+abbrev pub open_behind : Option ℕ → Event → Option ℕ
+open_behind None event = None
+open_behind (Some server) event = if closes (Server server) event then None else Some server
+
+-- what is awaited
+abbrev pub awaited_by : Child → Option Ask
+awaited_by (children.Http flows) = awaits flows.value
+awaited_by (children.Connecting opening closed) = Some (asks.Dial opening.numbers.server)
+awaited_by child = None
+
+-- nothing more comes of it
+abbrev pub is_over : Child → Bool
+is_over children.Over = true
+is_over child = false
+
+-- How many replies can still be asked for: HTTP's own, and where a tunnel may follow it, the dial of a CONNECT and those of HTTP in the tunnel.
+abbrev pub opened_left : ℕ
+opened_left = 5000005
+
+abbrev pub connecting_left : ℕ
+connecting_left = 5000006
+
+abbrev pub tunnel_left : Place → ℕ
+tunnel_left (places.Fixed address side inside) = 0
+tunnel_left place = connecting_left
+
+abbrev pub left_by : Child → ℕ
+left_by (children.Http flows) = sequence_left flows.value.stream + tunnel_left flows.value.stream.terms.place
+left_by (children.Connecting opening closed) = connecting_left
+left_by (children.Undecided opening server) = opened_left
+left_by child = 0
+
+-- how many bytes it keeps: what HTTP does, and those by which nothing is decided
+abbrev pub kept_by : Child → ℕ
+kept_by (children.Http flows) = stream_keeps flows.value.stream
+kept_by (children.Undecided opening server) = length opening.rest
+kept_by child = 0

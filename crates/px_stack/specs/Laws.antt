@@ -1,0 +1,296 @@
+-- The laws of the chain: at one prefix passing settles at once, and in each view what is owed while it waits only grows.
+use Rattle.std.proofs.Common.{◌≡◌, ℕ, Bool, true, false, List, [], ◌∷◌, ◌++◌, drop, Option, Some, None, refl, ap, sym, ◌∙◌, subst, append_assoc}
+use Rattle.std.specs.Prelude.{zero, suc, ◌≢◌, ◌||◌, ⊤, bytes_eq, Result, Ok, Err}
+use Rattle.std.proofs.lemmas.List.{append-nil}
+use Rattle.px_text.specs.Prefix.{IsPrefixOf}
+use Rattle.px_message.specs.Target.{Form}
+use Rattle.px_message.specs.declared.address.Address.{Address}
+use Rattle.px_message.specs.declared.fault.Fault.{Fault}
+use Rattle.px_message.specs.declared.length.Length.{Length}
+use Rattle.px_message.specs.declared.request.Request.{Request}
+use Rattle.px_event.specs.declared.command.Command.{Command}
+use Rattle.px_event.specs.declared.event.Event.{Event}
+use Rattle.px_event.specs.declared.side.Side.{Side}
+use Rattle.px_event.specs.declared.side.Side.TheVariants.{Client, Server}
+use Rattle.px_event.specs.Chain.{Timed, Look, NotYet, Asks, Ends, found}
+use Rattle.px_event.specs.Laws.{IsSettled, Settles, SoFarGrows, owed_here, owed_over}
+use Rattle.px_event.specs.View.{View, seen_of}
+use Rattle.px_event.proofs.Seen.{seen_append}
+use Rattle.px_read.specs.Heads.{connect_method}
+use Rattle.px_read.specs.Items.{Item, missing, part, complete, bad_head, bad_body}
+use Rattle.px_read.specs.declared.head.RequestHead.{RequestHead as ReadRequest}
+use Rattle.px_exchange.specs.declared.asked.Judged.{Judged}
+use Rattle.px_exchange.specs.declared.asked.Judged.TheVariants.{Refused, Accepted, Connects}
+use Rattle.px_exchange.specs.declared.place.Place.{Place}
+use Rattle.px_exchange.specs.declared.place.Place.TheVariants as places
+use Rattle.px_exchange.specs.declared.terms.Terms.{Terms}
+use Rattle.px_exchange.specs.Places.{terms_of}
+use Rattle.px_exchange.specs.Finds.{look_head, look_judged, or_leaves}
+use Rattle.px_exchange.specs.Requests.{goal_at, judged, judged_goal, judged_length, judged_method}
+use Rattle.px_chain.specs.Chain.{Connect, connect_by, connect_in, look as look_of, so_far as so_far_of, sequence, used_more}
+use Rattle.px_chain.specs.Sights.{Sight, Spare, Standing, Unused, request_in, sight_over, unused_over}
+use Rattle.px_chain.specs.Stages.{At, busy, connection, given_body, given_head, idle, next, request_body, response_body, response_head, upgraded}
+use Rattle.px_chain.specs.Stages as flows
+use Rattle.px_chain.specs.Streams.{Since, bytes_of, client_closed, is_closed, piece_of}
+use Rattle.px_chain.proofs.ChainLaws.{settles as flows_settle, so_far_grows as flows_grow}
+use Rattle.px_chain.proofs.FrontLaws.{DropMore, behind, none, bytes_more, drop_more, open_behind}
+use Rattle.px_tunnel.specs.Tunnel.{both_ways}
+use Rattle.px_tunnel.specs.Laws.{both_append}
+use Rattle.px_stack.specs.Chain.{follows, is_shut, raw_look, shut_unused, tunnel_found, flows_at, hands_by, hands_over, has_answered, opening_text, inner_place, inner_standing, or_stays, pass_http, stack_chain, text_down, text_up, tunnel_for, with_closes}
+use Rattle.px_stack.specs.Decides.{Decision, decided, is_http, is_raw, still}
+use Rattle.px_stack.specs.Stages.{Ends as TunnelEnds, Stage, Tunnel, connecting, http, over, raw, undecided}
+
+-- ---- at one address nothing is a CONNECT
+
+by_length : (length : Result Length Fault) (request : Request) (used : ℕ) → connect_by (judged_length length request) used ≡ None
+by_length (Ok length) request used = refl
+by_length (Err fault) request used = refl
+
+by_goal : (head : ReadRequest) (apart : head.method ≢ connect_method) (goal : Option (Address × List ℕ)) (used : ℕ) →
+    connect_by (judged_goal head apart goal) used ≡ None
+by_goal head apart None used = refl
+by_goal head apart (Some goal) used = by_length _ _ used
+
+by_method : (address : Address) (side : Option ℕ) (inside : Option Address) (head : ReadRequest) (connects : Bool)
+    (is : bytes_eq head.method connect_method ≡ connects) (used : ℕ) →
+    connect_by (judged_method (places.Fixed address side inside) head connects is) used ≡ None
+by_method address side inside head true is used = refl
+by_method address side inside head false is used = by_goal head _ _ used
+
+pub never_connects : (address : Address) (side : Option ℕ) (inside : Option Address) (item : Item ReadRequest) →
+    connect_in (places.Fixed address side inside) item ≡ None
+never_connects address side inside missing = refl
+never_connects address side inside (part head body) = refl
+never_connects address side inside (complete head body trailers used) = by_method address side inside head (bytes_eq head.method connect_method) refl used
+never_connects address side inside (bad_head fault) = refl
+never_connects address side inside (bad_body fault head body) = refl
+
+-- ---- where HTTP hands over
+
+-- a stage to which it does
+abbrev pub IsTunnel : Stage → Type 0
+IsTunnel (connecting tunnel) = ⊤
+IsTunnel (raw ends) = ⊤
+IsTunnel stage = ⊥
+
+-- Where HTTP hands over, it owes nothing, and nothing more of it comes.
+pub record HandsOver (terms : Terms) (stage : flows.Stage) (seen : Sight) (to : Stage) : Type 0 where
+  pub is_tunnel : IsTunnel to
+  pub owes : so_far_of stage seen ≡ []
+  pub ends : look_of terms stage seen ≡ Ends []
+
+-- the judgement by which a CONNECT is found is the one that the look has
+leaves_nothing : (closed : Bool) (leaves : List Command) → or_leaves closed leaves (Ends []) ≡ Ends []
+leaves_nothing true leaves = refl
+leaves_nothing false leaves = refl
+
+some_same : (a b : Stage) → Some a ≡ Some b → a ≡ b
+some_same a b is = cc
+
+judged_ends : (terms : Terms) (index : ℕ) (head : ReadRequest) (made : Judged) (used moment : ℕ) (closed : Bool) (connect : Connect) →
+    connect_by made used ≡ Some connect → look_judged terms index head made moment closed ≡ Ends []
+judged_ends terms index head (Refused fault) used moment closed connect is = absurd (let no : None ≡ Some connect = is in cc)
+judged_ends terms index head (Accepted request) used moment closed connect is = absurd (let no : None ≡ Some connect = is in cc)
+judged_ends terms index head (Connects address) used moment closed connect is = refl
+
+item_ends : (terms : Terms) (index : ℕ) (item : Item ReadRequest) (moment : ℕ) (closed : Bool) (connect : Connect) →
+    connect_in terms.place item ≡ Some connect → look_head terms index item moment closed ≡ Ends []
+item_ends terms index missing moment closed connect is = absurd (let no : None ≡ Some connect = is in cc)
+item_ends terms index (part head body) moment closed connect is = absurd (let no : None ≡ Some connect = is in cc)
+item_ends terms index (complete head body trailers used) moment closed connect is = judged_ends terms index head (judged terms.place head) used moment closed connect is
+item_ends terms index (bad_head fault) moment closed connect is = absurd (let no : None ≡ Some connect = is in cc)
+item_ends terms index (bad_body fault head body) moment closed connect is = absurd (let no : None ≡ Some connect = is in cc)
+
+-- from a head that is awaited it hands over exactly by a CONNECT
+idle_hands : (terms : Terms) (at : At) (seen : Sight) (to : Stage) (found : Option Connect) → connect_in terms.place (request_in at seen) ≡ found →
+    tunnel_for at found ≡ Some to → HandsOver terms (idle at) seen to
+idle_hands terms at seen to None is hands = absurd (let no : None ≡ Some to = hands in cc)
+idle_hands terms at seen to (Some connect) is hands =
+    let there : Stage = connecting (record { at = used_more at connect.used; address = connect.address }) in
+    record {
+      is_tunnel = let P : Stage → Type 0 = IsTunnel in subst P (some_same there to hands) tt;
+      owes = refl;
+      ends = ap (λ l. or_leaves seen.closed [] l) (item_ends terms at.flow (request_in at seen) seen.now seen.closed connect is) ∙ leaves_nothing seen.closed [];
+    }
+
+pub hands : (terms : Terms) (standing : Standing) (stage : flows.Stage) (seen : Sight) (to : Stage) → hands_by terms.place standing stage seen ≡ Some to →
+    HandsOver terms stage seen to
+hands terms standing (idle at) seen to is = idle_hands terms at seen to (connect_in terms.place (request_in at seen)) refl is
+hands terms standing (busy at flow (request_body given)) seen to is = absurd (let no : None ≡ Some to = is in cc)
+hands terms standing (busy at flow connection) seen to is = absurd (let no : None ≡ Some to = is in cc)
+hands terms standing (busy at flow (response_head side how)) seen to is = absurd (let no : None ≡ Some to = is in cc)
+hands terms standing (busy at flow (response_body side how)) seen to is = absurd (let no : None ≡ Some to = is in cc)
+hands terms standing (busy at flow (upgraded side)) seen to is =
+    record { is_tunnel = let P : Stage → Type 0 = IsTunnel in subst P (some_same _ to is) tt; owes = refl; ends = leaves_nothing seen.closed [] }
+hands terms standing (busy at flow given_head) seen to is = absurd (let no : None ≡ Some to = is in cc)
+hands terms standing (busy at flow given_body) seen to is = absurd (let no : None ≡ Some to = is in cc)
+hands terms standing (next at) seen to is = absurd (let no : None ≡ Some to = is in cc)
+hands terms standing flows.over seen to is = absurd (let no : None ≡ Some to = is in cc)
+
+-- ---- passing settles at once
+
+module _ (conv : ℕ) (client : Option Address) where
+  tunnel_settled : (stage : Stage) (prefix : List (Timed Event)) → IsTunnel stage → IsSettled (stack_chain conv client) stage prefix
+  tunnel_settled (http place standing) prefix is = absurd is
+  tunnel_settled (connecting tunnel) prefix is = record { stays = refl; owes_nothing = refl }
+  tunnel_settled (undecided tunnel spare since) prefix is = absurd is
+  tunnel_settled (raw ends) prefix is = record { stays = refl; owes_nothing = refl }
+  tunnel_settled over prefix is = absurd is
+
+  -- where HTTP stood still and does not hand over, it goes on standing still
+  stays_settled : (place : Place) (standing : Standing) (prefix : List (Timed Event)) → IsSettled (flows_at conv client place) standing prefix →
+      hands_over place standing prefix ≡ None → IsSettled (stack_chain conv client) (http place standing) prefix
+  stays_settled place standing prefix at is = record {
+    stays = ap (λ s. pass_http conv client place s prefix) at.stays ∙ ap (λ o. or_stays (http place standing) o) is;
+    owes_nothing = at.owes_nothing;
+  }
+
+  http_settled : (place : Place) (standing : Standing) (prefix : List (Timed Event)) (to : Option Stage) → IsSettled (flows_at conv client place) standing prefix →
+      hands_over place standing prefix ≡ to → IsSettled (stack_chain conv client) (or_stays (http place standing) to) prefix
+  http_settled place standing prefix None at is = stays_settled place standing prefix at is
+  http_settled place standing prefix (Some to) at is =
+      tunnel_settled to prefix (hands (terms_of conv client place) standing standing.stage (sight_over standing prefix) to is).is_tunnel
+
+  decided_settled : (tunnel : Tunnel) (spare : Spare) (since : Since) (prefix : List (Timed Event)) (d : Decision) →
+      decided (opening_text tunnel prefix) (has_answered spare prefix) ≡ d → IsSettled (stack_chain conv client) (follows d tunnel spare since) prefix
+  decided_settled tunnel spare since prefix still is = record { stays = ap (λ d. follows d tunnel spare since) is; owes_nothing = refl }
+  decided_settled tunnel spare since prefix is_http is =
+      stays_settled (inner_place tunnel spare) (inner_standing tunnel spare since) prefix (record { stays = refl; owes_nothing = refl })
+      (ap (tunnel_for tunnel.at) (never_connects tunnel.address (Some spare.server) None (request_in tunnel.at (sight_over (inner_standing tunnel spare since) prefix))))
+  decided_settled tunnel spare since prefix is_raw is = record { stays = refl; owes_nothing = refl }
+
+  settled_at : (stage : Stage) (prefix : List (Timed Event)) → IsSettled (stack_chain conv client) ((stack_chain conv client).pass stage prefix).stage prefix
+  settled_at (http place standing) prefix =
+      let on = (flows_at conv client place).pass standing prefix in
+      let law = flows_settle sequence (terms_of conv client place) in
+      http_settled place on.stage prefix (hands_over place on.stage prefix) (law.at standing prefix) refl
+  settled_at (connecting tunnel) prefix = record { stays = refl; owes_nothing = refl }
+  settled_at (undecided tunnel spare since) prefix = decided_settled tunnel spare since prefix (decided (opening_text tunnel prefix) (has_answered spare prefix)) refl
+  settled_at (raw ends) prefix = record { stays = refl; owes_nothing = refl }
+  settled_at over prefix = record { stays = refl; owes_nothing = refl }
+
+  pub settles : Settles (stack_chain conv client)
+  settles = record { at = settled_at }
+
+-- ---- what is owed while it waits only grows
+
+joins : {A : Type 0} (xs ys zs : List A) → IsPrefixOf xs ys → IsPrefixOf xs (ys ++ zs)
+joins xs ys zs (rest, is) = (rest ++ zs, ap (λ l. l ++ zs) is ∙ append_assoc xs rest zs)
+
+nothing_begins : {A : Type 0} (xs rest zs : List A) → [] ≡ xs ++ rest → IsPrefixOf xs zs
+nothing_begins [] rest zs is = (zs, refl)
+nothing_begins (x ∷ xs) rest zs is = absurd (let no : [] ≡ x ∷ (xs ++ rest) = is in cc)
+
+of_nothing : {A : Type 0} (xs ys zs : List A) → IsPrefixOf xs ys → ys ≡ [] → IsPrefixOf xs zs
+of_nothing xs ys zs (rest, is) empty = nothing_begins xs rest zs (sym empty ∙ is)
+
+drops : (n : ℕ) (xs ys : List ℕ) → IsPrefixOf (drop n xs) (drop n (xs ++ ys))
+drops zero xs ys = (ys, refl)
+drops (suc n) [] ys = (drop (suc n) ys, refl)
+drops (suc n) (x ∷ xs) ys = drops n xs ys
+
+begins_as : (xs ys zs : List ℕ) → IsPrefixOf xs ys → ys ≡ zs → IsPrefixOf xs zs
+begins_as xs ys zs (rest, is) same = (rest, sym same ∙ is)
+
+module _ (conv : ℕ) (client : Option Address) where
+  -- nothing was found before the closes were added
+  not_yet : (unused : Option Unused) (l : Look Command) → with_closes conv client unused l ≡ NotYet → l ≡ NotYet
+  not_yet unused NotYet is = refl
+  not_yet unused (Asks ask) is = absurd (let no : Asks ask ≡ NotYet = is in cc)
+  not_yet unused (Ends owed) is = absurd (let no : Ends (owed ++ shut_unused unused) ≡ NotYet = is in cc)
+
+  -- where something was found, they are added at an end
+  adds_closes : (unused : Option Unused) (l : Look Command) → IsPrefixOf (found l) (found (with_closes conv client unused l))
+  adds_closes unused NotYet = ([], refl)
+  adds_closes unused (Asks ask) = ([], refl)
+  adds_closes unused (Ends owed) = (shut_unused unused, refl)
+
+  module _ (view : View) where
+    -- what is seen of two lists, where the one begins the other
+    seen_begins : (before xs ys : List Command) → IsPrefixOf xs ys → IsPrefixOf (seen_of view (before ++ xs)) (seen_of view (before ++ ys))
+    seen_begins before xs ys (rest, is) =
+        (seen_of view rest, ap (λ l. seen_of view (before ++ l)) is ∙ (ap (seen_of view) (sym (append_assoc before xs rest)) ∙ seen_append view (before ++ xs) rest))
+
+    begins_on : (xs ys zs : List Command) → IsPrefixOf (seen_of view xs) (seen_of view ys) → IsPrefixOf (seen_of view ys) (seen_of view zs) →
+        IsPrefixOf (seen_of view xs) (seen_of view zs)
+    begins_on xs ys zs (rest, is) (more, on) = (rest ++ more, on ∙ (ap (λ l. l ++ more) is ∙ append_assoc (seen_of view xs) rest more))
+
+    -- HTTP: what it owes is owed here, unless it hands over, where it owes nothing
+    http_grows : (place : Place) (owed : List Command) (before : List Command) (standing : Standing) (prefix : List (Timed Event)) (to : Option Stage) →
+        hands_over place standing prefix ≡ to → before ≡ [] →
+        IsPrefixOf (seen_of view owed) (seen_of view (before ++ owed_here (flows_at conv client place) standing prefix)) →
+        IsPrefixOf (seen_of view owed) (seen_of view (before ++ owed_here (stack_chain conv client) (or_stays (http place standing) to) prefix))
+    http_grows place owed before standing prefix None is empty begins =
+        let so_far : List Command = (flows_at conv client place).so_far standing prefix in
+        let found_there : Look Command = (flows_at conv client place).look standing prefix in
+        let more = adds_closes (unused_over standing.spare prefix) found_there in
+        begins_on owed (before ++ (so_far ++ found found_there)) _ begins
+        (seen_begins before (so_far ++ found found_there) _
+        (more.0, ap (λ l. so_far ++ l) more.1 ∙ sym (append_assoc so_far (found found_there) more.0)))
+    http_grows place owed before standing prefix (Some to) is empty begins =
+        let over = hands (terms_of conv client place) standing standing.stage (sight_over standing prefix) to is in
+        of_nothing (seen_of view owed) _ _ begins
+        (ap (seen_of view) (ap (λ b. b ++ owed_here (flows_at conv client place) standing prefix) empty
+        ∙ (ap (λ l. l ++ found ((flows_at conv client place).look standing prefix)) over.owes ∙ ap found over.ends)))
+
+    -- a tunnel: the bytes of both sides
+    both_grow : (server : ℕ) (up down longer_up longer_down : List ℕ) → IsPrefixOf up longer_up → IsPrefixOf down longer_down →
+        IsPrefixOf (seen_of view (both_ways server up down)) (seen_of view (both_ways server longer_up longer_down))
+    both_grow server up down longer_up longer_down (more_up, is_up) (more_down, is_down) = (
+      seen_of view (both_ways server more_up more_down),
+      ap (λ l. seen_of view (both_ways server l longer_down)) is_up
+          ∙ (ap (λ l. seen_of view (both_ways server (up ++ more_up) l)) is_down ∙ both_append view server up more_up down more_down),
+    )
+
+    module _ (ends : TunnelEnds) (prefix : List (Timed Event)) (event : Timed Event) where
+      up_grows : client_closed prefix ≡ false → IsPrefixOf (text_up ends prefix) (text_up ends (prefix ++ event ∷ []))
+      up_grows open_still =
+          begins_as _ _ _ (drops ends.used (bytes_of Client prefix) (piece_of Client event.value))
+          (ap (drop ends.used) (sym (bytes_more Client prefix event open_still open_still)))
+
+      server_by : DropMore ends.opened prefix event → client_closed prefix ≡ false → is_shut ends prefix ≡ false →
+          IsPrefixOf (bytes_of (Server ends.side.server) (drop ends.opened prefix)) (bytes_of (Server ends.side.server) (drop ends.opened (prefix ++ event ∷ [])))
+      server_by (behind is) open_still unshut =
+          let side : Side = Server ends.side.server in
+          (piece_of side event.value, ap (bytes_of side) is ∙ bytes_more side (drop ends.opened prefix) event (open_behind ends.opened prefix open_still) unshut)
+      server_by (none was is) open_still unshut =
+          let side : Side = Server ends.side.server in
+          (bytes_of side [], ap (bytes_of side) is ∙ sym (ap (λ l. bytes_of side l ++ bytes_of side []) was))
+
+      down_by : (bytes longer : List ℕ) → IsPrefixOf bytes longer → IsPrefixOf (drop ends.side.used bytes) (drop ends.side.used longer)
+      down_by bytes longer (more, is) = begins_as _ _ _ (drops ends.side.used bytes more) (ap (drop ends.side.used) (sym is))
+
+      down_grows : client_closed prefix ≡ false → is_shut ends prefix ≡ false → IsPrefixOf (text_down ends prefix) (text_down ends (prefix ++ event ∷ []))
+      down_grows open_still unshut = down_by _ _ (server_by (drop_more ends.opened prefix event) open_still unshut)
+
+      raw_open : (closed shut : Bool) (owed : List Command) → tunnel_found (closed || shut) owed ≡ NotYet → (closed ≡ false) × (shut ≡ false)
+      raw_open true shut owed is = absurd (let no : Ends owed ≡ NotYet = is in cc)
+      raw_open false true owed is = absurd (let no : Ends owed ≡ NotYet = is in cc)
+      raw_open false false owed is = (refl, refl)
+
+      raw_grows : raw_look ends prefix ≡ NotYet →
+          IsPrefixOf (seen_of view (both_ways ends.side.server (text_up ends prefix) (text_down ends prefix)))
+          (seen_of view (owed_over (stack_chain conv client) (raw ends) (prefix ++ event ∷ [])))
+      raw_grows is =
+          let still_open = raw_open (client_closed prefix) (is_shut ends prefix) _ is in
+          let longer : List (Timed Event) = prefix ++ event ∷ [] in
+          let texts : List Command = both_ways ends.side.server (text_up ends longer) (text_down ends longer) in
+          begins_on (both_ways ends.side.server (text_up ends prefix) (text_down ends prefix)) texts (texts ++ found (raw_look ends longer))
+          (both_grow ends.side.server _ _ _ _ (up_grows still_open.0) (down_grows still_open.0 still_open.1))
+          (seen_begins [] texts (texts ++ found (raw_look ends longer)) (found (raw_look ends longer), refl))
+
+    grows_at : (stage : Stage) (prefix : List (Timed Event)) (event : Timed Event) → (stack_chain conv client).look stage prefix ≡ NotYet →
+        IsPrefixOf (seen_of view ((stack_chain conv client).so_far stage prefix)) (seen_of view (owed_over (stack_chain conv client) stage (prefix ++ event ∷ [])))
+    grows_at (http place standing) prefix event is =
+        let longer : List (Timed Event) = prefix ++ event ∷ [] in
+        let on = (flows_at conv client place).pass standing longer in
+        let law = flows_grow sequence (terms_of conv client place) view in
+        http_grows place _ on.owed on.stage longer (hands_over place on.stage longer) refl refl
+        (law.grows standing prefix event (not_yet (unused_over standing.spare prefix) _ is))
+    grows_at (connecting tunnel) prefix event is = (_, refl)
+    grows_at (undecided tunnel spare since) prefix event is = (_, refl)
+    grows_at (raw ends) prefix event is = raw_grows ends prefix event is
+    grows_at over prefix event is = (_, refl)
+
+  pub so_far_grows : (view : View) → SoFarGrows (stack_chain conv client) (seen_of view)
+  so_far_grows view = record { grows = grows_at view }

@@ -1,0 +1,11 @@
+pub mod Stages
+pub mod Decides
+pub mod Chain
+pub mod Laws
+pub mod Names
+pub mod Modes
+pub mod Kept
+pub mod Stands
+pub mod Steps
+pub mod Stack
+pub mod StackLaws

@@ -1,0 +1,140 @@
+-- The laws of a conversation as a layer whose due is a chain.
+use Rattle.std.proofs.Common.{◌≡◌, ℕ, ◌++◌, Bool, true, false, List, Option, Some, None, refl, ap, sym, ◌∙◌, subst}
+use Rattle.std.specs.Global.{Box}
+use Rattle.px_message.specs.declared.address.Address.{Address}
+use Rattle.px_event.specs.declared.ask.Ask.{Ask}
+use Rattle.px_event.specs.declared.command.Command.{Command}
+use Rattle.px_event.specs.declared.event.Event.{Event}
+use Rattle.px_event.specs.Chain.{Timed, Look, NotYet, Asks, Ends}
+use Rattle.px_event.specs.Laws.{Settles, SoFarGrows}
+use Rattle.px_event.specs.Layer.{Move}
+use Rattle.px_event.specs.Stands.{AwaitsWhatItAsks, EndsWhereItEnds, StandsAt, due_by}
+use Rattle.px_event.specs.View.{View, seen_of}
+use Rattle.px_core.specs.Conversation.{AllNamed}
+use Rattle.px_exchange.specs.declared.place.Place.{Place}
+use Rattle.px_exchange.specs.Places.{terms_of}
+use Rattle.px_chain.specs.Chain.{sequence}
+use Rattle.px_chain.specs.Sights.{Unused, unused_over}
+use Rattle.px_http.specs.declared.conversation.HttpConv.{HttpConv}
+use Rattle.px_stream.specs.StateLaws.{awaits_what_it_asks}
+use Rattle.px_stack.specs.declared.child.Child.{Child}
+use Rattle.px_stack.specs.declared.child.Child.TheVariants as children
+use Rattle.px_stack.specs.declared.stack.Stack.{Stack}
+use Rattle.px_stack.specs.Chain.{flows_at, opening_look, raw_look, shut_unused, stack_chain, tunnel_found, with_closes}
+use Rattle.px_stack.specs.Kept.{awaited_by, is_over}
+use Rattle.px_stack.specs.Laws.{settles, so_far_grows}
+use Rattle.px_stack.specs.Names.{IsOfIt, stack_names}
+use Rattle.px_stack.specs.Stack.{IsAt, StackStands, awaits, chain_of, start_by, start_of}
+use Rattle.px_stack.specs.Stages.{Stage, connecting, http, over, raw, undecided}
+use Rattle.px_stack.specs.Stands.{IsChild, Keeps, KeepsBy}
+
+-- ---- what is found in HTTP and in a tunnel
+
+never_asks : (ends : Bool) (owed : List Command) (ask : Command) → tunnel_found ends owed ≡ Asks ask → ⊥
+never_asks true owed ask is = let no : Ends owed ≡ Asks ask = is in cc
+never_asks false owed ask is = let no : NotYet ≡ Asks ask = is in cc
+
+module _ (conv : ℕ) (client : Option Address) where
+  http_asks : (unused : Option Unused) (l : Look Command) (ask : Command) → with_closes conv client unused l ≡ Asks ask → l ≡ Asks ask
+  http_asks unused NotYet ask is = absurd (let no : NotYet ≡ Asks ask = is in cc)
+  http_asks unused (Asks one) ask is = is
+  http_asks unused (Ends owed) ask is = absurd (let no : Ends (owed ++ shut_unused unused) ≡ Asks ask = is in cc)
+
+  http_waits : (unused : Option Unused) (l : Look Command) (ask : Command) → l ≡ Asks ask → with_closes conv client unused l ≡ NotYet → ⊥
+  http_waits unused NotYet ask is found = let no : NotYet ≡ Asks ask = is in cc
+  http_waits unused (Asks one) ask is found = let no : Asks one ≡ NotYet = found in cc
+  http_waits unused (Ends owed) ask is found = let no : Ends owed ≡ Asks ask = is in cc
+
+  -- ---- what is awaited
+
+  free_by : (child : Child) (stage : Stage) (prefix : List (Timed Event)) (ask : Command) → Keeps conv client child stage prefix → awaited_by child ≡ None →
+      (stack_chain conv client).look stage prefix ≡ Asks ask → ⊥
+  free_by child (http place standing) prefix ask kept free asks =
+      (awaits_what_it_asks sequence (terms_of conv client place)).free kept.flows.value.stream standing prefix ask kept.there.is_at
+      (ap awaited_by (sym kept.is) ∙ free) (http_asks (unused_over standing.spare prefix) ((flows_at conv client place).look standing prefix) ask asks)
+  free_by child (connecting tunnel) prefix ask kept free asks =
+      let no : awaited_by (children.Connecting kept.kept kept.closed) ≡ None = ap awaited_by (sym kept.is) ∙ free in cc
+  free_by child (undecided tunnel spare since) prefix ask kept free asks = never_asks _ _ ask asks
+  free_by child (raw ends) prefix ask kept free asks = never_asks _ _ ask asks
+  free_by child over prefix ask kept free asks = kept
+
+  waits_by : (child : Child) (stage : Stage) (prefix : List (Timed Event)) (ask : Ask) → Keeps conv client child stage prefix → awaited_by child ≡ Some ask →
+      (stack_chain conv client).look stage prefix ≡ NotYet → ⊥
+  waits_by child (http place standing) prefix ask kept waits found =
+      let asked = (awaits_what_it_asks sequence (terms_of conv client place)).asks kept.flows.value.stream standing prefix ask kept.there.is_at (ap awaited_by (sym kept.is) ∙ waits) in
+      http_waits (unused_over standing.spare prefix) ((flows_at conv client place).look standing prefix) asked.0 asked.1 found
+  waits_by child (connecting tunnel) prefix ask kept waits found = let no : (stack_chain conv client).look (connecting tunnel) prefix ≡ NotYet = found in cc
+  waits_by child (undecided tunnel spare since) prefix ask kept waits found =
+      let no : None ≡ Some ask = ap awaited_by (sym kept.is) ∙ waits in cc
+  waits_by child (raw ends) prefix ask kept waits found = let no : None ≡ Some ask = ap awaited_by (sym kept.is) ∙ waits in cc
+  waits_by child over prefix ask kept waits found = kept
+
+  asks_by : (child : Child) (stage : Stage) (prefix : List (Timed Event)) (ask : Ask) (l : Look Command) → (stack_chain conv client).look stage prefix ≡ l →
+      KeepsBy l conv client child stage prefix → awaited_by child ≡ Some ask → (command : Command) × (l ≡ Asks command)
+  asks_by child stage prefix ask NotYet is kept waits = absurd (waits_by child stage prefix ask kept waits is)
+  asks_by child stage prefix ask (Asks command) is kept waits = (command, refl)
+  asks_by child stage prefix ask (Ends owed) is kept waits = absurd (let no : None ≡ Some ask = ap awaited_by (sym kept) ∙ waits in cc)
+
+  -- ---- whether it has ended
+
+  goes_on : (child : Child) (stage : Stage) (prefix : List (Timed Event)) → Keeps conv client child stage prefix → is_over child ≡ true → ⊥
+  goes_on child (http place standing) prefix kept ended = let no : false ≡ true = ap is_over (sym kept.is) ∙ ended in cc
+  goes_on child (connecting tunnel) prefix kept ended = let no : false ≡ true = ap is_over (sym kept.is) ∙ ended in cc
+  goes_on child (undecided tunnel spare since) prefix kept ended = let no : false ≡ true = ap is_over (sym kept.is) ∙ ended in cc
+  goes_on child (raw ends) prefix kept ended = let no : false ≡ true = ap is_over (sym kept.is) ∙ ended in cc
+  goes_on child over prefix kept ended = kept
+
+  ends_by : (child : Child) (stage : Stage) (prefix : List (Timed Event)) (l : Look Command) → KeepsBy l conv client child stage prefix →
+      is_over child ≡ true → (owed : List Command) × (l ≡ Ends owed)
+  ends_by child stage prefix NotYet kept ended = absurd (goes_on child stage prefix kept ended)
+  ends_by child stage prefix (Asks ask) kept ended = absurd (goes_on child stage prefix kept ended)
+  ends_by child stage prefix (Ends owed) kept ended = (owed, refl)
+
+  -- what is kept where this is found
+  found_there : (child : Child) (stage : Stage) (prefix : List (Timed Event)) (l : Look Command) → (stack_chain conv client).look stage prefix ≡ l →
+      IsChild conv client child stage prefix → KeepsBy l conv client child stage prefix
+  found_there child stage prefix l is there =
+      let P : Look Command → Type 0 = λ found. KeepsBy found conv client child stage prefix in subst P is there
+
+-- ---- the layer
+
+pub stands_there : (made state : Stack) (moves : List Move) (given : List Command) → StackStands made state moves given →
+    StandsAt (chain_of made) (start_of made) (IsAt made) state moves given
+stands_there made state moves given stands = stands
+
+pub settles_there : (made : Stack) → Settles (chain_of made)
+settles_there made = settles made.conv made.client
+
+pub grows_there : (made : Stack) (view : View) → SoFarGrows (chain_of made) (seen_of view)
+grows_there made view = so_far_grows made.conv made.client view
+
+pub asks_there : (made : Stack) → AwaitsWhatItAsks (chain_of made) (IsAt made) awaits
+asks_there made = record {
+  free = λ state stage prefix ask at is asks.
+      free_by made.conv made.client state.child stage prefix ask (found_there made.conv made.client state.child stage prefix (Asks ask) asks at.child) is asks;
+  asks = λ state stage prefix ask at is.
+      asks_by made.conv made.client state.child stage prefix ask ((chain_of made).look stage prefix) refl at.child is;
+}
+
+pub ends_there : (made : Stack) → EndsWhereItEnds (chain_of made) (IsAt made) (λ state. is_over state.child)
+ends_there made = record {
+  ends = λ state stage prefix at ended. ends_by made.conv made.client state.child stage prefix ((chain_of made).look stage prefix) at.child ended;
+  there = λ state stage prefix owed at is. ap is_over (found_there made.conv made.client state.child stage prefix (Ends owed) is at.child);
+}
+
+-- ---- its number
+
+start_is : (conv : ℕ) (client : Option Address) (child : Child) → IsOfIt conv client (start_by child)
+start_is conv client (children.Http flows) = refl
+start_is conv client (children.Connecting opening closed) = tt
+start_is conv client (children.Undecided opening server) = tt
+start_is conv client (children.Raw relay) = tt
+start_is conv client children.Over = tt
+
+-- What is due names flows of the conversation alone.
+pub names_there : (made : Stack) (moves : List Move) → AllNamed made.conv (due_by (chain_of made) (start_of made) moves)
+names_there made moves = stack_names made.conv made.client (start_of made) (start_is made.conv made.client made.child) moves
+
+-- no move changes its number
+pub keeps_number : (made state : Stack) (moves : List Move) (given : List Command) → StackStands made state moves given → state.conv ≡ made.conv
+keeps_number made state moves given stands = stands.place.conv

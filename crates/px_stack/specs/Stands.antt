@@ -1,0 +1,124 @@
+-- Where a conversation is: what it keeps at a stage and over a prefix.
+use Rattle.std.specs.Prelude.{◌≡◌, ◌≤◌, ◌<◌, ◌+◌, ℕ, Bool, true, false, List, [], length, drop, Option, Some, None}
+use Rattle.std.specs.Global.{Box}
+use Rattle.px_message.specs.declared.address.Address.{Address}
+use Rattle.px_event.specs.declared.command.Command.{Command}
+use Rattle.px_event.specs.declared.event.Event.{Event}
+use Rattle.px_event.specs.declared.side.Side.TheVariants.{Client, Server}
+use Rattle.px_event.specs.Chain.{Timed, Look, NotYet, Asks, Ends}
+use Rattle.px_exchange.specs.declared.place.Place.{Place}
+use Rattle.px_exchange.specs.declared.place.Place.TheVariants as places
+use Rattle.px_exchange.specs.Places.{terms_of}
+use Rattle.px_chain.specs.Sights.{Spare, SpareIsWithin, Standing, Unused, unused_over}
+use Rattle.px_chain.specs.Streams.{Since, bytes_of, client_closed}
+use Rattle.px_http.specs.declared.conversation.HttpConv.{HttpConv}
+use Rattle.px_stream.specs.Sequence.{IsInSequence}
+use Rattle.px_tunnel.specs.Stands.{has_ended, rests_of, server_of}
+use Rattle.px_tunnel.specs.Tunnel.{no_rests}
+use Rattle.px_stack.specs.declared.child.Child.{Child}
+use Rattle.px_stack.specs.declared.child.Child.TheVariants as children
+use Rattle.px_stack.specs.declared.child.Opening.{Opening}
+use Rattle.px_stack.specs.declared.child.Relay.{Relay}
+use Rattle.px_stack.specs.Chain.{has_answered, opening_text, stack_chain}
+use Rattle.px_stack.specs.Decides.{decided, still}
+use Rattle.px_stack.specs.Stages.{Ends as TunnelEnds, Stage, Tunnel, connecting, http, over, raw, undecided}
+
+-- ---- HTTP
+
+-- how many servers more than flows there may have been before HTTP began at a place: a side that is connected was dialled by no flow
+abbrev pub ahead_at : Place → ℕ
+ahead_at (places.Fixed address (Some server) inside) = 1
+ahead_at place = 0
+
+abbrev pub IsInFlows : ℕ → Option Address → Place → HttpConv → Standing → List (Timed Event) → Type 0
+IsInFlows conv client place flows standing prefix = IsInSequence (terms_of conv client place) (ahead_at place) flows.stream standing prefix
+
+-- ---- a CONNECT, and what follows it
+
+-- the numbers that follow, where it leads and what the client has sent behind it
+pub record IsOpening (tunnel : Tunnel) (prefix : List (Timed Event)) (kept : Opening) : Type 0 where
+  pub flow : kept.numbers.flow ≡ tunnel.at.flow
+  pub server : kept.numbers.server ≡ tunnel.at.dials
+  pub address : kept.address ≡ tunnel.address
+  pub rest : kept.rest ≡ opening_text tunnel prefix
+  pub few : tunnel.at.flow < 1000000
+  pub used : tunnel.at.used ≤ length (bytes_of Client prefix)
+
+-- its server is connected: it is the last that was dialled, and no flow has dialled it
+pub record IsOpened (tunnel : Tunnel) (spare : Spare) (since : Since) (prefix : List (Timed Event)) (kept : Opening) (server : ℕ) : Type 0 where
+  pub opening : IsOpening tunnel prefix kept
+  pub same : server ≡ spare.server
+  pub last : tunnel.at.dials ≡ spare.server + 1
+  pub dials : spare.server ≤ tunnel.at.flow
+  pub opened : spare.opened ≤ length prefix
+  pub come : since.events ≤ length prefix
+
+-- the spare side, while it is connected
+abbrev pub unless_shut : Unused → Bool → Option ℕ
+unless_shut unused true = None
+unless_shut unused false = Some unused.server
+
+abbrev pub open_unused : Option Unused → Option ℕ
+open_unused None = None
+open_unused (Some unused) = unless_shut unused unused.shut
+
+-- a tunnel has handed on all that has come, and no side has closed
+pub record IsRelay (ends : TunnelEnds) (prefix : List (Timed Event)) (kept : Relay) : Type 0 where
+  pub same : kept.server ≡ ends.side.server
+  pub server : server_of kept.tunnel ≡ ends.side.server
+  pub rests : rests_of kept.tunnel ≡ no_rests
+  pub goes_on : has_ended kept.tunnel ≡ false
+  pub flow : kept.flow ≡ ends.flow
+  pub spare : kept.spare ≡ open_unused (unused_over ends.spare prefix)
+  pub used : ends.used ≤ length (bytes_of Client prefix)
+  pub side_used : ends.side.used ≤ length (bytes_of (Server ends.side.server) (drop ends.opened prefix))
+  pub opened : ends.opened ≤ length prefix
+  pub within : SpareIsWithin ends.spare prefix
+
+-- ---- by the stage
+
+pub record IsHttp (conv : ℕ) (client : Option Address) (place : Place) (standing : Standing) (prefix : List (Timed Event)) (child : Child) : Type 0 where
+  pub flows : Box HttpConv
+  pub is : child ≡ children.Http flows
+  pub there : IsInFlows conv client place flows.value standing prefix
+
+pub record IsConnecting (tunnel : Tunnel) (prefix : List (Timed Event)) (child : Child) : Type 0 where
+  pub kept : Opening
+  pub closed : Bool
+  pub is : child ≡ children.Connecting kept closed
+  pub opening : IsOpening tunnel prefix kept
+  pub dials : tunnel.at.dials ≤ tunnel.at.flow
+  pub client : closed ≡ client_closed prefix
+
+pub record IsUndecided (tunnel : Tunnel) (spare : Spare) (since : Since) (prefix : List (Timed Event)) (child : Child) : Type 0 where
+  pub kept : Opening
+  pub server : ℕ
+  pub is : child ≡ children.Undecided kept server
+  pub opened : IsOpened tunnel spare since prefix kept server
+  pub decides : decided (opening_text tunnel prefix) (has_answered spare prefix) ≡ still
+
+pub record IsRaw (ends : TunnelEnds) (prefix : List (Timed Event)) (child : Child) : Type 0 where
+  pub kept : Relay
+  pub is : child ≡ children.Raw kept
+  pub relay : IsRelay ends prefix kept
+
+abbrev pub Keeps : ℕ → Option Address → Child → Stage → List (Timed Event) → Type 0
+Keeps conv client child (http place standing) prefix = IsHttp conv client place standing prefix child
+Keeps conv client child (connecting tunnel) prefix = IsConnecting tunnel prefix child
+Keeps conv client child (undecided tunnel spare since) prefix = IsUndecided tunnel spare since prefix child
+Keeps conv client child (raw ends) prefix = IsRaw ends prefix child
+Keeps conv client child over prefix = ⊥
+
+-- where the end is found nothing is kept
+abbrev pub KeepsBy : Look Command → ℕ → Option Address → Child → Stage → List (Timed Event) → Type 0
+KeepsBy NotYet conv client child stage prefix = Keeps conv client child stage prefix
+KeepsBy (Asks ask) conv client child stage prefix = Keeps conv client child stage prefix
+KeepsBy (Ends owed) conv client child stage prefix = child ≡ children.Over
+
+-- What is kept where the walk stopped at this stage and over this prefix.
+abbrev pub IsChild : ℕ → Option Address → Child → Stage → List (Timed Event) → Type 0
+IsChild conv client child stage prefix = KeepsBy ((stack_chain conv client).look stage prefix) conv client child stage prefix
+
+-- and it is so somewhere
+abbrev pub IsSomewhere : ℕ → Option Address → Child → Type 0
+IsSomewhere conv client child = (stage : Stage) × (prefix : List (Timed Event)) × IsChild conv client child stage prefix

@@ -1,0 +1,113 @@
+//! What follows HTTP: it goes on, a CONNECT is answered, another protocol goes on, or it has ended.
+ghost use Rattle.std.specs.Prelude.{◌≡◌, ◌++◌, ◌∷◌, [], Some, None, IfOk, OnOk};
+ghost use Rattle.px_event.specs.declared.command.Command.TheVariants.{Dial as TheDial};
+ghost use Rattle.px_stream.specs.Rests.{phase_flow, phase_rest};
+ghost use Rattle.px_stream.specs.Sequence.{asked_tunnel, open_spare, outcome_in, upgraded_side};
+ghost use Rattle.px_exchange.specs.declared.ending.Used.TheVariants.{ByServer as TheServer};
+ghost use Rattle.px_stack.specs.Kept.{shut_open};
+ghost use Rattle.px_stack.specs.Steps.{Adds, AsksBehind, Follows};
+
+use crate::child::{Child, Opening};
+use crate::closing::{Sides, close_spare};
+use crate::relay::begin_relay;
+use px_event::{Command, Rests};
+use px_exchange::Outcome;
+use px_exchange::ending::Used;
+use px_http::HttpConv;
+use px_message::{Address, Flow};
+use px_text::NoMemory;
+
+/// What follows HTTP, which has worked off all that came.
+pub fn follow(http: Box<HttpConv>, out: &mut Vec<Command>) -> Result<Child, NoMemory>
+    ensures follows { IfOk result (λ next. Adds (Follows http.value next) out.old.items out.new.items) }
+    ensures asks { IfOk result (λ next. AsksBehind http.value next out.old.items out.new.items) }
+{
+    match http.outcome() {
+        Outcome::Going => Ok(Child::Http(http)),
+        Outcome::Connects => connect(http, out),
+        Outcome::Upgraded => upgrade(http, out),
+        Outcome::Next | Outcome::Over => end(http, out),
+    }
+}
+
+// The server of a CONNECT is dialled.
+fn connect(http: Box<HttpConv>, out: &mut Vec<Command>) -> Result<Child, NoMemory>
+    requires { outcome_in http.value.stream.phase ≡ Outcome.Connects }
+    ensures follows { IfOk result (λ next. Adds (Follows http.value next) out.old.items out.new.items) }
+    ensures asks { IfOk result (λ next. AsksBehind http.value next out.old.items out.new.items) }
+{
+    let closed = http.client_closed();
+    let opening = read_opening(http)?;
+    out.push(Command::Dial {
+        server: opening.numbers.server,
+        address: opening.address.try_clone()?,
+        inside: None,
+    })?;
+    Ok(Child::Connecting { opening, closed })
+}
+
+// What a CONNECT leaves.
+fn read_opening(http: Box<HttpConv>) -> Result<Opening, NoMemory>
+    requires { outcome_in http.value.stream.phase ≡ Outcome.Connects }
+    ensures numbers { IfOk result (λ opening. opening.numbers ≡ http.value.stream.numbers) }
+    ensures address { IfOk result (λ opening. asked_tunnel http.value.stream.phase ≡ Some opening.address) }
+    ensures rest { IfOk result (λ opening. opening.rest ≡ http.value.stream.requests.rest) }
+{
+    let numbers = http.numbers();
+    let address = read_address(&http)?;
+    let (rests, flow) = Box::into_inner(http).into_rests()?;
+    drop(flow);
+    Ok(Opening {
+        numbers,
+        address,
+        rest: rests.client,
+    })
+}
+
+// Where a CONNECT asks for a tunnel to.
+fn read_address(http: &HttpConv) -> Result<Address, NoMemory>
+    requires { outcome_in http.now.stream.phase ≡ Outcome.Connects }
+    ensures { IfOk result (λ address. asked_tunnel http.now.stream.phase ≡ Some address) }
+{
+    match http.connects() {
+        Some(address) => address.try_clone(),
+        None => unreachable!(),
+    }
+}
+
+// Another protocol goes on, on the same connections.
+fn upgrade(http: Box<HttpConv>, out: &mut Vec<Command>) -> Result<Child, NoMemory>
+    requires { outcome_in http.value.stream.phase ≡ Outcome.Upgraded }
+    ensures follows { IfOk result (λ next. Adds (Follows http.value next) out.old.items out.new.items) }
+    ensures asks { IfOk result (λ next. AsksBehind http.value next out.old.items out.new.items) }
+{
+    let sides = read_sides(&http);
+    let spare = http.spare();
+    let (rests, flow) = Box::into_inner(http).into_rests()?;
+    begin_relay(sides, rests, flow, spare, out)
+}
+
+// The sides on which it goes on.
+fn read_sides(http: &HttpConv) -> Sides
+    requires { outcome_in http.now.stream.phase ≡ Outcome.Upgraded }
+    ensures server { upgraded_side http.now.stream.phase ≡ Some (TheServer result.server result.shut) }
+    ensures closed { result.closed ≡ http.now.stream.client_closed }
+{
+    match http.upgraded() {
+        Some(Used::ByServer { number, closed }) => Sides {
+            server: number,
+            shut: closed,
+            closed: http.client_closed(),
+        },
+        Some(Used::NoServer) | None => unreachable!(),
+    }
+}
+
+// It has ended: a spare side that is still connected is closed.
+fn end(http: Box<HttpConv>, out: &mut Vec<Command>) -> Result<Child, NoMemory>
+    ensures over { IfOk result (λ next. next ≡ Child.Over) }
+    ensures gives { OnOk result (out.new.items ≡ out.old.items ++ shut_open (open_spare http.value.stream.spare)) }
+{
+    close_spare(http.spare(), out)?;
+    Ok(Child::Over)
+}
