@@ -1,7 +1,6 @@
--- The dials that are due in a conversation of HTTP are numbered by their order.
+-- The dials that are due in HTTP at one place are numbered by their order.
 use Rattle.std.proofs.Common.{◌≡◌, ℕ, ◌+◌, Bool, true, false, List, [], ◌∷◌, length, Option, Some, None, refl, sym, ap, subst, arith}
-use Rattle.std.specs.Prelude.{⊤, not, if◌then◌else◌}
-use Rattle.px_message.specs.declared.address.Address.{Address}
+use Rattle.std.specs.Prelude.{⊤, ◌==◌, not, if◌then◌else◌}
 use Rattle.px_message.specs.declared.flow.Flow.{Flow}
 use Rattle.px_message.specs.declared.flow.FlowId.{FlowId}
 use Rattle.px_message.specs.declared.request.Request.{Request}
@@ -12,31 +11,28 @@ use Rattle.px_event.specs.declared.command.Command.TheVariants as commands
 use Rattle.px_event.specs.declared.reply.Reply.{Reply}
 use Rattle.px_event.specs.declared.reply.Reply.TheVariants as reply
 use Rattle.px_event.specs.Chain.{Timed, Look, NotYet, Asks, Ends, Turn, found}
-use Rattle.px_event.specs.Layer.{Move}
 use Rattle.px_read.specs.Items.{Item, missing, part, complete, bad_head, bad_body}
 use Rattle.px_read.specs.declared.head.RequestHead.{RequestHead as ReadRequest}
 use Rattle.px_read.specs.declared.head.ResponseHead.{ResponseHead as ReadResponse}
 use Rattle.px_exchange.specs.declared.asked.Judged.{Judged}
-use Rattle.px_exchange.specs.declared.asked.Judged.TheVariants.{Refused, Accepted}
+use Rattle.px_exchange.specs.declared.asked.Judged.TheVariants.{Refused, Accepted, Connects}
 use Rattle.px_exchange.specs.declared.ending.Used.{Used}
 use Rattle.px_exchange.specs.declared.taken.Taken.{Taken}
 use Rattle.px_exchange.specs.declared.taken.Taken.TheVariants.{GoesOn, Responds, Kills}
-use Rattle.px_exchange.specs.declared.mode.Mode.{Mode}
 use Rattle.px_exchange.specs.declared.place.Place.{Place}
 use Rattle.px_exchange.specs.declared.terms.Terms.{Terms}
-use Rattle.px_chain.specs.Chain.{http_chain, sequence, look, leaving, pass, pass_body, so_far, turn, turn_taken_head, turn_judged, turn_head, turn_taken_body, turn_body, dial_leads, turn_taken_answer, turn_answer, turn_taken_returned, turn_response, turn_returned, turn_taken_given, behind_flow}
+use Rattle.px_chain.specs.Chain.{finish_by, goes_on_by, http_chain, sequence, look, leaving, pass, pass_body, side_behind, so_far, turn, turn_taken_head, turn_judged, turn_head, turn_taken_body, turn_taken_whole, turn_body, used_more, dial_leads, turn_taken_answer, turn_answer, turn_taken_returned, turn_response, turn_returned, turn_taken_given, behind_flow}
 use Rattle.px_exchange.specs.Finds.{or_leaves, look_judged, look_head, look_body, look_answer_head, look_answer, look_returned, is_relayed}
-use Rattle.px_exchange.specs.Flows.{ask_of, response_of, with_answer, with_end, with_returned, with_start}
+use Rattle.px_exchange.specs.Flows.{ask_of, response_of, with_answer, with_body, with_end, with_returned, with_start}
 use Rattle.px_chain.proofs.Quiet.{AllQuiet, LooksQuiet, any_flow}
-use Rattle.px_chain.specs.Sights.{Sight, Standing, answers_in, request_in, server_in, sight_over}
-use Rattle.px_chain.specs.Stages.{At, ServerSide, Stage, busy, connection, given_body, given_head, idle, next, over, request_body, response_body, response_head}
+use Rattle.px_chain.specs.Sights.{Sight, Standing, Unused, answers_in, request_in, server_in, sight_over}
+use Rattle.px_chain.specs.Stages.{At, ServerSide, Stage, busy, connection, given_body, given_head, idle, next, over, request_body, response_body, response_head, upgraded}
 use Rattle.px_chain.proofs.QuietLemmas.{so_far_quiet, turn_quiet, finds_quiet_end}
-use Rattle.px_http.specs.Modes.{mode_due, mode_terms}
 use Rattle.px_app.specs.Servers.{CountsFrom}
-use Rattle.px_app.proofs.ServerLemmas.{dials_in, CountsDials, due_counts}
+use Rattle.px_app.proofs.ServerLemmas.{dials_in, CountsDials}
 
 -- so many servers were dialled before the stage, or nothing is dialled any more
-abbrev Dialled : ℕ → Stage → Type 0
+abbrev pub Dialled : ℕ → Stage → Type 0
 Dialled n (idle at) = at.dials ≡ n
 Dialled n (busy at flow doing) = at.dials ≡ n
 Dialled n (next at) = at.dials ≡ n
@@ -68,6 +64,7 @@ leaves_not closed leaving (Ends owed) not = tt
 judged_not : (terms : Terms) (index : ℕ) (head : ReadRequest) (j : Judged) (moment : ℕ) (closed : Bool) → DialsNot (look_judged terms index head j moment closed)
 judged_not terms index head (Refused fault) moment closed = tt
 judged_not terms index head (Accepted request) moment closed = refl
+judged_not terms index head (Connects address) moment closed = tt
 
 head_not : (terms : Terms) (index : ℕ) (item : Item ReadRequest) (moment : ℕ) (closed : Bool) → DialsNot (look_head terms index item moment closed)
 head_not terms index missing moment closed = tt
@@ -119,6 +116,7 @@ looks terms n (busy at flow (request_body given)) seen is = counts_found n _ (le
 looks terms n (busy at flow connection) seen is = (is, tt)
 looks terms n (busy at flow (response_head side how)) seen is = counts_found n _ (leaves_not _ _ _ (answer_not flow (answers_in flow.request side seen).final seen.now (server_in side seen) seen.closed)) (finds_quiet_end terms (busy at flow (response_head side how)) seen)
 looks terms n (busy at flow (response_body side how)) seen is = counts_found n _ (leaves_not _ _ _ (returned_not flow _ _ _ _)) (finds_quiet_end terms (busy at flow (response_body side how)) seen)
+looks terms n (busy at flow (upgraded side)) seen is = tt
 looks terms n (busy at flow given_head) seen is = tt
 looks terms n (busy at flow given_body) seen is = tt
 looks terms n (next at) seen is = tt
@@ -134,6 +132,7 @@ head_leads n at flow expected Kills moment closed is = tt
 judged_leads : (n : ℕ) (terms : Terms) (at : At) (head : ReadRequest) (j : Judged) (seen : Sight) (answer : Timed Reply) → at.dials ≡ n →
     Dialled n (turn_judged terms at head j seen answer).stage
 judged_leads n terms at head (Refused fault) seen answer is = tt
+judged_leads n terms at head (Connects address) seen answer is = tt
 judged_leads n terms at head (Accepted request) seen answer is = head_leads n at _ _ _ answer.moment _ is
 
 item_leads : (n : ℕ) (terms : Terms) (at : At) (item : Item ReadRequest) (seen : Sight) (answer : Timed Reply) → at.dials ≡ n →
@@ -144,18 +143,25 @@ item_leads n terms at (complete head body trailers used) seen answer is = judged
 item_leads n terms at (bad_head fault) seen answer is = tt
 item_leads n terms at (bad_body fault head body) seen answer is = judged_leads n terms at head _ seen answer is
 
-taken_body_leads : (n : ℕ) (at : At) (flow : Flow) (taken : Taken Request) (moment : ℕ) (closed : Bool) → at.dials ≡ n → Dialled n (turn_taken_body at flow taken moment closed).stage
-taken_body_leads n at flow (GoesOn request) moment closed is = is
-taken_body_leads n at flow (Responds response) moment closed is = is
-taken_body_leads n at flow Kills moment closed is = tt
+-- the spare side was dialled before
+goes_leads : (n : ℕ) (spare : Option Unused) (place : Place) (at : At) (flow : Flow) → at.dials ≡ n → Dialled n (goes_on_by spare place at flow).stage
+goes_leads n None place at flow is = is
+goes_leads n (Some unused) place at flow is = is
 
-body_leads : (n : ℕ) (at : At) (flow : Flow) (item : Item ReadRequest) (seen : Sight) (answer : Timed Reply) → at.dials ≡ n →
-    Dialled n (turn_body at flow item seen answer).stage
-body_leads n at flow missing seen answer is = tt
-body_leads n at flow (part head body) seen answer is = tt
-body_leads n at flow (complete head body trailers used) seen answer is = taken_body_leads n _ _ _ answer.moment _ is
-body_leads n at flow (bad_head fault) seen answer is = tt
-body_leads n at flow (bad_body fault head body) seen answer is = tt
+taken_body_leads : (n : ℕ) (place : Place) (at : At) (flow : Flow) (spare : Option Unused) (taken : Taken Request) (moment : ℕ) (closed : Bool) → at.dials ≡ n →
+    Dialled n (turn_taken_body place at flow spare taken moment closed).stage
+taken_body_leads n place at flow spare (GoesOn request) moment closed is = goes_leads n _ place at _ is
+taken_body_leads n place at flow spare (Responds response) moment closed is = is
+taken_body_leads n place at flow spare Kills moment closed is = tt
+
+body_leads : (n : ℕ) (place : Place) (at : At) (flow : Flow) (item : Item ReadRequest) (seen : Sight) (answer : Timed Reply) → at.dials ≡ n →
+    Dialled n (turn_body place at flow item seen answer).stage
+body_leads n place at flow missing seen answer is = tt
+body_leads n place at flow (part head body) seen answer is = tt
+body_leads n place at flow (complete head body trailers used) seen answer is =
+    taken_body_leads n place (used_more at used) (with_body flow body.content trailers seen.now) seen.spare _ answer.moment _ is
+body_leads n place at flow (bad_head fault) seen answer is = tt
+body_leads n place at flow (bad_body fault head body) seen answer is = tt
 
 dial_on : (n : ℕ) (place : Place) (at : At) (flow : Flow) (answer : Reply) → at.dials ≡ n → Dialled (n + 1) (dial_leads place at flow answer)
 dial_on n place at flow (reply.Go given stream) is = tt
@@ -194,15 +200,27 @@ response_leads : (n : ℕ) (response : Option Response) (takes : Response → Ta
 response_leads n None takes goes leads = tt
 response_leads n (Some response) takes goes leads = leads (takes response)
 
-returned_leads : (n : ℕ) (at : At) (flow : Flow) (side : ServerSide) (item : Item ReadResponse) (seen : Sight) (answer : Timed Reply) → at.dials ≡ n →
-    Dialled n (turn_returned at flow side item seen answer).stage
-returned_leads n at flow side missing seen answer is = tt
-returned_leads n at flow side (part head body) seen answer is = tt
-returned_leads n at flow side (complete head body trailers size) seen answer is =
+-- behind a response of code 101 HTTP has ended
+finish_leads : (n : ℕ) (switches : Bool) (at : At) (flow : Flow) (response : Response) (side : ServerSide) (used : Used) (closed : Bool) → at.dials ≡ n →
+    Dialled n (finish_by switches at flow response side used closed).stage
+finish_leads n true at flow response side used closed is = is
+finish_leads n false at flow response side used closed is = behind n _ at is
+
+taken_whole_leads : (n : ℕ) (at : At) (flow : Flow) (side : ServerSide) (taken : Taken Response) (moment : ℕ) (used : Used) (closed : Bool) → at.dials ≡ n →
+    Dialled n (turn_taken_whole at flow side taken moment used closed).stage
+taken_whole_leads n at flow side (GoesOn response) moment used closed is = finish_leads n (response.status == 101) at flow response side used closed is
+taken_whole_leads n at flow side (Responds response) moment used closed is = tt
+taken_whole_leads n at flow side Kills moment used closed is = tt
+
+returned_leads : (n : ℕ) (at : At) (flow : Flow) (side : ServerSide) (interim : ℕ) (item : Item ReadResponse) (seen : Sight) (answer : Timed Reply) → at.dials ≡ n →
+    Dialled n (turn_returned at flow side interim item seen answer).stage
+returned_leads n at flow side interim missing seen answer is = tt
+returned_leads n at flow side interim (part head body) seen answer is = tt
+returned_leads n at flow side interim (complete head body trailers size) seen answer is =
     response_leads n (with_returned flow body.content trailers seen.now).response _ _
-    (λ taken. taken_returned_leads n at (with_returned flow body.content trailers seen.now) taken answer.moment _ _ is)
-returned_leads n at flow side (bad_head fault) seen answer is = tt
-returned_leads n at flow side (bad_body fault head body) seen answer is = tt
+    (λ taken. taken_whole_leads n at (with_returned flow body.content trailers seen.now) (side_behind side (interim + size)) taken answer.moment _ _ is)
+returned_leads n at flow side interim (bad_head fault) seen answer is = tt
+returned_leads n at flow side interim (bad_body fault head body) seen answer is = tt
 
 taken_given_leads : (n : ℕ) (at : At) (flow : Flow) (taken : Taken Response) (moment : ℕ) (closed : Bool) → at.dials ≡ n → Dialled n (turn_taken_given at flow taken moment closed).stage
 taken_given_leads n at flow (GoesOn response) moment closed is = is
@@ -230,6 +248,7 @@ passed n (busy at flow (request_body given)) seen is = passed_body n at flow giv
 passed n (busy at flow connection) seen is = is
 passed n (busy at flow (response_head side how)) seen is = is
 passed n (busy at flow (response_body side how)) seen is = is
+passed n (busy at flow (upgraded side)) seen is = is
 passed n (busy at flow given_head) seen is = is
 passed n (busy at flow given_body) seen is = is
 passed n (next at) seen is = is
@@ -248,12 +267,13 @@ dial_asked at flow seen terms ask is = let P : Look Command → Type 0 = λ l. l
 turns : (terms : Terms) (n : ℕ) (stage : Stage) (seen : Sight) (ask : Command) (answer : Timed Reply) → Dialled n stage → look terms stage seen ≡ Asks ask →
     Dialled (n + length (dials_in (ask ∷ []))) (turn terms stage seen answer).stage
 turns terms n (idle at) seen ask answer is asks = stays n _ ask (asked_not _ ask asks (leaves_not _ _ _ (head_not terms at.flow (request_in at seen) seen.now seen.closed))) (item_leads n terms at (request_in at seen) seen answer is)
-turns terms n (busy at flow (request_body given)) seen ask answer is asks = stays n _ ask (asked_not _ ask asks (leaves_not _ _ _ (body_not flow _ _ _))) (body_leads n at flow (request_in at seen) seen answer is)
+turns terms n (busy at flow (request_body given)) seen ask answer is asks = stays n _ ask (asked_not _ ask asks (leaves_not _ _ _ (body_not flow _ _ _))) (body_leads n terms.place at flow (request_in at seen) seen answer is)
 turns terms n (busy at flow connection) seen ask answer is asks =
     let P : ℕ → Type 0 = λ k. Dialled (n + k) (dial_leads terms.place at flow answer.value) in
     subst P (sym (dial_asked at flow seen terms ask asks)) (dial_on n terms.place at flow answer.value is)
 turns terms n (busy at flow (response_head side how)) seen ask answer is asks = stays n _ ask (asked_not _ ask asks (leaves_not _ _ _ (answer_not flow (answers_in flow.request side seen).final seen.now (server_in side seen) seen.closed))) (answer_leads n at flow side (answers_in flow.request side seen).final seen answer is)
-turns terms n (busy at flow (response_body side how)) seen ask answer is asks = stays n _ ask (asked_not _ ask asks (leaves_not _ _ _ (returned_not flow _ _ _ _))) (returned_leads n at flow side (answers_in flow.request side seen).final seen answer is)
+turns terms n (busy at flow (response_body side how)) seen ask answer is asks = stays n _ ask (asked_not _ ask asks (leaves_not _ _ _ (returned_not flow _ _ _ _))) (returned_leads n at flow side (answers_in flow.request side seen).used (answers_in flow.request side seen).final seen answer is)
+turns terms n (busy at flow (upgraded side)) seen ask answer is asks = tt
 turns terms n (busy at flow given_head) seen ask answer is asks =
     stays n _ ask (asked_not (look terms (busy at flow given_head) seen) ask asks refl) (response_leads n flow.response _ _
     (λ taken. taken_given_leads n at (with_start flow seen.now) taken answer.moment _ is))
@@ -263,11 +283,11 @@ turns terms n (busy at flow given_body) seen ask answer is asks =
 turns terms n (next at) seen ask answer is asks = absurd (let wrong : Ends [] ≡ Asks ask = asks in cc)
 turns terms n over seen ask answer is asks = tt
 
--- the same of places
-abbrev DialledAt : ℕ → Standing → Type 0
+-- the same of standings
+abbrev pub DialledAt : ℕ → Standing → Type 0
 DialledAt n place = Dialled n place.stage
 
-counts : (terms : Terms) → CountsDials (http_chain sequence terms) DialledAt
+pub counts : (terms : Terms) → CountsDials (http_chain sequence terms) DialledAt
 counts terms = record {
   pass = λ n place prefix is. (refl, passed n place.stage (sight_over place prefix) is);
   so_far = λ place prefix. quiet_dials any_flow (so_far place.stage (sight_over place prefix)) (so_far_quiet any_flow place.stage (sight_over place prefix));
@@ -278,7 +298,3 @@ counts terms = record {
         onward _ (turn terms place.stage seen answer).stage (turns terms n place.stage seen ask answer is asks),
       );
 }
-
--- the n-th dial that is due names server n
-pub mode_counts : (mode : Mode) (conv : ℕ) (peer : Address) (moves : List Move) → CountsFrom 0 (dials_in (mode_due mode conv peer moves))
-mode_counts mode conv peer moves = due_counts (http_chain sequence (mode_terms mode conv peer)) DialledAt _ (counts (mode_terms mode conv peer)) refl moves

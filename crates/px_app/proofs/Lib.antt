@@ -23,5 +23,6 @@ pub mod EndLemmas
 pub mod OutputLemmas
 pub mod ServerLemmas
 pub mod HttpServers
+pub mod StackServers
 pub mod GenerateLemmas
 pub mod FlowsLemmas

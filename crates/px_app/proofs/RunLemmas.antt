@@ -15,7 +15,7 @@ use Rattle.px_core.proofs.AnsweredLemmas.{whole_front}
 use Rattle.px_core.proofs.ResultLemmas.{same_some}
 use Rattle.px_exchange.specs.declared.mode.Mode.{Mode}
 use Rattle.px_exchange.specs.declared.mode.Mode.TheVariants as modes
-use Rattle.px_http.specs.Modes.{mode_due}
+use Rattle.px_stack.specs.Modes.{mode_due}
 use Rattle.px_options.specs.Mode.{regular, reverse, upstream}
 use Rattle.px_options.specs.Values.{Place}
 use Rattle.px_options.specs.View.{mode_view, place}

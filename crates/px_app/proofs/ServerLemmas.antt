@@ -44,7 +44,7 @@ dial_in _ = []
 abbrev pub dials_in : List Command → List ℕ
 dials_in list = flat_map dial_in list
 
-dials_more : (xs ys : List Command) → dials_in (xs ++ ys) ≡ dials_in xs ++ dials_in ys
+pub dials_more : (xs ys : List Command) → dials_in (xs ++ ys) ≡ dials_in xs ++ dials_in ys
 dials_more xs ys = flat_map-append dial_in xs ys
 
 none_behind : (xs ys : List Command) → dials_in ys ≡ [] → dials_in (xs ++ ys) ≡ dials_in xs

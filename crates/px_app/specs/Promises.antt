@@ -8,7 +8,7 @@ use Rattle.px_core.specs.Course.{Change}
 use Rattle.px_core.specs.Due.{IsServed, IsAllTold}
 use Rattle.px_core.specs.Hooks.{IsAllAnswered}
 use Rattle.px_exchange.specs.declared.mode.Mode.{Mode}
-use Rattle.px_http.specs.Modes.{mode_due}
+use Rattle.px_stack.specs.Modes.{mode_due}
 use Rattle.px_app.specs.Lines.{line_of}
 use Rattle.px_app.specs.Listed.{listed}
 use Rattle.px_app.specs.Over.{Reaches, ReachesPart, course_from}

@@ -10,7 +10,7 @@ ghost use Rattle.px_gen.specs.Script.{script as script_of};
 ghost use Rattle.px_map.specs.View.{local_views};
 ghost use Rattle.px_gen.specs.Counts.{counts_in, counts_text as text_of_counts};
 ghost use Rattle.px_gen.specs.Noted.{HasGrownByFront, noted, with_steps};
-ghost use Rattle.px_http.specs.Modes.{mode_due};
+ghost use Rattle.px_stack.specs.Modes.{mode_due};
 ghost use Rattle.px_app.specs.Generates.{Generates, generator_mode, generator_settings};
 ghost use Rattle.px_app.specs.Opened.{AreRulesOf};
 ghost use Rattle.px_app.specs.Outside.{outside};
@@ -27,8 +27,8 @@ use px_event::{Heard, Step};
 use px_gen::{
     Generated, Nowhere, Scripted, counts_of, counts_text, note_all, rules, script, server,
 };
-use px_http::{Mode, Placed};
 use px_outside::{Files, Net, Sink, SinkError};
+use px_stack::{Mode, Placed};
 use px_text::NoMemory;
 use std::alloc::Global;
 use std::marker::Brand;

@@ -10,7 +10,7 @@ ghost use Rattle.px_core.specs.Course.{Change};
 ghost use Rattle.px_core.specs.Due.{Due, IsWithinDue};
 ghost use Rattle.px_core.specs.Kind.{EndsOfKind};
 ghost use Rattle.px_core.specs.Ordered.{IsInOrder};
-ghost use Rattle.px_http.specs.Modes.{mode_due};
+ghost use Rattle.px_stack.specs.Modes.{mode_due};
 ghost use Rattle.px_map.specs.View.{local_views};
 ghost use Rattle.px_addons.specs.Mapped.{ReadsOfRules};
 ghost use Rattle.px_addons.specs.Quiet.{goes_on_unchanged};

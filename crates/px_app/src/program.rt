@@ -3,7 +3,7 @@
 //! `run` is the whole program over a network, files, two sinks and addons that are handed in. Each promise is in a clause of it.
 //!
 //! With the words `serve OPTIONS` the options file is read, once and first, and what came of that is told (`specs/Opened.antt`). Where it
-//! says options, what each peer of each conversation was sent is what is due to it in the options' mode by px_http's `mode_due`, by where its client is and
+//! says options, what each peer of each conversation was sent is what is due to it in the options' mode by px_stack's `mode_due`, by where its client is and
 //! the calls that the trace has of the conversation; each hook was answered by the chain of the options' rules and the addons alone;
 //! what is printed is a line of each finished flow of the trace, and the status's line behind them; and each status has its cause in the
 //! trace or in a count of faults (`specs/Serves.antt`). With the words `flows FILE FILTER` the file is read, and the line of each of its flows on

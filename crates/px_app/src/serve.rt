@@ -3,7 +3,7 @@ ghost use Rattle.std.specs.Prelude.{◌≡◌, ◌≢◌, ◌≤◌, ◌⊎◌, 
 ghost use Rattle.px_outside.specs.Count.{Rose};
 ghost use Rattle.px_outside.specs.Net.{failed, idle};
 ghost use Rattle.px_outside.specs.Sink.{Writes, WritesPart};
-ghost use Rattle.px_http.specs.Modes.{mode_due};
+ghost use Rattle.px_stack.specs.Modes.{mode_due};
 ghost use Rattle.px_core.specs.Answers.{files_meaning};
 ghost use Rattle.px_options.specs.View.{mode_view};
 ghost use Rattle.px_app.specs.Lines.{start_note};
@@ -21,14 +21,14 @@ use crate::status::Status;
 use crate::stop::{start_note, tell};
 use px_core::{Answerer, Gates};
 use px_gate::Gate;
-use px_http::{HttpConv, Mode, Placed};
 use px_message::Address;
 use px_outside::{Files, Net, Sink};
+use px_stack::{Mode, Placed, Stack};
 use px_text::NoMemory;
 use std::alloc::Global;
 
-/// A conversation: flows in sequence, behind a gate that holds what comes while a question is open.
-pub type Conv = Gate<HttpConv>;
+/// A conversation: HTTP and what follows it, behind a gate that holds what comes while a question is open.
+pub type Conv = Gate<Stack>;
 
 /// How serving ended, and how printing and saving went.
 #[derive(Clone, Copy, Debug)]

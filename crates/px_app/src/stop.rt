@@ -8,9 +8,9 @@ ghost use Rattle.px_app.specs.Lines.{cannot_read, mode_text, proxy_text, server_
 ghost use Rattle.px_app.specs.Outside.{IsTold};
 ghost use Rattle.px_app.specs.Statuses.{stop_code};
 
-use px_http::Mode;
 use px_message::Address;
 use px_outside::{Sink, SinkError};
+use px_stack::Mode;
 use px_text::{NoMemory, push_decimal};
 use std::alloc::Global;
 

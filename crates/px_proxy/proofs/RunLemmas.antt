@@ -2,14 +2,14 @@
 use Rattle.std.proofs.Common.{◌≡◌, ◌⊎◌, inl, inr, ◌∙◌, sym, arith, ℕ, List, [], Bool, true, false, subst, Option, Some}
 use Rattle.px_event.specs.Trace.{Trace}
 use Rattle.px_core.specs.Answers.{Answering, Failing}
-use Rattle.px_http.specs.Modes.{mode_due}
-use Rattle.px_http.specs.Silent.{mode_silent}
+use Rattle.px_stack.specs.Modes.{mode_due}
+use Rattle.px_stack.proofs.SilentLemmas.{mode_silent}
 use Rattle.px_options.specs.Options.{Settings}
 use Rattle.px_app.specs.Opened.{Opened, nothing_read, absent, not_read, unjudged, refused, says}
 use Rattle.px_app.specs.Outside.{Outside}
 use Rattle.px_app.specs.Serves.{ServesFile}
 use Rattle.px_app.specs.Statuses.{ends_heard}
-use Rattle.px_app.proofs.HttpServers.{mode_counts}
+use Rattle.px_app.proofs.StackServers.{mode_counts}
 use Rattle.px_app.proofs.ServerLemmas.{always_counts}
 use Rattle.px_proxy.specs.TakenDue.{IsTakenBy}
 use Rattle.px_proxy.proofs.TakenDueLemmas.{ConnectsNone, always_taken}

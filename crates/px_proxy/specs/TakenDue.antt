@@ -6,7 +6,7 @@ use Rattle.px_event.specs.View.{bytes_in, line}
 use Rattle.px_event.specs.declared.side.Side.{Side}
 use Rattle.px_core.specs.Due.{Due, due_in}
 use Rattle.px_exchange.specs.declared.mode.Mode.{Mode}
-use Rattle.px_http.specs.Modes.{mode_due}
+use Rattle.px_stack.specs.Modes.{mode_due}
 use Rattle.px_options.specs.View.{mode_view}
 use Rattle.px_app.specs.Opened.{Opened, nothing_read, absent, not_read, unjudged, refused, says}
 use Rattle.px_wire.specs.Calls.{Calls, steps_of}

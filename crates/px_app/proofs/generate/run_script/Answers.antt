@@ -1,6 +1,6 @@
 use Rattle.std.proofs.Common.{◌≡◌, Some, refl, sym, ap, subst}
 use Rattle.px_event.specs.Trace.{Trace}
-use Rattle.px_http.specs.Modes.{mode_due}
+use Rattle.px_stack.specs.Modes.{mode_due}
 use Rattle.px_core.proofs.AnswerLemmas.{kept_after}
 use Rattle.px_addons.proofs.RunLemmas.{keeps_files}
 use Rattle.px_gen.specs.Generated.{GeneratedState}

@@ -1,5 +1,5 @@
 use Rattle.std.proofs.Common.{refl}
-use Rattle.px_http.specs.Modes.{mode_due}
+use Rattle.px_stack.specs.Modes.{mode_due}
 use Rattle.px_addons.proofs.RunLemmas.{keeps_reads}
 use Rattle.px_app.proofs.TouchedLemmas.{reads_leaving, touches_leaving}
 use Rattle.px_app.proofs.laws.a_run_touches_only_what_options_name.Goals as goal

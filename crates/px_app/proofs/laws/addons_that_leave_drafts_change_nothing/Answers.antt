@@ -1,4 +1,4 @@
-use Rattle.px_http.specs.Modes.{mode_due}
+use Rattle.px_stack.specs.Modes.{mode_due}
 use Rattle.px_addons.specs.Quiet.{goes_on_unchanged}
 use Rattle.px_addons.specs.QuietLaws.{answers_unchanged, stays_quiet}
 use Rattle.px_core.proofs.KindLemmas.{kept_in}

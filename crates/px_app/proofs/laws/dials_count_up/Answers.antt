@@ -1,5 +1,5 @@
-use Rattle.px_http.specs.Modes.{mode_due}
-use Rattle.px_app.proofs.HttpServers.{mode_counts}
+use Rattle.px_stack.specs.Modes.{mode_due}
+use Rattle.px_app.proofs.StackServers.{mode_counts}
 use Rattle.px_app.proofs.ServerLemmas.{always_counts}
 use Rattle.px_app.proofs.laws.dials_count_up.Goals as goal
 

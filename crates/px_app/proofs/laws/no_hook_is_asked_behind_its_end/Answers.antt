@@ -1,6 +1,9 @@
-use Rattle.px_http.specs.Modes.{mode_due, mode_ordered}
+use Rattle.std.proofs.Common.{Some, refl}
+use Rattle.px_stack.specs.Chain.{begins}
+use Rattle.px_stack.specs.Modes.{mode_due}
+use Rattle.px_stack.proofs.OrderLemmas.{ordered_from}
 use Rattle.px_core.proofs.OrderedLemmas.{in_order}
 use Rattle.px_app.proofs.laws.no_hook_is_asked_behind_its_end.Goals as goal
 
 pub returns : goal.returns
-returns c = λ mode trace within. in_order (mode_due mode) (mode_ordered mode) trace within
+returns c = λ mode trace within. in_order (mode_due mode) (λ conv peer moves. ordered_from conv (Some peer) (begins mode) refl moves) trace within

@@ -1,5 +1,5 @@
 use Rattle.std.proofs.Common.{Some, refl}
-use Rattle.px_http.specs.Modes.{mode_due}
+use Rattle.px_stack.specs.Modes.{mode_due}
 use Rattle.px_addons.proofs.RunLemmas.{keeps_reads}
 use Rattle.px_app.specs.Over.{finished_in}
 use Rattle.px_app.specs.Saved.{saved}

@@ -1,6 +1,6 @@
 use Rattle.std.proofs.Common.{◌≡◌, ◌⊎◌, inl, inr, ℕ, ◌++◌, refl, sym, subst}
 use Rattle.px_outside.specs.Sink.{Writes, WritesPart}
-use Rattle.px_http.specs.Modes.{mode_due}
+use Rattle.px_stack.specs.Modes.{mode_due}
 use Rattle.px_addons.specs.declared.rules.Rules.{Rules}
 use Rattle.px_options.specs.View.{settings}
 use Rattle.px_outside.specs.Count.{Rose}

@@ -1,7 +1,7 @@
 use Rattle.std.proofs.Common.{◌∙◌, Err, [], ap, refl, le_refl}
 use Rattle.px_exchange.specs.declared.mode.Mode.{Mode}
-use Rattle.px_http.specs.declared.placed.Placed.{Placed}
-use Rattle.px_http.specs.Modes.{mode_due}
+use Rattle.px_stack.specs.declared.placed.Placed.{Placed}
+use Rattle.px_stack.specs.Modes.{mode_due}
 use Rattle.px_core.specs.Answers.{AnswererState, files_meaning}
 use Rattle.px_core.specs.declared.gates.Gates.{Gates}
 use Rattle.px_app.specs.Over.{course_from, goes_none}
