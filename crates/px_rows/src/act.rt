@@ -106,7 +106,7 @@ fn accepted(alloc: Global, conv: u32, door: Door) -> Result<Act, RowError> {
     }))
 }
 
-const SAID: [&str; 14] = [
+const SAID: [&str; 15] = [
     "C> ",
     "close ",
     "dial S",
@@ -121,6 +121,7 @@ const SAID: [&str; 14] = [
     "steps ",
     "going",
     "over",
+    "upgraded",
 ];
 
 // Whether something is said by the line.

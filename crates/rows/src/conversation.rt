@@ -96,12 +96,21 @@ fn new_player<'a>(
 }
 
 fn end_of(player: Player<'_>, outcome: bool) -> Result<String, RowError> {
-    let ended = player.gate.layer().outcome() == Outcome::Over;
+    let became = outcome_line(player.gate.layer().outcome());
     let mut came = player.came;
     if outcome {
-        came.push_str(if ended { "over\n" } else { "going\n" })?;
+        came.push_str(became)?;
     }
     Ok(came)
+}
+
+// The line of what became of a conversation.
+fn outcome_line(outcome: Outcome) -> &'static str {
+    match outcome {
+        Outcome::Over => "over\n",
+        Outcome::Upgraded => "upgraded\n",
+        _ => "going\n",
+    }
 }
 
 // A gate before a new conversation with these numbers.

@@ -200,7 +200,7 @@ fn is_said(act: &Act) -> bool {
 
 // Notes what the line wants shown.
 fn note_asked(asked: &mut Asked, text: &str) {
-    if text == "going" || text == "over" {
+    if is_outcome(text) {
         asked.outcome = true;
     }
     if text.starts_with("notes ") {
@@ -212,6 +212,10 @@ fn note_asked(asked: &mut Asked, text: &str) {
     if text.starts_with("steps ") {
         asked.steps = true;
     }
+}
+
+fn is_outcome(text: &str) -> bool {
+    text == "going" || text == "over" || text == "upgraded"
 }
 
 fn is_call(text: &str) -> bool {
