@@ -1,5 +1,5 @@
 """Cases of the modes: where requests go by their targets, and through another proxy. `mitm` itself is the proxy above."""
-from tools import ORIGIN, PROXY, Mitm, Origin, curl, line, run_curl, same, talk, url, wait_for
+from tools import ORIGIN, PROXY, Mitm, Origin, curl, line, same, talk, url, wait_for
 
 OTHER = 9001
 ABOVE = 8081
@@ -103,16 +103,6 @@ def case_proxies_of_themselves():
             assert len(shown) > 10 and all("502" in one or "cannot connect" in one for one in shown), shown
 
 
-def case_tunnels_are_none_yet():
-    """CONNECT is a bad target in each mode."""
-    for mode in ("", UPSTREAM, f'mode = "reverse:http://127.0.0.1:{ORIGIN}"\n'):
-        with Mitm(mode=mode) as mitm:
-            same(talk(f"CONNECT 127.0.0.1:{ORIGIN} HTTP/1.1\r\n\r\n".encode()), BAD_TARGET)
-            status, _, _ = run_curl(*THROUGH, f"https://127.0.0.1:{ORIGIN}/")
-            assert status != 0
-            same(mitm.lines(), [])
-
-
 def case_server_that_nobody_listens_at():
     with regular() as mitm:
         same(curl(*THROUGH, "-w", "%{http_code}", at("/a", NOBODY)), b"cannot connect\n502")
@@ -165,7 +155,7 @@ def case_absolute_form_in_reverse_mode():
 MODE_CASES = [
     case_empty_file_is_a_regular_proxy, case_regular_mode_by_its_name, case_two_servers_through_one_proxy, case_server_by_name_in_regular_mode,
     case_targets_without_a_path, case_bodies_in_regular_mode, case_rules_in_regular_mode, case_browser_pointed_at_the_proxy_itself,
-    case_regular_proxy_asked_for_itself, case_proxies_of_themselves, case_tunnels_are_none_yet, case_server_that_nobody_listens_at, case_through_another_proxy,
+    case_regular_proxy_asked_for_itself, case_proxies_of_themselves, case_server_that_nobody_listens_at, case_through_another_proxy,
     case_bodies_through_another_proxy, case_rules_through_another_proxy, case_proxy_above_that_nobody_listens_at, case_origin_form_in_upstream_mode,
     case_absolute_form_in_reverse_mode,
 ]

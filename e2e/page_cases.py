@@ -60,9 +60,9 @@ def case_page_in_a_browser():
         assert any(f" GET http://127.0.0.1:{ORIGIN}{path} 200 " in part for part in lines), lines
 
 
-def shown_by(browser, home, page):
-    """The page's elements once it is loaded, or nothing where the browser fails."""
-    words = ["--headless", "--no-sandbox", "--disable-gpu", "--disable-dev-shm-usage", "--no-first-run", "--no-proxy-server",
+def shown_by(browser, home, page, *network):
+    """The page's elements once it is loaded, or nothing where the browser fails. The words say which proxy it uses, or else it uses none."""
+    words = ["--headless", "--no-sandbox", "--disable-gpu", "--disable-dev-shm-usage", "--no-first-run", *(network or ["--no-proxy-server"]),
              "--disable-background-networking", f"--user-data-dir={home}", "--dump-dom", page]
     try:
         done = subprocess.run([browser, *words], cwd=home, env={**os.environ, "HOME": home}, stdin=subprocess.DEVNULL,
