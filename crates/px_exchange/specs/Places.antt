@@ -1,5 +1,5 @@
 -- Where the requests of a conversation go.
-use Rattle.std.specs.Prelude.{ℕ, Bool, false, ◌==◌, ◌&&◌, bytes_eq, Option, Some, None, ⊤}
+use Rattle.std.specs.Prelude.{ℕ, Bool, false, ◌==◌, ◌&&◌, bytes_eq, Option, Some, None}
 use Rattle.px_message.specs.declared.address.Address.{Address}
 use Rattle.px_message.specs.declared.request.Request.{Request}
 use Rattle.px_write.specs.declared.form.Form.{Form}
@@ -16,20 +16,24 @@ place_of modes.Regular = places.Regular
 place_of (modes.Reverse address) = places.Fixed address None None
 place_of (modes.Upstream proxy) = places.Upstream proxy
 
--- what is dialled is reached through no other
-abbrev pub IsDirect : Place → Type 0
-IsDirect (places.Fixed address side None) = ⊤
-IsDirect (places.Fixed address side (Some proxy)) = ⊥
-IsDirect place = ⊤
-
 -- where a request goes: to its own host and port, as its hooks left them
 abbrev pub address_of : Request → Address
 address_of request = record { host = request.host; port = request.port; port_not_zero = request.port_not_zero }
 
--- what is dialled for a request: the proxy that it goes to, or its own host and port
+-- the server of a request: the proxy that it goes to, or its own host and port
+abbrev pub server_for : Place → Request → Address
+server_for (places.Upstream proxy) request = proxy
+server_for place request = address_of request
+
+-- what is dialled for it: its server, or the proxy through which that is reached
+abbrev pub dialled_by : Option Address → Request → Address
+dialled_by None request = address_of request
+dialled_by (Some proxy) request = proxy
+
 abbrev pub dialled_for : Place → Request → Address
+dialled_for places.Regular request = address_of request
 dialled_for (places.Upstream proxy) request = proxy
-dialled_for place request = address_of request
+dialled_for (places.Fixed address side inside) request = dialled_by inside request
 
 -- a request goes to this address
 abbrev pub goes_to : Address → Request → Bool

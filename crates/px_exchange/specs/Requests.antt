@@ -63,11 +63,11 @@ abbrev pub tunnel_in : Option Form → Option Address
 tunnel_in (Some (authority host port)) = address_with host port (port == 0) refl
 tunnel_in _ = None
 
--- A client of a proxy may ask for a tunnel; what is served by one address is none, and through another proxy no tunnel is made.
+-- A client of a proxy may ask for a tunnel; what is served by one address is none.
 abbrev pub tunnel_at : Place → Option Form → Option Address
 tunnel_at (places.Fixed address side inside) form = None
 tunnel_at places.Regular form = tunnel_in form
-tunnel_at (places.Upstream proxy) form = None
+tunnel_at (places.Upstream proxy) form = tunnel_in form
 
 -- the field asks for an answer before the body is sent (RFC 9110 section 10.1.1)
 abbrev pub is_expectation : List ℕ × List ℕ → Bool

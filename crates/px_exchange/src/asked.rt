@@ -53,8 +53,8 @@ pub fn expects(head: &RequestHead) -> bool
 /// What this head makes, where it is asked at this place.
 ///
 /// `Refused` has the fault `BadTarget` where the target has no form that is allowed there: for CONNECT a host and a port, at
-/// `Place::Regular` alone; for any other method what the place says (RFC 9112 section 3.2). Else it has the fault of framing
-/// fields that contradict themselves (section 6.3), which are not looked at in a CONNECT.
+/// all places but `Place::Fixed`; for any other method what the place says (RFC 9112 section 3.2). Else it has the fault of
+/// framing fields that contradict themselves (section 6.3), which are not looked at in a CONNECT.
 pub fn judge(alloc: Global, place: &Place, head: RequestHead) -> Result<Judged, NoMemory>
     ensures { IfOk result (λ made. made ≡ judged place.now head) }
 {
@@ -91,7 +91,7 @@ fn find_tunnel(
     match place {
         Place::Fixed { .. } => Ok(None),
         Place::Regular => named_tunnel(alloc, head.method.bytes(), head.target.as_slice()),
-        Place::Upstream(_) => Ok(None),
+        Place::Upstream(_) => named_tunnel(alloc, head.method.bytes(), head.target.as_slice()),
     }
 }
 

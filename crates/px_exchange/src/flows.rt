@@ -3,7 +3,7 @@ ghost use Rattle.std.specs.Prelude.{◌≡◌, false, true, Some, IfOk, MatchOpt
 ghost use Rattle.px_exchange.specs.Finds.{is_relayed};
 ghost use Rattle.px_exchange.specs.Flows.{filled, hook_of, response_of, with_answer, with_body, with_end, with_returned, with_start};
 ghost use Rattle.px_exchange.specs.Endings.{with_error, without_response};
-ghost use Rattle.px_exchange.specs.Places.{address_of, dialled_for};
+ghost use Rattle.px_exchange.specs.Places.{address_of, dialled_by, dialled_for, server_for};
 ghost use Rattle.px_exchange.specs.Requests.{flow_of, is_http11};
 
 use crate::asked::is_http11;
@@ -206,9 +206,9 @@ pub fn with_error(now: Now, flow: Flow, message: &[u8]) -> Result<Flow, NoMemory
     Ok(flow)
 }
 
-/// What is dialled for the request of a flow: the proxy that it goes to, or its host and port, as its hooks left them.
-pub fn dialled_for(place: &Place, flow: &Flow) -> Result<Address, NoMemory>
-    ensures { IfOk result (λ address. address ≡ dialled_for place.now flow.now.request) }
+/// The server of a flow: the proxy that its request goes to, or the request's host and port, as its hooks left them.
+pub fn server_for(place: &Place, flow: &Flow) -> Result<Address, NoMemory>
+    ensures { IfOk result (λ address. address ≡ server_for place.now flow.now.request) }
 {
     match place {
         Place::Upstream(proxy) => proxy.try_clone(),
@@ -216,8 +216,29 @@ pub fn dialled_for(place: &Place, flow: &Flow) -> Result<Address, NoMemory>
     }
 }
 
-// Where the request of a flow goes.
-fn address_of(flow: &Flow) -> Result<Address, NoMemory>
+/// What is dialled for the request of a flow: its server, or the proxy through which that is reached.
+pub fn dialled_for(place: &Place, flow: &Flow) -> Result<Address, NoMemory>
+    ensures { IfOk result (λ address. address ≡ dialled_for place.now flow.now.request) }
+{
+    match place {
+        Place::Regular => server_for(place, flow),
+        Place::Upstream(_) => server_for(place, flow),
+        Place::Fixed { inside, .. } => dialled_by(inside, flow),
+    }
+}
+
+// The proxy through which the server of a flow is reached, if there is one, or that server.
+fn dialled_by(inside: &Option<Address>, flow: &Flow) -> Result<Address, NoMemory>
+    ensures { IfOk result (λ address. address ≡ dialled_by inside.now flow.now.request) }
+{
+    match inside {
+        Some(proxy) => proxy.try_clone(),
+        None => address_of(flow),
+    }
+}
+
+/// Where the request of a flow goes: to its own host and port, as its hooks left them.
+pub fn address_of(flow: &Flow) -> Result<Address, NoMemory>
     ensures { IfOk result (λ address. address ≡ address_of flow.now.request) }
 {
     let request = flow.request.get();

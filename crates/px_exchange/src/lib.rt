@@ -6,8 +6,8 @@
 //! refused (RFC 9112 section 3.2), then framing fields that contradict themselves; else it is the flow's request, without an
 //! expectation that the proxy meets itself (RFC 9110 section 10.1.1). So at `Place::Regular` `GET http://h/a HTTP/1.1` asks
 //! the host `h` for the path `/a`, and `GET /a HTTP/1.1` is a bad target; at `Place::Fixed` both ask its address for `/a`.
-//! `CONNECT h:443 HTTP/1.1` makes no flow: at `Place::Regular` it asks for a tunnel to port 443 of `h` (RFC 9110 section
-//! 9.3.6), and at all other places it is a bad target.
+//! `CONNECT h:443 HTTP/1.1` makes no flow: at `Place::Regular` and `Place::Upstream` it asks for a tunnel to port 443 of `h`
+//! (RFC 9110 section 9.3.6), and at `Place::Fixed` it is a bad target.
 //!
 //! `taken`: what a reply to a hook is taken for. A hook of a head takes a head, one of a body a body besides, and what makes
 //! no sense there goes on as it was asked. A status 101 that a server sent stays one as long as each hook leaves it so, and
@@ -26,7 +26,8 @@
 //! that does not say `keep-alive`.
 //!
 //! `Mode` says where requests go, and a conversation's `Place` follows from it. Some place has a server's side that is
-//! connected and that no flow has used; `Place::is_home` tells whether a request goes there.
+//! connected and that no flow has used; `Place::is_home` tells whether a request goes there. The server of a request and what
+//! is dialled for it (`flows::server_for`, `flows::dialled_for`) are two addresses where a place is reached through another proxy.
 //!
 //! What is found where a message is awaited (`specs/Finds.antt`), and what a dial's answer brings (`specs/Dials.antt`), are
 //! definitions for the crate above.

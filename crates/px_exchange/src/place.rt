@@ -12,11 +12,11 @@ pub enum Place {
     /// says, which is in authority form.
     Regular,
     /// Each request goes to this proxy, and its target is sent in absolute form, of the host, the port and the path that its
-    /// hooks left. Its target comes in absolute form too, and a CONNECT is a bad target.
+    /// hooks left. Its target comes in absolute form too. A CONNECT asks for a tunnel through that proxy.
     Upstream(Address),
     /// All requests go to this address, unless their hooks send them elsewhere. Their targets are in origin form, in absolute
     /// form, of which the path alone is used, or `*`; a CONNECT is a bad target. `side` is a server's side that is connected
-    /// and that no flow has used, if there is one, and `inside` the proxy through which the address is reached.
+    /// and that no flow has used, if there is one, and `inside` the proxy through which each server is reached, if there is one.
     Fixed {
         address: Address,
         side: Option<u32>,
