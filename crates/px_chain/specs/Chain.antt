@@ -30,7 +30,7 @@ use Rattle.px_exchange.specs.Dials.{connected_owes, dial_owes}
 use Rattle.px_exchange.specs.Endings.{without_response, killed_message, closed_message, ends_early, connection_goes_on, finished, shut_unless}
 use Rattle.px_exchange.specs.Finds.{or_leaves, look_head, look_body, look_answer, look_returned}
 use Rattle.px_exchange.specs.Flows.{ask_of, with_body, response_of, with_answer, with_end, with_returned, with_start}
-use Rattle.px_exchange.specs.Places.{dialled_for, goes_home}
+use Rattle.px_exchange.specs.Places.{dialled_for, goes_home, server_for}
 use Rattle.px_exchange.specs.Replies.{taken_at_request_head, taken_at_request_body, taken_at_response_head, taken_at_response_body}
 use Rattle.px_exchange.specs.Requests.{expects, flow_of, judged}
 use Rattle.px_exchange.specs.Texts.{interim_commands, meets_expectation, returned_text}
@@ -88,7 +88,7 @@ new_side server = record { server = server; used = 0 }
 
 -- the flow, connected to its server
 abbrev pub reached : Place → Flow → Flow
-reached place flow = record flow { server = Some (dialled_for place flow.request) }
+reached place flow = record flow { server = Some (server_for place flow.request) }
 
 -- the spare side, where this request goes there
 abbrev pub spare_for : Bool → Option Unused → Option Unused

@@ -220,7 +220,7 @@ said_dialled terms events point request opened (None ∷ dials) further =
     ∷ said_answers request (answers_at events point.server opened (is_head request.method))
     (said_on events (record point { dials = dials }) opened further request)
 
--- its server is dialled once it is whole
+-- its server, or the proxy through which that is reached, is dialled once it is whole
 abbrev pub said_connected : Terms → List (Timed Event) → Point → Request → Option ℕ → (Point → List Command) → List Command
 said_connected terms events point request None further = []
 said_connected terms events point request (Some opened) further =

@@ -11,6 +11,9 @@
 //! client's bytes that used. A response of code 101 switches protocols (RFC 9110 section 15.2.2): once its last hook was answered it is
 //! sent, and the flow stands at `upgraded`, unfinished, with the server's side and how many of its bytes HTTP used.
 //!
+//! At a place whose servers are reached through another proxy the connection that is asked for is the proxy's (`dialled_for`). What that is asked then,
+//! before the reply comes here, is of the crate above too: here the server is connected by its reply, wherever it was dialled.
+//!
 //! A conversation may begin with a spare side: a server that is connected, and that no flow has used (`spare_of`). The first request that
 //! goes there is sent to it in the turn that answers its body's hook, and no connection is asked for; each later one is dialled for.
 //!
