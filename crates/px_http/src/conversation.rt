@@ -4,13 +4,14 @@ ghost use Rattle.px_event.specs.Layer.{AsksOnly, MayAnswer, Move};
 ghost use Rattle.px_event.specs.declared.command.Command.{Command as GivenCommand};
 ghost use Rattle.px_http.specs.Stands.{HttpStands, awaits, seen_at, stage_at};
 ghost use Rattle.px_chain.specs.Chain.{look};
-ghost use Rattle.px_exchange.specs.Places.{IsDirect, terms_of};
-ghost use Rattle.px_stream.specs.Anywhere.{Begins, IsNew, ResumesAnywhere, Somewhere, TakesAnywhere};
+ghost use Rattle.px_exchange.specs.Places.{terms_of};
+ghost use Rattle.px_stream.specs.Anywhere.{Begins, HearsWaiting, IsNew, Reaches, ResumesAnywhere, Somewhere, TakesAnywhere};
 ghost use Rattle.px_stream.specs.Left.{sequence_left};
 ghost use Rattle.px_stream.specs.Phases.{spare_at};
 ghost use Rattle.px_stream.specs.Rests.{LeavesRests, phase_flow, phase_rest};
 ghost use Rattle.px_stream.specs.Sequence.{IsSideBelow, asked_tunnel, is_end, open_spare, outcome_at, outcome_in, upgraded_side};
 ghost use Rattle.px_stream.specs.Stands.{is_last};
+ghost use Rattle.px_stream.specs.Through.{IsDialling, led_to};
 
 use px_event::{Ask, Command, Event, Layer, Reply, Rests};
 use px_exchange::ending::Used;
@@ -41,7 +42,6 @@ impl HttpConv {
     ) -> HttpConv
         requires few { first_flow < 1000000 }
         requires dials { next_server ≤ first_flow + 1 }
-        requires direct { IsDirect place }
         requires side { IsSideBelow place next_server }
         ensures stands { HttpStands result result [] [] }
         ensures terms { result.stream.terms ≡ terms_of conv client place }
@@ -82,6 +82,13 @@ impl HttpConv {
         ensures { result ≡ upgraded_side self.now.stream.phase }
     {
         self.stream.upgraded()
+    }
+
+    /// Where its requests go.
+    pub fn place(&self) -> &Place
+        ensures { result.now ≡ self.now.stream.terms.place }
+    {
+        self.stream.place()
     }
 
     /// The numbers of the next flow and of the next server.
@@ -154,6 +161,45 @@ impl HttpConv {
         ensures left { OnOk result (sequence_left self.new.stream < sequence_left self.old.stream) }
     {
         self.stream.resume_anywhere(moment, reply, out)
+    }
+
+    /// Where the server of the present flow is, while its dial is awaited and the place is reached through another proxy: that proxy
+    /// is dialled, and whoever goes on asks it for a tunnel to there.
+    pub fn leads_to(&self) -> Result<Option<Address>, NoMemory>
+        ensures to { IfOk result (λ to. to ≡ led_to self.now.stream.terms.place self.now.stream.phase) }
+    {
+        self.stream.leads_to()
+    }
+
+    /// Hears an event while the dial of a server is awaited: the client's bytes and its close, and those of a spare side. Behind the
+    /// client's close nothing is heard.
+    pub fn hear_waiting(&mut self, event: &Event) -> Result<(), NoMemory>
+        requires waits { IsDialling self.old.stream.phase }
+        requires somewhere { Somewhere self.old.stream }
+        ensures hears { OnOk result (HearsWaiting self.old.stream self.new.stream event.now) }
+        ensures phase { OnOk result (self.new.stream.phase ≡ self.old.stream.phase) }
+        ensures numbers { OnOk result (self.new.stream.numbers ≡ self.old.stream.numbers) }
+        ensures terms { OnOk result (self.new.stream.terms ≡ self.old.stream.terms) }
+        ensures left { OnOk result (sequence_left self.new.stream ≡ sequence_left self.old.stream) }
+    {
+        self.stream.hear_waiting(event)
+    }
+
+    /// The way to the server whose dial is awaited stands: the request goes to it, and this is what it has sent already. Then it looks
+    /// once.
+    pub fn reach(
+        &mut self,
+        moment: u64,
+        rest: &Bytes,
+        out: &mut Vec<Command>,
+    ) -> Result<(), NoMemory>
+        requires waits { IsDialling self.old.stream.phase }
+        requires somewhere { Somewhere self.old.stream }
+        ensures reaches { OnOk result (Reaches self.old.stream self.new.stream moment rest.now out.old.items out.new.items) }
+        ensures asks { OnOk result (AsksOnly (awaits self.new) out.old.items out.new.items) }
+        ensures left { OnOk result (sequence_left self.new.stream < sequence_left self.old.stream) }
+    {
+        self.stream.reach(moment, rest, out)
     }
 
     /// The bytes that its flows did not use, of the client and of the present flow's server side; and the flow, exactly where the

@@ -1,14 +1,14 @@
 -- A new flow stands for no moves; and where others have been before, it begins with what the client sent behind them.
-use Rattle.std.proofs.Common.{◌≡◌, ℕ, ◌+◌, ◌-◌, ◌<◌, ◌≤◌, Bool, true, false, List, [], ◌∷◌, ◌++◌, Option, Some, None, refl, ap, sym, ◌∙◌, subst, arith, drop, length, option_to_list}
+use Rattle.std.proofs.Common.{◌≡◌, ℕ, ◌+◌, ◌<◌, ◌≤◌, Bool, true, false, List, [], Option, Some, None, refl, ap, sym, ◌∙◌, subst, arith, drop, length}
 use Rattle.std.specs.List.{flat_map}
 use Rattle.px_event.specs.declared.command.Command.{Command}
 use Rattle.px_event.specs.declared.event.Event.{Event}
-use Rattle.px_event.specs.Chain.{Timed, Look, NotYet, Ends, found}
-use Rattle.px_event.specs.Layer.{AsksOnly, asks_in}
+use Rattle.px_event.specs.Chain.{Timed, Look, NotYet, found}
+use Rattle.px_event.specs.Layer.{AsksOnly}
 use Rattle.px_event.specs.View.{questions, seen_of}
 use Rattle.px_event.proofs.Steps.{begins}
 use Rattle.px_read.specs.Items.{Item, missing, part, complete, bad_head, bad_body, request_item}
-use Rattle.px_read.specs.Reader.{State, before_all, request, Reads}
+use Rattle.px_read.specs.Reader.{State, request, Reads}
 use Rattle.px_read.specs.declared.head.RequestHead.{RequestHead as ReadRequest}
 use Rattle.px_exchange.specs.declared.asked.Judged.{Judged}
 use Rattle.px_exchange.specs.declared.asked.Judged.TheVariants.{Refused, Accepted, Connects}
@@ -24,13 +24,10 @@ use Rattle.px_chain.specs.Stages.{At, Stage, idle}
 use Rattle.px_chain.proofs.ChainLaws.{settles}
 use Rattle.px_stream.specs.declared.link.Link.{Link as KeptLink}
 use Rattle.px_stream.specs.declared.numbers.Numbers.{Numbers}
-use Rattle.px_stream.specs.declared.phase.Phase.{Phase}
-use Rattle.px_stream.specs.declared.phase.Phase.TheVariants as phase
 use Rattle.px_stream.specs.declared.phase.Wanted.TheVariants as ready
 use Rattle.px_stream.specs.declared.stream.Stream.{Stream}
 use Rattle.px_stream.specs.Anywhere.{Begins, BeginsThere, IsNew, MayBegin}
 use Rattle.px_stream.specs.Calls.{LooksOnce}
-use Rattle.px_stream.specs.Found.{LookedAt}
 use Rattle.px_stream.specs.Heard.{feeds}
 use Rattle.px_stream.specs.Left.{sequence_by, sequence_left}
 use Rattle.px_stream.specs.Looking.{HeadFound, LookFound}

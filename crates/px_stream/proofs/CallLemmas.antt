@@ -1,17 +1,16 @@
 -- The calls of a flow: what its state stands for before, it stands for after, with one move more.
-use Rattle.std.proofs.Common.{◌≡◌, ℕ, ◌+◌, ◌<◌, ◌≤◌, Bool, true, false, List, [], ◌∷◌, ◌++◌, Option, Some, None, refl, ap, sym, ◌∙◌, subst, arith, append_assoc, drop}
+use Rattle.std.proofs.Common.{◌≡◌, ℕ, ◌<◌, ◌≤◌, Bool, true, false, List, [], ◌∷◌, ◌++◌, Option, Some, None, refl, ap, sym, ◌∙◌, subst, append_assoc, drop}
 use Rattle.std.proofs.lemmas.List.{append-nil}
 use Rattle.px_event.specs.declared.ask.Ask.{Ask}
 use Rattle.px_event.specs.declared.command.Command.{Command}
 use Rattle.px_event.specs.declared.event.Event.{Event}
 use Rattle.px_event.specs.declared.reply.Reply.{Reply}
-use Rattle.px_event.specs.Chain.{Timed, Look, NotYet, Asks, Ends, Turn, found}
+use Rattle.px_event.specs.Chain.{Timed, Look, NotYet, Asks, Ends, Turn}
 use Rattle.px_event.specs.Layer.{Took, Replied, IsSound, Goes, AsksOnly, MayAnswer}
 use Rattle.px_event.specs.View.{seen_of}
-use Rattle.px_event.proofs.Steps.{Takes, onward, past_end, Resumes, begins, resume_goes, take_goes}
+use Rattle.px_event.proofs.Steps.{Takes, onward, past_end, Resumes, resume_goes, take_goes}
 use Rattle.px_read.specs.Marks.{asks, answers}
-use Rattle.px_read.specs.Reader.{State, before_all, request, response, Reads}
-use Rattle.px_read.specs.Items.{missing, request_item}
+use Rattle.px_read.specs.Reader.{State, request, response}
 use Rattle.px_read.specs.declared.head.ResponseHead.{ResponseHead as ReadResponse}
 use Rattle.px_stream.specs.declared.phase.Asked.{Asked}
 use Rattle.px_stream.specs.declared.phase.Phase.{Phase}
@@ -25,7 +24,6 @@ use Rattle.px_stream.specs.Calls.{Answers, Hears, IsSome, LooksOnce, MayHear, Ta
 use Rattle.px_chain.specs.Chain.{IsOnward, alone, http_chain, is_alone, is_sequence, look, sequence, stands, turn}
 use Rattle.px_chain.specs.Sights.{Sight, Standing, Unused, sight_behind, sight_over, sight_with}
 use Rattle.px_chain.specs.Stages.{Stage, busy, connection, given_body, given_head, idle, next, over, request_body, response_body, response_head, side_of, upgraded}
-use Rattle.px_exchange.specs.Finds.{look_head, or_leaves}
 use Rattle.px_stream.specs.Heard.{LinkAgrees, SpareAgrees, closes_client, ready_takes, requests_take, spare_takes}
 use Rattle.px_chain.proofs.ChainLaws.{settles}
 use Rattle.px_stream.specs.Led.{Turned}
@@ -107,7 +105,7 @@ module _ (seen : Sight) (requests : State) (sent : List ReadResponse) where
   open_reader over looked is goes = absurd (let no : true ≡ false = ap (λ r. is_last (phase.Ready r)) (sym is) ∙ goes in cc)
 
 -- and so do those of the spare side
-spare_agrees : (unused : Option Unused) (spare : Option KeptLink) → IsSpare unused spare → SpareAgrees spare
+pub spare_agrees : (unused : Option Unused) (spare : Option KeptLink) → IsSpare unused spare → SpareAgrees spare
 spare_agrees None None is = tt
 spare_agrees None (Some spare) is = absurd is
 spare_agrees (Some unused) None is = absurd is
@@ -264,7 +262,7 @@ module _ (terms : Terms) (numbers : Numbers) (seen : Sight) (old new : State) (m
   as_ready : (looked known : Wanted) → looked ≡ known → LookFound terms numbers looked old new moment closed out longer is_now → LookFound terms numbers known old new moment closed out longer is_now
   as_ready looked known is look_found = let P : Wanted → Type 0 = λ r. LookFound terms numbers r old new moment closed out longer is_now in subst P is look_found
 
-  look_adds : (stage : Stage) (looked : Wanted) → IsReady old looked stage seen sent → LookFound terms numbers looked old new moment closed out longer is_now →
+  pub look_adds : (stage : Stage) (looked : Wanted) → IsReady old looked stage seen sent → LookFound terms numbers looked old new moment closed out longer is_now →
       (more : List Command) × (longer ≡ out ++ more)
   look_adds (idle at) looked is look_found = let head = as_ready looked ready.Idle is.phase look_found in (_, head.gives (drop at.used seen.client) is.reads)
   look_adds (busy at flow (request_body given)) looked is look_found = let body = as_ready looked (ready.Receiving flow given _) is.phase look_found in (_, body.gives)
@@ -381,7 +379,7 @@ module _ (made : Terms) (before : Stream) (moment : ℕ) (reply : Reply) (here :
   abbrev told : Timed Reply
   told = record { moment = moment; value = reply }
 
-  asked_by : (l : Look Command) (stage : Stage) (seen : Sight) → PhaseAt l made before.requests before.phase stage seen → IsAsked made before.requests here stage seen
+  pub asked_by : (l : Look Command) (stage : Stage) (seen : Sight) → PhaseAt l made before.requests before.phase stage seen → IsAsked made before.requests here stage seen
   asked_by NotYet stage seen (looked, sent, same, ready, gave) = absurd (let e : phase.Ready looked ≡ phase.Asked here = sym same ∙ live in cc)
   asked_by (Asks ask) stage seen (one, same, there) =
       let e : phase.Asked one ≡ phase.Asked here = sym same ∙ live in

@@ -178,7 +178,7 @@ module _ (seen : Sight) (event : Event) (now : ℕ) where
       let P : List ℕ → Type 0 = λ l. Reads message told l false (requests_take event state) in
       subst P (sym (drop-append-le used seen.client (piece_of Client event) within)) (requests_took told message (drop used seen.client) state event reads)
 
-  keeps_on : (side : Option ServerSide) (used : ℕ) (state : State) → used ≤ length seen.client → KeepsBehind used seen state →
+  pub keeps_on : (side : Option ServerSide) (used : ℕ) (state : State) → used ≤ length seen.client → KeepsBehind used seen state →
       KeepsBehind used (sight_with side seen event now) (requests_take event state)
   keeps_on side used state within is = record {
     rest = rest_took state event ∙ (ap (λ l. l ++ piece_of Client event) is.rest ∙ sym (drop-append-le used seen.client (piece_of Client event) within));

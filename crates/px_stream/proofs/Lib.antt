@@ -17,3 +17,5 @@ pub mod AnywhereLemmas
 pub mod LookingLemmas
 pub mod RestLemmas
 pub mod OutcomeLemmas
+pub mod WaitLemmas
+pub mod ReachLemmas

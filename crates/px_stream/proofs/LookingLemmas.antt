@@ -1,13 +1,12 @@
 -- What one look gives, from what each of its ways gives.
-use Rattle.std.proofs.Common.{◌≡◌, ℕ, ◌≤◌, Bool, false, List, [], ◌∷◌, ◌++◌, length, Option, Some, None, Result, Ok, Err, refl, ap, sym, subst}
+use Rattle.std.proofs.Common.{◌≡◌, ℕ, Bool, false, List, [], ◌∷◌, ◌++◌, Option, Some, None, Result, Ok, Err, refl, ap, sym, subst}
 use Rattle.std.specs.Prelude.{OnOk, IfOk}
 use Rattle.std.proofs.lemmas.List.{append-nil}
 use Rattle.px_message.specs.declared.flow.Flow.{Flow}
 use Rattle.px_message.specs.declared.response.Response.{Response}
 use Rattle.px_event.specs.declared.command.Command.{Command}
 use Rattle.px_event.specs.Chain.{found}
-use Rattle.px_read.specs.Heads.{asks_tunnel}
-use Rattle.px_read.specs.Items.{Item, bad_head, missing, no_body, request_item}
+use Rattle.px_read.specs.Items.{bad_head, missing, no_body, request_item}
 use Rattle.px_read.specs.Laws.{head_in}
 use Rattle.px_read.specs.Marks.{asks}
 use Rattle.px_message.specs.declared.fault.Fault.{Fault}

@@ -66,7 +66,7 @@ asks_seen (commands.Ask ask flow ∷ rest) = ap (λ l. ask ∷ l) (asks_seen res
 asks_seen (commands.Done flow ∷ rest) = asks_seen rest
 
 -- what is quiet asks nothing
-quiet_seen : (l : List Command) → AllQuiet any_flow l → seen_of questions l ≡ []
+pub quiet_seen : (l : List Command) → AllQuiet any_flow l → seen_of questions l ≡ []
 quiet_seen [] all = refl
 quiet_seen (commands.Send side bytes ∷ rest) (here, all) = quiet_seen rest all
 quiet_seen (commands.Close side ∷ rest) (here, all) = quiet_seen rest all
@@ -337,7 +337,7 @@ module _ (measure : Stream → ℕ) (by_stage : Stage → ℕ) (is_measure : Mea
   at_most_by (Asks ask) state stage seen at is = let same = is_measure.asks made state stage seen ask at is in omega arith
   at_most_by (Ends owed) state stage seen at is = let same = is_measure.ends made state stage seen owed at is in omega arith
 
-  at_most : (state : Stream) (stage : Stage) (seen : Sight) → IsIn made state stage seen → measure state ≤ by_stage stage
+  pub at_most : (state : Stream) (stage : Stage) (seen : Sight) → IsIn made state stage seen → measure state ≤ by_stage stage
   at_most state stage seen at = at_most_by (look made stage seen) state stage seen at refl
 
   pub takes_left : (onward_to : Stage → Stage) (before after : Stream) (moment : ℕ) (event : Event) (more : List Command) (place : Standing) (prefix : List (Timed Event)) → IsAt made before place prefix →

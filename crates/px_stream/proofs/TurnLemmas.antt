@@ -70,7 +70,7 @@ placed_whole : (at : At) (seen : Sight) (used : ℕ) (numbers : Numbers) (closed
 placed_whole at seen used numbers closed place within = record { index = place.index; servers = place.servers; client = place.client; used = within }
 
 -- a server more
-placed_dialled : (at : At) (seen : Sight) (numbers : Numbers) (closed : Bool) → IsPlaced at seen numbers closed →
+pub placed_dialled : (at : At) (seen : Sight) (numbers : Numbers) (closed : Bool) → IsPlaced at seen numbers closed →
     IsPlaced (record at { dials = at.dials + 1 }) seen (record numbers { server = one_on numbers.server }) closed
 placed_dialled at seen numbers closed place = record {
   index = place.index;
@@ -111,7 +111,7 @@ reads_first message bytes shut = record {
 none_before : (n : ℕ) → n ≡ 0 + n
 none_before n = omega arith
 
-fresh_keeps : (asked_head : Bool) (number : ℕ) (bytes : List ℕ) (shut : Bool) → Keeps asked_head number bytes shut [] [] (fresh_link number asked_head bytes shut)
+pub fresh_keeps : (asked_head : Bool) (number : ℕ) (bytes : List ℕ) (shut : Bool) → Keeps asked_head number bytes shut [] [] (fresh_link number asked_head bytes shut)
 fresh_keeps asked_head number bytes shut = record {
   server = refl;
   is_asked = refl;
@@ -159,7 +159,7 @@ no_commands_by : (version : Version) (message : Request) → message.version ≡
 no_commands_by versions.Http10 message is = rw is refl
 no_commands_by versions.Http11 message is = rw is refl
 
-no_commands : (message : Request) → interim_commands message [] ≡ []
+pub no_commands : (message : Request) → interim_commands message [] ≡ []
 no_commands message = no_commands_by message.version message refl
 
 -- ---- turns, by what the reply was taken for

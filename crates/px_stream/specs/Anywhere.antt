@@ -1,20 +1,22 @@
 -- The machine beside a longer chain, which flows in sequence are a part of: what a call does wherever it stands. So whoever goes on
 -- from flows to something else, over the same events, has the calls of a stream for the part that is theirs.
-use Rattle.std.specs.Prelude.{◌≡◌, ◌≤◌, ℕ, Bool, false, List, [], ◌++◌, drop, length}
+use Rattle.std.specs.Prelude.{◌≡◌, ◌≤◌, ◌+◌, ℕ, Bool, true, false, List, [], ◌∷◌, ◌++◌, drop, length, Option, Some, None, ⊤}
 use Rattle.px_event.specs.declared.command.Command.{Command}
 use Rattle.px_event.specs.declared.event.Event.{Event}
 use Rattle.px_event.specs.declared.reply.Reply.{Reply}
-use Rattle.px_event.specs.declared.side.Side.TheVariants.{Client}
+use Rattle.px_event.specs.declared.side.Side.TheVariants.{Client, Server}
 use Rattle.px_event.specs.Chain.{Timed}
 use Rattle.px_event.specs.Laws.{owed_over}
 use Rattle.px_event.specs.View.{View, seen_of}
 use Rattle.px_event.proofs.Steps.{Takes, Resumes}
+use Rattle.px_message.specs.declared.flow.Flow.{Flow}
 use Rattle.px_read.specs.Reader.{before_all, request}
+use Rattle.px_exchange.specs.Dials.{connected_owes}
 use Rattle.px_exchange.specs.declared.terms.Terms.{Terms}
-use Rattle.px_chain.specs.Chain.{http_chain, sequence}
-use Rattle.px_chain.specs.Sights.{IsWithin, Standing, unused_over}
-use Rattle.px_chain.specs.Stages.{At, idle}
-use Rattle.px_chain.specs.Streams.{bytes_of, client_closed, now_over}
+use Rattle.px_chain.specs.Chain.{http_chain, reached, sequence}
+use Rattle.px_chain.specs.Sights.{IsWithin, Spare, Standing, unused_over}
+use Rattle.px_chain.specs.Stages.{At, ServerSide, all_sent, busy, connection, idle, response_head}
+use Rattle.px_chain.specs.Streams.{bytes_of, client_closed, is_closed, now_over}
 use Rattle.px_stream.specs.declared.phase.Phase.TheVariants as phase
 use Rattle.px_stream.specs.declared.phase.Wanted.TheVariants as ready
 use Rattle.px_stream.specs.declared.stream.Stream.{Stream}
@@ -77,3 +79,44 @@ pub record Begins (before after : Stream) (moment : ℕ) (closed : Bool) (rest :
   pub grown : longer ≡ out ++ more
   pub begins : (made : Terms) (ahead : ℕ) (place : Standing) (prefix : List (Timed Event)) → MayBegin made ahead before moment closed rest place prefix →
       BeginsThere made ahead after more place prefix
+
+-- ---- a stream whose server is dialled, while others connect it
+
+-- Where the client has closed, it closed while the spare side was open: that side was not heard behind the close either.
+abbrev pub OpensInTime : Option Spare → List (Timed Event) → Type 0
+OpensInTime None prefix = ⊤
+OpensInTime (Some spare) prefix = client_closed prefix ≡ true → client_closed (drop spare.opened prefix) ≡ true
+
+-- It heard an event while the dial of its server is awaited: wherever it stood, it stands there one event on.
+pub record HearsWaiting (before after : Stream) (event : Event) : Type 0 where
+  pub hears : (made : Terms) (ahead : ℕ) (place : Standing) (prefix : List (Timed Event)) (moment : ℕ) (at : At) (flow : Flow) →
+      place.stage ≡ busy at flow connection → OpensInTime place.spare prefix → IsInSequence made ahead before place prefix →
+      IsInSequence made ahead after place (prefix ++ (record { moment = moment; value = event }) ∷ [])
+
+-- The flow of a state that stands where its server is dialled may be connected at this place: its side is that of the dial, these are
+-- the side's bytes behind those that others have used, and nothing has closed it.
+pub record MayReach (made : Terms) (ahead : ℕ) (state : Stream) (moment : ℕ) (rest : List ℕ) (from to : Standing) (prefix : List (Timed Event)) : Type 0 where
+  pub at : At
+  pub flow : Flow
+  pub dialling : from.stage ≡ busy at flow connection
+  pub there : IsInSequence made ahead state from prefix
+  pub side : ServerSide
+  pub stage : to.stage ≡ busy (record at { dials = at.dials + 1 }) (reached made.place flow) (response_head side all_sent)
+  pub server : side.server ≡ at.dials
+  pub spare : to.spare ≡ from.spare
+  pub within : IsWithin to prefix
+  pub used : side.used ≤ length (bytes_of (Server at.dials) (drop to.opened prefix))
+  pub come : drop side.used (bytes_of (Server at.dials) (drop to.opened prefix)) ≡ rest
+  pub unshut : is_closed (Server at.dials) (drop to.opened prefix) ≡ false
+  pub now : moment ≡ now_over to.since prefix
+
+-- Its request went to the server, and it looked once: it is where the chain is there, and gave what is owed there.
+pub record ReachesThere (made : Terms) (ahead : ℕ) (after : Stream) (more : List Command) (to : Standing) (prefix : List (Timed Event)) (at : At) (flow : Flow) : Type 0 where
+  pub is_there : IsInSequence made ahead after ((http_chain sequence made).pass to prefix).stage prefix
+  pub gives : (view : View) → seen_of view more ≡ seen_of view (connected_owes made.place flow at.dials ++ owed_over (http_chain sequence made) to prefix)
+
+pub record Reaches (before after : Stream) (moment : ℕ) (rest : List ℕ) (out longer : List Command) : Type 0 where
+  pub more : List Command
+  pub grown : longer ≡ out ++ more
+  pub reaches : (made : Terms) (ahead : ℕ) (from to : Standing) (prefix : List (Timed Event)) → (may : MayReach made ahead before moment rest from to prefix) →
+      ReachesThere made ahead after more to prefix may.at may.flow

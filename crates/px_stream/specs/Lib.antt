@@ -15,4 +15,5 @@ pub mod Responses
 pub mod Sequence
 pub mod Stands
 pub mod StateLaws
+pub mod Through
 pub mod Turns

@@ -19,6 +19,10 @@
 //! something else over the same events, `Stream::begin` starts a stream with what was not used there, and `take_anywhere` and
 //! `resume_anywhere` say what a call does at whatever place of a walk it stands (`specs/Anywhere.antt`).
 //!
+//! Where the server is reached through another proxy, that proxy is what is dialled, and whoever goes on asks it for a tunnel to
+//! where `Stream::leads_to` says. Meanwhile the dial is awaited still: `hear_waiting` hears what comes, and gives nothing. At last
+//! the way stands, and `reach` is told what has come behind the proxy's answer; or the dial is answered with a refusal.
+//!
 //! A place may have a server's side that is connected before its first flow: it is spare. Its bytes and its close are heard beside the
 //! others' and not read, until a request goes where it is connected to: that request is sent to it with no dial, and all that was heard
 //! of it is what its responses begin with.

@@ -8,19 +8,20 @@ ghost use Rattle.std.specs.Prelude.{◌≡◌, ◌≤◌, ◌<◌, ◌+◌, ◌-
 ghost use Rattle.px_event.specs.Layer.{Move, Took, Replied, IsSound, Goes, AsksOnly, MayAnswer};
 ghost use Rattle.px_event.specs.declared.command.Command.{Command as GivenCommand};
 ghost use Rattle.px_read.specs.Reader.{before_all, request};
-ghost use Rattle.px_stream.specs.Anywhere.{Begins, IsNew, ResumesAnywhere, Somewhere, TakesAnywhere};
+ghost use Rattle.px_stream.specs.Anywhere.{Begins, HearsWaiting, IsNew, Reaches, ResumesAnywhere, Somewhere, TakesAnywhere};
 ghost use Rattle.px_stream.specs.Calls.{Answers, Hears, IsSome, LooksOnce, MayHear, TakesEvent, TurnsTo};
 ghost use Rattle.px_chain.specs.Chain.{alone, look as look_at};
 ghost use Rattle.px_stream.specs.Heard.{LinkAgrees, SpareAgrees, closes_client, ready_closes, ready_hears, ready_takes, requests_take, spare_takes};
 ghost use Rattle.px_stream.specs.Kept.{asked_keeps, phase_keeps, ready_keeps, spare_keeps, stream_keeps};
 ghost use Rattle.px_stream.specs.Left.{flow_left, sequence_left};
 ghost use Rattle.px_stream.specs.Looking.{MayLook};
-ghost use Rattle.px_exchange.specs.Places.{IsDirect, terms_of};
+ghost use Rattle.px_exchange.specs.Places.{terms_of};
 ghost use Rattle.px_stream.specs.Phases.{spare_at};
 ghost use Rattle.px_stream.specs.Rests.{LeavesRests, asked_rest, phase_flow, phase_rest, ready_rest};
 ghost use Rattle.px_stream.specs.Sequence.{IsSideBelow, Stands, StandsInSequence, asked_tunnel, is_end, open_spare, outcome_at, outcome_in, ready_onward, requests_onward, seen_at, stage_at, upgraded_side};
 ghost use Rattle.px_chain.specs.Stages.{Stage};
 ghost use Rattle.px_stream.specs.Stands.{awaited_in, awaits, is_last};
+ghost use Rattle.px_stream.specs.Through.{IsDialling, led_by, led_to, server_dialled};
 ghost use Rattle.px_stream.specs.Turns.{asked_leads, behind_asked, behind_ready};
 ghost use Rattle.px_stream.specs.declared.phase.Wanted.{Wanted as Looked};
 
@@ -31,6 +32,7 @@ use crate::phase::{Asked, Phase, Wanted};
 use crate::turning::turn;
 use px_event::{Ask, Command, Event, Reply, Rests, Side};
 use px_exchange::ending::Used;
+use px_exchange::flows::address_of;
 use px_exchange::terms::{Now, Terms};
 use px_exchange::{Outcome, Place};
 use px_message::{Address, Flow, FlowId};
@@ -64,7 +66,6 @@ impl Stream {
         next_server: u32,
     ) -> Stream
         requires few { id.index < 1000000 }
-        requires direct { IsDirect place }
         requires side { IsSideBelow place next_server }
         ensures stands { (onward : Stage → Stage) → Stands onward result result [] [] }
         ensures in_sequence { next_server ≤ id.index + 1 → StandsInSequence result result [] [] }
@@ -129,6 +130,13 @@ impl Stream {
             Phase::Ready(Wanted::Upgraded { link, .. }) => Some(link.used()),
             _ => None,
         }
+    }
+
+    /// Where its requests go.
+    pub fn place(&self) -> &Place
+        ensures { result.now ≡ self.now.terms.place }
+    {
+        &self.terms.place
     }
 
     /// The numbers of the next flow and of the next server.
@@ -370,6 +378,69 @@ impl Stream {
         self.answer_in_sequence(moment, asked, reply, out)
     }
 
+    /// Where the server of the flow is, while its dial is awaited and the place is reached through another proxy: that proxy is
+    /// dialled, and whoever goes on asks it for a tunnel to there.
+    pub fn leads_to(&self) -> Result<Option<Address>, NoMemory>
+        ensures to { IfOk result (λ to. to ≡ led_to self.now.terms.place self.now.phase) }
+    {
+        match &self.terms.place {
+            Place::Fixed { inside, .. } => led_by(inside, &self.phase),
+            _ => Ok(None),
+        }
+    }
+
+    /// Hears an event while the dial of its server is awaited: the client's bytes and its close, and those of a spare side. Behind
+    /// the client's close nothing is heard.
+    pub fn hear_waiting(&mut self, event: &Event) -> Result<(), NoMemory>
+        requires waits { IsDialling self.old.phase }
+        requires somewhere { Somewhere self.old }
+        ensures hears { OnOk result (HearsWaiting self.old self.new event.now) }
+        ensures phase { OnOk result (self.new.phase ≡ self.old.phase) }
+        ensures numbers { OnOk result (self.new.numbers ≡ self.old.numbers) }
+        ensures terms { OnOk result (self.new.terms ≡ self.old.terms) }
+        ensures left { OnOk result (sequence_left self.new ≡ sequence_left self.old) }
+    {
+        if self.client_closed {
+            return Ok(());
+        }
+        let mut looked = Wanted::Over;
+        let heard = hear(
+            &mut self.requests,
+            &mut self.client_closed,
+            &mut self.spare,
+            &mut looked,
+            event,
+        );
+        leave_ready(looked);
+        heard
+    }
+
+    /// The way to the server whose dial is awaited stands: the request goes to it, and this is what it has sent already. Then it
+    /// looks once.
+    pub fn reach(
+        &mut self,
+        moment: u64,
+        rest: &Bytes,
+        out: &mut Vec<Command>,
+    ) -> Result<(), NoMemory>
+        requires waits { IsDialling self.old.phase }
+        requires somewhere { Somewhere self.old }
+        ensures reaches { OnOk result (Reaches self.old self.new moment rest.now out.old.items out.new.items) }
+        ensures asks { OnOk result (AsksOnly (awaits self.new) out.old.items out.new.items) }
+        ensures left { OnOk result (sequence_left self.new < sequence_left self.old) }
+    {
+        let server = self.numbers.server;
+        let asked = take_asked(&mut self.phase);
+        let mut turned = self.turn(moment, asked, Reply::Dialled, out)?;
+        match hear_server(&mut turned, server, rest) {
+            Ok(()) => self.advance(moment, turned, out),
+            Err(NoMemory) => {
+                leave_ready(turned);
+                Err(NoMemory)
+            }
+        }
+    }
+
     /// Takes the reply to what is awaited, as `resume`; where the flow is finished, the next one begins with what the
     /// client sent behind it.
     pub fn resume_in_sequence(
@@ -493,6 +564,26 @@ impl Stream {
         let client = requests.into_rest()?;
         let (server, flow) = rest_of_phase(phase)?;
         Ok((Rests { client, server }, flow))
+    }
+}
+
+// Where the server of a flow is that goes through this proxy, while its dial is awaited.
+fn led_by(inside: &Option<Address>, phase: &Phase) -> Result<Option<Address>, NoMemory>
+    ensures { IfOk result (λ to. to ≡ led_by inside.now phase.now) }
+{
+    match inside {
+        Some(_) => server_dialled(phase),
+        None => Ok(None),
+    }
+}
+
+// Where the server of a flow is, while its dial is awaited.
+fn server_dialled(phase: &Phase) -> Result<Option<Address>, NoMemory>
+    ensures { IfOk result (λ to. to ≡ server_dialled phase.now) }
+{
+    match phase {
+        Phase::Asked(Asked::Dial { flow, .. }) => Ok(Some(address_of(flow)?)),
+        _ => Ok(None),
     }
 }
 

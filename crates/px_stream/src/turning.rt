@@ -19,7 +19,7 @@ use px_exchange::Place;
 use px_exchange::asked::is_head;
 use px_exchange::content::Content;
 use px_exchange::ending::{Used, end_by_fault, end_early, finish, settled};
-use px_exchange::flows::{self, dialled_for};
+use px_exchange::flows::{self, server_for};
 use px_exchange::said::{meet_expectation, send};
 use px_exchange::taken::{
     Taken, take_at_body_of, take_at_head_of, take_at_request_body, take_at_request_head,
@@ -263,7 +263,7 @@ fn send_request(
         onward_text(now.alloc, place.form(), flow.request.get())?,
         out,
     )?;
-    let address = dialled_for(place, &flow)?;
+    let address = server_for(place, &flow)?;
     Ok(Wanted::Answering {
         flow: flows::with_server(flow, address),
         link,

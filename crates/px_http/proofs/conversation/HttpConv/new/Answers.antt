@@ -3,9 +3,6 @@ use Rattle.px_http.proofs.conversation.HttpConv.new.Goals as goal
 pub new-requires-clause-few : goal.new-requires-clause-few
 new-requires-clause-few c = c.requires.few
 
-pub new-requires-clause-direct : goal.new-requires-clause-direct
-new-requires-clause-direct c = c.requires.direct
-
 pub new-requires-clause-side : goal.new-requires-clause-side
 new-requires-clause-side c = c.requires.side
 

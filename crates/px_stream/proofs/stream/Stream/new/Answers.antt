@@ -1,5 +1,4 @@
 use Rattle.std.proofs.Common.{refl, arith}
-use Rattle.px_stream.specs.Anywhere.{IsNew}
 use Rattle.px_stream.proofs.AnywhereLemmas.{stands_first, stands_first_in_sequence}
 use Rattle.px_stream.proofs.stream.Stream.new.Goals as goal
 
