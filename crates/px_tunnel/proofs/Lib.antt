@@ -1,1 +1,2 @@
 pub mod TunnelSteps
+pub mod UpstreamLemmas

@@ -1,3 +1,5 @@
 pub mod Laws
+pub mod Reaching
 pub mod Stands
 pub mod Tunnel
+pub mod Upstream

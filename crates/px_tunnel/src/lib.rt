@@ -1,6 +1,7 @@
-//! A raw tunnel between a client and a server: each side's bytes go to the other, as they come.
+//! A raw tunnel between a client and a server: each side's bytes go to the other, as they come. And another proxy, which is
+//! asked for a tunnel.
 //!
-//! A connection becomes one in two ways. Behind a successful CONNECT whatever comes of one side goes to the other, until a
+//! A connection becomes a tunnel in two ways. Behind a successful CONNECT whatever comes of one side goes to the other, until a
 //! side closes (RFC 9110, section 9.3.6); behind a 101 the connection speaks another protocol, which the proxy need not
 //! know (RFC 9110, section 7.8). The layer before may have read bytes of both sides that belong to the tunnel already.
 //! They are handed to it (`Rests`), and sent when it begins (`Event::Begun`), before all that comes behind.
@@ -20,9 +21,21 @@
 //! layer that turns into a tunnel holds one and calls `take`, which has `goes` and `asks` of `Layer::take`; its chain goes on
 //! with this one, by the same laws (`laws`). One whose chain has a stage of its own for tunnels (px_stack) calls `go_on`, which
 //! says what one event has the tunnel give.
+//!
+//! Where a server is reached through another proxy, that proxy is asked for the tunnel first (RFC 9110, section 9.3.6). It is sent
+//! `CONNECT` with the server's host and port, and the same in `Host` (`connect_text`), and answers by the head of a response
+//! (`UpstreamTunnel`, `ProxyAnswer`; `specs/Upstream.antt`). A code from 200 to 299 says that the tunnel stands: such a response
+//! has no body, whatever its fields say, so the bytes behind that head are the server's, and they are handed on. Any other code
+//! refuses the tunnel, one from 100 to 199 too, and so does a head that is malformed or longer than 65,536 bytes. While no head
+//! is whole the answer is awaited, and a proxy that closes meanwhile has refused.
+//!
+//! The answer is a function of all that has come of the proxy, in whatever pieces it came, and of whether it has closed. A close
+//! decides only what is awaited, and what is decided stays, whatever follows (`laws`).
 #![tactic(auto)]
 
 pub mod laws;
 mod tunnel;
+mod upstream;
 
 pub use tunnel::RawTunnel;
+pub use upstream::{ProxyAnswer, UpstreamTunnel, connect_text};
