@@ -60,6 +60,13 @@ impl FrameReader {
         }
     }
 
+    /// How many bytes it keeps: those of a frame that has begun.
+    pub fn kept(&self) -> usize
+        ensures { result ≡ length self.now.rest }
+    {
+        self.rest.len()
+    }
+
     /// Hears the bytes behind those that came before, and adds the frames that they complete.
     ///
     /// `left` says how many messages may still be completed, in this call and later; a frame of data behind them is `TooBig`. It is asked

@@ -1,0 +1,13 @@
+pub mod AskLemmas
+pub mod DrainLemmas
+pub mod FragmentLemmas
+pub mod GoesLemmas
+pub mod HalfLemmas
+pub mod HearLemmas
+pub mod KeepLemmas
+pub mod OrderLemmas
+pub mod ReplyLemmas
+pub mod SendLemmas
+pub mod StandLemmas
+pub mod TextLemmas
+pub mod WorkLemmas

@@ -1,0 +1,20 @@
+use Rattle.std.proofs.Common.{◌∙◌, sym}
+use Rattle.px_relay.proofs.HearLemmas.{answered_hears, close_hears, piece_hears, relaying_phase}
+use Rattle.px_relay.proofs.layer.WsLayer.hear_event.Goals as goal
+
+pub returns-in-Piece-clause-hears : goal.returns-in-Piece-clause-hears
+returns-in-Piece-clause-hears c =
+    piece_hears c.hear_piece.result c.args.event.now c.in-Piece.side c.in-Piece.bytes c.args.self.now c.hear_piece.new.self c.args.out.now.items
+    c.hear_piece.new.out.items c.in-Piece.is (relaying_phase c.args.self.now.flow c.args.self.now.phase c.requires.free (sym c.has_ended.ensures ∙ c.if-has_ended.false))
+    c.hear_piece.ensures.hears
+
+pub returns-in-Closed-clause-hears : goal.returns-in-Closed-clause-hears
+returns-in-Closed-clause-hears c =
+    close_hears c.hear_close.result c.args.event.now c.in-Closed.side c.args.self.now c.hear_close.new.self c.args.out.now.items
+    c.hear_close.new.out.items c.in-Closed.is (relaying_phase c.args.self.now.flow c.args.self.now.phase c.requires.free (sym c.has_ended.ensures ∙ c.if-has_ended.false))
+    c.hear_close.ensures.hears
+
+pub returns-in-Answered-clause-hears : goal.returns-in-Answered-clause-hears
+returns-in-Answered-clause-hears c =
+    answered_hears c.args.event.now c.in-Answered.ask c.in-Answered.reply c.args.self.now c.args.out.now.items c.in-Answered.is
+    (relaying_phase c.args.self.now.flow c.args.self.now.phase c.requires.free (sym c.has_ended.ensures ∙ c.if-has_ended.false))

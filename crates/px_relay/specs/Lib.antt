@@ -1,0 +1,13 @@
+pub mod Calls
+pub mod Chain
+pub mod Failures
+pub mod Fronts
+pub mod Kept
+pub mod Laws
+pub mod Messages
+pub mod Order
+pub mod Peers
+pub mod Sending
+pub mod Sights
+pub mod Stages
+pub mod Stands

@@ -1,0 +1,75 @@
+-- What a WebSocket looks at, and nothing else: the bytes of both sides behind the upgrade, and whether each side has closed.
+use Rattle.std.specs.Prelude.{ℕ, Bool, false, ◌||◌, if◌then◌else◌, List, [], ◌∷◌, ◌++◌}
+use Rattle.px_event.specs.declared.event.Event.{Event}
+use Rattle.px_event.specs.declared.event.Event.TheVariants as events
+use Rattle.px_event.specs.declared.event.Rests.{Rests}
+use Rattle.px_event.specs.declared.side.Side.{Side}
+use Rattle.px_event.specs.declared.side.Side.TheVariants as sides
+use Rattle.px_event.specs.Chain.{Timed}
+use Rattle.px_event.specs.Trace.{is_same_side}
+use Rattle.px_relay.specs.declared.peer.Peer.{Peer}
+use Rattle.px_relay.specs.declared.peer.Peer.TheVariants.{Client, Server}
+
+pub record Sight : Type 0 where
+  -- the client's bytes behind the request that asked for the upgrade
+  pub client : List ℕ
+  pub closed : Bool
+  -- the server's behind the response that agreed to it
+  pub server : List ℕ
+  pub shut : Bool
+
+abbrev pub bytes_of : Peer → Sight → List ℕ
+bytes_of Client seen = seen.client
+bytes_of Server seen = seen.server
+
+-- ---- one event more
+
+abbrev pub piece_of : Side → Event → List ℕ
+piece_of side (events.Piece from bytes) = if is_same_side from side then bytes else []
+piece_of side _ = []
+
+abbrev pub closes : Side → Event → Bool
+closes side (events.Closed from) = is_same_side from side
+closes side _ = false
+
+-- the sight with one event more, where the server has this number
+abbrev pub sight_with : ℕ → Sight → Event → Sight
+sight_with server seen event = record {
+  client = seen.client ++ piece_of sides.Client event;
+  closed = seen.closed || closes sides.Client event;
+  server = seen.server ++ piece_of (sides.Server server) event;
+  shut = seen.shut || closes (sides.Server server) event;
+}
+
+-- ---- a WebSocket by itself: what was left of both sides is seen when it begins
+
+-- nothing is left of either
+abbrev pub no_rests : Rests
+no_rests = record { client = []; server = [] }
+
+-- what is seen, and what is left of both sides until it begins
+pub record Come : Type 0 where
+  pub seen : Sight
+  pub left : Rests
+
+abbrev pub nothing_seen : Sight
+nothing_seen = record { client = []; closed = false; server = []; shut = false }
+
+abbrev pub first_come : Rests → Come
+first_come rests = record { seen = nothing_seen; left = rests }
+
+-- with the bytes that were left
+abbrev pub sight_begun : Sight → Rests → Sight
+sight_begun seen rests = record seen { client = seen.client ++ rests.client; server = seen.server ++ rests.server }
+
+abbrev pub come_with : ℕ → Come → Event → Come
+come_with server come events.Begun = record { seen = sight_begun come.seen come.left; left = no_rests }
+come_with server come event = record come { seen = sight_with server come.seen event }
+
+abbrev pub come_over : ℕ → Come → List (Timed Event) → Come
+come_over server come [] = come
+come_over server come (e ∷ es) = come_over server (come_with server come e.value) es
+
+-- what is seen over a prefix, of a WebSocket that was handed these
+abbrev pub seen_over : ℕ → Rests → List (Timed Event) → Sight
+seen_over server rests prefix = (come_over server (first_come rests) prefix).seen
