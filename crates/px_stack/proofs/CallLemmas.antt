@@ -12,7 +12,7 @@ use Rattle.px_stack.specs.declared.child.Child.{Child}
 use Rattle.px_stack.specs.declared.child.Child.TheVariants as children
 use Rattle.px_stack.specs.declared.child.Relay.{Relay}
 use Rattle.px_stack.specs.Chain.{is_shut, raw_look, stack_chain, tunnel_found}
-use Rattle.px_stack.specs.Stages.{Ends as TunnelEnds, Stage, connecting, http, over, raw, undecided}
+use Rattle.px_stack.specs.Stages.{Ends as TunnelEnds, Stage, connecting, http, over, raw, reaching, undecided}
 use Rattle.px_stack.specs.Stands.{IsChild, IsRelay, IsSomewhere, Keeps, KeepsBy}
 use Rattle.px_stack.specs.Steps.{RelayTakes, TakesChild}
 
@@ -31,6 +31,7 @@ keeps_relay : (conv : ℕ) (client : Option Address) (kept : Relay) (stage : Sta
     IsKeptRelay kept stage prefix
 keeps_relay conv client kept (http place standing) prefix is = absurd (let no : children.Raw kept ≡ children.Http is.flows = is.is in cc)
 keeps_relay conv client kept (connecting tunnel) prefix is = absurd (let no : children.Raw kept ≡ children.Connecting is.kept is.closed = is.is in cc)
+keeps_relay conv client kept (reaching goal side since) prefix is = absurd (let no : children.Raw kept ≡ children.Reaching is.kept = is.is in cc)
 keeps_relay conv client kept (undecided tunnel spare since) prefix is = absurd (let no : children.Raw kept ≡ children.Undecided is.kept is.server = is.is in cc)
 keeps_relay conv client kept (raw ends) prefix is =
     let P : Relay → Type 0 = λ r. IsRelay ends prefix r in
@@ -73,6 +74,7 @@ raw_takes conv client kept child moment event more takes stage prefix is =
 keeps_over : (conv : ℕ) (client : Option Address) (stage : Stage) (prefix : List (Timed Event)) → Keeps conv client children.Over stage prefix → ⊥
 keeps_over conv client (http place standing) prefix is = let no : children.Over ≡ children.Http is.flows = is.is in cc
 keeps_over conv client (connecting tunnel) prefix is = let no : children.Over ≡ children.Connecting is.kept is.closed = is.is in cc
+keeps_over conv client (reaching goal side since) prefix is = let no : children.Over ≡ children.Reaching is.kept = is.is in cc
 keeps_over conv client (undecided tunnel spare since) prefix is = let no : children.Over ≡ children.Undecided is.kept is.server = is.is in cc
 keeps_over conv client (raw ends) prefix is = let no : children.Over ≡ children.Raw is.kept = is.is in cc
 keeps_over conv client over prefix is = is

@@ -1,6 +1,6 @@
 -- What follows HTTP is where the chain is, and gives what it owes beside what HTTP did.
 use Rattle.std.proofs.Common.{◌≡◌, inl, inr, ℕ, ◌+◌, ◌<◌, ◌≤◌, Bool, true, false, List, [], ◌∷◌, ◌++◌, length, drop, Option, Some, None, refl, ap, sym, ◌∙◌, subst, append_assoc, arith, zero-add}
-use Rattle.std.specs.Prelude.{◌⊎◌, Result, Ok, Err, IfOk, OnOk}
+use Rattle.std.specs.Prelude.{◌⊎◌, Result, Ok, Err, IfOk, OnOk, unwrap_or}
 use Rattle.std.specs.Global.{Box}
 use Rattle.std.proofs.lemmas.List.{append-nil}
 use Rattle.px_message.specs.declared.address.Address.{Address}
@@ -33,6 +33,7 @@ use Rattle.px_stream.specs.declared.phase.Phase.{Phase}
 use Rattle.px_stream.specs.declared.phase.Phase.TheVariants as phase
 use Rattle.px_stream.specs.declared.phase.Wanted.{Wanted}
 use Rattle.px_stream.specs.declared.phase.Wanted.TheVariants as ready
+use Rattle.px_stream.specs.Anywhere.{OpensInTime}
 use Rattle.px_stream.specs.Left.{sequence_left}
 use Rattle.px_stream.specs.Rests.{phase_flow, phase_rest}
 use Rattle.px_stream.specs.Sequence.{IsCounted, IsInSequence, asked_tunnel, open_spare, outcome_in, unless_closed, upgraded_side}
@@ -42,7 +43,7 @@ use Rattle.px_stack.specs.declared.child.Child.{Child}
 use Rattle.px_stack.specs.declared.child.Child.TheVariants as children
 use Rattle.px_stack.specs.declared.child.Opening.{Opening}
 use Rattle.px_stack.specs.declared.closing.Sides.{Sides}
-use Rattle.px_stack.specs.Chain.{flows_at, hands_by, hands_over, opening_text, or_stays, shut_unused, stack_chain, tunnel_for, with_closes}
+use Rattle.px_stack.specs.Chain.{flows_at, hands_by, hands_over, opening_text, or_stays, proxy_at, shut_unused, stack_chain, tunnel_for, with_closes}
 use Rattle.px_stack.specs.Kept.{connecting_left, left_by, shut_open, tunnel_left}
 use Rattle.px_stack.specs.Laws.{hands, never_connects}
 use Rattle.px_stack.specs.Stages.{Ends as TunnelEnds, Stage, Tunnel, connecting, http, over, raw}
@@ -97,7 +98,7 @@ over_as place standing stage seen requests found last stays same is = by_end sta
 idle_as : (place : Place) (standing : Standing) (at : At) (seen : Sight) (requests : State) (found : Phase) (last : Wanted) (connects : Option Connect) →
     connect_in place (request_in at seen) ≡ connects → found ≡ phase.Ready last → IsLastAt connects at seen requests last → EndsAs place standing (idle at) seen requests found
 idle_as place standing at seen requests found last None is same ends =
-    over_as place standing (idle at) seen requests found last (ap (tunnel_for at) is) same ends
+    over_as place standing (idle at) seen requests found last (ap (tunnel_for place at) is) same ends
 idle_as place standing at seen requests found last (Some connects) is same ends = by_connect at connects refl is last same ends
 
 ends_as : (terms : Terms) (standing : Standing) (stage : stages.Stage) (seen : Sight) (requests : State) (found : Phase) (last : Wanted) →
@@ -177,29 +178,29 @@ module _ (conv : ℕ) (client : Option Address) (place : Place) (flows : HttpCon
     no_end : (is_last flows.stream.phase ≡ true → ⊥) → (owed : List Command) → looked ≡ Ends owed → ⊥
     no_end open_still owed is = open_still ((ends_where_it_ends sequence terms).there flows.stream standing prefix owed at.is_at is)
 
-    keeps_by : (boxed : Box HttpConv) → boxed.value ≡ flows → (l : Look Command) → ((owed : List Command) → l ≡ Ends owed → ⊥) → (unused : Option Unused) →
+    keeps_by : OpensInTime standing.spare prefix → (boxed : Box HttpConv) → boxed.value ≡ flows → (l : Look Command) → ((owed : List Command) → l ≡ Ends owed → ⊥) → (unused : Option Unused) →
         KeepsBy (with_closes conv client unused l) conv client (children.Http boxed) (http place standing) prefix
-    keeps_by boxed same NotYet goes unused =
-        let P : HttpConv → Type 0 = λ f. IsInFlows conv client place f standing prefix in record { flows = boxed; is = refl; there = subst P (sym same) at }
-    keeps_by boxed same (Asks ask) goes unused =
-        let P : HttpConv → Type 0 = λ f. IsInFlows conv client place f standing prefix in record { flows = boxed; is = refl; there = subst P (sym same) at }
-    keeps_by boxed same (Ends owed) goes unused = absurd (goes owed refl)
+    keeps_by in_time boxed same NotYet goes unused =
+        let P : HttpConv → Type 0 = λ f. IsInFlows conv client place f standing prefix in record { flows = boxed; is = refl; there = subst P (sym same) at; in_time = in_time }
+    keeps_by in_time boxed same (Asks ask) goes unused =
+        let P : HttpConv → Type 0 = λ f. IsInFlows conv client place f standing prefix in record { flows = boxed; is = refl; there = subst P (sym same) at; in_time = in_time }
+    keeps_by in_time boxed same (Ends owed) goes unused = absurd (goes owed refl)
 
     found_same : (l : Look Command) → ((owed : List Command) → l ≡ Ends owed → ⊥) → (unused : Option Unused) → found (with_closes conv client unused l) ≡ found l
     found_same NotYet goes unused = refl
     found_same (Asks ask) goes unused = refl
     found_same (Ends owed) goes unused = absurd (goes owed refl)
 
-    pub goes_on : (boxed : Box HttpConv) → boxed.value ≡ flows → outcome_in flows.stream.phase ≡ outcomes.Going →
+    pub goes_on : OpensInTime standing.spare prefix → (boxed : Box HttpConv) → boxed.value ≡ flows → outcome_in flows.stream.phase ≡ outcomes.Going →
         FollowsAt conv client flows (children.Http boxed) [] place standing prefix
-    goes_on boxed same is =
+    goes_on in_time boxed same is =
         let open_still : is_last flows.stream.phase ≡ true → ⊥ = going_on flows.stream.phase is in
         let goes = no_end open_still in
         let unused : Option Unused = unused_over standing.spare prefix in
         let P : HttpConv → Type 0 = λ f. sequence_left f.stream + tunnel_left f.stream.terms.place ≤ sequence_left flows.stream + tunnel_left flows.stream.terms.place in
         let Q : Terms → Type 0 = λ t. sequence_left boxed.value.stream + tunnel_left boxed.value.stream.terms.place ≤ sequence_left flows.stream + tunnel_left t.place in
         as_follows (children.Http boxed) [] None (none_follows open_still (hands_over place standing prefix) refl) (record {
-          there = keeps_by boxed same looked goes unused;
+          there = keeps_by in_time boxed same looked goes unused;
           gives = λ view. append-nil _ ∙ ap (λ l. seen_of view (so_far standing.stage seen ++ l)) (sym (found_same looked goes unused));
           left = subst Q at.is_at.is_in.terms (subst P (sym same) (omega arith));
         })
@@ -256,6 +257,10 @@ module _ (conv : ℕ) (client : Option Address) (place : Place) (flows : HttpCon
 
 -- ---- a CONNECT
 
+-- what is dialled for it
+abbrev pub dials_for : Opening → List Command
+dials_for kept = commands.Dial kept.numbers.server (unwrap_or kept.proxy kept.address) None ∷ []
+
 -- only where requests go where they ask to, a tunnel may follow
 record LeavesRoom (place : Place) : Type 0 where
   none_ahead : ahead_at place ≡ 0
@@ -277,17 +282,16 @@ module _ (conv : ℕ) (client : Option Address) (place : Place) (flows : HttpCon
     sight = sight_over here prefix
 
     abbrev tunnel_of : Connect → Tunnel
-    tunnel_of connects = record { at = used_more at connects.used; address = connects.address }
+    tunnel_of connects = record { at = used_more at connects.used; address = connects.address; proxy = proxy_at place }
 
     connect_follows : IsInFlows conv client place flows here prefix → (connects : Connect) → connect_in place (request_in at sight) ≡ Some connects →
         (last : Wanted) → flows.stream.phase ≡ phase.Ready last → IsTunnelAsked at sight flows.stream.requests connects last →
-        (kept : Opening) (closed : Bool) → kept.numbers ≡ flows.stream.numbers → asked_tunnel flows.stream.phase ≡ Some kept.address → kept.rest ≡ flows.stream.requests.rest →
-        closed ≡ flows.stream.client_closed →
-        FollowsAt conv client flows (children.Connecting kept closed) (commands.Dial kept.numbers.server kept.address None ∷ []) place here prefix
-    connect_follows in_flows connects is last same asked kept closed numbers address rest client_is =
+        (kept : Opening) (closed : Bool) → kept.numbers ≡ flows.stream.numbers → asked_tunnel flows.stream.phase ≡ Some kept.address → kept.proxy ≡ proxy_at place →
+        kept.rest ≡ flows.stream.requests.rest → closed ≡ flows.stream.client_closed → FollowsAt conv client flows (children.Connecting kept closed) (dials_for kept) place here prefix
+    connect_follows in_flows connects is last same asked kept closed numbers address proxy rest client_is =
         let room = leaves_room place at sight connects is in
         let tunnel : Tunnel = tunnel_of connects in
-        let to : hands_over place here prefix ≡ Some (connecting tunnel) = ap (tunnel_for at) is in
+        let to : hands_over place here prefix ≡ Some (connecting tunnel) = ap (tunnel_for place at) is in
         let over = hands (terms_of conv client place) here (idle at) sight (connecting tunnel) to in
         let placed = in_flows.is_at.is_in.place in
         let counted : IsCounted (ahead_at place) at = in_flows.few in
@@ -307,6 +311,7 @@ module _ (conv : ℕ) (client : Option Address) (place : Place) (flows : HttpCon
               flow = ap (λ n. n.flow) numbers ∙ placed.index;
               server = same_server;
               address = same_address;
+              proxy = proxy;
               rest = rest ∙ asked.keeps.rest;
               few = below;
               used = asked.within;
@@ -315,9 +320,10 @@ module _ (conv : ℕ) (client : Option Address) (place : Place) (flows : HttpCon
             client = client_is ∙ placed.client;
           };
           gives = λ view.
-              ap (λ l. seen_of view (so_far (idle at) sight ++ found l) ++ seen_of view (commands.Dial kept.numbers.server kept.address None ∷ [])) over.ends
-              ∙ (ap (λ n. seen_of view (commands.Dial n kept.address None ∷ [])) same_server
-              ∙ ap (λ a. seen_of view (commands.Dial at.dials a None ∷ [])) same_address);
+              ap (λ l. seen_of view (so_far (idle at) sight ++ found l) ++ seen_of view (dials_for kept)) over.ends
+              ∙ (ap (λ n. seen_of view (commands.Dial n (unwrap_or kept.proxy kept.address) None ∷ [])) same_server
+              ∙ (ap (λ p. seen_of view (commands.Dial at.dials (unwrap_or p kept.address) None ∷ [])) proxy
+              ∙ ap (λ a. seen_of view (commands.Dial at.dials (unwrap_or (proxy_at place) a) None ∷ [])) same_address));
           left = let room_left : tunnel_left place ≡ connecting_left = room.asks in omega arith;
         })
 
@@ -327,23 +333,23 @@ module _ (conv : ℕ) (client : Option Address) (place : Place) (flows : HttpCon
     standing_at stage = record { stage = stage; since = since; opened = opened; spare = spare }
 
     abbrev Dials : stages.Stage → Type 0
-    Dials stage = FollowsAt conv client flows (children.Connecting kept closed) (commands.Dial kept.numbers.server kept.address None ∷ []) place (standing_at stage) prefix
+    Dials stage = FollowsAt conv client flows (children.Connecting kept closed) (dials_for kept) place (standing_at stage) prefix
 
     connect_by : (stage : stages.Stage) → IsInFlows conv client place flows (standing_at stage) prefix → outcome_in flows.stream.phase ≡ outcomes.Connects →
         EndsAs place (standing_at stage) stage (sight_over (standing_at stage) prefix) flows.stream.requests flows.stream.phase →
-        kept.numbers ≡ flows.stream.numbers → asked_tunnel flows.stream.phase ≡ Some kept.address → kept.rest ≡ flows.stream.requests.rest →
-        closed ≡ flows.stream.client_closed → Dials stage
-    connect_by stage in_flows outcome (by_connect at connects is whole last same asked) numbers address rest client_is =
+        kept.numbers ≡ flows.stream.numbers → asked_tunnel flows.stream.phase ≡ Some kept.address → kept.proxy ≡ proxy_at place →
+        kept.rest ≡ flows.stream.requests.rest → closed ≡ flows.stream.client_closed → Dials stage
+    connect_by stage in_flows outcome (by_connect at connects is whole last same asked) numbers address proxy rest client_is =
         let P : stages.Stage → Type 0 = λ s. IsInFlows conv client place flows (standing_at s) prefix →
         connect_in place (request_in at (sight_over (standing_at s) prefix)) ≡ Some connects →
         IsTunnelAsked at (sight_over (standing_at s) prefix) flows.stream.requests connects last → Dials s in
-        subst P (sym is) (λ flows_there whole_there asked_there. connect_follows at since opened spare prefix flows_there connects whole_there last same asked_there kept closed numbers address rest client_is)
+        subst P (sym is) (λ flows_there whole_there asked_there. connect_follows at since opened spare prefix flows_there connects whole_there last same asked_there kept closed numbers address proxy rest client_is)
         in_flows whole asked
-    connect_by stage in_flows outcome (by_upgrade at flow side is last same asked) numbers address rest client_is =
+    connect_by stage in_flows outcome (by_upgrade at flow side is last same asked) numbers address proxy rest client_is =
         absurd (let no : outcomes.Upgraded ≡ outcomes.Connects = sym (ap outcome_in same ∙ ap (λ r. outcome_in (phase.Ready r)) asked.phase) ∙ outcome in cc)
-    connect_by stage in_flows outcome (by_end stays last same is) numbers address rest client_is =
+    connect_by stage in_flows outcome (by_end stays last same is) numbers address proxy rest client_is =
         absurd (let no : outcomes.Over ≡ outcomes.Connects = sym (ap outcome_in same ∙ is) ∙ outcome in cc)
-    connect_by stage in_flows outcome (by_next stays last same is) numbers address rest client_is =
+    connect_by stage in_flows outcome (by_next stays last same is) numbers address proxy rest client_is =
         absurd (let no : outcomes.Next ≡ outcomes.Connects = sym (ap outcome_in same ∙ is) ∙ outcome in cc)
 
 apart : (found : Phase) (a b : Outcome) → outcome_in found ≡ a → (a ≡ b → ⊥) → outcome_in found ≡ b → ⊥
@@ -357,13 +363,12 @@ upgraded_not is = let no : outcomes.Upgraded ≡ outcomes.Going = is in cc
 
 -- A CONNECT was read: its server is dialled.
 pub connects : (flows : HttpConv) (kept : Opening) (closed : Bool) → outcome_in flows.stream.phase ≡ outcomes.Connects →
-    kept.numbers ≡ flows.stream.numbers → asked_tunnel flows.stream.phase ≡ Some kept.address → kept.rest ≡ flows.stream.requests.rest → closed ≡ flows.stream.client_closed →
-    (conv : ℕ) (client : Option Address) (place : Place) (standing : Standing) (prefix : List (Timed Event)) → IsInFlows conv client place flows standing prefix →
-    FollowsAt conv client flows (children.Connecting kept closed) (commands.Dial kept.numbers.server kept.address None ∷ []) place standing prefix
-connects flows kept closed is numbers address rest client_is conv client place standing prefix at =
+    kept.numbers ≡ flows.stream.numbers → asked_tunnel flows.stream.phase ≡ Some kept.address → kept.proxy ≡ proxy_at flows.stream.terms.place →
+    kept.rest ≡ flows.stream.requests.rest → closed ≡ flows.stream.client_closed → Follows flows (children.Connecting kept closed) (dials_for kept)
+connects flows kept closed is numbers address proxy rest client_is conv client place standing prefix at in_time =
     let last : is_last flows.stream.phase ≡ true = last_when flows.stream.phase (apart flows.stream.phase outcomes.Connects outcomes.Going is connects_not) in
     connect_by conv client place flows kept closed standing.since standing.opened standing.spare prefix standing.stage at is
-    (found_end conv client place flows standing prefix at last) numbers address rest client_is
+    (found_end conv client place flows standing prefix at last) numbers address (proxy ∙ ap (λ t. proxy_at t.place) at.is_at.is_in.terms) rest client_is
 
 -- ---- another protocol
 
@@ -443,9 +448,8 @@ pub upgrades : (flows : HttpConv) (sides : Sides) (rests : Rests) (ended : Optio
     outcome_in flows.stream.phase ≡ outcomes.Upgraded → upgraded_side flows.stream.phase ≡ Some (ByServer sides.server sides.shut) → sides.closed ≡ flows.stream.client_closed →
     rests.client ≡ flows.stream.requests.rest → rests.server ≡ phase_rest flows.stream.phase → ended ≡ phase_flow flows.stream.phase →
     open_side ≡ open_spare flows.stream.spare → left_by child ≡ 0 → Relays sides rests ended open_side child more →
-    (conv : ℕ) (client : Option Address) (place : Place) (standing : Standing) (prefix : List (Timed Event)) → IsInFlows conv client place flows standing prefix →
-    FollowsAt conv client flows child more place standing prefix
-upgrades flows sides rests ended open_side child more is a b c d e f g relays conv client place standing prefix at =
+    Follows flows child more
+upgrades flows sides rests ended open_side child more is a b c d e f g relays conv client place standing prefix at in_time =
     let last : is_last flows.stream.phase ≡ true = last_when flows.stream.phase (apart flows.stream.phase outcomes.Upgraded outcomes.Going is upgraded_not) in
     upgrade_by conv client place flows sides rests ended open_side child more standing.since standing.opened standing.spare prefix standing.stage at is
     (found_end conv client place flows standing prefix at last) a b c d e f g relays
@@ -468,7 +472,7 @@ ended found outcome is (inr here) other a b there = b (sym there ∙ (sym is ∙
 
 pub ends_with : (flows : HttpConv) (outcome : Outcome) → outcome ≡ outcome_in flows.stream.phase → (outcome ≡ outcomes.Next) ⊎ (outcome ≡ outcomes.Over) →
     Follows flows children.Over (shut_open (open_spare flows.stream.spare))
-ends_with flows outcome is which conv client place standing prefix at =
+ends_with flows outcome is which conv client place standing prefix at in_time =
     let apart_from = ended flows.stream.phase outcome is which in
     ends conv client place flows standing prefix at
     (last_when flows.stream.phase (apart_from outcomes.Going (λ e. let no : outcomes.Going ≡ outcomes.Next = e in cc) (λ e. let no : outcomes.Going ≡ outcomes.Over = e in cc)))

@@ -5,7 +5,7 @@ use Rattle.px_message.specs.declared.address.Address.{Address}
 use Rattle.px_event.specs.declared.command.Command.{Command}
 use Rattle.px_event.specs.declared.event.Event.{Event}
 use Rattle.px_event.specs.declared.reply.Reply.{Reply}
-use Rattle.px_event.specs.Chain.{Timed, Look, NotYet, Asks, Ends, found}
+use Rattle.px_event.specs.Chain.{Timed, Look, NotYet, Asks, Ends, Turn, found}
 use Rattle.px_event.specs.Laws.{owed_here, owed_over}
 use Rattle.px_event.specs.View.{View, seen_of}
 use Rattle.px_event.proofs.Seen.{seen_append}
@@ -14,21 +14,23 @@ use Rattle.px_exchange.specs.declared.place.Place.{Place}
 use Rattle.px_exchange.specs.declared.terms.Terms.{Terms}
 use Rattle.px_exchange.specs.Places.{terms_of}
 use Rattle.px_chain.specs.Chain.{http_chain, sequence}
-use Rattle.px_chain.specs.Sights.{Spare, Standing, Unused, unused_over}
+use Rattle.px_chain.specs.Sights.{Spare, SpareIsWithin, Standing, Unused, unused_over}
 use Rattle.px_chain.specs.Streams.{Since}
 use Rattle.px_http.specs.declared.conversation.HttpConv.{HttpConv}
-use Rattle.px_stream.specs.Anywhere.{ResumesAnywhere, Somewhere, TakesAnywhere}
+use Rattle.px_stream.specs.Anywhere.{OpensInTime, ResumesAnywhere, Somewhere, TakesAnywhere}
 use Rattle.px_stream.specs.Left.{sequence_left}
 use Rattle.px_stream.specs.Sequence.{IsInSequence}
 use Rattle.px_stack.specs.declared.child.Child.{Child}
 use Rattle.px_stack.specs.declared.child.Child.TheVariants as children
 use Rattle.px_stack.specs.declared.child.Opening.{Opening}
 use Rattle.px_stack.specs.declared.child.Relay.{Relay}
-use Rattle.px_stack.specs.Chain.{flows_at, hands_over, or_stays, raw_look, shut_unused, stack_chain, with_closes}
+use Rattle.px_stack.specs.Chain.{flows_at, hands_over, or_stays, raw_look, shut_unused, stack_chain, turn_flows, with_closes}
 use Rattle.px_stack.specs.Kept.{left_by, tunnel_left}
-use Rattle.px_stack.specs.Stages.{Ends as TunnelEnds, Stage, Tunnel, connecting, http, over, raw, undecided}
+use Rattle.px_stack.specs.Stages.{Ends as TunnelEnds, Stage, Tunnel, connecting, http, over, raw, reaching, undecided}
 use Rattle.px_stack.specs.Stands.{IsChild, IsHttp, IsInFlows, IsSomewhere, IsUndecided, Keeps, KeepsBy, ahead_at}
-use Rattle.px_stack.specs.Steps.{Adds, Follows, FollowsAt, ResumesChild, TakesChild}
+use Rattle.px_stack.specs.Steps.{Adds, Follows, FollowsAt, IsPlain, ResumesChild, TakesChild}
+use Rattle.px_stack.proofs.LedLemmas.{plain_turn}
+use Rattle.px_stack.proofs.TimeLemmas.{in_time_more, in_time_taken}
 
 -- ---- where HTTP is kept
 
@@ -38,6 +40,7 @@ pub record IsKept (conv : ℕ) (client : Option Address) (flows : HttpConv) (sta
   pub standing : Standing
   pub is : stage ≡ http place standing
   pub there : IsInFlows conv client place flows standing prefix
+  pub in_time : OpensInTime standing.spare prefix
 
 same_box : (a b : Box HttpConv) → children.Http a ≡ children.Http b → a ≡ b
 same_box a b is = cc
@@ -46,8 +49,9 @@ keeps_http : (conv : ℕ) (client : Option Address) (boxed : Box HttpConv) (stag
     Keeps conv client (children.Http boxed) stage prefix → IsKept conv client boxed.value stage prefix
 keeps_http conv client boxed (http place standing) prefix is =
     let P : Box HttpConv → Type 0 = λ b. IsInFlows conv client place b.value standing prefix in
-    record { place = place; standing = standing; is = refl; there = subst P (sym (same_box boxed is.flows is.is)) is.there }
+    record { place = place; standing = standing; is = refl; there = subst P (sym (same_box boxed is.flows is.is)) is.there; in_time = is.in_time }
 keeps_http conv client boxed (connecting tunnel) prefix is = absurd (let no : children.Http boxed ≡ children.Connecting is.kept is.closed = is.is in cc)
+keeps_http conv client boxed (reaching goal side since) prefix is = absurd (let no : children.Http boxed ≡ children.Reaching is.kept = is.is in cc)
 keeps_http conv client boxed (undecided tunnel spare since) prefix is = absurd (let no : children.Http boxed ≡ children.Undecided is.kept is.server = is.is in cc)
 keeps_http conv client boxed (raw ends) prefix is = absurd (let no : children.Http boxed ≡ children.Raw is.kept = is.is in cc)
 keeps_http conv client boxed over prefix is = absurd is
@@ -90,16 +94,17 @@ module _ (conv : ℕ) (client : Option Address) (boxed : Box HttpConv) (after : 
       ∙ (two ∙ ap (λ n. seen_of view (n ++ owed)) (sym empty))))
 
   takes_there : (moment : ℕ) (event : Event) (place : Place) (standing : Standing) (prefix : List (Timed Event)) →
+      SpareIsWithin standing.spare prefix → OpensInTime standing.spare prefix →
       ((owed : List Command) → (stack_chain conv client).look (http place standing) prefix ≡ Ends owed → ⊥) →
       Takes (flows_at conv client place) (IsInSequence (terms_of conv client place) (ahead_at place)) after.stream moment event first standing prefix →
       Takes (stack_chain conv client) (IsChild conv client) child moment event (first ++ second) (http place standing) prefix
-  takes_there moment event place standing prefix goes (onward is at gives) =
+  takes_there moment event place standing prefix within in_time goes (onward is at gives) =
       let longer : List (Timed Event) = prefix ++ record { moment = moment; value = event } ∷ [] in
       let on = (flows_at conv client place).pass standing longer in
-      let next = follows conv client place on.stage longer at in
+      let next = follows conv client place on.stage longer at (in_time_more standing.spare prefix (record { moment = moment; value = event }) within in_time) in
       onward (ap (with_closes conv client (unused_over standing.spare prefix)) is) next.there
       (λ view. gave_both view ((flows_at conv client place).so_far standing prefix) (owed_here (flows_at conv client place) on.stage longer) on.owed _ refl (gives view) (next.gives view))
-  takes_there moment event place standing prefix goes (past_end owed is at gives) =
+  takes_there moment event place standing prefix within in_time goes (past_end owed is at gives) =
       absurd (goes (owed ++ shut_unused (unused_over standing.spare prefix)) (ap (with_closes conv client (unused_over standing.spare prefix)) is))
 
   pub http_takes : (moment : ℕ) (event : Event) →
@@ -110,40 +115,50 @@ module _ (conv : ℕ) (client : Option Address) (boxed : Box HttpConv) (after : 
       let kept = is_kept conv client boxed stage prefix is in
       let P : Stage → Type 0 = λ s. IsChild conv client (children.Http boxed) s prefix → Takes (stack_chain conv client) (IsChild conv client) child moment event (first ++ second) s prefix in
       subst P (sym kept.is)
-      (λ there. takes_there moment event kept.place kept.standing prefix
+      (λ there. takes_there moment event kept.place kept.standing prefix kept.there.is_at.within.spare kept.in_time
       (λ owed ends. not_ended ((stack_chain conv client).look (http kept.place kept.standing) prefix) conv client boxed (http kept.place kept.standing) prefix owed there ends)
       (takes (terms_of conv client kept.place) (ahead_at kept.place) kept.standing prefix kept.there)) is
 
   -- ---- a reply
 
-  resumes_there : (moment : ℕ) (reply : Reply) (place : Place) (standing : Standing) (prefix : List (Timed Event)) →
+  -- where the chain goes as the flows alone do
+  abbrev Plain : Place → Standing → List (Timed Event) → Timed Reply → Type 0
+  Plain place standing prefix answer = (stack_chain conv client).turn (http place standing) prefix answer ≡ turn_flows conv client place standing prefix answer
+
+  resumes_there : (moment : ℕ) (reply : Reply) (place : Place) (standing : Standing) (prefix : List (Timed Event)) → OpensInTime standing.spare prefix →
+      Plain place standing prefix (record { moment = moment; value = reply }) →
       Resumes (flows_at conv client place) (IsInSequence (terms_of conv client place) (ahead_at place)) after.stream moment reply first standing prefix →
       Resumes (stack_chain conv client) (IsChild conv client) child moment reply (first ++ second) (http place standing) prefix
-  resumes_there moment reply place standing prefix resumes =
-      let turned = (flows_at conv client place).turn standing prefix (record { moment = moment; value = reply }) in
+  resumes_there moment reply place standing prefix in_time plain resumes =
+      let answer : Timed Reply = record { moment = moment; value = reply } in
+      let turned = (flows_at conv client place).turn standing prefix answer in
       let on = (flows_at conv client place).pass turned.stage prefix in
-      let next = follows conv client place on.stage prefix resumes.place in
+      let next = follows conv client place on.stage prefix resumes.place (in_time_taken _ standing.spare prefix in_time) in
+      let P : Turn Stage Command → Type 0 = λ t. IsChild conv client child ((stack_chain conv client).pass t.stage prefix).stage prefix in
       record {
         ask = resumes.ask;
         asked = ap (with_closes conv client (unused_over standing.spare prefix)) resumes.asked;
-        place = next.there;
+        place = subst P (sym plain) next.there;
         gives = λ view.
             seen_append view first second
             ∙ (ap (λ l. l ++ seen_of view second) (resumes.gives view ∙ seen_append view turned.owed (owed_here (flows_at conv client place) on.stage prefix))
             ∙ (append_assoc (seen_of view turned.owed) (seen_of view (owed_here (flows_at conv client place) on.stage prefix)) (seen_of view second)
             ∙ (ap (λ l. seen_of view turned.owed ++ l) (next.gives view)
-            ∙ sym (seen_append view turned.owed _))));
+            ∙ (sym (seen_append view turned.owed _)
+            ∙ ap (λ t. seen_of view (t.owed ++ owed_over (stack_chain conv client) t.stage prefix)) (sym plain)))));
       }
 
-  pub http_resumes : (moment : ℕ) (reply : Reply) →
+  pub http_resumes : (moment : ℕ) (reply : Reply) → IsPlain boxed.value reply →
       ((made : Terms) (ahead : ℕ) (place : Standing) (prefix : List (Timed Event)) → IsInSequence made ahead boxed.value.stream place prefix →
       Resumes (http_chain sequence made) (IsInSequence made ahead) after.stream moment reply first place prefix) →
       ResumesChild conv client (children.Http boxed) child moment reply (first ++ second)
-  http_resumes moment reply resumes stage prefix is =
+  http_resumes moment reply plain resumes stage prefix is =
       let kept = is_kept conv client boxed stage prefix is in
       let P : Stage → Type 0 = λ s. Resumes (stack_chain conv client) (IsChild conv client) child moment reply (first ++ second) s prefix in
       subst P (sym kept.is)
-      (resumes_there moment reply kept.place kept.standing prefix (resumes (terms_of conv client kept.place) (ahead_at kept.place) kept.standing prefix kept.there))
+      (resumes_there moment reply kept.place kept.standing prefix kept.in_time
+      (plain_turn conv client kept.place boxed.value kept.standing prefix moment reply kept.there plain)
+      (resumes (terms_of conv client kept.place) (ahead_at kept.place) kept.standing prefix kept.there))
 
 -- ---- how many replies may still be asked for
 
@@ -153,11 +168,12 @@ module _ (boxed : Box HttpConv) (after : HttpConv) (child : Child) (first second
   places_left conv client place standing prefix at = ap (λ t. tunnel_left t.place) at.is_at.is_in.terms
 
   takes_left_by : (conv : ℕ) (client : Option Address) (moment : ℕ) (event : Event) (place : Place) (standing : Standing) (prefix : List (Timed Event)) →
-      Takes (flows_at conv client place) (IsInSequence (terms_of conv client place) (ahead_at place)) after.stream moment event first standing prefix →
+      SpareIsWithin standing.spare prefix → OpensInTime standing.spare prefix → Takes (flows_at conv client place) (IsInSequence (terms_of conv client place) (ahead_at place)) after.stream moment event first standing prefix →
       left_by child ≤ sequence_left after.stream + tunnel_left place
-  takes_left_by conv client moment event place standing prefix (onward is at gives) =
-      (follows conv client place _ (prefix ++ record { moment = moment; value = event } ∷ []) at).left
-  takes_left_by conv client moment event place standing prefix (past_end owed is at gives) = (follows conv client place standing prefix at).left
+  takes_left_by conv client moment event place standing prefix within in_time (onward is at gives) =
+      let e : Timed Event = record { moment = moment; value = event } in
+      (follows conv client place ((flows_at conv client place).pass standing (prefix ++ e ∷ [])).stage (prefix ++ e ∷ []) at (in_time_more standing.spare prefix e within in_time)).left
+  takes_left_by conv client moment event place standing prefix within in_time (past_end owed is at gives) = (follows conv client place standing prefix at in_time).left
 
   pub takes_left : (conv : ℕ) (client : Option Address) (moment : ℕ) (event : Event) → IsSomewhere conv client (children.Http boxed) →
       ((made : Terms) (ahead : ℕ) (place : Standing) (prefix : List (Timed Event)) → IsInSequence made ahead boxed.value.stream place prefix →
@@ -165,7 +181,7 @@ module _ (boxed : Box HttpConv) (after : HttpConv) (child : Child) (first second
       sequence_left after.stream ≤ sequence_left boxed.value.stream → left_by child ≤ left_by (children.Http boxed)
   takes_left conv client moment event (stage, prefix, is) takes fewer =
       let kept = is_kept conv client boxed stage prefix is in
-      let here = takes_left_by conv client moment event kept.place kept.standing prefix (takes (terms_of conv client kept.place) (ahead_at kept.place) kept.standing prefix kept.there) in
+      let here = takes_left_by conv client moment event kept.place kept.standing prefix kept.there.is_at.within.spare kept.in_time (takes (terms_of conv client kept.place) (ahead_at kept.place) kept.standing prefix kept.there) in
       let same = places_left conv client kept.place kept.standing prefix kept.there in
       omega arith
 
@@ -176,6 +192,8 @@ module _ (boxed : Box HttpConv) (after : HttpConv) (child : Child) (first second
   resumes_left conv client moment reply (stage, prefix, is) resumes fewer =
       let kept = is_kept conv client boxed stage prefix is in
       let resumed = resumes (terms_of conv client kept.place) (ahead_at kept.place) kept.standing prefix kept.there in
-      let here = (follows conv client kept.place _ prefix resumed.place).left in
+      let flows = flows_at conv client kept.place in
+      let here = (follows conv client kept.place (flows.pass (flows.turn kept.standing prefix (record { moment = moment; value = reply })).stage prefix).stage prefix resumed.place
+      (in_time_taken _ kept.standing.spare prefix kept.in_time)).left in
       let same = places_left conv client kept.place kept.standing prefix kept.there in
       omega arith

@@ -8,3 +8,13 @@ pub mod StackLemmas
 pub mod OpenedLemmas
 pub mod InsideLemmas
 pub mod CallLemmas
+pub mod LedLemmas
+pub mod ReachingLemmas
+pub mod AskLemmas
+pub mod LetLemmas
+pub mod GoalLemmas
+pub mod TimeLemmas
+pub mod SaidLemmas
+pub mod AnswerLemmas
+pub mod ProxyFlowLemmas
+pub mod ProxyLemmas

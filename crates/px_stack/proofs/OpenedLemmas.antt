@@ -22,11 +22,11 @@ use Rattle.px_stack.specs.declared.child.Child.{Child}
 use Rattle.px_stack.specs.declared.child.Child.TheVariants as children
 use Rattle.px_stack.specs.declared.child.Opening.{Opening}
 use Rattle.px_stack.specs.declared.closing.Sides.{Sides}
-use Rattle.px_stack.specs.Chain.{closes_all, follows, hands_over, has_answered, inner_place, inner_standing, opening_look, opening_text, or_stays, stack_chain, tunnel_ends, tunnel_for, tunnel_found}
+use Rattle.px_stack.specs.Chain.{closes_all, follows, goes_by, hands_over, has_answered, inner_place, inner_standing, opening_look, opening_text, or_stays, stack_chain, tunnel_ends, tunnel_for, tunnel_found}
 use Rattle.px_stack.specs.Decides.{Decision, decided, decided_by, has_method, is_http, is_raw, may_have_method, still}
 use Rattle.px_stack.specs.Kept.{awaited_by}
 use Rattle.px_stack.specs.Laws.{never_connects}
-use Rattle.px_stack.specs.Stages.{Ends as TunnelEnds, Stage, Tunnel, connecting, http, over, raw, undecided}
+use Rattle.px_stack.specs.Stages.{Ends as TunnelEnds, Stage, Tunnel, connecting, http, over, raw, reaching, undecided}
 use Rattle.px_stack.specs.Stands.{IsChild, IsOpened, IsUndecided, Keeps, KeepsBy}
 use Rattle.px_stack.specs.Steps.{Adds, Arrives, Decides, GoesInside, MayDecide, MayRelay, Relays, TakesChild, sides_closed}
 use Rattle.px_stack.proofs.DecideLemmas.{answer_decides}
@@ -44,7 +44,7 @@ silent_decides tunnel spare prefix silent = ap (λ l. decided (opening_text tunn
 
 -- ---- what is found
 
-opening_as : (spare : Spare) (prefix : List (Timed Event)) (shut closed : Bool) → is_closed (Server spare.server) (drop spare.opened prefix) ≡ shut →
+pub opening_as : (spare : Spare) (prefix : List (Timed Event)) (shut closed : Bool) → is_closed (Server spare.server) (drop spare.opened prefix) ≡ shut →
     client_closed prefix ≡ closed → opening_look spare prefix ≡ tunnel_found (closed || shut) (closes_all spare.server shut closed)
 opening_as spare prefix shut closed is_shut is_closed_now =
     ap (λ b. tunnel_found (client_closed prefix || b) (closes_all spare.server b (client_closed prefix))) is_shut
@@ -58,69 +58,82 @@ some_ends false false owed is = absurd (let no : false ≡ true = is in cc)
 
 -- ---- where it arrives
 
+module _ (tunnel : Tunnel) (spare : Spare) (since : Since) (prefix : List (Timed Event)) where
+  -- where the chain goes from there: by what is decided, or nowhere
+  goes_open : (decision : Decision) → client_closed prefix ≡ false → decided (opening_text tunnel prefix) (has_answered spare prefix) ≡ decision →
+      goes_by (client_closed prefix) tunnel spare since prefix ≡ follows decision tunnel spare since
+  goes_open decision open_still is = ap (λ b. goes_by b tunnel spare since prefix) open_still ∙ ap (λ d. follows d tunnel spare since) is
+
+  goes_still : (closed : Bool) → decided (opening_text tunnel prefix) (has_answered spare prefix) ≡ still → goes_by closed tunnel spare since prefix ≡ undecided tunnel spare since
+  goes_still true is = refl
+  goes_still false is = ap (λ d. follows d tunnel spare since) is
+
+  pub goes_closed : client_closed prefix ≡ true → goes_by (client_closed prefix) tunnel spare since prefix ≡ undecided tunnel spare since
+  goes_closed closed = ap (λ b. goes_by b tunnel spare since prefix) closed
+
 module _ (conv : ℕ) (client : Option Address) (next : Child) (more : List Command) (tunnel : Tunnel) (spare : Spare) (since : Since) (prefix : List (Timed Event)) where
-  arrives_by : (decision : Decision) → decided (opening_text tunnel prefix) (has_answered spare prefix) ≡ decision →
-      IsChild conv client next (follows decision tunnel spare since) prefix →
-      ((view : View) → seen_of view more ≡ seen_of view (owed_here (stack_chain conv client) (follows decision tunnel spare since) prefix)) →
-      Arrives conv client next more (undecided tunnel spare since) prefix
-  arrives_by decision is there gives = record {
-    there = let P : Decision → Type 0 = λ d. IsChild conv client next (follows d tunnel spare since) prefix in subst P (sym is) there;
-    gives = λ view. gives view ∙ ap (λ d. seen_of view (owed_here (stack_chain conv client) (follows d tunnel spare since) prefix)) (sym is);
+  arrives_at : (stage : Stage) → goes_by (client_closed prefix) tunnel spare since prefix ≡ stage → IsChild conv client next stage prefix →
+      ((view : View) → seen_of view more ≡ seen_of view (owed_here (stack_chain conv client) stage prefix)) → Arrives conv client next more (undecided tunnel spare since) prefix
+  arrives_at stage is there gives = record {
+    there = let P : Stage → Type 0 = λ s. IsChild conv client next s prefix in subst P (sym is) there;
+    gives = λ view. gives view ∙ ap (λ s. seen_of view (owed_here (stack_chain conv client) s prefix)) (sym is);
   }
 
-  arrives_raw : decided (opening_text tunnel prefix) (has_answered spare prefix) ≡ is_raw →
+  arrives_raw : client_closed prefix ≡ false → decided (opening_text tunnel prefix) (has_answered spare prefix) ≡ is_raw →
       Arrives conv client next more (raw (tunnel_ends tunnel spare)) prefix → Arrives conv client next more (undecided tunnel spare since) prefix
-  arrives_raw is to = arrives_by is_raw is to.there to.gives
+  arrives_raw open_still is to = arrives_at (raw (tunnel_ends tunnel spare)) (goes_open tunnel spare since prefix is_raw open_still is) to.there to.gives
 
   -- HTTP that begins in a tunnel does not hand over
   none_handed : hands_over (inner_place tunnel spare) (inner_standing tunnel spare since) prefix ≡ None
   none_handed =
-      ap (tunnel_for tunnel.at) (never_connects tunnel.address (Some spare.server) None (request_in tunnel.at (sight_over (inner_standing tunnel spare since) prefix)))
+      ap (tunnel_for (inner_place tunnel spare) tunnel.at)
+      (never_connects tunnel.address (Some spare.server) tunnel.proxy (request_in tunnel.at (sight_over (inner_standing tunnel spare since) prefix)))
 
-  arrives_http : decided (opening_text tunnel prefix) (has_answered spare prefix) ≡ is_http →
+  arrives_http : client_closed prefix ≡ false → decided (opening_text tunnel prefix) (has_answered spare prefix) ≡ is_http →
       Arrives conv client next more (http (inner_place tunnel spare) (inner_standing tunnel spare since)) prefix →
       Arrives conv client next more (undecided tunnel spare since) prefix
-  arrives_http is to =
+  arrives_http open_still is to =
       let there : Stage = http (inner_place tunnel spare) (inner_standing tunnel spare since) in
       let P : Option Stage → Type 0 = λ o. IsChild conv client next (or_stays there o) prefix in
-      arrives_by is_http is (subst P none_handed to.there)
+      arrives_at there (goes_open tunnel spare since prefix is_http open_still is) (subst P none_handed to.there)
       (λ view. to.gives view ∙ ap (λ o. seen_of view (owed_here (stack_chain conv client) (or_stays there o) prefix)) none_handed)
 
   -- nothing is decided yet, or it ends before that
-  arrives_open : (kept : Opening) (server : ℕ) → decided (opening_text tunnel prefix) (has_answered spare prefix) ≡ still → opening_look spare prefix ≡ NotYet →
-      IsOpened tunnel spare since prefix kept server → next ≡ children.Undecided kept server → more ≡ [] → Arrives conv client next more (undecided tunnel spare since) prefix
-  arrives_open kept server is look opened same none =
+  arrives_open : (kept : Opening) (server : ℕ) → client_closed prefix ≡ false → decided (opening_text tunnel prefix) (has_answered spare prefix) ≡ still →
+      opening_look spare prefix ≡ NotYet → IsOpened tunnel spare since prefix kept server → next ≡ children.Undecided kept server → more ≡ [] →
+      Arrives conv client next more (undecided tunnel spare since) prefix
+  arrives_open kept server open_still is look opened same none =
       let P : Look Command → Type 0 = λ l. KeepsBy l conv client next (undecided tunnel spare since) prefix in
       let there : IsUndecided tunnel spare since prefix next = record { kept = kept; server = server; is = same; opened = opened; decides = is } in
-      arrives_by still is (subst P (sym look) there) (λ view. ap (seen_of view) none ∙ ap (λ l. seen_of view (found l)) (sym look))
+      arrives_at (undecided tunnel spare since) (goes_open tunnel spare since prefix still open_still is) (subst P (sym look) there)
+      (λ view. ap (seen_of view) none ∙ ap (λ l. seen_of view (found l)) (sym look))
 
-  arrives_over : decided (opening_text tunnel prefix) (has_answered spare prefix) ≡ still → opening_look spare prefix ≡ Ends more →
+  pub arrives_over : goes_by (client_closed prefix) tunnel spare since prefix ≡ undecided tunnel spare since → opening_look spare prefix ≡ Ends more →
       next ≡ children.Over → Arrives conv client next more (undecided tunnel spare since) prefix
-  arrives_over is look same =
+  arrives_over goes look same =
       let P : Look Command → Type 0 = λ l. KeepsBy l conv client next (undecided tunnel spare since) prefix in
-      arrives_by still is (subst P (sym look) same) (λ view. ap (λ l. seen_of view (found l)) (sym look))
+      arrives_at (undecided tunnel spare since) goes (subst P (sym look) same) (λ view. ap (λ l. seen_of view (found l)) (sym look))
 
 -- ---- the client's bytes decide
 
 module _ (conv : ℕ) (client : Option Address) (kept : Opening) (server : ℕ) (moment : ℕ) (next : Child) (more : List Command) where
-  decides_as : (closed : Bool) (tunnel : Tunnel) (spare : Spare) (since : Since) (prefix : List (Timed Event)) → MayDecide tunnel spare since prefix kept server closed moment →
+  decides_as : (tunnel : Tunnel) (spare : Spare) (since : Since) (prefix : List (Timed Event)) → MayDecide tunnel spare since prefix kept server false moment →
       (method may : Bool) → has_method kept.rest ≡ method → may_have_method kept.rest ≡ may →
       decided (opening_text tunnel prefix) (has_answered spare prefix) ≡ decided_by method may
-  decides_as closed tunnel spare since prefix at method may is_method is_may =
+  decides_as tunnel spare since prefix at method may is_method is_may =
       silent_decides tunnel spare prefix at.silent
       ∙ (ap (λ t. decided t false) (sym at.opened.opening.rest) ∙ by_tests kept.rest method may is_method is_may)
 
-  pub decides_http : (closed : Bool) → has_method kept.rest ≡ true → GoesInside conv client kept server closed moment next more →
-      Decides conv client kept server closed moment next more
-  decides_http closed method inside tunnel spare since prefix at =
-      arrives_http conv client next more tunnel spare since prefix
-      (decides_as closed tunnel spare since prefix at true (may_have_method kept.rest) method refl) (inside tunnel spare since prefix at)
+  pub decides_http : has_method kept.rest ≡ true → GoesInside conv client kept server moment next more → Decides conv client kept server moment next more
+  decides_http method inside tunnel spare since prefix at =
+      arrives_http conv client next more tunnel spare since prefix at.client
+      (decides_as tunnel spare since prefix at true (may_have_method kept.rest) method refl) (inside tunnel spare since prefix at)
 
-  pub decides_raw : (closed : Bool) → has_method kept.rest ≡ false → may_have_method kept.rest ≡ false →
-      Relays (record { server = server; shut = false; closed = closed }) (record { client = kept.rest; server = [] }) None None next more →
-      Decides conv client kept server closed moment next more
-  decides_raw closed method may relays tunnel spare since prefix at =
-      arrives_raw conv client next more tunnel spare since prefix (decides_as closed tunnel spare since prefix at false false method may)
+  pub decides_raw : has_method kept.rest ≡ false → may_have_method kept.rest ≡ false →
+      Relays (record { server = server; shut = false; closed = false }) (record { client = kept.rest; server = [] }) None None next more →
+      Decides conv client kept server moment next more
+  decides_raw method may relays tunnel spare since prefix at =
+      arrives_raw conv client next more tunnel spare since prefix at.client (decides_as tunnel spare since prefix at false false method may)
       (relays conv client (tunnel_ends tunnel spare) prefix (record {
         server = at.opened.same;
         shut = sym at.unshut;
@@ -136,16 +149,10 @@ module _ (conv : ℕ) (client : Option Address) (kept : Opening) (server : ℕ) 
       }))
 
   pub decides_still : has_method kept.rest ≡ false → may_have_method kept.rest ≡ true → next ≡ children.Undecided kept server → more ≡ [] →
-      Decides conv client kept server false moment next more
+      Decides conv client kept server moment next more
   decides_still method may same none tunnel spare since prefix at =
-      arrives_open conv client next more tunnel spare since prefix kept server (decides_as false tunnel spare since prefix at false true method may)
+      arrives_open conv client next more tunnel spare since prefix kept server at.client (decides_as tunnel spare since prefix at false true method may)
       (opening_as spare prefix false false at.unshut at.client) at.opened same none
-
-  pub decides_over : has_method kept.rest ≡ false → may_have_method kept.rest ≡ true → next ≡ children.Over → more ≡ closes_all server false true →
-      Decides conv client kept server true moment next more
-  decides_over method may same ends tunnel spare since prefix at =
-      arrives_over conv client next more tunnel spare since prefix (decides_as true tunnel spare since prefix at false true method may)
-      (opening_as spare prefix false true at.unshut at.client ∙ ap Ends (ap (λ n. closes_all n false true) (sym at.opened.same) ∙ sym ends)) same
 
 -- ---- where nothing is decided
 
@@ -230,6 +237,8 @@ module _ (conv : ℕ) (client : Option Address) (kept : Opening) (server : ℕ) 
       absurd (none_kept (http place standing) prefix (λ at. let no : children.Undecided kept server ≡ children.Http at.flows = at.is in cc) _ there)
   at_still P (connecting tunnel) prefix there goes =
       absurd (none_kept (connecting tunnel) prefix (λ at. let no : children.Undecided kept server ≡ children.Connecting at.kept at.closed = at.is in cc) ((stack_chain conv client).look (connecting tunnel) prefix) there)
+  at_still P (reaching goal side since) prefix there goes =
+      absurd (none_kept (reaching goal side since) prefix (λ at. let no : children.Undecided kept server ≡ children.Reaching at.kept = at.is in cc) _ there)
   at_still P (undecided tunnel spare since) prefix there goes = undecided_there P tunnel spare since prefix (goes tunnel spare since) (opening_look spare prefix) refl there
   at_still P (raw ends) prefix there goes =
       absurd (none_kept (raw ends) prefix (λ at. let no : children.Undecided kept server ≡ children.Raw at.kept = at.is in cc) _ there)
@@ -273,6 +282,7 @@ module _ (tunnel : Tunnel) (spare : Spare) (since : Since) (prefix : List (Timed
           flow = at.opened.opening.flow;
           server = at.opened.opening.server;
           address = at.opened.opening.address;
+          proxy = at.opened.opening.proxy;
           rest = ap (λ l. kept.rest ++ l) is ∙ (ap (λ l. l ++ piece_of Client event) at.opened.opening.rest ∙ sym text_more);
           few = at.opened.opening.few;
           used = longer_bytes tunnel.at.used _ _ _ (client_more ends prefix now at.client at.unshut at.opened.opened) at.opened.opening.used;
@@ -318,7 +328,7 @@ module _ (tunnel : Tunnel) (spare : Spare) (since : Since) (prefix : List (Timed
         let ended : (sides.shut || sides.closed) ≡ true = ap (λ b. b || sides.closed) some.shut_is ∙ (ap (λ b. closes (Server server) event || b) some.closed_is ∙ some.ends) in
         let none_up = none_brought Client (Server server) event some.ends in
         let none_down = none_brought (Server spare.server) (Server server) event some.ends in
-        takes_to (arrives_over conv client next more tunnel spare since longer (still_more none_up none_down)
+        takes_to (arrives_over conv client next more tunnel spare since longer (goes_still tunnel spare since longer (client_closed longer) (still_more none_up none_down))
         (opening_as spare longer sides.shut sides.closed shut_now closed_now
         ∙ (some_ends sides.shut sides.closed _ ended
         ∙ ap Ends (ap (λ n. closes_all n sides.shut sides.closed) (sym (some.same ∙ at.opened.same)) ∙ sym gave))) same)
@@ -328,7 +338,7 @@ module _ (tunnel : Tunnel) (spare : Spare) (since : Since) (prefix : List (Timed
         Takes (stack_chain conv client) (IsChild conv client) next moment event more (undecided tunnel spare since) prefix
     stays_more unclosed unshut none_up none_down same none =
         let number : server ≡ spare.server = at.opened.same in
-        takes_to (arrives_open conv client next more tunnel spare since longer kept server
+        takes_to (arrives_open conv client next more tunnel spare since longer kept server (closed_more ∙ unclosed)
         (still_more none_up (ap (λ n. piece_of (Server n) event) (sym number) ∙ none_down))
         (opening_as spare longer false false (shut_more ∙ (ap (λ n. closes (Server n) event) (sym number) ∙ unshut)) (closed_more ∙ unclosed))
         (opened_same none_up) same none)
@@ -380,7 +390,7 @@ module _ (conv : ℕ) (client : Option Address) (kept : Opening) (server : ℕ) 
       at_still conv client kept server (λ s. Takes (stack_chain conv client) (IsChild conv client) next moment event more s prefix) stage prefix there
       (λ tunnel spare since at. over_more tunnel spare since prefix kept server at moment event conv client next more sides closes_some same gave)
 
-  pub takes_client : (bytes : List ℕ) → Decides conv client (record kept { rest = kept.rest ++ bytes }) server false moment next more →
+  pub takes_client : (bytes : List ℕ) → Decides conv client (record kept { rest = kept.rest ++ bytes }) server moment next more →
       TakesChild conv client (children.Undecided kept server) next moment (events.Piece Client bytes) more
   takes_client bytes decides stage prefix there =
       let event : Event = events.Piece Client bytes in
@@ -399,7 +409,7 @@ module _ (conv : ℕ) (client : Option Address) (kept : Opening) (server : ℕ) 
       let brings : piece_of (Server spare.server) event ≡ bytes =
       ap (λ n. if number == n then bytes else []) (sym at.opened.same) ∙ ap (λ b. if b then bytes else []) is in
       takes_to tunnel spare since prefix kept server at moment event conv client next more
-      (arrives_raw conv client next more tunnel spare since longer (raw_more tunnel spare since prefix kept server at moment event refl bytes brings some)
+      (arrives_raw conv client next more tunnel spare since longer (closed_more tunnel spare since prefix kept server at moment event) (raw_more tunnel spare since prefix kept server at moment event refl bytes brings some)
       (relays conv client (tunnel_ends tunnel spare) longer (server_decides tunnel spare since prefix kept server at moment number bytes is))))
 
   pub takes_nothing : (event : Event) → sides_closed server event ≡ None → piece_of Client event ≡ [] → piece_of (Server server) event ≡ [] →
@@ -417,32 +427,29 @@ pub relay_asks : {E : Type 0} (out given : List Command) (result : Result Child 
 relay_asks out given (Ok next) asks = let P : Option Ask → Type 0 = λ asked. AsksOnly asked out given in subst P (sym asks.0) asks.1
 relay_asks out given (Err error) asks = tt
 
-module _ {E : Type 0} (conv : ℕ) (client : Option Address) (kept : Opening) (server : ℕ) (closed : Bool) (moment : ℕ) (out given : List Command) where
+module _ {E : Type 0} (conv : ℕ) (client : Option Address) (kept : Opening) (server : ℕ) (moment : ℕ) (out given : List Command) where
   pub http_decided : has_method kept.rest ≡ true → (result : Result Child E) →
-      IfOk result (λ next. Adds (GoesInside conv client kept server closed moment next) out given) →
-      IfOk result (λ next. Adds (Decides conv client kept server closed moment next) out given)
+      IfOk result (λ next. Adds (GoesInside conv client kept server moment next) out given) →
+      IfOk result (λ next. Adds (Decides conv client kept server moment next) out given)
   http_decided method (Ok next) inside =
-      record { more = inside.more; grown = inside.grown; holds = decides_http conv client kept server moment next inside.more closed method inside.holds }
+      record { more = inside.more; grown = inside.grown; holds = decides_http conv client kept server moment next inside.more method inside.holds }
   http_decided method (Err error) inside = tt
 
   pub raw_decided : (answered : List ℕ) → answered ≡ [] → has_method kept.rest ≡ false → may_have_method kept.rest ≡ false → (result : Result Child E) →
-      IfOk result (λ next. Adds (Relays (record { server = server; shut = false; closed = closed }) (record { client = kept.rest; server = answered }) None None next) out given) →
-      IfOk result (λ next. Adds (Decides conv client kept server closed moment next) out given)
+      IfOk result (λ next. Adds (Relays (record { server = server; shut = false; closed = false }) (record { client = kept.rest; server = answered }) None None next) out given) →
+      IfOk result (λ next. Adds (Decides conv client kept server moment next) out given)
   raw_decided answered none method may (Ok next) relays =
-      let P : List ℕ → Type 0 = λ l. Relays (record { server = server; shut = false; closed = closed }) (record { client = kept.rest; server = l }) None None next relays.more in
-      record { more = relays.more; grown = relays.grown; holds = decides_raw conv client kept server moment next relays.more closed method may (subst P none relays.holds) }
+      let P : List ℕ → Type 0 = λ l. Relays (record { server = server; shut = false; closed = false }) (record { client = kept.rest; server = l }) None None next relays.more in
+      record { more = relays.more; grown = relays.grown; holds = decides_raw conv client kept server moment next relays.more method may (subst P none relays.holds) }
   raw_decided answered none method may (Err error) relays = tt
 
-pub still_decided : (conv : ℕ) (client : Option Address) (kept : Opening) (server : ℕ) (closed : Bool) (moment : ℕ) (out : List Command) →
-    closed ≡ false → has_method kept.rest ≡ false → may_have_method kept.rest ≡ true →
-    Adds (Decides conv client kept server closed moment (children.Undecided kept server)) out out
-still_decided conv client kept server closed moment out is method may =
-    let P : Bool → Type 0 = λ b. Decides conv client kept server b moment (children.Undecided kept server) [] in
-    record {
-      more = [];
-      grown = sym (append-nil out);
-      holds = subst P (sym is) (decides_still conv client kept server moment (children.Undecided kept server) [] method may refl refl);
-    }
+pub still_decided : (conv : ℕ) (client : Option Address) (kept : Opening) (server : ℕ) (moment : ℕ) (out : List Command) →
+    has_method kept.rest ≡ false → may_have_method kept.rest ≡ true → Adds (Decides conv client kept server moment (children.Undecided kept server)) out out
+still_decided conv client kept server moment out method may = record {
+  more = [];
+  grown = sym (append-nil out);
+  holds = decides_still conv client kept server moment (children.Undecided kept server) [] method may refl refl;
+}
 
 pub over_taken : (conv : ℕ) (client : Option Address) (kept : Opening) (server : ℕ) (moment : ℕ) (event : Event) (out given : List Command) (sides : Sides) →
     sides_closed server event ≡ Some sides → given ≡ out ++ closes_all sides.server sides.shut sides.closed →
@@ -455,10 +462,10 @@ over_taken conv client kept server moment event out given sides closes_some gave
 
 module _ {E : Type 0} (conv : ℕ) (client : Option Address) (kept : Opening) (server : ℕ) (moment : ℕ) (event : Event) (out given : List Command) where
   pub client_taken : (bytes : List ℕ) → event ≡ events.Piece Client bytes → (added : Opening) → added ≡ record kept { rest = kept.rest ++ bytes } → (result : Result Child E) →
-      IfOk result (λ next. Adds (Decides conv client added server false moment next) out given) →
+      IfOk result (λ next. Adds (Decides conv client added server moment next) out given) →
       IfOk result (λ next. Adds (TakesChild conv client (children.Undecided kept server) next moment event) out given)
   client_taken bytes is added with_more (Ok next) decides =
-      let P : Opening → Type 0 = λ k. Decides conv client k server false moment next decides.more in
+      let P : Opening → Type 0 = λ k. Decides conv client k server moment next decides.more in
       let Q : Event → Type 0 = λ e. TakesChild conv client (children.Undecided kept server) next moment e decides.more in
       record {
         more = decides.more;

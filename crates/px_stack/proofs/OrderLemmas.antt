@@ -1,7 +1,8 @@
 -- No hook of a flow is asked behind the flow's end, whatever follows a CONNECT.
-use Rattle.std.proofs.Common.{◌≡◌, ℕ, Bool, true, false, List, [], ◌∷◌, ◌++◌, drop, Option, Some, None, refl, ap, sym, ◌∙◌, subst, append_assoc, nat_lt}
-use Rattle.std.specs.Prelude.{◌||◌}
+use Rattle.std.proofs.Common.{◌≡◌, ℕ, Bool, true, false, List, [], ◌∷◌, ◌++◌, drop, length, Option, Some, None, inl, inr, refl, ap, sym, ◌∙◌, subst, append_assoc, nat_lt}
+use Rattle.std.specs.Prelude.{⊤, ◌||◌}
 use Rattle.px_message.specs.declared.address.Address.{Address}
+use Rattle.px_message.specs.declared.fault.Fault.TheVariants.{UpstreamRefused}
 use Rattle.px_message.specs.declared.flow.Flow.{Flow}
 use Rattle.px_event.specs.declared.ask.Ask.TheVariants as asks
 use Rattle.px_event.specs.declared.command.Command.{Command}
@@ -9,38 +10,51 @@ use Rattle.px_event.specs.declared.command.Command.TheVariants as commands
 use Rattle.px_event.specs.declared.reply.Reply.{Reply}
 use Rattle.px_event.specs.declared.reply.Reply.TheVariants as reply
 use Rattle.px_event.specs.declared.event.Event.{Event}
+use Rattle.px_event.specs.declared.side.Side.{Side}
 use Rattle.px_event.specs.declared.side.Side.TheVariants.{Client, Server}
-use Rattle.px_event.specs.Chain.{Timed, Look, NotYet, Asks, Ends, found}
+use Rattle.px_event.specs.Chain.{Timed, Look, NotYet, Asks, Ends, Turn, found}
 use Rattle.px_event.specs.Layer.{Move}
 use Rattle.px_event.specs.Stands.{due_by, events_in, replies_in}
 use Rattle.px_core.specs.Ordered.{AsksNoneOf, EndsOneOf, AsksBeforeEnds, LeavesBehind, LeavesNone, LeavesFlows}
 use Rattle.px_core.proofs.LeavingLemmas.{leaving_ordered}
 use Rattle.px_exchange.specs.declared.ending.Used.TheVariants.{ByServer}
 use Rattle.px_exchange.specs.declared.place.Place.{Place}
+use Rattle.px_exchange.specs.declared.place.Place.TheVariants as places
 use Rattle.px_write.specs.Error.{error_text}
 use Rattle.px_exchange.specs.Texts.{connected_text}
-use Rattle.px_exchange.specs.Endings.{shut_all, shut_client, shut_server}
-use Rattle.px_exchange.specs.Places.{terms_of}
-use Rattle.px_chain.specs.Chain.{Connect, connect_in, sequence}
+use Rattle.px_exchange.specs.Endings.{shut_client, shut_server}
+use Rattle.px_exchange.specs.Places.{address_of, dialled_for, terms_of}
+use Rattle.px_chain.specs.Chain.{Connect, connect_in, look as look_of, so_far as so_far_of}
 use Rattle.px_chain.specs.Sights.{Sight, Spare, Standing, Unused, request_in, sight_over, unused_over}
 use Rattle.px_chain.specs.Stages.{At, busy, connection, given_body, given_head, idle, next, request_body, response_body, response_head, upgraded}
 use Rattle.px_chain.specs.Stages as flows
-use Rattle.px_chain.specs.Streams.{Since, client_closed, is_closed}
-use Rattle.px_http.proofs.OrderLemmas.{is_counted_at, is_past, is_past_at, leaves_flows}
-use Rattle.px_stack.specs.Chain.{closes_all, finished_flow, flows_at, follows, hands_by, has_answered, is_shut, opening_text, or_stays, raw_look, shut_unused, stack_chain, tunnel_for, tunnel_found, turn_dial, with_closes}
+use Rattle.px_chain.specs.Streams.{Since, client_closed, from_here, is_closed, now_over}
+use Rattle.px_http.proofs.OrderLemmas.{is_counted as is_counted_there, is_counted_at, is_past, is_past_at, leaves_flows}
+use Rattle.px_tunnel.specs.Upstream.{Granting, awaited, connect_text, granted, refused}
+use Rattle.px_stack.specs.Chain.{answer_of, asks_proxy, closed_of, closes_all, dialled_by, finished_flow, flows_at, follows, goes_by, hands_by, has_answered, is_empty, is_shut, led_at, led_by, opening_text, opens_by, or_stays, pass_reached, raw_look, shut_proxy, shut_unused, stack_chain, standing_of, text_behind, tunnel_for, tunnel_found, turn_connected, turn_dial, turn_flows, turn_http, waits_for, with_closes}
 use Rattle.px_stack.specs.Decides.{Decision, decided, is_http, is_raw, still}
-use Rattle.px_stack.specs.Stages.{Ends as TunnelEnds, Stage, Tunnel, connecting, http, over, raw, undecided}
+use Rattle.px_stack.specs.Stages.{Dialling, Ends as TunnelEnds, Goal, Stage, Tunnel, a_flow, a_tunnel, connecting, http, over, raw, reaching, undecided}
 
 -- ---- the tests
 
+abbrev pub is_counted_goal : Goal → Bool
+is_counted_goal (a_tunnel tunnel) = true
+is_counted_goal (a_flow place from) = is_counted_at (standing_of from)
+
 abbrev pub is_counted : Stage → Bool
 is_counted (http place standing) = is_counted_at standing
+is_counted (reaching goal side since) = is_counted_goal goal
 is_counted stage = true
 
--- a tunnel is past the flows before its own, and one that is not read past all
+-- a tunnel is past the flows before its own, and one that is not read past all; so is what another proxy is asked for
+abbrev pub is_behind_goal : Goal → ℕ → Bool
+is_behind_goal (a_tunnel tunnel) index = nat_lt index tunnel.at.flow
+is_behind_goal (a_flow place from) index = is_past_at (standing_of from) index
+
 abbrev pub is_behind : Stage → ℕ → Bool
 is_behind (http place standing) index = is_past_at standing index
 is_behind (connecting tunnel) index = nat_lt index tunnel.at.flow
+is_behind (reaching goal side since) index = is_behind_goal goal index
 is_behind (undecided tunnel spare since) index = nat_lt index tunnel.at.flow
 is_behind stage index = true
 
@@ -73,6 +87,21 @@ ordered_closed (commands.Dial server address inside ∷ xs) unused all = ordered
 ordered_closed (commands.Ask ask flow ∷ xs) unused all = ordered_closed xs unused all
 ordered_closed (commands.Done flow ∷ xs) unused (here, all) = (none_closed flow.id.index xs unused here, ordered_closed xs unused all)
 
+-- what ends no flow ends none behind them either
+ends_closed : (index : ℕ) (xs : List Command) (unused : Option Unused) → EndsOneOf index (xs ++ shut_unused unused) → EndsOneOf index xs
+ends_closed index [] None ends = ends
+ends_closed index [] (Some unused) ends = by unused.shut ends
+  where
+    by : (shut : Bool) → EndsOneOf index (shut_server (ByServer unused.server shut)) → ⊥
+    by true ends = ends
+    by false ends = ends
+ends_closed index (commands.Send side text ∷ xs) unused ends = ends_closed index xs unused ends
+ends_closed index (commands.Close side ∷ xs) unused ends = ends_closed index xs unused ends
+ends_closed index (commands.Dial server address inside ∷ xs) unused ends = ends_closed index xs unused ends
+ends_closed index (commands.Ask ask flow ∷ xs) unused ends = ends_closed index xs unused ends
+ends_closed index (commands.Done flow ∷ xs) unused (inl is) = inl is
+ends_closed index (commands.Done flow ∷ xs) unused (inr ends) = inr (ends_closed index xs unused ends)
+
 -- ---- the closes of a tunnel
 
 -- no hook is asked, and no flow ends
@@ -89,6 +118,12 @@ closes_still : (server : ℕ) (shut closed : Bool) → IsStill (closes_all serve
 closes_still server true closed = client_still closed
 closes_still server false true = record { ordered = tt; none = λ index. tt; ends = λ index e. e }
 closes_still server false false = record { ordered = tt; none = λ index. tt; ends = λ index e. e }
+
+proxy_still : (closed shut : Bool) (server : ℕ) → IsStill (shut_client closed ++ shut_server (ByServer server shut))
+proxy_still true true server = record { ordered = tt; none = λ index. tt; ends = λ index e. e }
+proxy_still true false server = record { ordered = tt; none = λ index. tt; ends = λ index e. e }
+proxy_still false true server = record { ordered = tt; none = λ index. tt; ends = λ index e. e }
+proxy_still false false server = record { ordered = tt; none = λ index. tt; ends = λ index e. e }
 
 unused_still : (unused : Option Unused) (owed : List Command) → IsStill owed → IsStill (shut_unused unused ++ owed)
 unused_still None owed is = is
@@ -140,7 +175,7 @@ module _ (conv : ℕ) (client : Option Address) where
   same_follows place standing = record { keeps = λ index before. before; leads = λ is. is }
 
   tunnel_follows : (place : Place) (standing : Standing) (at : At) (connect : Option Connect) → standing.stage ≡ idle at →
-      Follows standing (or_stays (http place standing) (tunnel_for at connect))
+      Follows standing (or_stays (http place standing) (tunnel_for place at connect))
   tunnel_follows place standing at None is = same_follows place standing
   tunnel_follows place standing at (Some connect) is =
       record { keeps = λ index before. ap (λ s. is_past s index) (sym is) ∙ before; leads = λ counted. refl }
@@ -163,13 +198,85 @@ module _ (conv : ℕ) (client : Option Address) where
   quietly stage to keeps leads =
       record { ordered = tt; asks_none = λ index before. tt; ends = λ index ends. absurd ends; keeps = keeps; leads = leads }
 
-  decided_leaves : (d : Decision) (tunnel : Tunnel) (spare : Spare) (since : Since) → Leaves (undecided tunnel spare since) [] (follows d tunnel spare since)
-  decided_leaves still tunnel spare since = quietly _ _ (λ index before. before) refl
-  decided_leaves is_http tunnel spare since = quietly _ _ (λ index before. before) refl
-  decided_leaves is_raw tunnel spare since = quietly _ _ (λ index before. refl) refl
+  -- what follows is past what the tunnel is past
+  follows_behind : (d : Decision) (tunnel : Tunnel) (spare : Spare) (since : Since) (index : ℕ) → nat_lt index tunnel.at.flow ≡ true →
+      is_behind (follows d tunnel spare since) index ≡ true
+  follows_behind still tunnel spare since index before = before
+  follows_behind is_http tunnel spare since index before = before
+  follows_behind is_raw tunnel spare since index before = refl
+
+  goes_behind : (closed : Bool) (tunnel : Tunnel) (spare : Spare) (since : Since) (prefix : List (Timed Event)) (index : ℕ) → nat_lt index tunnel.at.flow ≡ true →
+      is_behind (goes_by closed tunnel spare since prefix) index ≡ true
+  goes_behind true tunnel spare since prefix index before = before
+  goes_behind false tunnel spare since prefix index before =
+      follows_behind (decided (opening_text tunnel prefix) (has_answered spare prefix)) tunnel spare since index before
+
+  follows_counted : (d : Decision) (tunnel : Tunnel) (spare : Spare) (since : Since) → is_counted (follows d tunnel spare since) ≡ true
+  follows_counted still tunnel spare since = refl
+  follows_counted is_http tunnel spare since = refl
+  follows_counted is_raw tunnel spare since = refl
+
+  goes_counted : (closed : Bool) (tunnel : Tunnel) (spare : Spare) (since : Since) (prefix : List (Timed Event)) → is_counted (goes_by closed tunnel spare since prefix) ≡ true
+  goes_counted true tunnel spare since prefix = refl
+  goes_counted false tunnel spare since prefix = follows_counted (decided (opening_text tunnel prefix) (has_answered spare prefix)) tunnel spare since
+
+  decided_leaves : (tunnel : Tunnel) (spare : Spare) (since : Since) (prefix : List (Timed Event)) →
+      Leaves (undecided tunnel spare since) [] (goes_by (client_closed prefix) tunnel spare since prefix)
+  decided_leaves tunnel spare since prefix =
+      quietly _ _ (λ index before. goes_behind (client_closed prefix) tunnel spare since prefix index before) (goes_counted (client_closed prefix) tunnel spare since prefix)
+
+  -- where a proxy let a tunnel through
+  opens_leave : (empty : Bool) (tunnel : Tunnel) (side : Spare) (used : ℕ) (since from : Since) (prefix : List (Timed Event)) →
+      Leaves (reaching (a_tunnel tunnel) side from) (commands.Send Client connected_text ∷ []) (opens_by empty tunnel side used since prefix)
+  opens_leave true tunnel side used since from prefix =
+      let from_now : Spare = record { server = side.server; opened = length prefix } in
+      record {
+        ordered = tt;
+        asks_none = λ index before. tt;
+        ends = λ index ends. absurd ends;
+        keeps = λ index before. goes_behind (client_closed prefix) tunnel from_now since prefix index before;
+        leads = goes_counted (client_closed prefix) tunnel from_now since prefix;
+      }
+  opens_leave false tunnel side used since from prefix =
+      record { ordered = tt; asks_none = λ index before. tt; ends = λ index ends. absurd ends; keeps = λ index before. refl; leads = refl }
 
   flows_leave : (place : Place) → LeavesFlows (flows_at conv client place) is_counted_at is_past_at
   flows_leave place = leaves_flows (terms_of conv client place)
+
+  -- a flow that a proxy did not let through ends, and its side is closed behind that
+  refused_leaves : (place : Place) (from : Dialling) (side : Spare) (since : Since) (prefix : List (Timed Event)) → is_counted_at (standing_of from) ≡ true →
+      Leaves (reaching (a_flow place from) side since) (pass_reached conv client (a_flow place from) side since prefix refused).owed
+      (pass_reached conv client (a_flow place from) side since prefix refused).stage
+  refused_leaves place from side since prefix is =
+      let answer : Timed Reply = record { moment = now_over since prefix; value = reply.Refused UpstreamRefused } in
+      let on = (flows_at conv client place).turn (standing_of from) prefix answer in
+      let leaves = (flows_leave place).turns (standing_of from) prefix (commands.Dial from.at.dials (dialled_for place from.flow.request) None) is refl answer in
+      let unused : Option Unused = Some (record { server = side.server; bytes = []; shut = closed_of side.server (drop side.opened prefix) }) in
+      record {
+        ordered = ordered_closed on.owed unused leaves.ordered;
+        asks_none = λ index before. none_closed index on.owed unused (leaves.asks_none index before);
+        ends = λ index ends. leaves.ends index (ends_closed index on.owed unused ends);
+        keeps = leaves.keeps;
+        leads = leaves.leads;
+      }
+
+  reached_leaves : (goal : Goal) (side : Spare) (since : Since) (prefix : List (Timed Event)) (g : Granting) → is_counted_goal goal ≡ true →
+      Leaves (reaching goal side since) (pass_reached conv client goal side since prefix g).owed (pass_reached conv client goal side since prefix g).stage
+  reached_leaves goal side since prefix awaited is = quietly (reaching goal side since) (reaching goal side since) (λ index before. before) is
+  reached_leaves (a_tunnel tunnel) side since prefix (granted used) is =
+      opens_leave (is_empty (text_behind side used prefix)) tunnel side used (from_here (now_over since prefix) prefix) since prefix
+  reached_leaves (a_flow place from) side since prefix (granted used) is =
+      record { ordered = tt; asks_none = λ index before. tt; ends = λ index ends. absurd ends; keeps = λ index before. before; leads = is }
+  reached_leaves (a_tunnel tunnel) side since prefix refused is =
+      let still = proxy_still (client_closed prefix) (closed_of side.server (drop side.opened prefix)) side.server in
+      record {
+        ordered = still.ordered;
+        asks_none = λ index before. still.none index;
+        ends = λ index ends. absurd (still.ends index ends);
+        keeps = λ index before. refl;
+        leads = refl;
+      }
+  reached_leaves (a_flow place from) side since prefix refused is = refused_leaves place from side since prefix is
 
   passes : (stage : Stage) (prefix : List (Timed Event)) → is_counted stage ≡ true →
       Leaves stage ((stack_chain conv client).pass stage prefix).owed ((stack_chain conv client).pass stage prefix).stage
@@ -177,40 +284,50 @@ module _ (conv : ℕ) (client : Option Address) where
       let on = (flows_at conv client place).pass standing prefix in
       leads_on place standing on.stage on.owed _ (hands_follow place on.stage on.stage.stage (sight_over on.stage prefix) refl) ((flows_leave place).passes standing prefix is)
   passes (connecting tunnel) prefix is = quietly (connecting tunnel) (connecting tunnel) (λ index before. before) refl
-  passes (undecided tunnel spare since) prefix is = decided_leaves (decided (opening_text tunnel prefix) (has_answered spare prefix)) tunnel spare since
+  passes (reaching goal side since) prefix is = reached_leaves goal side since prefix (answer_of side prefix) is
+  passes (undecided tunnel spare since) prefix is = decided_leaves tunnel spare since prefix
   passes (raw ends) prefix is = quietly (raw ends) (raw ends) (λ index before. before) refl
   passes over prefix is = quietly over over (λ index before. before) refl
 
   -- a reply to a dial, as the rest of what is owed there
   dial_leaves : (tunnel : Tunnel) (owed : List Command) (to : Stage) → IsStill owed → ((index : ℕ) → nat_lt index tunnel.at.flow ≡ true → is_behind to index ≡ true) →
-      is_counted to ≡ true → Leaves (connecting tunnel) (commands.Dial tunnel.at.dials tunnel.address None ∷ owed) to
+      is_counted to ≡ true → Leaves (connecting tunnel) (commands.Dial tunnel.at.dials (dialled_by tunnel) None ∷ owed) to
   dial_leaves tunnel owed to is keeps leads =
       record { ordered = is.ordered; asks_none = λ index before. is.none index; ends = λ index ends. absurd (is.ends index ends); keeps = keeps; leads = leads }
 
-  sends_still : (text : List ℕ) (owed : List Command) → IsStill owed → IsStill (commands.Send Client text ∷ owed)
-  sends_still text owed is = record { ordered = is.ordered; none = is.none; ends = is.ends }
+  sends_still : (side : Side) (text : List ℕ) (owed : List Command) → IsStill owed → IsStill (commands.Send side text ∷ owed)
+  sends_still side text owed is = record { ordered = is.ordered; none = is.none; ends = is.ends }
 
   nothing_still : IsStill []
   nothing_still = record { ordered = tt; none = λ index. tt; ends = λ index e. e }
 
+  -- a proxy is sent the request for a tunnel, or the client is told
+  connected_turns : (proxy : Option Address) (tunnel : Tunnel) (prefix : List (Timed Event)) (moment : ℕ) →
+      Leaves (connecting tunnel) (commands.Dial tunnel.at.dials (dialled_by tunnel) None ∷ (turn_connected conv client proxy tunnel prefix moment).owed)
+      (turn_connected conv client proxy tunnel prefix moment).stage
+  connected_turns None tunnel prefix moment =
+      dial_leaves tunnel (commands.Send Client connected_text ∷ []) _ (sends_still Client connected_text [] nothing_still) (λ index before. before) refl
+  connected_turns (Some proxy) tunnel prefix moment =
+      dial_leaves tunnel (commands.Send (Server tunnel.at.dials) (connect_text tunnel.address) ∷ []) _
+      (sends_still (Server tunnel.at.dials) (connect_text tunnel.address) [] nothing_still) (λ index before. before) refl
+
   dial_turns : (tunnel : Tunnel) (prefix : List (Timed Event)) (answer : Reply) (moment : ℕ) →
-      Leaves (connecting tunnel) (commands.Dial tunnel.at.dials tunnel.address None ∷ (turn_dial conv client tunnel prefix answer moment).owed)
+      Leaves (connecting tunnel) (commands.Dial tunnel.at.dials (dialled_by tunnel) None ∷ (turn_dial conv client tunnel prefix answer moment).owed)
       (turn_dial conv client tunnel prefix answer moment).stage
   dial_turns tunnel prefix (reply.Go given stream) moment = dial_leaves tunnel [] over nothing_still (λ index before. refl) refl
   dial_turns tunnel prefix (reply.Respond response) moment = dial_leaves tunnel [] over nothing_still (λ index before. refl) refl
   dial_turns tunnel prefix reply.Kill moment = dial_leaves tunnel [] over nothing_still (λ index before. refl) refl
   dial_turns tunnel prefix reply.Discard moment = dial_leaves tunnel [] over nothing_still (λ index before. refl) refl
-  dial_turns tunnel prefix reply.Dialled moment =
-      dial_leaves tunnel (commands.Send Client connected_text ∷ []) _ (sends_still connected_text [] nothing_still) (λ index before. before) refl
+  dial_turns tunnel prefix reply.Dialled moment = connected_turns tunnel.proxy tunnel prefix moment
   dial_turns tunnel prefix (reply.Refused fault) moment =
       let closes : List Command = shut_client (client_closed prefix) in
-      dial_leaves tunnel (commands.Send Client (error_text fault false) ∷ closes) over (sends_still (error_text fault false) closes (client_still (client_closed prefix)))
+      dial_leaves tunnel (commands.Send Client (error_text fault false) ∷ closes) over (sends_still Client (error_text fault false) closes (client_still (client_closed prefix)))
       (λ index before. refl) refl
 
-  asked_dial : (tunnel : Tunnel) (ask : Command) (owed : List Command) (to : Stage) → Asks (commands.Dial tunnel.at.dials tunnel.address None) ≡ Asks ask →
-      Leaves (connecting tunnel) (commands.Dial tunnel.at.dials tunnel.address None ∷ owed) to → Leaves (connecting tunnel) (ask ∷ owed) to
+  asked_dial : (tunnel : Tunnel) (ask : Command) (owed : List Command) (to : Stage) → Asks (commands.Dial tunnel.at.dials (dialled_by tunnel) None) ≡ Asks ask →
+      Leaves (connecting tunnel) (commands.Dial tunnel.at.dials (dialled_by tunnel) None ∷ owed) to → Leaves (connecting tunnel) (ask ∷ owed) to
   asked_dial tunnel ask owed to is leaves =
-      let same : commands.Dial tunnel.at.dials tunnel.address None ≡ ask = cc in
+      let same : commands.Dial tunnel.at.dials (dialled_by tunnel) None ≡ ask = cc in
       let P : Command → Type 0 = λ c. Leaves (connecting tunnel) (c ∷ owed) to in
       subst P same leaves
 
@@ -220,15 +337,92 @@ module _ (conv : ℕ) (client : Option Address) where
   http_asked unused (Asks one) ask is = is
   http_asked unused (Ends owed) ask is = absurd (let no : Ends (owed ++ shut_unused unused) ≡ Asks ask = is in cc)
 
+  -- ---- a flow whose dial connected another proxy
+
+  -- it stands where its server is dialled, in the place
+  abbrev IsLed : Standing → Option Dialling → Type 0
+  IsLed standing None = ⊤
+  IsLed standing (Some from) = standing.stage ≡ busy from.at from.flow connection
+
+  led_is_by : (standing : Standing) (stage : flows.Stage) → standing.stage ≡ stage → IsLed standing (led_by standing stage)
+  led_is_by standing (idle at) is = tt
+  led_is_by standing (busy at flow (request_body given)) is = tt
+  led_is_by standing (busy at flow connection) is = is
+  led_is_by standing (busy at flow (response_head side how)) is = tt
+  led_is_by standing (busy at flow (response_body side how)) is = tt
+  led_is_by standing (busy at flow (upgraded side)) is = tt
+  led_is_by standing (busy at flow given_head) is = tt
+  led_is_by standing (busy at flow given_body) is = tt
+  led_is_by standing (next at) is = tt
+  led_is_by standing flows.over is = tt
+
+  led_is : (place : Place) (standing : Standing) → IsLed standing (led_at place standing)
+  led_is places.Regular standing = tt
+  led_is (places.Upstream proxy) standing = tt
+  led_is (places.Fixed address side None) standing = tt
+  led_is (places.Fixed address side (Some proxy)) standing = led_is_by standing standing.stage refl
+
+  -- there it owes nothing but the dial
+  led_owes : (place : Place) (standing : Standing) (prefix : List (Timed Event)) (ask : Command) (from : Dialling) → IsLed standing (Some from) →
+      (flows_at conv client place).look standing prefix ≡ Asks ask → (owed : List Command) →
+      (commands.Dial from.at.dials (dialled_for place from.flow.request) None ∷ owed) ≡ ((flows_at conv client place).so_far standing prefix ++ ask ∷ owed)
+  led_owes place standing prefix ask from is asked owed =
+      let seen : Sight = sight_over standing prefix in
+      let nothing : so_far_of standing.stage seen ≡ [] = ap (λ s. so_far_of s seen) is in
+      let dial : Asks (commands.Dial from.at.dials (dialled_for place from.flow.request) None) ≡ Asks ask =
+      sym (ap (λ s. look_of (terms_of conv client place) s seen) is) ∙ asked in
+      let same : commands.Dial from.at.dials (dialled_for place from.flow.request) None ≡ ask = cc in
+      ap (λ c. c ∷ owed) same ∙ ap (λ l. l ++ ask ∷ owed) (sym nothing)
+
+  proxy_asked : (place : Place) (standing : Standing) (prefix : List (Timed Event)) (ask : Command) (from : Dialling) (answer : Timed Reply) → IsLed standing (Some from) →
+      is_counted_at standing ≡ true → (flows_at conv client place).look standing prefix ≡ Asks ask →
+      Leaves (http place standing)
+      ((flows_at conv client place).so_far standing prefix ++ ask ∷ (asks_proxy conv client (a_flow place from) (address_of from.flow.request) from.at.dials prefix answer.moment).owed)
+      (asks_proxy conv client (a_flow place from) (address_of from.flow.request) from.at.dials prefix answer.moment).stage
+  proxy_asked place standing prefix ask from answer is counted asked =
+      let on : Turn Stage Command = asks_proxy conv client (a_flow place from) (address_of from.flow.request) from.at.dials prefix answer.moment in
+      let P : List Command → Type 0 = λ l. Leaves (http place standing) l on.stage in
+      subst P (led_owes place standing prefix ask from is asked on.owed) (record {
+        ordered = tt;
+        asks_none = λ index before. tt;
+        ends = λ index ends. absurd ends;
+        keeps = λ index before. ap (λ s. is_past s index) (sym is) ∙ before;
+        leads = ap is_counted_there (sym is) ∙ counted;
+      })
+
+  flows_turn : (place : Place) (standing : Standing) (prefix : List (Timed Event)) (ask : Command) (answer : Timed Reply) → is_counted_at standing ≡ true →
+      (flows_at conv client place).look standing prefix ≡ Asks ask →
+      Leaves (http place standing) ((flows_at conv client place).so_far standing prefix ++ ask ∷ (turn_flows conv client place standing prefix answer).owed)
+      (turn_flows conv client place standing prefix answer).stage
+  flows_turn place standing prefix ask answer is asked =
+      let on = (flows_at conv client place).turn standing prefix answer in
+      leads_on place standing on.stage _ (http place on.stage) (same_follows place on.stage) ((flows_leave place).turns standing prefix ask is asked answer)
+
+  http_turns : (led : Option Dialling) (place : Place) (standing : Standing) (prefix : List (Timed Event)) (ask : Command) (answer : Timed Reply) (value : Reply) →
+      IsLed standing led → is_counted_at standing ≡ true → (flows_at conv client place).look standing prefix ≡ Asks ask →
+      Leaves (http place standing) ((flows_at conv client place).so_far standing prefix ++ ask ∷ (turn_http conv client led place standing prefix answer value).owed)
+      (turn_http conv client led place standing prefix answer value).stage
+  http_turns None place standing prefix ask answer value led is asked = flows_turn place standing prefix ask answer is asked
+  http_turns (Some from) place standing prefix ask answer (reply.Go given stream) led is asked = flows_turn place standing prefix ask answer is asked
+  http_turns (Some from) place standing prefix ask answer (reply.Respond response) led is asked = flows_turn place standing prefix ask answer is asked
+  http_turns (Some from) place standing prefix ask answer reply.Kill led is asked = flows_turn place standing prefix ask answer is asked
+  http_turns (Some from) place standing prefix ask answer reply.Discard led is asked = flows_turn place standing prefix ask answer is asked
+  http_turns (Some from) place standing prefix ask answer reply.Dialled led is asked = proxy_asked place standing prefix ask from answer led is asked
+  http_turns (Some from) place standing prefix ask answer (reply.Refused fault) led is asked = flows_turn place standing prefix ask answer is asked
+
+  waits_not : (goal : Goal) (side : Spare) (prefix : List (Timed Event)) (ask : Command) → waits_for goal side prefix ≡ Asks ask → ⊥
+  waits_not (a_tunnel tunnel) side prefix ask is = asks_not (client_closed prefix) (shut_proxy side prefix) ask is
+  waits_not (a_flow place from) side prefix ask is = let no : NotYet ≡ Asks ask = is in cc
+
   turns : (stage : Stage) (prefix : List (Timed Event)) (ask : Command) → is_counted stage ≡ true → (stack_chain conv client).look stage prefix ≡ Asks ask →
       (answer : Timed Reply) →
       Leaves stage ((stack_chain conv client).so_far stage prefix ++ ask ∷ ((stack_chain conv client).turn stage prefix answer).owed) ((stack_chain conv client).turn stage prefix answer).stage
   turns (http place standing) prefix ask is asked answer =
-      let on = (flows_at conv client place).turn standing prefix answer in
       let here = http_asked (unused_over standing.spare prefix) ((flows_at conv client place).look standing prefix) ask asked in
-      leads_on place standing on.stage _ (http place on.stage) (same_follows place on.stage) ((flows_leave place).turns standing prefix ask is here answer)
+      http_turns (led_at place standing) place standing prefix ask answer answer.value (led_is place standing) is here
   turns (connecting tunnel) prefix ask is asked answer =
       asked_dial tunnel ask (turn_dial conv client tunnel prefix answer.value answer.moment).owed _ asked (dial_turns tunnel prefix answer.value answer.moment)
+  turns (reaching goal side since) prefix ask is asked answer = absurd (waits_not goal side prefix ask asked)
   turns (undecided tunnel spare since) prefix ask is asked answer = absurd (asks_not _ _ ask asked)
   turns (raw ends) prefix ask is asked answer = absurd (asks_not _ _ ask asked)
   turns over prefix ask is asked answer = absurd (let no : Ends [] ≡ Asks ask = asked in cc)
@@ -256,6 +450,12 @@ module _ (conv : ℕ) (client : Option Address) where
       found_nothing (closed || shut) (finished_flow ends.flow ++ (shut_unused unused ++ closes))
       (finished_first ends.flow (shut_unused unused ++ closes) (unused_still unused closes (closes_still ends.side.server shut closed)))
 
+  waits_still : (goal : Goal) (side : Spare) (prefix : List (Timed Event)) → AsksNothing (found (waits_for goal side prefix))
+  waits_still (a_tunnel tunnel) side prefix =
+      let closes = proxy_still true (closed_of side.server (drop side.opened prefix)) side.server in
+      found_nothing (client_closed prefix) (shut_proxy side prefix) (record { ordered = closes.ordered; none = closes.none })
+  waits_still (a_flow place from) side prefix = record { ordered = tt; none = λ index. tt }
+
   stops : (stage : Stage) (prefix : List (Timed Event)) → is_counted stage ≡ true →
       LeavesNone is_behind stage ((stack_chain conv client).so_far stage prefix ++ found ((stack_chain conv client).look stage prefix))
   stops (http place standing) prefix is =
@@ -264,6 +464,7 @@ module _ (conv : ℕ) (client : Option Address) where
       (λ index. is_past_at standing index) (here.ordered, here.asks_none) in
       record { ordered = both.0; asks_none = both.1 }
   stops (connecting tunnel) prefix is = record { ordered = tt; asks_none = λ index before. tt }
+  stops (reaching goal side since) prefix is = nothing_there (reaching goal side since) _ (waits_still goal side prefix)
   stops (undecided tunnel spare since) prefix is =
       let shut : Bool = is_closed (Server spare.server) (drop spare.opened prefix) in
       let closed : Bool = client_closed prefix in

@@ -1,8 +1,9 @@
 -- A server is sent nothing before its dial was answered with the connection, whatever follows a CONNECT; and before the first call nobody is.
-use Rattle.std.proofs.Common.{◌≡◌, ℕ, ◌+◌, ◌<◌, ◌≤◌, Bool, true, false, cond, List, [], ◌∷◌, ◌++◌, drop, map, Option, Some, None, refl, ap, sym, ◌∙◌, arith}
+use Rattle.std.proofs.Common.{◌≡◌, ℕ, ◌+◌, ◌<◌, ◌≤◌, Bool, true, false, cond, List, [], ◌∷◌, ◌++◌, drop, length, map, Option, Some, None, refl, ap, arith}
 use Rattle.std.specs.Prelude.{◌==◌, ◌||◌, ⊤}
 use Rattle.std.proofs.lemmas.Bool.{eqb-true}
 use Rattle.px_message.specs.declared.address.Address.{Address}
+use Rattle.px_message.specs.declared.fault.Fault.TheVariants.{UpstreamRefused}
 use Rattle.px_message.specs.declared.flow.Flow.{Flow}
 use Rattle.px_event.specs.declared.command.Command.{Command}
 use Rattle.px_event.specs.declared.command.Command.TheVariants as commands
@@ -13,39 +14,48 @@ use Rattle.px_event.specs.declared.side.Side.TheVariants.{Client, Server}
 use Rattle.px_event.specs.Chain.{Timed, Look, NotYet, Asks, Ends, found}
 use Rattle.px_event.specs.Layer.{Move}
 use Rattle.px_event.specs.View.{byte, bytes_in, close, line, seen_of}
-use Rattle.px_read.specs.Items.{Item, missing, request_item}
-use Rattle.px_write.specs.Error.{error_text}
 use Rattle.px_exchange.specs.declared.mode.Mode.{Mode}
 use Rattle.px_exchange.specs.declared.place.Place.{Place}
-use Rattle.px_exchange.specs.Endings.{shut_client}
-use Rattle.px_exchange.specs.Places.{place_of, terms_of}
-use Rattle.px_exchange.specs.Texts.{connected_text}
+use Rattle.px_exchange.specs.declared.place.Place.TheVariants as places
+use Rattle.px_exchange.specs.Endings.{refuses, shut_client}
+use Rattle.px_exchange.specs.Places.{address_of, dialled_for, terms_of}
 use Rattle.px_chain.specs.Chain.{Connect, connect_in, is_sequence, sequence}
 use Rattle.px_chain.specs.Sights.{Sight, Spare, Standing, Unused, request_in, sight_over, unused_over}
-use Rattle.px_chain.specs.Silent.{NoAnswer, connects}
+use Rattle.px_chain.specs.Silent.{NoAnswer, SpareBelow, connects}
 use Rattle.px_chain.specs.Stages.{At, busy, connection, given_body, given_head, idle, next, request_body, response_body, response_head, upgraded}
 use Rattle.px_chain.specs.Stages as flows
-use Rattle.px_chain.specs.Streams.{Since, client_closed, is_closed}
+use Rattle.px_chain.specs.Streams.{Since, client_closed, from_here, is_closed, now_over}
 use Rattle.px_chain.proofs.CountedLemmas.{Counts, CountsServers, IsSilent, counted_silent, silent_both}
 use Rattle.px_chain.proofs.SilentLemmas.{AreBelow, ServersBelow, dialled, dialled_at, http_counts}
-use Rattle.px_stack.specs.Chain.{begins, closes_all, finished_flow, flows_at, follows, hands_by, has_answered, is_shut, opening_text, or_stays, text_down, text_up, shut_unused, stack_chain, tunnel_for, tunnel_found, turn_dial, with_closes}
+use Rattle.px_tunnel.specs.Upstream.{Granting, awaited, connect_text, granted, refused}
+use Rattle.px_stack.specs.Chain.{answer_of, asks_proxy, begins, closed_of, closes_all, finished_flow, flows_at, follows, goes_by, hands_by, has_answered, is_empty, is_shut, led_at, led_by, opening_text, opens_by, or_stays, pass_reached, shut_proxy, shut_unused, stack_chain, standing_of, text_behind, text_down, text_up, tunnel_for, tunnel_found, turn_connected, turn_dial, turn_flows, turn_http, waits_for, way_by, with_closes}
 use Rattle.px_stack.specs.Decides.{Decision, decided, is_http, is_raw, still}
 use Rattle.px_stack.specs.Modes.{mode_due}
-use Rattle.px_stack.specs.Stages.{Ends as TunnelEnds, Stage, Tunnel, connecting, http, over, raw, undecided}
+use Rattle.px_stack.specs.Stages.{Dialling, Goal, Stage, Tunnel, a_flow, a_tunnel, connecting, http, over, raw, reaching, undecided}
 
 -- ---- what is counted
 
 -- how many servers a stage may send to
-abbrev dials_at : Stage → ℕ
+abbrev pub dials_of : Goal → ℕ
+dials_of (a_tunnel tunnel) = tunnel.at.dials
+dials_of (a_flow place from) = from.at.dials + 1
+
+abbrev pub dials_at : Stage → ℕ
 dials_at (http place standing) = dialled_at standing
 dials_at (connecting tunnel) = tunnel.at.dials
+dials_at (reaching goal side since) = dials_of goal
 dials_at (undecided tunnel spare since) = tunnel.at.dials
 dials_at (raw ends) = ends.side.server + 1
 dials_at over = 0
 
 -- the server's sides of a stage are among those that were dialled before it
-abbrev AllBelow : Stage → Type 0
+abbrev pub GoalBelow : Goal → ℕ → Type 0
+GoalBelow (a_tunnel tunnel) server = server < tunnel.at.dials
+GoalBelow (a_flow place from) server = (server ≡ from.at.dials) × SpareBelow from.spare from.at.dials
+
+abbrev pub AllBelow : Stage → Type 0
 AllBelow (http place standing) = AreBelow standing
+AllBelow (reaching goal side since) = GoalBelow goal side.server
 AllBelow (undecided tunnel spare since) = spare.server < tunnel.at.dials
 AllBelow stage = ⊤
 
@@ -56,27 +66,27 @@ module _ (server : ℕ) where
   close_silent true = refl
   close_silent false = refl
 
-  server_silent : (number : ℕ) (shut : Bool) → IsSilent server (shut_unused (Some (record { server = number; bytes = []; shut = shut })))
+  pub server_silent : (number : ℕ) (shut : Bool) → IsSilent server (shut_unused (Some (record { server = number; bytes = []; shut = shut })))
   server_silent number true = refl
   server_silent number false = close_silent (number == server)
 
-  client_silent : (closed : Bool) → IsSilent server (shut_client closed)
+  pub client_silent : (closed : Bool) → IsSilent server (shut_client closed)
   client_silent true = refl
   client_silent false = refl
 
-  unused_silent : (unused : Option Unused) → IsSilent server (shut_unused unused)
+  pub unused_silent : (unused : Option Unused) → IsSilent server (shut_unused unused)
   unused_silent None = refl
   unused_silent (Some unused) = server_silent unused.server unused.shut
 
-  closes_silent : (number : ℕ) (shut closed : Bool) → IsSilent server (closes_all number shut closed)
+  pub closes_silent : (number : ℕ) (shut closed : Bool) → IsSilent server (closes_all number shut closed)
   closes_silent number shut closed =
       silent_both server (shut_unused (Some (record { server = number; bytes = []; shut = shut }))) (shut_client closed) (server_silent number shut) (client_silent closed)
 
-  finished_silent : (flow : Option Flow) → IsSilent server (finished_flow flow)
+  pub finished_silent : (flow : Option Flow) → IsSilent server (finished_flow flow)
   finished_silent None = refl
   finished_silent (Some flow) = refl
 
-  found_silent : (ends : Bool) (owed : List Command) → IsSilent server owed → IsSilent server (found (tunnel_found ends owed))
+  pub found_silent : (ends : Bool) (owed : List Command) → IsSilent server owed → IsSilent server (found (tunnel_found ends owed))
   found_silent true owed is = is
   found_silent false owed is = refl
 
@@ -84,6 +94,9 @@ module _ (server : ℕ) where
   other : (number : ℕ) (same : Bool) → (number == server) ≡ same → number + 1 ≤ server → same ≡ false
   other number true is below = absurd (let e : number ≡ server = eqb-true number server is in omega arith)
   other number false is below = refl
+
+  sent_silent : (number : ℕ) (text : List ℕ) → number + 1 ≤ server → IsSilent server (commands.Send (Server number) text ∷ [])
+  sent_silent number text below = ap (λ same. bytes_in (cond same (map byte text) [] ++ [])) (other number (number == server) refl below)
 
   both_silent : (number : ℕ) (up down : List ℕ) → number + 1 ≤ server → IsSilent server (commands.Send (Server number) up ∷ commands.Send Client down ∷ [])
   both_silent number up down below =
@@ -96,7 +109,7 @@ module _ (conv : ℕ) (client : Option Address) where
   Few most stage = (dials_at stage ≤ most) × AllBelow stage
 
   tunnel_few : (place : Place) (standing : Standing) (at : At) (connect : Option Connect) → standing.stage ≡ idle at → AreBelow standing →
-      Few (dialled_at standing) (or_stays (http place standing) (tunnel_for at connect))
+      Few (dialled_at standing) (or_stays (http place standing) (tunnel_for place at connect))
   tunnel_few place standing at None is below = (omega arith, below)
   tunnel_few place standing at (Some connect) is below = let same : dialled standing.stage ≡ at.dials = ap dialled is in (omega arith, tt)
 
@@ -125,6 +138,66 @@ module _ (conv : ℕ) (client : Option Address) where
   decided_few is_http tunnel spare since below = (omega arith, below)
   decided_few is_raw tunnel spare since below = (omega arith, tt)
 
+  goes_few : (closed : Bool) (tunnel : Tunnel) (spare : Spare) (since : Since) (prefix : List (Timed Event)) → spare.server < tunnel.at.dials →
+      Few tunnel.at.dials (goes_by closed tunnel spare since prefix)
+  goes_few true tunnel spare since prefix below = (omega arith, below)
+  goes_few false tunnel spare since prefix below = decided_few (decided (opening_text tunnel prefix) (has_answered spare prefix)) tunnel spare since below
+
+  -- ---- another proxy, which has answered
+
+  opens_few : (empty : Bool) (tunnel : Tunnel) (side : Spare) (used : ℕ) (since : Since) (prefix : List (Timed Event)) → side.server < tunnel.at.dials →
+      Few tunnel.at.dials (opens_by empty tunnel side used since prefix)
+  opens_few true tunnel side used since prefix below = goes_few (client_closed prefix) tunnel (record { server = side.server; opened = length prefix }) since prefix below
+  opens_few false tunnel side used since prefix below = (omega arith, tt)
+
+  -- the spare side was dialled before, and the proxy's is the last that was
+  spare_before : (spare : Option Spare) (dials : ℕ) → SpareBelow spare dials → SpareBelow spare (dials + 1)
+  spare_before None dials below = tt
+  spare_before (Some spare) dials below = omega arith
+
+  way_below : (empty : Bool) (side : Spare) (used come dials : ℕ) → side.server ≡ dials → (way_by empty side used come).side.server < dials + 1
+  way_below true side used come dials is = omega arith
+  way_below false side used come dials is = omega arith
+
+  connected_counts : (place : Place) (from : Dialling) (side : Spare) (since : Since) (prefix : List (Timed Event)) (used : ℕ) → GoalBelow (a_flow place from) side.server →
+      Counts dials_at AllBelow (from.at.dials + 1) (pass_reached conv client (a_flow place from) side since prefix (granted used))
+  connected_counts place from side since prefix used (is, below) = record {
+    silent = λ server beyond. sent_silent server side.server _ (omega arith);
+    few = omega arith;
+    stays = (spare_before from.spare from.at.dials below, way_below (is_empty (text_behind side used prefix)) side used (length prefix) from.at.dials is);
+  }
+
+  shut_silent : (server : ℕ) (side : Spare) (prefix : List (Timed Event)) → IsSilent server (shut_proxy side prefix)
+  shut_silent server side prefix = server_silent server side.server (closed_of side.server (drop side.opened prefix))
+
+  refused_counts : (place : Place) (from : Dialling) (side : Spare) (since : Since) (prefix : List (Timed Event)) → GoalBelow (a_flow place from) side.server →
+      Counts dials_at AllBelow (from.at.dials + 1) (pass_reached conv client (a_flow place from) side since prefix refused)
+  refused_counts place from side since prefix (is, below) =
+      let answer : Timed Reply = record { moment = now_over since prefix; value = reply.Refused UpstreamRefused } in
+      let dial : Command = commands.Dial from.at.dials (dialled_for place from.flow.request) None in
+      let counts = (flows_count place).turns (standing_of from) prefix dial answer (below, tt) refl in
+      let owed : List Command = ((flows_at conv client place).turn (standing_of from) prefix answer).owed in
+      let fewer = counts.few in
+      record {
+        silent = λ server beyond. silent_both server owed (shut_proxy side prefix) (counts.silent server (omega arith)) (shut_silent server side prefix);
+        few = omega arith;
+        stays = counts.stays;
+      }
+
+  reached_counts : (goal : Goal) (side : Spare) (since : Since) (prefix : List (Timed Event)) (g : Granting) → GoalBelow goal side.server →
+      Counts dials_at AllBelow (dials_of goal) (pass_reached conv client goal side since prefix g)
+  reached_counts goal side since prefix awaited is = quietly (dials_of goal) (reaching goal side since) (omega arith, is)
+  reached_counts (a_tunnel tunnel) side since prefix (granted used) is =
+      let few = opens_few (is_empty (text_behind side used prefix)) tunnel side used (from_here (now_over since prefix) prefix) prefix is in
+      record { silent = λ server beyond. refl; few = few.0; stays = few.1 }
+  reached_counts (a_flow place from) side since prefix (granted used) is = connected_counts place from side since prefix used is
+  reached_counts (a_tunnel tunnel) side since prefix refused is = record {
+    silent = λ server beyond. silent_both server (refuses UpstreamRefused false (client_closed prefix)) (shut_proxy side prefix) (client_silent server (client_closed prefix)) (shut_silent server side prefix);
+    few = omega arith;
+    stays = tt;
+  }
+  reached_counts (a_flow place from) side since prefix refused is = refused_counts place from side since prefix is
+
   passes : (stage : Stage) (prefix : List (Timed Event)) → AllBelow stage → Counts dials_at AllBelow (dials_at stage) ((stack_chain conv client).pass stage prefix)
   passes (http place standing) prefix is =
       let on = (flows_at conv client place).pass standing prefix in
@@ -134,21 +207,26 @@ module _ (conv : ℕ) (client : Option Address) where
       let below = few.0 in
       record { silent = counts.silent; few = omega arith; stays = few.1 }
   passes (connecting tunnel) prefix is = quietly tunnel.at.dials (connecting tunnel) (omega arith, tt)
+  passes (reaching goal side since) prefix is = reached_counts goal side since prefix (answer_of side prefix) is
   passes (undecided tunnel spare since) prefix is =
-      let d : Decision = decided (opening_text tunnel prefix) (has_answered spare prefix) in
-      quietly tunnel.at.dials (follows d tunnel spare since) (decided_few d tunnel spare since is)
+      quietly tunnel.at.dials (goes_by (client_closed prefix) tunnel spare since prefix) (goes_few (client_closed prefix) tunnel spare since prefix is)
   passes (raw ends) prefix is = quietly (ends.side.server + 1) (raw ends) (omega arith, tt)
   passes over prefix is = quietly 0 over (omega arith, tt)
 
-  with_silent : (server : ℕ) (unused : Option Unused) (l : Look Command) → IsSilent server (found l) → IsSilent server (found (with_closes conv client unused l))
+  pub with_silent : (server : ℕ) (unused : Option Unused) (l : Look Command) → IsSilent server (found l) → IsSilent server (found (with_closes conv client unused l))
   with_silent server unused NotYet is = is
   with_silent server unused (Asks ask) is = is
   with_silent server unused (Ends owed) is = silent_both server owed (shut_unused unused) is (unused_silent server unused)
+
+  waits_silent : (server : ℕ) (goal : Goal) (side : Spare) (prefix : List (Timed Event)) → IsSilent server (found (waits_for goal side prefix))
+  waits_silent server (a_tunnel tunnel) side prefix = found_silent server (client_closed prefix) (shut_proxy side prefix) (shut_silent server side prefix)
+  waits_silent server (a_flow place from) side prefix = refl
 
   looks : (stage : Stage) (prefix : List (Timed Event)) → AllBelow stage → (server : ℕ) → dials_at stage ≤ server → IsSilent server (found ((stack_chain conv client).look stage prefix))
   looks (http place standing) prefix is server beyond =
       with_silent server (unused_over standing.spare prefix) ((flows_at conv client place).look standing prefix) ((flows_count place).looks standing prefix is server beyond)
   looks (connecting tunnel) prefix is server beyond = refl
+  looks (reaching goal side since) prefix is server beyond = waits_silent server goal side prefix
   looks (undecided tunnel spare since) prefix is server beyond =
       let shut : Bool = is_closed (Server spare.server) (drop spare.opened prefix) in
       let closed : Bool = client_closed prefix in
@@ -166,9 +244,17 @@ module _ (conv : ℕ) (client : Option Address) where
   waits : (stage : Stage) (prefix : List (Timed Event)) → AllBelow stage → (server : ℕ) → dials_at stage ≤ server → IsSilent server ((stack_chain conv client).so_far stage prefix)
   waits (http place standing) prefix is server beyond = (flows_count place).waits standing prefix is server beyond
   waits (connecting tunnel) prefix is server beyond = refl
+  waits (reaching goal side since) prefix is server beyond = refl
   waits (undecided tunnel spare since) prefix is server beyond = refl
   waits (raw ends) prefix is server beyond = both_silent server ends.side.server (text_up ends prefix) (text_down ends prefix) beyond
   waits over prefix is server beyond = refl
+
+  -- a proxy is sent the request for a tunnel behind its connection
+  connected_turns : (proxy : Option Address) (tunnel : Tunnel) (prefix : List (Timed Event)) (moment : ℕ) →
+      Counts dials_at AllBelow (tunnel.at.dials + 1) (turn_connected conv client proxy tunnel prefix moment)
+  connected_turns None tunnel prefix moment = record { silent = λ server beyond. refl; few = omega arith; stays = omega arith }
+  connected_turns (Some proxy) tunnel prefix moment =
+      record { silent = λ server beyond. sent_silent server tunnel.at.dials (connect_text tunnel.address) (omega arith); few = omega arith; stays = omega arith }
 
   dial_turns : (tunnel : Tunnel) (prefix : List (Timed Event)) (answer : Reply) (moment : ℕ) →
       Counts dials_at AllBelow (tunnel.at.dials + connects answer) (turn_dial conv client tunnel prefix answer moment)
@@ -176,7 +262,7 @@ module _ (conv : ℕ) (client : Option Address) where
   dial_turns tunnel prefix (reply.Respond response) moment = quietly (tunnel.at.dials + 0) over (omega arith, tt)
   dial_turns tunnel prefix reply.Kill moment = quietly (tunnel.at.dials + 0) over (omega arith, tt)
   dial_turns tunnel prefix reply.Discard moment = quietly (tunnel.at.dials + 0) over (omega arith, tt)
-  dial_turns tunnel prefix reply.Dialled moment = record { silent = λ server beyond. refl; few = omega arith; stays = omega arith }
+  dial_turns tunnel prefix reply.Dialled moment = connected_turns tunnel.proxy tunnel prefix moment
   dial_turns tunnel prefix (reply.Refused fault) moment =
       record { silent = λ server beyond. client_silent server (client_closed prefix); few = omega arith; stays = tt }
 
@@ -189,13 +275,68 @@ module _ (conv : ℕ) (client : Option Address) where
   asks_not true owed ask is = let no : Ends owed ≡ Asks ask = is in cc
   asks_not false owed ask is = let no : NotYet ≡ Asks ask = is in cc
 
+  waits_not : (goal : Goal) (side : Spare) (prefix : List (Timed Event)) (ask : Command) → waits_for goal side prefix ≡ Asks ask → ⊥
+  waits_not (a_tunnel tunnel) side prefix ask is = asks_not (client_closed prefix) (shut_proxy side prefix) ask is
+  waits_not (a_flow place from) side prefix ask is = let no : NotYet ≡ Asks ask = is in cc
+
+  -- ---- a flow whose dial connected another proxy
+
+  -- it stands where its server is dialled
+  abbrev IsLed : Standing → Option Dialling → Type 0
+  IsLed standing None = ⊤
+  IsLed standing (Some from) = (dialled_at standing ≡ from.at.dials) × SpareBelow from.spare from.at.dials
+
+  led_is_by : (standing : Standing) (stage : flows.Stage) → standing.stage ≡ stage → ServersBelow standing.spare stage → IsLed standing (led_by standing stage)
+  led_is_by standing (idle at) is below = tt
+  led_is_by standing (busy at flow (request_body given)) is below = tt
+  led_is_by standing (busy at flow connection) is below = (ap dialled is, below.0)
+  led_is_by standing (busy at flow (response_head side how)) is below = tt
+  led_is_by standing (busy at flow (response_body side how)) is below = tt
+  led_is_by standing (busy at flow (upgraded side)) is below = tt
+  led_is_by standing (busy at flow given_head) is below = tt
+  led_is_by standing (busy at flow given_body) is below = tt
+  led_is_by standing (next at) is below = tt
+  led_is_by standing flows.over is below = tt
+
+  led_is : (place : Place) (standing : Standing) → AreBelow standing → IsLed standing (led_at place standing)
+  led_is places.Regular standing below = tt
+  led_is (places.Upstream proxy) standing below = tt
+  led_is (places.Fixed address side None) standing below = tt
+  led_is (places.Fixed address side (Some proxy)) standing below = led_is_by standing standing.stage refl below
+
+  proxy_asked : (most : ℕ) (place : Place) (prefix : List (Timed Event)) (from : Dialling) (moment : ℕ) → from.at.dials + 1 ≤ most → SpareBelow from.spare from.at.dials →
+      Counts dials_at AllBelow most (asks_proxy conv client (a_flow place from) (address_of from.flow.request) from.at.dials prefix moment)
+  proxy_asked most place prefix from moment more below =
+      record { silent = λ server beyond. sent_silent server from.at.dials (connect_text (address_of from.flow.request)) (omega arith); few = more; stays = (refl, below) }
+
+  flows_turn : (place : Place) (standing : Standing) (prefix : List (Timed Event)) (ask : Command) (answer : Timed Reply) → AreBelow standing →
+      (flows_at conv client place).look standing prefix ≡ Asks ask →
+      Counts dials_at AllBelow (dialled_at standing + connects answer.value) (turn_flows conv client place standing prefix answer)
+  flows_turn place standing prefix ask answer is asked =
+      let counts = (flows_count place).turns standing prefix ask answer is asked in
+      record { silent = counts.silent; few = counts.few; stays = counts.stays }
+
+  http_turns : (led : Option Dialling) (place : Place) (standing : Standing) (prefix : List (Timed Event)) (ask : Command) (answer : Timed Reply) (value : Reply) →
+      IsLed standing led → answer.value ≡ value → AreBelow standing → (flows_at conv client place).look standing prefix ≡ Asks ask →
+      Counts dials_at AllBelow (dialled_at standing + connects answer.value) (turn_http conv client led place standing prefix answer value)
+  http_turns None place standing prefix ask answer value led same is asked = flows_turn place standing prefix ask answer is asked
+  http_turns (Some from) place standing prefix ask answer (reply.Go given stream) led same is asked = flows_turn place standing prefix ask answer is asked
+  http_turns (Some from) place standing prefix ask answer (reply.Respond response) led same is asked = flows_turn place standing prefix ask answer is asked
+  http_turns (Some from) place standing prefix ask answer reply.Kill led same is asked = flows_turn place standing prefix ask answer is asked
+  http_turns (Some from) place standing prefix ask answer reply.Discard led same is asked = flows_turn place standing prefix ask answer is asked
+  http_turns (Some from) place standing prefix ask answer reply.Dialled led same is asked =
+      let one : connects answer.value ≡ 1 = ap connects same in
+      let dials = led.0 in
+      proxy_asked (dialled_at standing + connects answer.value) place prefix from answer.moment (omega arith) led.1
+  http_turns (Some from) place standing prefix ask answer (reply.Refused fault) led same is asked = flows_turn place standing prefix ask answer is asked
+
   turns : (stage : Stage) (prefix : List (Timed Event)) (ask : Command) (answer : Timed Reply) → AllBelow stage → (stack_chain conv client).look stage prefix ≡ Asks ask →
       Counts dials_at AllBelow (dials_at stage + connects answer.value) ((stack_chain conv client).turn stage prefix answer)
   turns (http place standing) prefix ask answer is asked =
-      let counts = (flows_count place).turns standing prefix ask answer is
-      (http_asked (unused_over standing.spare prefix) ((flows_at conv client place).look standing prefix) ask asked) in
-      record { silent = counts.silent; few = counts.few; stays = counts.stays }
+      http_turns (led_at place standing) place standing prefix ask answer answer.value (led_is place standing is) refl is
+      (http_asked (unused_over standing.spare prefix) ((flows_at conv client place).look standing prefix) ask asked)
   turns (connecting tunnel) prefix ask answer is asked = dial_turns tunnel prefix answer.value answer.moment
+  turns (reaching goal side since) prefix ask answer is asked = absurd (waits_not goal side prefix ask asked)
   turns (undecided tunnel spare since) prefix ask answer is asked = absurd (asks_not _ _ ask asked)
   turns (raw ends) prefix ask answer is asked = absurd (asks_not _ _ ask asked)
   turns over prefix ask answer is asked = absurd (let no : Ends [] ≡ Asks ask = asked in cc)

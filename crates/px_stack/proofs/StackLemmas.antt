@@ -14,7 +14,7 @@ use Rattle.px_exchange.specs.declared.mode.Mode.{Mode}
 use Rattle.px_exchange.specs.declared.mode.Mode.TheVariants as modes
 use Rattle.px_exchange.specs.declared.place.Place.{Place}
 use Rattle.px_exchange.specs.declared.terms.Terms.{Terms}
-use Rattle.px_exchange.specs.Places.{IsDirect, place_of, terms_of}
+use Rattle.px_exchange.specs.Places.{place_of, terms_of}
 use Rattle.px_chain.specs.Chain.{begin, begin_with, http_chain, sequence, spare_of}
 use Rattle.px_chain.specs.Sights.{Standing}
 use Rattle.px_chain.specs.Stages.{idle}
@@ -85,7 +85,7 @@ pub stands_made : (made : Stack) (mode : Mode) (flows : Box HttpConv) → IsMade
 stands_made made mode flows is =
     let P : Stage → Type 0 = λ start. StandsAt (chain_of made) start (IsAt made) made [] [] in
     let there : IsAt made made (begins mode) [] =
-    record { conv = refl; client = refl; child = record { flows = flows; is = is.child; there = flows_there made mode flows is } } in
+    record { conv = refl; client = refl; child = record { flows = flows; is = is.child; there = flows_there made mode flows is; in_time = tt } } in
     subst P (sym (starts_there made mode flows is)) (begins_at (chain_of made) (settles_there made) (begins mode) (IsAt made) made there (λ view. refl))
 
 pub new_made : (made : Stack) (mode : Mode) (flows : Box HttpConv) (peer : Address) → made.child ≡ children.Http flows → made.client ≡ Some peer →
@@ -94,15 +94,7 @@ pub new_made : (made : Stack) (mode : Mode) (flows : Box HttpConv) (peer : Addre
 new_made made mode flows peer child client terms numbers stands =
     record { child = child; terms = terms ∙ ap (λ at. terms_of made.conv at (place_of mode)) (sym client); numbers = numbers; stands = stands }
 
--- the first place is reached directly, and no side of it is connected
-pub is_direct : (mode : Mode) (place : Place) → place ≡ place_of mode → IsDirect place
-is_direct mode place is = subst IsDirect (sym is) (by mode)
-  where
-    by : (mode : Mode) → IsDirect (place_of mode)
-    by modes.Regular = tt
-    by (modes.Reverse address) = tt
-    by (modes.Upstream proxy) = tt
-
+-- no side of the first place is connected
 pub has_no_side : (mode : Mode) (place : Place) → place ≡ place_of mode → IsSideBelow place 0
 has_no_side mode place is = subst (λ at. IsSideBelow at 0) (sym is) (by mode)
   where

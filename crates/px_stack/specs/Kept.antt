@@ -1,19 +1,22 @@
 -- What a conversation keeps, by where it stands.
-use Rattle.std.specs.Prelude.{ℕ, ◌+◌, Bool, true, false, if◌then◌else◌, List, [], ◌∷◌, length, Option, Some, None}
+use Rattle.std.specs.Prelude.{ℕ, ◌+◌, ◌-◌, Bool, true, false, if◌then◌else◌, List, [], ◌∷◌, length, Option, Some, None}
 use Rattle.px_event.specs.declared.ask.Ask.{Ask}
 use Rattle.px_event.specs.declared.ask.Ask.TheVariants as asks
 use Rattle.px_event.specs.declared.command.Command.{Command}
 use Rattle.px_event.specs.declared.event.Event.{Event}
 use Rattle.px_event.specs.declared.command.Command.TheVariants as commands
-use Rattle.px_event.specs.declared.side.Side.TheVariants.{Server}
+use Rattle.px_event.specs.declared.side.Side.TheVariants.{Client, Server}
 use Rattle.px_exchange.specs.declared.place.Place.{Place}
 use Rattle.px_exchange.specs.declared.place.Place.TheVariants as places
 use Rattle.px_chain.specs.Streams.{closes}
 use Rattle.px_http.specs.Stands.{awaits}
 use Rattle.px_stream.specs.Kept.{stream_keeps}
 use Rattle.px_stream.specs.Left.{sequence_left}
+use Rattle.px_tunnel.specs.Reaching.{rest_of}
 use Rattle.px_stack.specs.declared.child.Child.{Child}
 use Rattle.px_stack.specs.declared.child.Child.TheVariants as children
+use Rattle.px_stack.specs.declared.child.Goal.{Goal}
+use Rattle.px_stack.specs.declared.child.Goal.TheVariants as goals
 
 -- the close of a spare side that is still connected
 abbrev pub shut_open : Option ℕ → List Command
@@ -24,6 +27,11 @@ shut_open (Some server) = commands.Close (Server server) ∷ []
 abbrev pub open_behind : Option ℕ → Event → Option ℕ
 open_behind None event = None
 open_behind (Some server) event = if closes (Server server) event then None else Some server
+
+-- the client leaves before its tunnel stands
+abbrev pub is_left : Goal → Event → Bool
+is_left (goals.Tunnel opening) event = closes Client event
+is_left (goals.Flow flows) event = false
 
 -- what is awaited
 abbrev pub awaited_by : Child → Option Ask
@@ -47,14 +55,25 @@ abbrev pub tunnel_left : Place → ℕ
 tunnel_left (places.Fixed address side inside) = 0
 tunnel_left place = connecting_left
 
+-- the dial of a flow is answered where another proxy is asked for its way
+abbrev pub goal_left : Goal → ℕ
+goal_left (goals.Tunnel opening) = opened_left
+goal_left (goals.Flow flows) = sequence_left flows.value.stream - 1 + tunnel_left flows.value.stream.terms.place
+
 abbrev pub left_by : Child → ℕ
 left_by (children.Http flows) = sequence_left flows.value.stream + tunnel_left flows.value.stream.terms.place
 left_by (children.Connecting opening closed) = connecting_left
+left_by (children.Reaching kept) = goal_left kept.goal
 left_by (children.Undecided opening server) = opened_left
 left_by child = 0
 
--- how many bytes it keeps: what HTTP does, and those by which nothing is decided
+-- how many bytes it keeps: what HTTP does, those by which nothing is decided, and those of a proxy's head
+abbrev pub goal_keeps : Goal → ℕ
+goal_keeps (goals.Tunnel opening) = length opening.rest
+goal_keeps (goals.Flow flows) = stream_keeps flows.value.stream
+
 abbrev pub kept_by : Child → ℕ
 kept_by (children.Http flows) = stream_keeps flows.value.stream
+kept_by (children.Reaching kept) = goal_keeps kept.goal + length (rest_of kept.asked)
 kept_by (children.Undecided opening server) = length opening.rest
 kept_by child = 0

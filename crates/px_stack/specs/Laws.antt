@@ -1,15 +1,15 @@
 -- The laws of the chain: at one prefix passing settles at once, and in each view what is owed while it waits only grows.
-use Rattle.std.proofs.Common.{◌≡◌, ℕ, Bool, true, false, List, [], ◌∷◌, ◌++◌, drop, Option, Some, None, refl, ap, sym, ◌∙◌, subst, append_assoc}
+use Rattle.std.proofs.Common.{◌≡◌, ℕ, Bool, true, false, List, [], ◌∷◌, ◌++◌, drop, Option, Some, None, refl, ap, sym, ◌∙◌, subst, append_assoc, length}
 use Rattle.std.specs.Prelude.{zero, suc, ◌≢◌, ◌||◌, ⊤, bytes_eq, Result, Ok, Err}
-use Rattle.std.proofs.lemmas.List.{append-nil}
 use Rattle.px_text.specs.Prefix.{IsPrefixOf}
-use Rattle.px_message.specs.Target.{Form}
 use Rattle.px_message.specs.declared.address.Address.{Address}
 use Rattle.px_message.specs.declared.fault.Fault.{Fault}
+use Rattle.px_message.specs.declared.fault.Fault.TheVariants.{UpstreamRefused}
 use Rattle.px_message.specs.declared.length.Length.{Length}
 use Rattle.px_message.specs.declared.request.Request.{Request}
 use Rattle.px_event.specs.declared.command.Command.{Command}
 use Rattle.px_event.specs.declared.event.Event.{Event}
+use Rattle.px_event.specs.declared.reply.Reply.TheVariants as reply
 use Rattle.px_event.specs.declared.side.Side.{Side}
 use Rattle.px_event.specs.declared.side.Side.TheVariants.{Client, Server}
 use Rattle.px_event.specs.Chain.{Timed, Look, NotYet, Asks, Ends, found}
@@ -26,19 +26,20 @@ use Rattle.px_exchange.specs.declared.place.Place.TheVariants as places
 use Rattle.px_exchange.specs.declared.terms.Terms.{Terms}
 use Rattle.px_exchange.specs.Places.{terms_of}
 use Rattle.px_exchange.specs.Finds.{look_head, look_judged, or_leaves}
-use Rattle.px_exchange.specs.Requests.{goal_at, judged, judged_goal, judged_length, judged_method}
+use Rattle.px_exchange.specs.Requests.{judged, judged_goal, judged_length, judged_method}
 use Rattle.px_chain.specs.Chain.{Connect, connect_by, connect_in, look as look_of, so_far as so_far_of, sequence, used_more}
 use Rattle.px_chain.specs.Sights.{Sight, Spare, Standing, Unused, request_in, sight_over, unused_over}
 use Rattle.px_chain.specs.Stages.{At, busy, connection, given_body, given_head, idle, next, request_body, response_body, response_head, upgraded}
 use Rattle.px_chain.specs.Stages as flows
-use Rattle.px_chain.specs.Streams.{Since, bytes_of, client_closed, is_closed, piece_of}
+use Rattle.px_chain.specs.Streams.{Since, bytes_of, client_closed, from_here, now_over, piece_of}
 use Rattle.px_chain.proofs.ChainLaws.{settles as flows_settle, so_far_grows as flows_grow}
 use Rattle.px_chain.proofs.FrontLaws.{DropMore, behind, none, bytes_more, drop_more, open_behind}
 use Rattle.px_tunnel.specs.Tunnel.{both_ways}
 use Rattle.px_tunnel.specs.Laws.{both_append}
-use Rattle.px_stack.specs.Chain.{follows, is_shut, raw_look, shut_unused, tunnel_found, flows_at, hands_by, hands_over, has_answered, opening_text, inner_place, inner_standing, or_stays, pass_http, stack_chain, text_down, text_up, tunnel_for, with_closes}
+use Rattle.px_tunnel.specs.Upstream.{Granting, awaited, granted, refused}
+use Rattle.px_stack.specs.Chain.{answer_of, connected_on, flows_at, follows, goes_by, hands_by, hands_over, has_answered, inner_place, inner_standing, is_empty, is_shut, opening_text, opens_by, or_stays, pass_http, pass_reached, proxy_at, raw_look, shut_unused, stack_chain, standing_of, text_behind, text_down, text_up, tunnel_for, tunnel_found, way_to, with_closes}
 use Rattle.px_stack.specs.Decides.{Decision, decided, is_http, is_raw, still}
-use Rattle.px_stack.specs.Stages.{Ends as TunnelEnds, Stage, Tunnel, connecting, http, over, raw, undecided}
+use Rattle.px_stack.specs.Stages.{Dialling, Ends as TunnelEnds, Goal, Stage, Tunnel, a_flow, a_tunnel, connecting, http, over, raw, reaching, undecided}
 
 -- ---- at one address nothing is a CONNECT
 
@@ -103,10 +104,10 @@ item_ends terms index (bad_body fault head body) moment closed connect is = absu
 
 -- from a head that is awaited it hands over exactly by a CONNECT
 idle_hands : (terms : Terms) (at : At) (seen : Sight) (to : Stage) (found : Option Connect) → connect_in terms.place (request_in at seen) ≡ found →
-    tunnel_for at found ≡ Some to → HandsOver terms (idle at) seen to
+    tunnel_for terms.place at found ≡ Some to → HandsOver terms (idle at) seen to
 idle_hands terms at seen to None is hands = absurd (let no : None ≡ Some to = hands in cc)
 idle_hands terms at seen to (Some connect) is hands =
-    let there : Stage = connecting (record { at = used_more at connect.used; address = connect.address }) in
+    let there : Stage = connecting (record { at = used_more at connect.used; address = connect.address; proxy = proxy_at terms.place }) in
     record {
       is_tunnel = let P : Stage → Type 0 = IsTunnel in subst P (some_same there to hands) tt;
       owes = refl;
@@ -133,6 +134,7 @@ module _ (conv : ℕ) (client : Option Address) where
   tunnel_settled : (stage : Stage) (prefix : List (Timed Event)) → IsTunnel stage → IsSettled (stack_chain conv client) stage prefix
   tunnel_settled (http place standing) prefix is = absurd is
   tunnel_settled (connecting tunnel) prefix is = record { stays = refl; owes_nothing = refl }
+  tunnel_settled (reaching goal side since) prefix is = absurd is
   tunnel_settled (undecided tunnel spare since) prefix is = absurd is
   tunnel_settled (raw ends) prefix is = record { stays = refl; owes_nothing = refl }
   tunnel_settled over prefix is = absurd is
@@ -151,13 +153,56 @@ module _ (conv : ℕ) (client : Option Address) where
   http_settled place standing prefix (Some to) at is =
       tunnel_settled to prefix (hands (terms_of conv client place) standing standing.stage (sight_over standing prefix) to is).is_tunnel
 
-  decided_settled : (tunnel : Tunnel) (spare : Spare) (since : Since) (prefix : List (Timed Event)) (d : Decision) →
+  decided_settled : (tunnel : Tunnel) (spare : Spare) (since : Since) (prefix : List (Timed Event)) (d : Decision) → client_closed prefix ≡ false →
       decided (opening_text tunnel prefix) (has_answered spare prefix) ≡ d → IsSettled (stack_chain conv client) (follows d tunnel spare since) prefix
-  decided_settled tunnel spare since prefix still is = record { stays = ap (λ d. follows d tunnel spare since) is; owes_nothing = refl }
-  decided_settled tunnel spare since prefix is_http is =
+  decided_settled tunnel spare since prefix still unclosed is = record {
+    stays = ap (λ c. goes_by c tunnel spare since prefix) unclosed ∙ ap (λ d. follows d tunnel spare since) is;
+    owes_nothing = refl;
+  }
+  decided_settled tunnel spare since prefix is_http unclosed is =
       stays_settled (inner_place tunnel spare) (inner_standing tunnel spare since) prefix (record { stays = refl; owes_nothing = refl })
-      (ap (tunnel_for tunnel.at) (never_connects tunnel.address (Some spare.server) None (request_in tunnel.at (sight_over (inner_standing tunnel spare since) prefix))))
-  decided_settled tunnel spare since prefix is_raw is = record { stays = refl; owes_nothing = refl }
+      (ap (tunnel_for (inner_place tunnel spare) tunnel.at)
+      (never_connects tunnel.address (Some spare.server) tunnel.proxy (request_in tunnel.at (sight_over (inner_standing tunnel spare since) prefix))))
+  decided_settled tunnel spare since prefix is_raw unclosed is = record { stays = refl; owes_nothing = refl }
+
+  goes_settled : (tunnel : Tunnel) (spare : Spare) (since : Since) (prefix : List (Timed Event)) (closed : Bool) → client_closed prefix ≡ closed →
+      IsSettled (stack_chain conv client) (goes_by closed tunnel spare since prefix) prefix
+  goes_settled tunnel spare since prefix true is = record { stays = ap (λ c. goes_by c tunnel spare since prefix) is; owes_nothing = refl }
+  goes_settled tunnel spare since prefix false is =
+      decided_settled tunnel spare since prefix (decided (opening_text tunnel prefix) (has_answered spare prefix)) is refl
+
+  -- where a proxy let a tunnel through
+  opens_settled : (empty : Bool) (tunnel : Tunnel) (side : Spare) (used : ℕ) (since : Since) (prefix : List (Timed Event)) →
+      IsSettled (stack_chain conv client) (opens_by empty tunnel side used since prefix) prefix
+  opens_settled true tunnel side used since prefix =
+      goes_settled tunnel (record { server = side.server; opened = length prefix }) since prefix (client_closed prefix) refl
+  opens_settled false tunnel side used since prefix = record { stays = refl; owes_nothing = refl }
+
+  -- a flow that goes on, or ends, where a proxy has answered
+  connected_settled : (place : Place) (from : Dialling) (side : Spare) (used : ℕ) (since : Since) (prefix : List (Timed Event)) →
+      IsSettled (stack_chain conv client) (http place (connected_on place from (way_to side used prefix) since)) prefix
+  connected_settled place from side used since prefix =
+      stays_settled place (connected_on place from (way_to side used prefix) since) prefix (record { stays = refl; owes_nothing = refl }) refl
+
+  refused_settled : (place : Place) (from : Dialling) (moment : ℕ) (prefix : List (Timed Event)) →
+      IsSettled (stack_chain conv client)
+      (http place ((flows_at conv client place).turn (standing_of from) prefix (record { moment = moment; value = reply.Refused UpstreamRefused })).stage) prefix
+  refused_settled place from moment prefix =
+      let on = (flows_at conv client place).turn (standing_of from) prefix (record { moment = moment; value = reply.Refused UpstreamRefused }) in
+      stays_settled place on.stage prefix (record { stays = refl; owes_nothing = refl }) refl
+
+  reached_settled : (goal : Goal) (side : Spare) (since : Since) (prefix : List (Timed Event)) (g : Granting) → answer_of side prefix ≡ g →
+      IsSettled (stack_chain conv client) (pass_reached conv client goal side since prefix g).stage prefix
+  reached_settled goal side since prefix awaited is = record {
+    stays = ap (λ g. (pass_reached conv client goal side since prefix g).stage) is;
+    owes_nothing = ap (λ g. (pass_reached conv client goal side since prefix g).owed) is;
+  }
+  reached_settled (a_tunnel tunnel) side since prefix (granted used) is =
+      opens_settled (is_empty (text_behind side used prefix)) tunnel side used (from_here (now_over since prefix) prefix) prefix
+  reached_settled (a_flow place from) side since prefix (granted used) is =
+      connected_settled place from side used (from_here (now_over since prefix) prefix) prefix
+  reached_settled (a_tunnel tunnel) side since prefix refused is = record { stays = refl; owes_nothing = refl }
+  reached_settled (a_flow place from) side since prefix refused is = refused_settled place from (now_over since prefix) prefix
 
   settled_at : (stage : Stage) (prefix : List (Timed Event)) → IsSettled (stack_chain conv client) ((stack_chain conv client).pass stage prefix).stage prefix
   settled_at (http place standing) prefix =
@@ -165,7 +210,8 @@ module _ (conv : ℕ) (client : Option Address) where
       let law = flows_settle sequence (terms_of conv client place) in
       http_settled place on.stage prefix (hands_over place on.stage prefix) (law.at standing prefix) refl
   settled_at (connecting tunnel) prefix = record { stays = refl; owes_nothing = refl }
-  settled_at (undecided tunnel spare since) prefix = decided_settled tunnel spare since prefix (decided (opening_text tunnel prefix) (has_answered spare prefix)) refl
+  settled_at (reaching goal side since) prefix = reached_settled goal side since prefix (answer_of side prefix) refl
+  settled_at (undecided tunnel spare since) prefix = goes_settled tunnel spare since prefix (client_closed prefix) refl
   settled_at (raw ends) prefix = record { stays = refl; owes_nothing = refl }
   settled_at over prefix = record { stays = refl; owes_nothing = refl }
 
@@ -184,7 +230,7 @@ nothing_begins (x ∷ xs) rest zs is = absurd (let no : [] ≡ x ∷ (xs ++ rest
 of_nothing : {A : Type 0} (xs ys zs : List A) → IsPrefixOf xs ys → ys ≡ [] → IsPrefixOf xs zs
 of_nothing xs ys zs (rest, is) empty = nothing_begins xs rest zs (sym empty ∙ is)
 
-drops : (n : ℕ) (xs ys : List ℕ) → IsPrefixOf (drop n xs) (drop n (xs ++ ys))
+pub drops : (n : ℕ) (xs ys : List ℕ) → IsPrefixOf (drop n xs) (drop n (xs ++ ys))
 drops zero xs ys = (ys, refl)
 drops (suc n) [] ys = (drop (suc n) ys, refl)
 drops (suc n) (x ∷ xs) ys = drops n xs ys
@@ -288,6 +334,7 @@ module _ (conv : ℕ) (client : Option Address) where
         http_grows place _ on.owed on.stage longer (hands_over place on.stage longer) refl refl
         (law.grows standing prefix event (not_yet (unused_over standing.spare prefix) _ is))
     grows_at (connecting tunnel) prefix event is = (_, refl)
+    grows_at (reaching goal side since) prefix event is = (_, refl)
     grows_at (undecided tunnel spare since) prefix event is = (_, refl)
     grows_at (raw ends) prefix event is = raw_grows ends prefix event is
     grows_at over prefix event is = (_, refl)

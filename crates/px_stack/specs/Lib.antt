@@ -4,8 +4,10 @@ pub mod Chain
 pub mod Laws
 pub mod Names
 pub mod Modes
+pub mod Reached
 pub mod Kept
 pub mod Stands
 pub mod Steps
 pub mod Stack
 pub mod StackLaws
+pub mod Proxies

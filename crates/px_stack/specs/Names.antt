@@ -1,44 +1,49 @@
 -- What is due of a conversation names it alone.
-use Rattle.std.proofs.Common.{◌≡◌, ℕ, List, [], ◌∷◌, ◌++◌, Bool, true, false, drop, Option, Some, None, refl}
+use Rattle.std.proofs.Common.{◌≡◌, ℕ, List, [], ◌∷◌, ◌++◌, Bool, true, false, drop, length, Option, Some, None, refl}
 use Rattle.std.specs.Prelude.{⊤, ◌||◌}
 use Rattle.px_message.specs.declared.address.Address.{Address}
-use Rattle.px_message.specs.declared.fault.Fault.{Fault}
+use Rattle.px_message.specs.declared.fault.Fault.TheVariants.{UpstreamRefused}
 use Rattle.px_message.specs.declared.flow.Flow.{Flow}
 use Rattle.px_event.specs.declared.command.Command.{Command}
 use Rattle.px_event.specs.declared.event.Event.{Event}
 use Rattle.px_event.specs.declared.reply.Reply.{Reply}
 use Rattle.px_event.specs.declared.reply.Reply.TheVariants as reply
 use Rattle.px_event.specs.declared.side.Side.TheVariants.{Server}
-use Rattle.px_event.specs.Chain.{Timed, Look, NotYet, Asks, Ends, found}
+use Rattle.px_event.specs.Chain.{Timed, Look, NotYet, Asks, Ends, Turn, found}
 use Rattle.px_event.specs.Layer.{Move}
 use Rattle.px_event.specs.Stands.{due_by}
-use Rattle.px_core.specs.Conversation.{IsNamed, AllNamed}
+use Rattle.px_core.specs.Conversation.{AllNamed}
 use Rattle.px_core.proofs.ChainNamedLemmas.{StaysNamed, stays_named}
 use Rattle.px_exchange.specs.declared.ending.Used.{Used}
 use Rattle.px_exchange.specs.declared.ending.Used.TheVariants.{NoServer, ByServer}
-use Rattle.px_exchange.specs.declared.mode.Mode.{Mode}
 use Rattle.px_exchange.specs.declared.place.Place.{Place}
-use Rattle.px_exchange.specs.declared.terms.Terms.{Terms}
-use Rattle.px_exchange.specs.Endings.{refuses, shut_all, shut_client, shut_server}
+use Rattle.px_exchange.specs.declared.place.Place.TheVariants as places
+use Rattle.px_exchange.specs.Endings.{shut_all, shut_client, shut_server}
 use Rattle.px_exchange.specs.Places.{terms_of}
 use Rattle.px_chain.specs.Chain.{Connect, connect_in}
 use Rattle.px_chain.specs.Sights.{Sight, Spare, Standing, Unused, request_in, sight_over, unused_over}
 use Rattle.px_chain.specs.Stages.{At, busy, connection, given_body, given_head, idle, next, request_body, response_body, response_head, upgraded}
 use Rattle.px_chain.specs.Stages as flows
-use Rattle.px_chain.specs.Streams.{Since, client_closed, is_closed}
+use Rattle.px_chain.specs.Streams.{Since, client_closed, from_here, is_closed, now_over}
 use Rattle.px_chain.proofs.Quiet.{IsOf}
 use Rattle.px_http.specs.Names.{OfConversation, stays as flows_stay}
-use Rattle.px_stack.specs.Chain.{closes_all, is_shut, finished_flow, turn_dial, flows_at, follows, hands_by, hands_over, or_stays, shut_unused, stack_chain, tunnel_for, tunnel_found, with_closes}
+use Rattle.px_tunnel.specs.Upstream.{Granting, awaited, granted, refused}
+use Rattle.px_stack.specs.Chain.{answer_of, closed_of, closes_all, finished_flow, flows_at, follows, goes_by, hands_by, has_answered, is_empty, is_shut, led_at, led_by, opening_text, opens_by, or_stays, pass_reached, shut_proxy, shut_unused, stack_chain, standing_of, text_behind, tunnel_for, tunnel_found, turn_connected, turn_dial, turn_http, waits_for, with_closes}
 use Rattle.px_stack.specs.Decides.{Decision, decided, is_http, is_raw, still}
-use Rattle.px_stack.specs.Stages.{Ends as TunnelEnds, Stage, Tunnel, connecting, http, over, raw, undecided}
+use Rattle.px_stack.specs.Stages.{Dialling, Goal, Stage, Tunnel, a_flow, a_tunnel, connecting, http, over, raw, reaching, undecided}
 
--- the flow of a place is the conversation's, and so is the one that became a tunnel
+-- the flow of a place is the conversation's, and so are the one that became a tunnel and the one for which a proxy is asked
 abbrev pub IsFlowOf : ℕ → Option Flow → Type 0
 IsFlowOf conv None = ⊤
 IsFlowOf conv (Some flow) = flow.id.conv ≡ conv
 
+abbrev pub IsGoalOf : ℕ → Goal → Type 0
+IsGoalOf conv (a_tunnel tunnel) = ⊤
+IsGoalOf conv (a_flow place from) = from.flow.id.conv ≡ conv
+
 abbrev pub IsOfIt : ℕ → Option Address → Stage → Type 0
 IsOfIt conv client (http place standing) = IsOf (terms_of conv client place) (OfConversation conv) standing.stage
+IsOfIt conv client (reaching goal side since) = IsGoalOf conv goal
 IsOfIt conv client (raw ends) = IsFlowOf conv ends.flow
 IsOfIt conv client stage = ⊤
 
@@ -83,7 +88,7 @@ module _ (conv : ℕ) where
 
     -- where HTTP hands over
     tunnel_is : (place : Place) (standing : Standing) (at : At) (connect : Option Connect) → IsOf (terms_of conv client place) (OfConversation conv) standing.stage →
-        IsOfIt conv client (or_stays (http place standing) (tunnel_for at connect))
+        IsOfIt conv client (or_stays (http place standing) (tunnel_for place at connect))
     tunnel_is place standing at None is = is
     tunnel_is place standing at (Some connect) is = tt
 
@@ -105,8 +110,46 @@ module _ (conv : ℕ) where
     follows_is is_http tunnel spare since = refl
     follows_is is_raw tunnel spare since = tt
 
+    goes_is : (closed : Bool) (tunnel : Tunnel) (spare : Spare) (since : Since) (prefix : List (Timed Event)) → IsOfIt conv client (goes_by closed tunnel spare since prefix)
+    goes_is true tunnel spare since prefix = tt
+    goes_is false tunnel spare since prefix = follows_is (decided (opening_text tunnel prefix) (has_answered spare prefix)) tunnel spare since
+
+    opens_is : (empty : Bool) (tunnel : Tunnel) (side : Spare) (used : ℕ) (since : Since) (prefix : List (Timed Event)) →
+        IsOfIt conv client (opens_by empty tunnel side used since prefix)
+    opens_is true tunnel side used since prefix = goes_is (client_closed prefix) tunnel (record { server = side.server; opened = length prefix }) since prefix
+    opens_is false tunnel side used since prefix = tt
+
+    -- what is owed names it, and the stage is of it
+    abbrev IsNamedTurn : Turn Stage Command → Type 0
+    IsNamedTurn turned = AllNamed conv turned.owed × IsOfIt conv client turned.stage
+
     its_flows : (place : Place) → StaysNamed conv (flows_at conv client place) (λ standing. IsOf (terms_of conv client place) (OfConversation conv) standing.stage)
     its_flows place = flows_stay (terms_of conv client place)
+
+    -- where a proxy has answered
+    shut_named : (side : Spare) (prefix : List (Timed Event)) → AllNamed conv (shut_proxy side prefix)
+    shut_named side prefix = server_named (ByServer side.server (closed_of side.server (drop side.opened prefix)))
+
+    refused_is : (place : Place) (from : Dialling) (side : Spare) (since : Since) (prefix : List (Timed Event)) → from.flow.id.conv ≡ conv →
+        IsNamedTurn (pass_reached conv client (a_flow place from) side since prefix refused)
+    refused_is place from side since prefix is =
+        let answer : Timed Reply = record { moment = now_over since prefix; value = reply.Refused UpstreamRefused } in
+        let on = (its_flows place).turn (standing_of from) prefix answer is in
+        (named_append conv ((flows_at conv client place).turn (standing_of from) prefix answer).owed (shut_proxy side prefix) on.0 (shut_named side prefix), on.1)
+
+    reached_is : (goal : Goal) (side : Spare) (since : Since) (prefix : List (Timed Event)) (g : Granting) → IsGoalOf conv goal →
+        IsNamedTurn (pass_reached conv client goal side since prefix g)
+    reached_is goal side since prefix awaited is = (tt, is)
+    reached_is (a_tunnel tunnel) side since prefix (granted used) is =
+        ((tt, tt), opens_is (is_empty (text_behind side used prefix)) tunnel side used (from_here (now_over since prefix) prefix) prefix)
+    reached_is (a_flow place from) side since prefix (granted used) is = ((tt, tt), is)
+    reached_is (a_tunnel tunnel) side since prefix refused is =
+        ((tt, named_append conv (shut_client (client_closed prefix)) (shut_proxy side prefix) (client_named (client_closed prefix)) (shut_named side prefix)), tt)
+    reached_is (a_flow place from) side since prefix refused is = refused_is place from side since prefix is
+
+    waits_named : (goal : Goal) (side : Spare) (prefix : List (Timed Event)) → AllNamed conv (found (waits_for goal side prefix))
+    waits_named (a_tunnel tunnel) side prefix = tunnel_named (client_closed prefix) (shut_proxy side prefix) (shut_named side prefix)
+    waits_named (a_flow place from) side prefix = tt
 
     passes : (stage : Stage) (prefix : List (Timed Event)) → IsOfIt conv client stage →
         AllNamed conv ((stack_chain conv client).pass stage prefix).owed × IsOfIt conv client ((stack_chain conv client).pass stage prefix).stage
@@ -115,13 +158,15 @@ module _ (conv : ℕ) where
         let named = (its_flows place).pass standing prefix is in
         (named.0, hands_is place on.stage on.stage.stage (sight_over on.stage prefix) named.1 named.1)
     passes (connecting tunnel) prefix is = (tt, tt)
-    passes (undecided tunnel spare since) prefix is = (tt, follows_is _ tunnel spare since)
+    passes (reaching goal side since) prefix is = reached_is goal side since prefix (answer_of side prefix) is
+    passes (undecided tunnel spare since) prefix is = (tt, goes_is (client_closed prefix) tunnel spare since prefix)
     passes (raw ends) prefix is = (tt, is)
     passes over prefix is = (tt, tt)
 
     looks : (stage : Stage) (prefix : List (Timed Event)) → IsOfIt conv client stage → AllNamed conv (found ((stack_chain conv client).look stage prefix))
     looks (http place standing) prefix is = with_named (unused_over standing.spare prefix) _ ((its_flows place).look standing prefix is)
     looks (connecting tunnel) prefix is = (tt, tt)
+    looks (reaching goal side since) prefix is = waits_named goal side prefix
     looks (undecided tunnel spare since) prefix is =
         let shut : Bool = is_closed (Server spare.server) (drop spare.opened prefix) in
         let closed : Bool = client_closed prefix in
@@ -139,9 +184,14 @@ module _ (conv : ℕ) where
     waits : (stage : Stage) (prefix : List (Timed Event)) → IsOfIt conv client stage → AllNamed conv ((stack_chain conv client).so_far stage prefix)
     waits (http place standing) prefix is = (its_flows place).so_far standing prefix is
     waits (connecting tunnel) prefix is = tt
+    waits (reaching goal side since) prefix is = tt
     waits (undecided tunnel spare since) prefix is = tt
     waits (raw ends) prefix is = (tt, (tt, tt))
     waits over prefix is = tt
+
+    connected_is : (proxy : Option Address) (tunnel : Tunnel) (prefix : List (Timed Event)) (moment : ℕ) → IsNamedTurn (turn_connected conv client proxy tunnel prefix moment)
+    connected_is None tunnel prefix moment = ((tt, tt), tt)
+    connected_is (Some proxy) tunnel prefix moment = ((tt, tt), tt)
 
     dial_turns : (tunnel : Tunnel) (prefix : List (Timed Event)) (answer : Reply) (moment : ℕ) →
         AllNamed conv (turn_dial conv client tunnel prefix answer moment).owed × IsOfIt conv client (turn_dial conv client tunnel prefix answer moment).stage
@@ -149,13 +199,47 @@ module _ (conv : ℕ) where
     dial_turns tunnel prefix (reply.Respond response) moment = (tt, tt)
     dial_turns tunnel prefix reply.Kill moment = (tt, tt)
     dial_turns tunnel prefix reply.Discard moment = (tt, tt)
-    dial_turns tunnel prefix reply.Dialled moment = ((tt, tt), tt)
+    dial_turns tunnel prefix reply.Dialled moment = connected_is tunnel.proxy tunnel prefix moment
     dial_turns tunnel prefix (reply.Refused fault) moment = ((tt, client_named _), tt)
+
+    -- a flow that is led through another proxy is the flow of the place
+    abbrev IsLedOf : Option Dialling → Type 0
+    IsLedOf None = ⊤
+    IsLedOf (Some from) = from.flow.id.conv ≡ conv
+
+    led_is_by : (place : Place) (standing : Standing) (stage : flows.Stage) → IsOf (terms_of conv client place) (OfConversation conv) stage → IsLedOf (led_by standing stage)
+    led_is_by place standing (idle at) is = tt
+    led_is_by place standing (busy at flow (request_body given)) is = tt
+    led_is_by place standing (busy at flow connection) is = is
+    led_is_by place standing (busy at flow (response_head side how)) is = tt
+    led_is_by place standing (busy at flow (response_body side how)) is = tt
+    led_is_by place standing (busy at flow (upgraded side)) is = tt
+    led_is_by place standing (busy at flow given_head) is = tt
+    led_is_by place standing (busy at flow given_body) is = tt
+    led_is_by place standing (next at) is = tt
+    led_is_by place standing flows.over is = tt
+
+    led_is : (place : Place) (standing : Standing) → IsOf (terms_of conv client place) (OfConversation conv) standing.stage → IsLedOf (led_at place standing)
+    led_is places.Regular standing is = tt
+    led_is (places.Upstream proxy) standing is = tt
+    led_is (places.Fixed address side None) standing is = tt
+    led_is (places.Fixed address side (Some proxy)) standing is = led_is_by (places.Fixed address side (Some proxy)) standing standing.stage is
+
+    http_turns : (led : Option Dialling) (place : Place) (standing : Standing) (prefix : List (Timed Event)) (answer : Timed Reply) (value : Reply) → IsLedOf led →
+        IsOfIt conv client (http place standing) → IsNamedTurn (turn_http conv client led place standing prefix answer value)
+    http_turns None place standing prefix answer value led is = (its_flows place).turn standing prefix answer is
+    http_turns (Some from) place standing prefix answer (reply.Go given stream) led is = (its_flows place).turn standing prefix answer is
+    http_turns (Some from) place standing prefix answer (reply.Respond response) led is = (its_flows place).turn standing prefix answer is
+    http_turns (Some from) place standing prefix answer reply.Kill led is = (its_flows place).turn standing prefix answer is
+    http_turns (Some from) place standing prefix answer reply.Discard led is = (its_flows place).turn standing prefix answer is
+    http_turns (Some from) place standing prefix answer reply.Dialled led is = ((tt, tt), led)
+    http_turns (Some from) place standing prefix answer (reply.Refused fault) led is = (its_flows place).turn standing prefix answer is
 
     turns : (stage : Stage) (prefix : List (Timed Event)) (answer : Timed Reply) → IsOfIt conv client stage →
         AllNamed conv ((stack_chain conv client).turn stage prefix answer).owed × IsOfIt conv client ((stack_chain conv client).turn stage prefix answer).stage
-    turns (http place standing) prefix answer is = (its_flows place).turn standing prefix answer is
+    turns (http place standing) prefix answer is = http_turns (led_at place standing) place standing prefix answer answer.value (led_is place standing is) is
     turns (connecting tunnel) prefix answer is = dial_turns tunnel prefix answer.value answer.moment
+    turns (reaching goal side since) prefix answer is = (tt, is)
     turns (undecided tunnel spare since) prefix answer is = (tt, tt)
     turns (raw ends) prefix answer is = (tt, is)
     turns over prefix answer is = (tt, tt)

@@ -14,18 +14,19 @@ use Rattle.px_core.specs.Conversation.{AllNamed}
 use Rattle.px_exchange.specs.declared.place.Place.{Place}
 use Rattle.px_exchange.specs.Places.{terms_of}
 use Rattle.px_chain.specs.Chain.{sequence}
-use Rattle.px_chain.specs.Sights.{Unused, unused_over}
+use Rattle.px_chain.specs.Sights.{Spare, Unused, unused_over}
+use Rattle.px_chain.specs.Streams.{client_closed}
 use Rattle.px_http.specs.declared.conversation.HttpConv.{HttpConv}
 use Rattle.px_stream.specs.StateLaws.{awaits_what_it_asks}
 use Rattle.px_stack.specs.declared.child.Child.{Child}
 use Rattle.px_stack.specs.declared.child.Child.TheVariants as children
 use Rattle.px_stack.specs.declared.stack.Stack.{Stack}
-use Rattle.px_stack.specs.Chain.{flows_at, opening_look, raw_look, shut_unused, stack_chain, tunnel_found, with_closes}
+use Rattle.px_stack.specs.Chain.{flows_at, opening_look, raw_look, shut_proxy, shut_unused, stack_chain, tunnel_found, waits_for, with_closes}
 use Rattle.px_stack.specs.Kept.{awaited_by, is_over}
 use Rattle.px_stack.specs.Laws.{settles, so_far_grows}
 use Rattle.px_stack.specs.Names.{IsOfIt, stack_names}
 use Rattle.px_stack.specs.Stack.{IsAt, StackStands, awaits, chain_of, start_by, start_of}
-use Rattle.px_stack.specs.Stages.{Stage, connecting, http, over, raw, undecided}
+use Rattle.px_stack.specs.Stages.{Goal, Stage, a_flow, a_tunnel, connecting, http, over, raw, reaching, undecided}
 use Rattle.px_stack.specs.Stands.{IsChild, Keeps, KeepsBy}
 
 -- ---- what is found in HTTP and in a tunnel
@@ -33,6 +34,11 @@ use Rattle.px_stack.specs.Stands.{IsChild, Keeps, KeepsBy}
 never_asks : (ends : Bool) (owed : List Command) (ask : Command) → tunnel_found ends owed ≡ Asks ask → ⊥
 never_asks true owed ask is = let no : Ends owed ≡ Asks ask = is in cc
 never_asks false owed ask is = let no : NotYet ≡ Asks ask = is in cc
+
+-- a proxy's answer is no reply
+never_waits : (goal : Goal) (side : Spare) (prefix : List (Timed Event)) (ask : Command) → waits_for goal side prefix ≡ Asks ask → ⊥
+never_waits (a_tunnel tunnel) side prefix ask is = never_asks (client_closed prefix) (shut_proxy side prefix) ask is
+never_waits (a_flow place from) side prefix ask is = let no : NotYet ≡ Asks ask = is in cc
 
 module _ (conv : ℕ) (client : Option Address) where
   http_asks : (unused : Option Unused) (l : Look Command) (ask : Command) → with_closes conv client unused l ≡ Asks ask → l ≡ Asks ask
@@ -54,6 +60,7 @@ module _ (conv : ℕ) (client : Option Address) where
       (ap awaited_by (sym kept.is) ∙ free) (http_asks (unused_over standing.spare prefix) ((flows_at conv client place).look standing prefix) ask asks)
   free_by child (connecting tunnel) prefix ask kept free asks =
       let no : awaited_by (children.Connecting kept.kept kept.closed) ≡ None = ap awaited_by (sym kept.is) ∙ free in cc
+  free_by child (reaching goal side since) prefix ask kept free asks = never_waits goal side prefix ask asks
   free_by child (undecided tunnel spare since) prefix ask kept free asks = never_asks _ _ ask asks
   free_by child (raw ends) prefix ask kept free asks = never_asks _ _ ask asks
   free_by child over prefix ask kept free asks = kept
@@ -64,6 +71,7 @@ module _ (conv : ℕ) (client : Option Address) where
       let asked = (awaits_what_it_asks sequence (terms_of conv client place)).asks kept.flows.value.stream standing prefix ask kept.there.is_at (ap awaited_by (sym kept.is) ∙ waits) in
       http_waits (unused_over standing.spare prefix) ((flows_at conv client place).look standing prefix) asked.0 asked.1 found
   waits_by child (connecting tunnel) prefix ask kept waits found = let no : (stack_chain conv client).look (connecting tunnel) prefix ≡ NotYet = found in cc
+  waits_by child (reaching goal side since) prefix ask kept waits found = let no : None ≡ Some ask = ap awaited_by (sym kept.is) ∙ waits in cc
   waits_by child (undecided tunnel spare since) prefix ask kept waits found =
       let no : None ≡ Some ask = ap awaited_by (sym kept.is) ∙ waits in cc
   waits_by child (raw ends) prefix ask kept waits found = let no : None ≡ Some ask = ap awaited_by (sym kept.is) ∙ waits in cc
@@ -80,6 +88,7 @@ module _ (conv : ℕ) (client : Option Address) where
   goes_on : (child : Child) (stage : Stage) (prefix : List (Timed Event)) → Keeps conv client child stage prefix → is_over child ≡ true → ⊥
   goes_on child (http place standing) prefix kept ended = let no : false ≡ true = ap is_over (sym kept.is) ∙ ended in cc
   goes_on child (connecting tunnel) prefix kept ended = let no : false ≡ true = ap is_over (sym kept.is) ∙ ended in cc
+  goes_on child (reaching goal side since) prefix kept ended = let no : false ≡ true = ap is_over (sym kept.is) ∙ ended in cc
   goes_on child (undecided tunnel spare since) prefix kept ended = let no : false ≡ true = ap is_over (sym kept.is) ∙ ended in cc
   goes_on child (raw ends) prefix kept ended = let no : false ≡ true = ap is_over (sym kept.is) ∙ ended in cc
   goes_on child over prefix kept ended = kept
@@ -127,6 +136,7 @@ ends_there made = record {
 start_is : (conv : ℕ) (client : Option Address) (child : Child) → IsOfIt conv client (start_by child)
 start_is conv client (children.Http flows) = refl
 start_is conv client (children.Connecting opening closed) = tt
+start_is conv client (children.Reaching kept) = tt
 start_is conv client (children.Undecided opening server) = tt
 start_is conv client (children.Raw relay) = tt
 start_is conv client children.Over = tt

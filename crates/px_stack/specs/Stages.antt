@@ -1,5 +1,5 @@
--- Where a conversation stands: HTTP at some place, a CONNECT that waits for its server, a tunnel of which nothing is decided yet, or one
--- whose bytes go both ways unread.
+-- Where a conversation stands: HTTP at some place, a CONNECT that waits for its server, another proxy that is asked for a tunnel, a tunnel of
+-- which nothing is decided yet, or one whose bytes go both ways unread.
 use Rattle.std.specs.Prelude.{ℕ, Option}
 use Rattle.px_message.specs.declared.address.Address.{Address}
 use Rattle.px_message.specs.declared.flow.Flow.{Flow}
@@ -8,10 +8,12 @@ use Rattle.px_chain.specs.Sights.{Spare, Standing}
 use Rattle.px_chain.specs.Stages.{At, ServerSide}
 use Rattle.px_chain.specs.Streams.{Since}
 
--- A CONNECT: where in its conversation it stands, behind its head, and where it asks for a tunnel to.
+-- A CONNECT: where in its conversation it stands, behind its head, where it asks for a tunnel to, and the proxy through which that is
+-- reached, if there is one.
 pub record Tunnel : Type 0 where
   pub at : At
   pub address : Address
+  pub proxy : Option Address
 
 -- A tunnel's two ends: how many of the client's bytes were used before it, and the server's side, which is heard behind so many events.
 -- It may have been a flow, and a spare side may be left.
@@ -22,11 +24,26 @@ pub record Ends : Type 0 where
   pub flow : Option Flow
   pub spare : Option Spare
 
+-- A flow that stands where its server is dialled: where in its conversation, since when, and the spare side.
+pub record Dialling : Type 0 where
+  pub at : At
+  pub flow : Flow
+  pub since : Since
+  pub opened : ℕ
+  pub spare : Option Spare
+
+-- What a proxy is asked to let through: a tunnel of the client, or a flow whose requests go to this place.
+pub data Goal : Type 0 where
+  a_tunnel : (tunnel : Tunnel) → Goal
+  a_flow : (place : Place) (dialling : Dialling) → Goal
+
 pub data Stage : Type 0 where
   -- HTTP, whose requests go to this place
   http : (place : Place) (standing : Standing) → Stage
   -- a CONNECT was read, and its server is dialled
   connecting : (tunnel : Tunnel) → Stage
+  -- a proxy is connected and was asked for a tunnel, since then, and its answer is awaited
+  reaching : (goal : Goal) (side : Spare) (since : Since) → Stage
   -- its server is connected, since then, and the first bytes decide what follows
   undecided : (tunnel : Tunnel) (spare : Spare) (since : Since) → Stage
   -- each side's bytes go to the other

@@ -12,16 +12,22 @@ use Rattle.px_exchange.specs.Places.{terms_of}
 use Rattle.px_chain.specs.Sights.{Spare, SpareIsWithin, Standing, Unused, unused_over}
 use Rattle.px_chain.specs.Streams.{Since, bytes_of, client_closed}
 use Rattle.px_http.specs.declared.conversation.HttpConv.{HttpConv}
+use Rattle.px_stream.specs.Anywhere.{OpensInTime}
 use Rattle.px_stream.specs.Sequence.{IsInSequence}
+use Rattle.px_stream.specs.Through.{IsDialling}
+use Rattle.px_tunnel.specs.Reaching.{HasHeard}
 use Rattle.px_tunnel.specs.Stands.{has_ended, rests_of, server_of}
 use Rattle.px_tunnel.specs.Tunnel.{no_rests}
 use Rattle.px_stack.specs.declared.child.Child.{Child}
 use Rattle.px_stack.specs.declared.child.Child.TheVariants as children
+use Rattle.px_stack.specs.declared.child.Goal.{Goal as KeptGoal}
+use Rattle.px_stack.specs.declared.child.Goal.TheVariants as goals
 use Rattle.px_stack.specs.declared.child.Opening.{Opening}
+use Rattle.px_stack.specs.declared.child.Reaching.{Reaching}
 use Rattle.px_stack.specs.declared.child.Relay.{Relay}
-use Rattle.px_stack.specs.Chain.{has_answered, opening_text, stack_chain}
+use Rattle.px_stack.specs.Chain.{closed_of, has_answered, opening_text, stack_chain, standing_of, text_of}
 use Rattle.px_stack.specs.Decides.{decided, still}
-use Rattle.px_stack.specs.Stages.{Ends as TunnelEnds, Stage, Tunnel, connecting, http, over, raw, undecided}
+use Rattle.px_stack.specs.Stages.{Dialling, Ends as TunnelEnds, Goal, Stage, Tunnel, a_flow, a_tunnel, connecting, http, over, raw, reaching, undecided}
 
 -- ---- HTTP
 
@@ -40,6 +46,7 @@ pub record IsOpening (tunnel : Tunnel) (prefix : List (Timed Event)) (kept : Ope
   pub flow : kept.numbers.flow ≡ tunnel.at.flow
   pub server : kept.numbers.server ≡ tunnel.at.dials
   pub address : kept.address ≡ tunnel.address
+  pub proxy : kept.proxy ≡ tunnel.proxy
   pub rest : kept.rest ≡ opening_text tunnel prefix
   pub few : tunnel.at.flow < 1000000
   pub used : tunnel.at.used ≤ length (bytes_of Client prefix)
@@ -52,6 +59,27 @@ pub record IsOpened (tunnel : Tunnel) (spare : Spare) (since : Since) (prefix : 
   pub dials : spare.server ≤ tunnel.at.flow
   pub opened : spare.opened ≤ length prefix
   pub come : since.events ≤ length prefix
+
+-- another proxy is asked for it, and the client has not closed
+pub record IsAskedFor (tunnel : Tunnel) (side : Spare) (prefix : List (Timed Event)) (kept : Opening) : Type 0 where
+  pub opening : IsOpening tunnel prefix kept
+  pub last : tunnel.at.dials ≡ side.server + 1
+  pub dials : side.server ≤ tunnel.at.flow
+  pub client : client_closed prefix ≡ false
+
+-- or for the way of a flow
+pub record IsLedOn (conv : ℕ) (client : Option Address) (place : Place) (from : Dialling) (side : Spare) (prefix : List (Timed Event)) (flows : HttpConv) : Type 0 where
+  pub there : IsInFlows conv client place flows (standing_of from) prefix
+  -- the spare side was connected before the client closed
+  pub in_time : OpensInTime from.spare prefix
+  pub dialled : side.server ≡ from.at.dials
+  -- the answer to its dial is awaited
+  pub waits : IsDialling flows.stream.phase
+
+abbrev pub IsGoal : ℕ → Option Address → Goal → Spare → List (Timed Event) → KeptGoal → Type 0
+IsGoal conv client (a_tunnel tunnel) side prefix (goals.Tunnel kept) = IsAskedFor tunnel side prefix kept
+IsGoal conv client (a_flow place from) side prefix (goals.Flow flows) = IsLedOn conv client place from side prefix flows.value
+IsGoal conv client goal side prefix kept = ⊥
 
 -- the spare side, while it is connected
 abbrev pub unless_shut : Unused → Bool → Option ℕ
@@ -81,6 +109,8 @@ pub record IsHttp (conv : ℕ) (client : Option Address) (place : Place) (standi
   pub flows : Box HttpConv
   pub is : child ≡ children.Http flows
   pub there : IsInFlows conv client place flows.value standing prefix
+  -- the spare side was connected before the client closed
+  pub in_time : OpensInTime standing.spare prefix
 
 pub record IsConnecting (tunnel : Tunnel) (prefix : List (Timed Event)) (child : Child) : Type 0 where
   pub kept : Opening
@@ -89,6 +119,17 @@ pub record IsConnecting (tunnel : Tunnel) (prefix : List (Timed Event)) (child :
   pub opening : IsOpening tunnel prefix kept
   pub dials : tunnel.at.dials ≤ tunnel.at.flow
   pub client : closed ≡ client_closed prefix
+
+-- nothing is decided by what has come of the proxy, which has not closed
+pub record IsReaching (conv : ℕ) (client : Option Address) (goal : Goal) (side : Spare) (since : Since) (prefix : List (Timed Event)) (child : Child) : Type 0 where
+  pub kept : Reaching
+  pub is : child ≡ children.Reaching kept
+  pub server : kept.server ≡ side.server
+  pub opened : side.opened ≤ length prefix
+  pub come : since.events ≤ length prefix
+  pub heard : HasHeard kept.asked (text_of side.server (drop side.opened prefix))
+  pub unshut : closed_of side.server (drop side.opened prefix) ≡ false
+  pub waiting : IsGoal conv client goal side prefix kept.goal
 
 pub record IsUndecided (tunnel : Tunnel) (spare : Spare) (since : Since) (prefix : List (Timed Event)) (child : Child) : Type 0 where
   pub kept : Opening
@@ -105,6 +146,7 @@ pub record IsRaw (ends : TunnelEnds) (prefix : List (Timed Event)) (child : Chil
 abbrev pub Keeps : ℕ → Option Address → Child → Stage → List (Timed Event) → Type 0
 Keeps conv client child (http place standing) prefix = IsHttp conv client place standing prefix child
 Keeps conv client child (connecting tunnel) prefix = IsConnecting tunnel prefix child
+Keeps conv client child (reaching goal side since) prefix = IsReaching conv client goal side since prefix child
 Keeps conv client child (undecided tunnel spare since) prefix = IsUndecided tunnel spare since prefix child
 Keeps conv client child (raw ends) prefix = IsRaw ends prefix child
 Keeps conv client child over prefix = ⊥

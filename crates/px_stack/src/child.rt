@@ -1,21 +1,40 @@
 //! What a conversation keeps, by where it stands.
-ghost use Rattle.std.specs.Prelude.{◌≡◌, ◌-◌, ◌^◌, min};
-ghost use Rattle.px_stack.specs.Kept.{awaited_by, is_over, kept_by};
+ghost use Rattle.std.specs.Prelude.{◌≡◌, ◌+◌, ◌-◌, ◌^◌, length, min};
+ghost use Rattle.px_stack.specs.Kept.{awaited_by, goal_keeps, is_over, kept_by};
+ghost use Rattle.px_tunnel.specs.Reaching.{rest_of};
 
 use px_event::{Ask, Layer};
 use px_http::HttpConv;
 use px_message::{Address, Flow};
 use px_stream::Numbers;
 use px_text::Bytes;
-use px_tunnel::RawTunnel;
+use px_tunnel::{RawTunnel, UpstreamTunnel};
 
-/// A CONNECT that was read: the numbers of the flow and of the server that come next, where it asks for a tunnel to, and what the client
-/// has sent behind it.
+/// A CONNECT that was read: the numbers of the flow and of the server that come next, where it asks for a tunnel to, the proxy through
+/// which that is reached, if there is one, and what the client has sent behind it.
 #[derive(Drop)]
 pub struct Opening {
     pub numbers: Numbers,
     pub address: Address,
+    pub proxy: Option<Address>,
     pub rest: Bytes,
+}
+
+/// What another proxy is asked to let through.
+#[derive(Drop)]
+pub enum Goal {
+    /// A CONNECT of the client, which has not closed.
+    Tunnel(Opening),
+    /// The present flow of HTTP, which awaits its dial.
+    Flow(Box<HttpConv>),
+}
+
+/// Another proxy, on the side of this number, that was asked for a tunnel.
+#[derive(Drop)]
+pub struct Reaching {
+    pub asked: UpstreamTunnel,
+    pub server: u32,
+    pub goal: Goal,
 }
 
 /// A tunnel whose bytes go both ways unread; the flow that became one, and the spare side that was left, while it is connected.
@@ -34,12 +53,32 @@ pub enum Child {
     Http(Box<HttpConv>),
     /// A CONNECT was read, and its server is dialled; whether the client has closed.
     Connecting { opening: Opening, closed: bool },
+    /// Another proxy was asked for a tunnel.
+    Reaching(Reaching),
     /// Its server, of this number, is connected, and nothing is decided yet.
     Undecided { opening: Opening, server: u32 },
     /// Each side's bytes go to the other.
     Raw(Relay),
     /// Nothing: it has ended.
     Over,
+}
+
+impl Reaching {
+    // How many bytes it keeps, or 2^64 - 1 where that is more.
+    fn kept(&self) -> usize
+        ensures { result ≡ min (goal_keeps self.now.goal + length (rest_of self.now.asked)) (2 ^ 64 - 1) }
+    {
+        size_of_goal(&self.goal).saturating_add(self.asked.kept())
+    }
+}
+
+fn size_of_goal(goal: &Goal) -> usize
+    ensures { result ≡ min (goal_keeps goal.now) (2 ^ 64 - 1) }
+{
+    match goal {
+        Goal::Tunnel(opening) => opening.rest.len(),
+        Goal::Flow(http) => http.kept(),
+    }
 }
 
 impl Child {
@@ -52,16 +91,18 @@ impl Child {
             Child::Connecting { opening, .. } => Some(Ask::Dial {
                 server: opening.numbers.server,
             }),
-            Child::Undecided { .. } | Child::Raw(_) | Child::Over => None,
+            Child::Reaching(_) | Child::Undecided { .. } | Child::Raw(_) | Child::Over => None,
         }
     }
 
-    /// How many bytes it keeps, or 2^64 - 1 where that is more: what HTTP does, and those by which nothing is decided.
+    /// How many bytes it keeps, or 2^64 - 1 where that is more: what HTTP does, those by which nothing is decided, and those of a proxy's
+    /// head.
     pub fn kept(&self) -> usize
         ensures { result ≡ min (kept_by self.now) (2 ^ 64 - 1) }
     {
         match self {
             Child::Http(http) => http.kept(),
+            Child::Reaching(reaching) => reaching.kept(),
             Child::Undecided { opening, .. } => opening.rest.len(),
             Child::Connecting { .. } | Child::Raw(_) | Child::Over => 0,
         }

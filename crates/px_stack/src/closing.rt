@@ -40,14 +40,14 @@ pub fn closed_by(server: u32, event: &Event) -> Option<Sides>
     }
 }
 
-// Closes the server's side, unless it closed itself.
-fn close_server(sides: Sides, out: &mut Vec<Command>) -> Result<(), NoMemory>
-    ensures { OnOk result (out.new.items ≡ out.old.items ++ shut_server (TheServer sides.server sides.shut)) }
+/// Closes the side of this server, unless it closed itself (`shut`).
+pub fn close_server(server: u32, shut: bool, out: &mut Vec<Command>) -> Result<(), NoMemory>
+    ensures { OnOk result (out.new.items ≡ out.old.items ++ shut_server (TheServer server shut)) }
 {
-    if sides.shut {
+    if shut {
         return Ok(());
     }
-    close(Side::Server(sides.server), out)
+    close(Side::Server(server), out)
 }
 
 // Closes the client's side, unless it closed itself.
@@ -64,7 +64,7 @@ fn close_client(sides: Sides, out: &mut Vec<Command>) -> Result<(), NoMemory>
 pub fn close_sides(sides: Sides, out: &mut Vec<Command>) -> Result<(), NoMemory>
     ensures { OnOk result (out.new.items ≡ out.old.items ++ closes_all sides.server sides.shut sides.closed) }
 {
-    close_server(sides, out)?;
+    close_server(sides.server, sides.shut, out)?;
     close_client(sides, out)
 }
 

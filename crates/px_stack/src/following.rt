@@ -1,9 +1,10 @@
 //! What follows HTTP: it goes on, a CONNECT is answered, another protocol goes on, or it has ended.
-ghost use Rattle.std.specs.Prelude.{◌≡◌, ◌++◌, ◌∷◌, [], Some, None, IfOk, OnOk};
+ghost use Rattle.std.specs.Prelude.{◌≡◌, ◌++◌, ◌∷◌, [], Some, None, IfOk, OnOk, unwrap_or};
 ghost use Rattle.px_event.specs.declared.command.Command.TheVariants.{Dial as TheDial};
 ghost use Rattle.px_stream.specs.Rests.{phase_flow, phase_rest};
 ghost use Rattle.px_stream.specs.Sequence.{asked_tunnel, open_spare, outcome_in, upgraded_side};
 ghost use Rattle.px_exchange.specs.declared.ending.Used.TheVariants.{ByServer as TheServer};
+ghost use Rattle.px_stack.specs.Chain.{proxy_at};
 ghost use Rattle.px_stack.specs.Kept.{shut_open};
 ghost use Rattle.px_stack.specs.Steps.{Adds, AsksBehind, Follows};
 
@@ -11,8 +12,8 @@ use crate::child::{Child, Opening};
 use crate::closing::{Sides, close_spare};
 use crate::relay::begin_relay;
 use px_event::{Command, Rests};
-use px_exchange::Outcome;
 use px_exchange::ending::Used;
+use px_exchange::{Outcome, Place};
 use px_http::HttpConv;
 use px_message::{Address, Flow};
 use px_text::NoMemory;
@@ -40,10 +41,20 @@ fn connect(http: Box<HttpConv>, out: &mut Vec<Command>) -> Result<Child, NoMemor
     let opening = read_opening(http)?;
     out.push(Command::Dial {
         server: opening.numbers.server,
-        address: opening.address.try_clone()?,
+        address: first_hop(&opening)?,
         inside: None,
     })?;
     Ok(Child::Connecting { opening, closed })
+}
+
+// What is dialled for a CONNECT: the proxy that it goes through, or where it asks for a tunnel to.
+fn first_hop(opening: &Opening) -> Result<Address, NoMemory>
+    ensures { IfOk result (λ address. address ≡ unwrap_or opening.now.proxy opening.now.address) }
+{
+    match &opening.proxy {
+        Some(proxy) => proxy.try_clone(),
+        None => opening.address.try_clone(),
+    }
 }
 
 // What a CONNECT leaves.
@@ -51,17 +62,31 @@ fn read_opening(http: Box<HttpConv>) -> Result<Opening, NoMemory>
     requires { outcome_in http.value.stream.phase ≡ Outcome.Connects }
     ensures numbers { IfOk result (λ opening. opening.numbers ≡ http.value.stream.numbers) }
     ensures address { IfOk result (λ opening. asked_tunnel http.value.stream.phase ≡ Some opening.address) }
+    ensures proxy { IfOk result (λ opening. opening.proxy ≡ proxy_at http.value.stream.terms.place) }
     ensures rest { IfOk result (λ opening. opening.rest ≡ http.value.stream.requests.rest) }
 {
     let numbers = http.numbers();
     let address = read_address(&http)?;
+    let proxy = copy_proxy(http.place())?;
     let (rests, flow) = Box::into_inner(http).into_rests()?;
     drop(flow);
     Ok(Opening {
         numbers,
         address,
+        proxy,
         rest: rests.client,
     })
+}
+
+// The proxy through which tunnels go at this place, if they go through one.
+fn copy_proxy(place: &Place) -> Result<Option<Address>, NoMemory>
+    ensures { IfOk result (λ proxy. proxy ≡ proxy_at place.now) }
+{
+    match place {
+        Place::Upstream(proxy) => Ok(Some(proxy.try_clone()?)),
+        Place::Regular => Ok(None),
+        Place::Fixed { .. } => Ok(None),
+    }
 }
 
 // Where a CONNECT asks for a tunnel to.

@@ -7,10 +7,12 @@ ghost use Rattle.px_event.specs.declared.side.Side.TheVariants.{Server};
 ghost use Rattle.px_core.specs.Ordered.{AsksBeforeEnds};
 ghost use Rattle.px_chain.specs.Silent.{NoAnswer};
 ghost use Rattle.px_exchange.specs.declared.mode.Mode.{Mode};
+ghost use Rattle.px_exchange.specs.declared.mode.Mode.TheVariants.{Upstream};
 ghost use Rattle.px_message.specs.declared.address.Address.{Address};
 ghost use Rattle.px_stack.specs.Chain.{stack_chain};
 ghost use Rattle.px_stack.specs.Decides.{decided, is_http, is_raw, still};
 ghost use Rattle.px_stack.specs.Modes.{mode_due};
+ghost use Rattle.px_stack.specs.Proxies.{HasNotAnswered, IsOneRequest, said_of};
 
 /// At one prefix passing settles at once, and in each view what a stage owes while it waits only grows.
 pub fn what_is_due_only_grows()
@@ -36,4 +38,13 @@ pub fn first_bytes_decide()
     ensures http { (text more : List ℕ) (answered later : Bool) → decided text answered ≡ is_http → decided (text ++ more) later ≡ is_http }
     ensures raw { (text more : List ℕ) (later : Bool) → decided text false ≡ is_raw → decided (text ++ more) later ≡ is_raw }
     ensures answered { (text : List ℕ) → decided text true ≡ still → ⊥ }
+{}
+
+/// In mode `upstream:` a server that has not answered was sent one request at most: one for a tunnel, or one whose target is in absolute form.
+/// So no byte of a client goes to a proxy behind a CONNECT that it has not granted, and no request from inside a tunnel to a proxy that was
+/// asked for none. A server of which no byte has come has not answered.
+pub fn proxies_answer_first()
+    ensures one { (proxy peer : Address) (conv server : ℕ) (moves : List Move) → HasNotAnswered server moves →
+        IsOneRequest (bytes_in (seen_of (line (Server server)) (mode_due (Upstream proxy) conv peer moves))) }
+    ensures unheard { (server : ℕ) (moves : List Move) → said_of server moves ≡ [] → HasNotAnswered server moves }
 {}

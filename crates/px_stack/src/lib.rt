@@ -22,6 +22,7 @@ mod deciding;
 mod following;
 pub mod laws;
 mod placed;
+mod reaching;
 mod relay;
 mod stack;
 

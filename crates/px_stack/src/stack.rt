@@ -1,18 +1,21 @@
 //! A conversation: HTTP, until a CONNECT or a response of code 101 hands over, and what follows.
-ghost use Rattle.std.specs.Prelude.{◌≡◌, ◌≤◌, ◌<◌, ℕ, List, [], ◌++◌, Option, Some, None, IfOk, OnOk, false};
+ghost use Rattle.std.specs.Prelude.{◌≡◌, ◌≤◌, ◌<◌, ◌++◌, ℕ, List, [], Option, Some, None, IfOk, OnOk, false};
 ghost use Rattle.px_event.specs.Layer.{AsksOnly, MayAnswer};
 ghost use Rattle.px_exchange.specs.Places.{place_of, terms_of};
 ghost use Rattle.px_http.specs.Stands.{HttpStands};
 ghost use Rattle.px_stack.specs.Chain.{begins};
-ghost use Rattle.px_stack.specs.Kept.{awaited_by, left_by, opened_left};
+ghost use Rattle.px_stack.specs.Chain.{unless_closed};
+ghost use Rattle.px_stack.specs.Kept.{awaited_by, goal_left, is_left, left_by, opened_left};
 ghost use Rattle.px_stack.specs.Stack.{StackStands, awaits, start_of};
 ghost use Rattle.px_stack.specs.Stands.{IsSomewhere};
-ghost use Rattle.px_stack.specs.Steps.{Adds, Decides, GoesInside, IsFewDials, Relays, ResumesChild, TakesChild};
+ghost use Rattle.px_stack.specs.Steps.{Adds, AsksFor, CanGoOn, CanReach, Decides, GoesInside, IsFewDials, IsGoalSomewhere, IsPlain, Leads, LetsThrough, Opens, Relays, ResumesChild, TakesChild, Tells, TurnsAway};
+ghost use Rattle.px_stream.specs.Through.{led_to};
 
-use crate::child::{Child, Opening};
-use crate::closing::{Sides, close_sides, closed_by};
+use crate::child::{Child, Goal, Opening, Reaching};
+use crate::closing::{Sides, close_server, close_sides, closed_by};
 use crate::deciding::{has_method, may_have_method};
 use crate::following::follow;
+use crate::reaching::{ProxySays, add, hear_goal, hear_proxy, is_left, leave};
 use crate::relay::{begin_relay, relay_takes};
 use px_event::{Ask, Command, Event, Layer, Reply, Rests, Side};
 use px_exchange::ending::refuse;
@@ -21,8 +24,9 @@ use px_exchange::terms::Now;
 use px_exchange::texts::connected_text;
 use px_exchange::{Mode, Place};
 use px_http::HttpConv;
-use px_message::Address;
+use px_message::{Address, Fault};
 use px_text::{Bytes, NoMemory};
+use px_tunnel::{UpstreamTunnel, connect_text};
 use std::alloc::Global;
 use std::mem;
 
@@ -73,6 +77,11 @@ impl Stack {
         match child {
             Child::Http(http) => http_takes(http, moment, event, out),
             Child::Connecting { .. } => unreachable!(),
+            Child::Reaching(reaching) => {
+                let taken = self.reaching_takes(reaching, moment, &event, out);
+                drop(event);
+                taken
+            }
             Child::Undecided { opening, server } => {
                 let taken = self.opened_takes(opening, server, moment, &event, out);
                 drop(event);
@@ -87,6 +96,136 @@ impl Stack {
                 drop(event);
                 Ok(Child::Over)
             }
+        }
+    }
+
+    // Takes an event where the answer of another proxy is awaited. A client that leaves before its tunnel stands ends it.
+    fn reaching_takes(
+        &self,
+        reaching: Reaching,
+        moment: u64,
+        event: &Event,
+        out: &mut Vec<Command>,
+    ) -> Result<Child, NoMemory>
+        requires somewhere { IsSomewhere self.now.conv self.now.client (Child.Reaching reaching) }
+        ensures takes { IfOk result (λ next. Adds (TakesChild self.now.conv self.now.client (Child.Reaching reaching) next moment event.now) out.old.items out.new.items) }
+        ensures asks { IfOk result (λ next. AsksOnly (awaited_by next) out.old.items out.new.items) }
+        ensures left { IfOk result (λ next. left_by next ≤ left_by (Child.Reaching reaching)) }
+    {
+        if is_left(&reaching.goal, event) {
+            return leave(reaching, out);
+        }
+        self.hear_answer(reaching, moment, event, out)
+    }
+
+    // Takes an event that may be a part of the proxy's answer.
+    fn hear_answer(
+        &self,
+        reaching: Reaching,
+        moment: u64,
+        event: &Event,
+        out: &mut Vec<Command>,
+    ) -> Result<Child, NoMemory>
+        requires somewhere { IsSomewhere self.now.conv self.now.client (Child.Reaching reaching) }
+        requires stays { is_left reaching.goal event.now ≡ false }
+        ensures takes { IfOk result (λ next. Adds (TakesChild self.now.conv self.now.client (Child.Reaching reaching) next moment event.now) out.old.items out.new.items) }
+        ensures asks { IfOk result (λ next. AsksOnly (awaited_by next) out.old.items out.new.items) }
+        ensures left { IfOk result (λ next. left_by next ≤ left_by (Child.Reaching reaching)) }
+    {
+        let Reaching {
+            asked,
+            server,
+            goal,
+        } = reaching;
+        let mut asked = asked;
+        let goal = hear_goal(self.alloc, goal, event)?;
+        match hear_proxy(&mut asked, server, event)? {
+            ProxySays::Nothing => Ok(Child::Reaching(Reaching {
+                asked,
+                server,
+                goal,
+            })),
+            ProxySays::Yes => {
+                let rest = asked.into_rest()?;
+                self.let_through(goal, server, rest, moment, out)
+            }
+            ProxySays::No { shut } => self.turn_away(goal, server, shut, moment, out),
+        }
+    }
+
+    // The proxy let through: a CONNECT is answered, or the present flow goes on. `rest` is what came behind its head.
+    fn let_through(
+        &self,
+        goal: Goal,
+        server: u32,
+        rest: Bytes,
+        moment: u64,
+        out: &mut Vec<Command>,
+    ) -> Result<Child, NoMemory>
+        requires there { CanGoOn server goal rest moment }
+        ensures lets_through { IfOk result (λ next. Adds (LetsThrough self.now.conv self.now.client server goal rest moment next) out.old.items out.new.items) }
+        ensures asks { IfOk result (λ next. AsksOnly (awaited_by next) out.old.items out.new.items) }
+        ensures left { IfOk result (λ next. left_by next ≤ goal_left goal) }
+    {
+        match goal {
+            Goal::Tunnel(opening) => {
+                send(Side::Client, connected_text(self.alloc)?, out)?;
+                self.open(opening, server, rest, moment, out)
+            }
+            Goal::Flow(http) => {
+                let rest = unless_closed(http.client_closed(), rest);
+                reach(http, rest, moment, out)
+            }
+        }
+    }
+
+    // What follows a CONNECT whose tunnel goes through another proxy: one whose server spoke at once is not read.
+    fn open(
+        &self,
+        opening: Opening,
+        server: u32,
+        rest: Bytes,
+        moment: u64,
+        out: &mut Vec<Command>,
+    ) -> Result<Child, NoMemory>
+        requires few { IsFewDials opening server }
+        ensures opens { IfOk result (λ next. Adds (Opens self.now.conv self.now.client opening server rest moment next) out.old.items out.new.items) }
+        ensures asks { IfOk result (λ next. AsksOnly (awaited_by next) out.old.items out.new.items) }
+        ensures left { IfOk result (λ next. left_by next ≤ opened_left) }
+    {
+        if rest.is_empty() {
+            return self.decide(opening, server, moment, out);
+        }
+        unread(opening, server, rest, out)
+    }
+
+    // The proxy did not let through.
+    fn turn_away(
+        &self,
+        goal: Goal,
+        server: u32,
+        shut: bool,
+        moment: u64,
+        out: &mut Vec<Command>,
+    ) -> Result<Child, NoMemory>
+        requires there { IsGoalSomewhere goal }
+        ensures turns_away { IfOk result (λ next. Adds (TurnsAway self.now.conv self.now.client server goal shut moment next) out.old.items out.new.items) }
+        ensures asks { IfOk result (λ next. AsksOnly (awaited_by next) out.old.items out.new.items) }
+        ensures left { IfOk result (λ next. left_by next ≤ goal_left goal) }
+    {
+        match goal {
+            Goal::Tunnel(opening) => {
+                drop(opening);
+                let now = Now {
+                    alloc: self.alloc,
+                    moment,
+                    client_closed: false,
+                };
+                refuse(now, Fault::UpstreamRefused, false, out)?;
+                close_server(server, shut, out)?;
+                Ok(Child::Over)
+            }
+            Goal::Flow(http) => refuse_flow(http, server, shut, moment, out),
         }
     }
 
@@ -134,47 +273,35 @@ impl Stack {
         match side {
             Side::Client => {
                 let opening = add(self.alloc, opening, bytes)?;
-                self.decide(opening, server, false, moment, out)
+                self.decide(opening, server, moment, out)
             }
             Side::Server(number) if number == server && !bytes.is_empty() => {
-                unread(opening, server, bytes.try_clone()?, false, out)
+                unread(opening, server, bytes.try_clone()?, out)
             }
             Side::Server(_) => Ok(Child::Undecided { opening, server }),
         }
     }
 
-    // What the client has sent decides, or nothing is decided yet; `closed` is whether the client has closed.
+    // What the client has sent decides, or nothing is decided yet. It has not closed.
     fn decide(
         &self,
         opening: Opening,
         server: u32,
-        closed: bool,
         moment: u64,
         out: &mut Vec<Command>,
     ) -> Result<Child, NoMemory>
         requires few { IsFewDials opening server }
-        ensures decides { IfOk result (λ next. Adds (Decides self.now.conv self.now.client opening server closed moment next) out.old.items out.new.items) }
+        ensures decides { IfOk result (λ next. Adds (Decides self.now.conv self.now.client opening server moment next) out.old.items out.new.items) }
         ensures asks { IfOk result (λ next. AsksOnly (awaited_by next) out.old.items out.new.items) }
         ensures left { IfOk result (λ next. left_by next ≤ opened_left) }
     {
         if has_method(opening.rest.as_slice()) {
-            return self.begin_inside(opening, server, closed, moment, out);
+            return self.begin_inside(opening, server, moment, out);
         }
         if !may_have_method(opening.rest.as_slice()) {
-            return unread(opening, server, Bytes::empty(), closed, out);
+            return unread(opening, server, Bytes::empty(), out);
         }
-        if !closed {
-            return Ok(Child::Undecided { opening, server });
-        }
-        close_sides(
-            Sides {
-                server,
-                shut: false,
-                closed,
-            },
-            out,
-        )?;
-        Ok(Child::Over)
+        Ok(Child::Undecided { opening, server })
     }
 
     // HTTP begins in the tunnel, with what the client has sent.
@@ -182,24 +309,24 @@ impl Stack {
         &self,
         opening: Opening,
         server: u32,
-        closed: bool,
         moment: u64,
         out: &mut Vec<Command>,
     ) -> Result<Child, NoMemory>
         requires few { IsFewDials opening server }
-        ensures inside { IfOk result (λ next. Adds (GoesInside self.now.conv self.now.client opening server closed moment next) out.old.items out.new.items) }
+        ensures inside { IfOk result (λ next. Adds (GoesInside self.now.conv self.now.client opening server moment next) out.old.items out.new.items) }
         ensures asks { IfOk result (λ next. AsksOnly (awaited_by next) out.old.items out.new.items) }
         ensures left { IfOk result (λ next. left_by next ≤ opened_left) }
     {
         let Opening {
             numbers,
             address,
+            proxy,
             rest,
         } = opening;
         let place = Place::Fixed {
             address,
             side: Some(server),
-            inside: None,
+            inside: proxy,
         };
         let mut http = HttpConv::new(
             self.alloc,
@@ -209,7 +336,7 @@ impl Stack {
             numbers.flow,
             numbers.server,
         );
-        http.begin(moment, closed, &rest, out)?;
+        http.begin(moment, false, &rest, out)?;
         follow(Box::new(self.alloc, http)?, out)
     }
 
@@ -228,12 +355,79 @@ impl Stack {
         ensures left { IfOk result (λ next. left_by next < left_by child) }
     {
         match child {
-            Child::Http(http) => http_resumes(http, moment, reply, out),
+            Child::Http(http) => self.http_answers(http, moment, reply, out),
             Child::Connecting { opening, closed } => {
                 self.dialled(opening, closed, moment, reply, out)
             }
-            Child::Undecided { .. } | Child::Raw(_) | Child::Over => unreachable!(),
+            Child::Reaching(_) | Child::Undecided { .. } | Child::Raw(_) | Child::Over => {
+                unreachable!()
+            }
         }
+    }
+
+    // HTTP takes a reply. A dial that connected another proxy has the proxy asked for a tunnel to the flow's server.
+    fn http_answers(
+        &self,
+        http: Box<HttpConv>,
+        moment: u64,
+        reply: Reply,
+        out: &mut Vec<Command>,
+    ) -> Result<Child, NoMemory>
+        requires somewhere { IsSomewhere self.now.conv self.now.client (Child.Http http) }
+        requires answers { MayAnswer (awaited_by (Child.Http http)) reply }
+        ensures resumes { IfOk result (λ next. Adds (ResumesChild self.now.conv self.now.client (Child.Http http) next moment reply) out.old.items out.new.items) }
+        ensures asks { IfOk result (λ next. AsksOnly (awaited_by next) out.old.items out.new.items) }
+        ensures left { IfOk result (λ next. left_by next < left_by (Child.Http http)) }
+    {
+        match reply {
+            Reply::Dialled => self.flow_dialled(http, moment, out),
+            other => http_resumes(http, moment, other, out),
+        }
+    }
+
+    // The dial of a flow was answered.
+    fn flow_dialled(
+        &self,
+        http: Box<HttpConv>,
+        moment: u64,
+        out: &mut Vec<Command>,
+    ) -> Result<Child, NoMemory>
+        requires somewhere { IsSomewhere self.now.conv self.now.client (Child.Http http) }
+        requires answers { MayAnswer (awaited_by (Child.Http http)) Reply.Dialled }
+        ensures resumes { IfOk result (λ next. Adds (ResumesChild self.now.conv self.now.client (Child.Http http) next moment Reply.Dialled) out.old.items out.new.items) }
+        ensures asks { IfOk result (λ next. AsksOnly (awaited_by next) out.old.items out.new.items) }
+        ensures left { IfOk result (λ next. left_by next < left_by (Child.Http http)) }
+    {
+        match http.leads_to()? {
+            Some(address) => self.ask_proxy(http, &address, out),
+            None => http_resumes(http, moment, Reply::Dialled, out),
+        }
+    }
+
+    // The proxy through which the server of the present flow is reached is asked for a tunnel to there.
+    fn ask_proxy(
+        &self,
+        http: Box<HttpConv>,
+        address: &Address,
+        out: &mut Vec<Command>,
+    ) -> Result<Child, NoMemory>
+        requires somewhere { IsSomewhere self.now.conv self.now.client (Child.Http http) }
+        requires leads { led_to http.value.stream.terms.place http.value.stream.phase ≡ Some address.now }
+        ensures resumes { (moment : ℕ) → IfOk result (λ next. Adds (ResumesChild self.now.conv self.now.client (Child.Http http) next moment Reply.Dialled) out.old.items out.new.items) }
+        ensures asks { IfOk result (λ next. AsksOnly (awaited_by next) out.old.items out.new.items) }
+        ensures left { IfOk result (λ next. left_by next < left_by (Child.Http http)) }
+    {
+        let server = http.numbers().server;
+        send(
+            Side::Server(server),
+            connect_text(self.alloc, address)?,
+            out,
+        )?;
+        Ok(Child::Reaching(Reaching {
+            asked: UpstreamTunnel::new(self.alloc),
+            server,
+            goal: Goal::Flow(http),
+        }))
     }
 
     // The dial of a CONNECT was answered.
@@ -265,7 +459,7 @@ impl Stack {
         }
     }
 
-    // Its server is connected: the client is told, and what it has sent decides.
+    // Its server is connected, or the proxy through which that is reached.
     fn connected(
         &self,
         opening: Opening,
@@ -281,8 +475,59 @@ impl Stack {
         let server = opening.numbers.server;
         let mut opening = opening;
         opening.numbers.server = server + 1;
+        if opening.proxy.is_some() {
+            return self.ask_for(opening, server, closed, out);
+        }
+        self.tell(opening, server, closed, moment, out)
+    }
+
+    // The proxy is asked for a tunnel to where the CONNECT asks to, unless the client has left: that ends it.
+    fn ask_for(
+        &self,
+        opening: Opening,
+        server: u32,
+        closed: bool,
+        out: &mut Vec<Command>,
+    ) -> Result<Child, NoMemory>
+        ensures asked { IfOk result (λ next. AsksFor opening server closed next out.old.items out.new.items) }
+        ensures asks { IfOk result (λ next. AsksOnly (awaited_by next) out.old.items out.new.items) }
+        ensures left { IfOk result (λ next. left_by next ≤ opened_left) }
+    {
+        let text = connect_text(self.alloc, &opening.address)?;
+        send(Side::Server(server), text, out)?;
+        if closed {
+            drop(opening);
+            close_server(server, false, out)?;
+            return Ok(Child::Over);
+        }
+        Ok(Child::Reaching(Reaching {
+            asked: UpstreamTunnel::new(self.alloc),
+            server,
+            goal: Goal::Tunnel(opening),
+        }))
+    }
+
+    // The client is told of the connection, and what it has sent decides, unless it has left: that ends it.
+    fn tell(
+        &self,
+        opening: Opening,
+        server: u32,
+        closed: bool,
+        moment: u64,
+        out: &mut Vec<Command>,
+    ) -> Result<Child, NoMemory>
+        requires few { IsFewDials opening server }
+        ensures tells { IfOk result (λ next. Adds (Tells self.now.conv self.now.client opening server closed moment next) out.old.items out.new.items) }
+        ensures asks { IfOk result (λ next. AsksOnly (awaited_by next) out.old.items out.new.items) }
+        ensures left { IfOk result (λ next. left_by next ≤ opened_left) }
+    {
         send(Side::Client, connected_text(self.alloc)?, out)?;
-        self.decide(opening, server, closed, moment, out)
+        if closed {
+            drop(opening);
+            close_server(server, false, out)?;
+            return Ok(Child::Over);
+        }
+        self.decide(opening, server, moment, out)
     }
 }
 
@@ -322,7 +567,7 @@ fn http_takes(
     follow(http, out)
 }
 
-// HTTP takes a reply, and what follows it.
+// HTTP takes a reply that is not the connection of another proxy, and what follows it.
 fn http_resumes(
     http: Box<HttpConv>,
     moment: u64,
@@ -331,6 +576,7 @@ fn http_resumes(
 ) -> Result<Child, NoMemory>
     requires somewhere { (conv : ℕ) × (client : Option Address) × IsSomewhere conv client (Child.Http http) }
     requires answers { MayAnswer (awaited_by (Child.Http http)) reply }
+    requires plain { IsPlain http.value reply }
     ensures resumes { IfOk result (λ next. Adds (λ more. (conv : ℕ) (client : Option Address) → ResumesChild conv client (Child.Http http) next moment reply more) out.old.items out.new.items) }
     ensures asks { IfOk result (λ next. AsksOnly (awaited_by next) out.old.items out.new.items) }
     ensures left { IfOk result (λ next. left_by next < left_by (Child.Http http)) }
@@ -340,20 +586,47 @@ fn http_resumes(
     follow(http, out)
 }
 
-// What the client has sent behind a CONNECT, with more behind it.
-fn add(alloc: Global, opening: Opening, bytes: &Bytes) -> Result<Opening, NoMemory>
-    ensures { IfOk result (λ longer. longer ≡ record opening { rest = opening.rest ++ bytes.now }) }
+// The present flow is connected through another proxy, and goes on with what has come of its server.
+fn reach(
+    http: Box<HttpConv>,
+    rest: Bytes,
+    moment: u64,
+    out: &mut Vec<Command>,
+) -> Result<Child, NoMemory>
+    requires there { CanReach http rest moment }
+    ensures leads { IfOk result (λ next. Adds (Leads http rest moment next) out.old.items out.new.items) }
+    ensures asks { IfOk result (λ next. AsksOnly (awaited_by next) out.old.items out.new.items) }
+    ensures left { IfOk result (λ next. left_by next ≤ goal_left (Goal.Flow http)) }
 {
-    let Opening {
-        numbers,
-        address,
-        rest,
-    } = opening;
-    Ok(Opening {
-        numbers,
-        address,
-        rest: rest.append(alloc, bytes.as_slice())?,
-    })
+    let mut http = http;
+    http.reach(moment, &rest, out)?;
+    follow(http, out)
+}
+
+// It is refused as by its dial, and the proxy's side is closed.
+fn refuse_flow(
+    http: Box<HttpConv>,
+    server: u32,
+    shut: bool,
+    moment: u64,
+    out: &mut Vec<Command>,
+) -> Result<Child, NoMemory>
+    requires there { IsGoalSomewhere (Goal.Flow http) }
+    ensures turns_away { IfOk result (λ next. Adds (λ more. (conv : ℕ) (client : Option Address) → TurnsAway conv client server (Goal.Flow http) shut moment next more) out.old.items out.new.items) }
+    ensures asks { IfOk result (λ next. AsksOnly (awaited_by next) out.old.items out.new.items) }
+    ensures left { IfOk result (λ next. left_by next ≤ goal_left (Goal.Flow http)) }
+{
+    let mut http = http;
+    http.resume_anywhere(moment, Reply::Refused(Fault::UpstreamRefused), out)?;
+    close_server(server, shut, out)?;
+    follow(http, out)
+}
+
+// What came of a server, unless the client has closed: behind its close nothing is heard.
+fn unless_closed(closed: bool, text: Bytes) -> Bytes
+    ensures { result ≡ unless_closed closed text }
+{
+    if closed { Bytes::empty() } else { text }
 }
 
 // A tunnel that is not read begins with what has come of both sides.
@@ -361,17 +634,16 @@ fn unread(
     opening: Opening,
     server: u32,
     answered: Bytes,
-    closed: bool,
     out: &mut Vec<Command>,
 ) -> Result<Child, NoMemory>
-    ensures relays { IfOk result (λ next. Adds (Relays (record { server = server; shut = false; closed = closed }) (record { client = opening.rest; server = answered }) None None next) out.old.items out.new.items) }
+    ensures relays { IfOk result (λ next. Adds (Relays (record { server = server; shut = false; closed = false }) (record { client = opening.rest; server = answered }) None None next) out.old.items out.new.items) }
     ensures asks { IfOk result (λ next. AsksOnly (awaited_by next) out.old.items out.new.items) }
     ensures left { IfOk result (λ next. left_by next ≤ opened_left) }
 {
     let sides = Sides {
         server,
         shut: false,
-        closed,
+        closed: false,
     };
     let rests = Rests {
         client: opening.rest,

@@ -13,7 +13,7 @@ pub returns-in-Going-clause-follows : goal.returns-in-Going-clause-follows
 returns-in-Going-clause-follows c = record {
   more = [];
   grown = sym (append-nil c.args.out.now.items);
-  holds = λ conv client place standing prefix at. goes_on conv client place c.args.http.value standing prefix at c.args.http refl
+  holds = λ conv client place standing prefix at in_time. goes_on conv client place c.args.http.value standing prefix at in_time c.args.http refl
       (ap (λ h. outcome_in h.stream.phase) (sym c.deref.ensures) ∙ (sym c.outcome.ensures.phase ∙ c.in-Going.is));
 }
 

@@ -29,7 +29,7 @@ returns-clause-resumes c =
     (λ child adds. record {
       more = took.more ++ adds.more;
       grown = adds.grown ∙ (ap (λ l. l ++ adds.more) took.grown ∙ append_assoc out took.more adds.more);
-      holds = λ conv client. http_resumes conv client c.args.http after child took.more adds.more adds.holds c.args.moment c.args.reply took.resumes;
+      holds = λ conv client. http_resumes conv client c.args.http after child took.more adds.more adds.holds c.args.moment c.args.reply c.requires.plain took.resumes;
     }) c.follow.ensures.follows
 
 pub returns-clause-left : goal.returns-clause-left

@@ -1,7 +1,13 @@
-use Rattle.px_stack.proofs.InsideLemmas.{connected_resumed}
+use Rattle.std.proofs.Common.{sym, ◌∙◌}
+use Rattle.px_stack.proofs.AskLemmas.{asked_resumed, told_resumed}
 use Rattle.px_stack.proofs.stack.Stack.connected.Goals as goal
+
+pub returns-then-is_some-clause-resumes : goal.returns-then-is_some-clause-resumes
+returns-then-is_some-clause-resumes c =
+    asked_resumed c.args.self.now.conv c.args.self.now.client c.args.opening c.args.closed c.args.moment c.args.out.now.items c.ask_for.new.out.items
+    (sym c.is_some.ensures ∙ c.if-is_some.true) c.ask_for.result c.ask_for.ensures.asked
 
 pub returns-clause-resumes : goal.returns-clause-resumes
 returns-clause-resumes c =
-    connected_resumed c.args.self.now.conv c.args.self.now.client c.args.opening c.args.closed c.args.moment c.args.out.now.items c.send.new.out.items c.decide.new.out.items
-    c.in_ok-connected_text.field-0 c.in_ok-connected_text.ensures c.in_ok-send.ensures c.decide.result c.decide.ensures.decides
+    told_resumed c.args.self.now.conv c.args.self.now.client c.args.opening c.args.closed c.args.moment c.args.out.now.items c.tell.new.out.items
+    (sym c.is_some.ensures ∙ c.if-is_some.false) c.tell.result c.tell.ensures.tells

@@ -1,6 +1,6 @@
 use Rattle.std.proofs.Common.{[], sym, refl, arith}
 use Rattle.std.proofs.lemmas.List.{append-nil}
-use Rattle.px_stack.proofs.InsideLemmas.{other_resumed, refused_resumed}
+use Rattle.px_stack.proofs.AskLemmas.{other_resumed, refused_resumed}
 use Rattle.px_stack.proofs.stack.Stack.dialled.Goals as goal
 
 pub returns-in_ok-refuse-in-Refused-clause-resumes : goal.returns-in_ok-refuse-in-Refused-clause-resumes
