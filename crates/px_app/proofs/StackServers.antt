@@ -1,10 +1,13 @@
--- The dials that are due in a conversation are numbered by their order: those of HTTP, that of a CONNECT, and those of HTTP inside it.
+-- The dials that are due in a conversation are numbered by their order: those of HTTP, that of a CONNECT, and those of HTTP inside it. A proxy
+-- that is asked for a tunnel stands behind its dial.
 use Rattle.std.proofs.Common.{◌≡◌, ◌∙◌, ℕ, ◌+◌, Bool, true, false, List, [], ◌∷◌, ◌++◌, drop, length, Option, Some, None, refl, sym, ap, subst}
 use Rattle.std.specs.Prelude.{⊤, ◌||◌}
 use Rattle.std.proofs.lemmas.List.{append-nil}
 use Rattle.px_message.specs.declared.address.Address.{Address}
+use Rattle.px_message.specs.declared.fault.Fault.TheVariants.{UpstreamRefused}
 use Rattle.px_message.specs.declared.flow.Flow.{Flow}
 use Rattle.px_event.specs.declared.command.Command.{Command}
+use Rattle.px_event.specs.declared.command.Command.TheVariants as commands
 use Rattle.px_event.specs.declared.event.Event.{Event}
 use Rattle.px_event.specs.declared.reply.Reply.{Reply}
 use Rattle.px_event.specs.declared.reply.Reply.TheVariants as reply
@@ -13,27 +16,34 @@ use Rattle.px_event.specs.Chain.{Timed, Look, NotYet, Asks, Ends, found}
 use Rattle.px_event.specs.Layer.{Move}
 use Rattle.px_exchange.specs.declared.mode.Mode.{Mode}
 use Rattle.px_exchange.specs.declared.place.Place.{Place}
-use Rattle.px_exchange.specs.Places.{terms_of}
+use Rattle.px_exchange.specs.declared.place.Place.TheVariants as places
+use Rattle.px_exchange.specs.Places.{dialled_for, terms_of}
 use Rattle.px_exchange.specs.Endings.{shut_all, shut_client, shut_server}
 use Rattle.px_exchange.specs.declared.ending.Used.{Used}
 use Rattle.px_exchange.specs.declared.ending.Used.TheVariants.{NoServer, ByServer}
-use Rattle.px_chain.specs.Chain.{Connect, connect_in}
+use Rattle.px_chain.specs.Chain.{Connect, connect_in, look as look_of}
 use Rattle.px_chain.specs.Sights.{Sight, Spare, Standing, Unused, request_in, sight_over, unused_over}
 use Rattle.px_chain.specs.Stages.{At, busy, connection, given_body, given_head, idle, next, request_body, response_body, response_head, upgraded}
 use Rattle.px_chain.specs.Stages as flows
-use Rattle.px_chain.specs.Streams.{Since, client_closed, is_closed}
-use Rattle.px_stack.specs.Chain.{begins, closes_all, finished_flow, flows_at, follows, hands_by, is_shut, opening_look, or_stays, raw_look, shut_unused, stack_chain, tunnel_for, tunnel_found, turn_dial, with_closes}
-use Rattle.px_stack.specs.Decides.{Decision, is_http, is_raw, still}
+use Rattle.px_chain.specs.Streams.{Since, client_closed, from_here, is_closed, now_over}
+use Rattle.px_tunnel.specs.Upstream.{Granting, awaited, granted, refused}
+use Rattle.px_stack.specs.Chain.{answer_of, begins, closed_of, closes_all, finished_flow, flows_at, follows, goes_by, hands_by, has_answered, is_empty, is_shut, led_at, led_by, opening_look, opening_text, opens_by, or_stays, pass_reached, raw_look, shut_proxy, shut_unused, stack_chain, standing_of, text_behind, tunnel_for, tunnel_found, turn_connected, turn_dial, turn_http, waits_for, with_closes}
+use Rattle.px_stack.specs.Decides.{Decision, decided, is_http, is_raw, still}
 use Rattle.px_stack.specs.Modes.{mode_due}
-use Rattle.px_stack.specs.Stages.{Ends as TunnelEnds, Stage, Tunnel, connecting, http, over, raw, undecided}
+use Rattle.px_stack.specs.Stages.{Dialling, Ends as TunnelEnds, Goal, Stage, Tunnel, a_flow, a_tunnel, connecting, http, over, raw, reaching, undecided}
 use Rattle.px_app.specs.Servers.{CountsFrom}
 use Rattle.px_app.proofs.HttpServers.{Dialled, DialledAt, counts as flows_count}
 use Rattle.px_app.proofs.ServerLemmas.{CountsDials, dials_in, dials_more, due_counts}
 
 -- so many servers were dialled before the stage, or nothing is dialled any more
+abbrev DialledFor : ℕ → Goal → Type 0
+DialledFor n (a_tunnel tunnel) = tunnel.at.dials ≡ n
+DialledFor n (a_flow place from) = from.at.dials + 1 ≡ n
+
 abbrev DialledSo : ℕ → Stage → Type 0
 DialledSo n (http place standing) = DialledAt n standing
 DialledSo n (connecting tunnel) = tunnel.at.dials ≡ n
+DialledSo n (reaching goal side since) = DialledFor n goal
 DialledSo n (undecided tunnel spare since) = tunnel.at.dials ≡ n
 DialledSo n (raw ends) = ⊤
 DialledSo n over = ⊤
@@ -91,7 +101,7 @@ module _ (conv : ℕ) (client : Option Address) where
   -- ---- where a stage goes on to
 
   tunnel_dialled : (n : ℕ) (place : Place) (standing : Standing) (at : At) (connect : Option Connect) → DialledAt n standing → at.dials ≡ n →
-      DialledSo n (or_stays (http place standing) (tunnel_for at connect))
+      DialledSo n (or_stays (http place standing) (tunnel_for place at connect))
   tunnel_dialled n place standing at None is here = is
   tunnel_dialled n place standing at (Some connect) is here = here
 
@@ -116,6 +126,41 @@ module _ (conv : ℕ) (client : Option Address) where
   flows_counts : (place : Place) → CountsDials (flows_at conv client place) DialledAt
   flows_counts place = flows_count (terms_of conv client place)
 
+  goes_dialled : (n : ℕ) (closed : Bool) (tunnel : Tunnel) (spare : Spare) (since : Since) (prefix : List (Timed Event)) → tunnel.at.dials ≡ n →
+      DialledSo n (goes_by closed tunnel spare since prefix)
+  goes_dialled n true tunnel spare since prefix is = is
+  goes_dialled n false tunnel spare since prefix is = follows_dialled n (decided (opening_text tunnel prefix) (has_answered spare prefix)) tunnel spare since is
+
+  -- ---- another proxy, which has answered
+
+  opens_dialled : (n : ℕ) (empty : Bool) (tunnel : Tunnel) (side : Spare) (used : ℕ) (since : Since) (prefix : List (Timed Event)) → tunnel.at.dials ≡ n →
+      DialledSo n (opens_by empty tunnel side used since prefix)
+  opens_dialled n true tunnel side used since prefix is =
+      goes_dialled n (client_closed prefix) tunnel (record { server = side.server; opened = length prefix }) since prefix is
+  opens_dialled n false tunnel side used since prefix is = tt
+
+  shut_none : (side : Spare) (prefix : List (Timed Event)) → dials_in (shut_proxy side prefix) ≡ []
+  shut_none side prefix = server_none (ByServer side.server (closed_of side.server (drop side.opened prefix)))
+
+  refused_dialled : (n : ℕ) (place : Place) (from : Dialling) (side : Spare) (since : Since) (prefix : List (Timed Event)) → from.at.dials + 1 ≡ n →
+      (dials_in (pass_reached conv client (a_flow place from) side since prefix refused).owed ≡ [])
+      × DialledSo n (pass_reached conv client (a_flow place from) side since prefix refused).stage
+  refused_dialled n place from side since prefix is =
+      let answer : Timed Reply = record { moment = now_over since prefix; value = reply.Refused UpstreamRefused } in
+      let dial : Command = commands.Dial from.at.dials (dialled_for place from.flow.request) None in
+      let on = (flows_counts place).turn from.at.dials (standing_of from) prefix dial answer refl refl in
+      (none_both ((flows_at conv client place).turn (standing_of from) prefix answer).owed (shut_proxy side prefix) on.0 (shut_none side prefix), tt)
+
+  reached_dialled : (n : ℕ) (goal : Goal) (side : Spare) (since : Since) (prefix : List (Timed Event)) (g : Granting) → DialledFor n goal →
+      (dials_in (pass_reached conv client goal side since prefix g).owed ≡ []) × DialledSo n (pass_reached conv client goal side since prefix g).stage
+  reached_dialled n goal side since prefix awaited is = (refl, is)
+  reached_dialled n (a_tunnel tunnel) side since prefix (granted used) is =
+      (refl, opens_dialled n (is_empty (text_behind side used prefix)) tunnel side used (from_here (now_over since prefix) prefix) prefix is)
+  reached_dialled n (a_flow place from) side since prefix (granted used) is = (refl, is)
+  reached_dialled n (a_tunnel tunnel) side since prefix refused is =
+      (none_both (shut_client (client_closed prefix)) (shut_proxy side prefix) (client_none (client_closed prefix)) (shut_none side prefix), tt)
+  reached_dialled n (a_flow place from) side since prefix refused is = refused_dialled n place from side since prefix is
+
   passes : (n : ℕ) (stage : Stage) (prefix : List (Timed Event)) → DialledSo n stage →
       (dials_in ((stack_chain conv client).pass stage prefix).owed ≡ []) × DialledSo n ((stack_chain conv client).pass stage prefix).stage
   passes n (http place standing) prefix is =
@@ -123,7 +168,8 @@ module _ (conv : ℕ) (client : Option Address) where
       let knows = (flows_counts place).pass n standing prefix is in
       (knows.0, hands_dialled n place on.stage on.stage.stage (sight_over on.stage prefix) knows.1 knows.1)
   passes n (connecting tunnel) prefix is = (refl, is)
-  passes n (undecided tunnel spare since) prefix is = (refl, follows_dialled n _ tunnel spare since is)
+  passes n (reaching goal side since) prefix is = reached_dialled n goal side since prefix (answer_of side prefix) is
+  passes n (undecided tunnel spare since) prefix is = (refl, goes_dialled n (client_closed prefix) tunnel spare since prefix is)
   passes n (raw ends) prefix is = (refl, tt)
   passes n over prefix is = (refl, tt)
 
@@ -132,6 +178,7 @@ module _ (conv : ℕ) (client : Option Address) where
   waits : (stage : Stage) (prefix : List (Timed Event)) → dials_in ((stack_chain conv client).so_far stage prefix) ≡ []
   waits (http place standing) prefix = (flows_counts place).so_far standing prefix
   waits (connecting tunnel) prefix = refl
+  waits (reaching goal side since) prefix = refl
   waits (undecided tunnel spare since) prefix = refl
   waits (raw ends) prefix = refl
   waits over prefix = refl
@@ -152,14 +199,24 @@ module _ (conv : ℕ) (client : Option Address) where
       (none_both (finished_flow ends.flow) (shut_unused unused ++ closes) (flow_none ends.flow)
       (none_both (shut_unused unused) closes (unused_none unused) (all_none (ByServer ends.side.server shut) closed)))
 
+  waits_none : (goal : Goal) (side : Spare) (prefix : List (Timed Event)) → dials_in (found (waits_for goal side prefix)) ≡ []
+  waits_none (a_tunnel tunnel) side prefix = found_none (client_closed prefix) (shut_proxy side prefix) (shut_none side prefix)
+  waits_none (a_flow place from) side prefix = refl
+
   looks : (n : ℕ) (stage : Stage) (prefix : List (Timed Event)) → DialledSo n stage → CountsFrom n (dials_in (found ((stack_chain conv client).look stage prefix)))
   looks n (http place standing) prefix is = with_counts n (unused_over standing.spare prefix) ((flows_at conv client place).look standing prefix) ((flows_counts place).look n standing prefix is)
   looks n (connecting tunnel) prefix is = (is, tt)
+  looks n (reaching goal side since) prefix is = counts_none n (found (waits_for goal side prefix)) (waits_none goal side prefix)
   looks n (undecided tunnel spare since) prefix is = counts_none n (found (opening_look spare prefix)) (opening_none spare prefix)
   looks n (raw ends) prefix is = counts_none n (found (raw_look ends prefix)) (raw_none ends prefix)
   looks n over prefix is = tt
 
   -- ---- what a reply brings
+
+  connected_turns : (n : ℕ) (proxy : Option Address) (tunnel : Tunnel) (prefix : List (Timed Event)) (moment : ℕ) → tunnel.at.dials ≡ n →
+      (dials_in (turn_connected conv client proxy tunnel prefix moment).owed ≡ []) × DialledSo (n + 1) (turn_connected conv client proxy tunnel prefix moment).stage
+  connected_turns n None tunnel prefix moment is = (refl, ap (λ (k : ℕ). k + 1) is)
+  connected_turns n (Some proxy) tunnel prefix moment is = (refl, ap (λ (k : ℕ). k + 1) is)
 
   dial_turns : (n : ℕ) (tunnel : Tunnel) (prefix : List (Timed Event)) (answer : Reply) (moment : ℕ) → tunnel.at.dials ≡ n →
       (dials_in (turn_dial conv client tunnel prefix answer moment).owed ≡ []) × DialledSo (n + 1) (turn_dial conv client tunnel prefix answer moment).stage
@@ -167,7 +224,7 @@ module _ (conv : ℕ) (client : Option Address) where
   dial_turns n tunnel prefix (reply.Respond response) moment is = (refl, tt)
   dial_turns n tunnel prefix reply.Kill moment is = (refl, tt)
   dial_turns n tunnel prefix reply.Discard moment is = (refl, tt)
-  dial_turns n tunnel prefix reply.Dialled moment is = (refl, ap (λ (k : ℕ). k + 1) is)
+  dial_turns n tunnel prefix reply.Dialled moment is = connected_turns n tunnel.proxy tunnel prefix moment is
   dial_turns n tunnel prefix (reply.Refused fault) moment is = (client_none (client_closed prefix), tt)
 
   dial_asked : (tunnel : Tunnel) (prefix : List (Timed Event)) (ask : Command) → (stack_chain conv client).look (connecting tunnel) prefix ≡ Asks ask → length (dials_in (ask ∷ [])) ≡ 1
@@ -177,14 +234,68 @@ module _ (conv : ℕ) (client : Option Address) where
   found_asks true owed ask is = let no : Ends owed ≡ Asks ask = is in cc
   found_asks false owed ask is = let no : NotYet ≡ Asks ask = is in cc
 
+  waits_not : (goal : Goal) (side : Spare) (prefix : List (Timed Event)) (ask : Command) → waits_for goal side prefix ≡ Asks ask → ⊥
+  waits_not (a_tunnel tunnel) side prefix ask is = found_asks (client_closed prefix) (shut_proxy side prefix) ask is
+  waits_not (a_flow place from) side prefix ask is = let no : NotYet ≡ Asks ask = is in cc
+
+  -- ---- a flow whose dial connected another proxy
+
+  -- it stands where its server is dialled
+  abbrev IsLed : ℕ → Place → Standing → List (Timed Event) → Option Dialling → Type 0
+  IsLed n place standing prefix None = ⊤
+  IsLed n place standing prefix (Some from) =
+      (from.at.dials ≡ n) × ((flows_at conv client place).look standing prefix ≡ Asks (commands.Dial from.at.dials (dialled_for place from.flow.request) None))
+
+  led_is_by : (n : ℕ) (place : Place) (standing : Standing) (prefix : List (Timed Event)) (stage : flows.Stage) → standing.stage ≡ stage → Dialled n stage →
+      IsLed n place standing prefix (led_by standing stage)
+  led_is_by n place standing prefix (idle at) is here = tt
+  led_is_by n place standing prefix (busy at flow (request_body given)) is here = tt
+  led_is_by n place standing prefix (busy at flow connection) is here = (here, ap (λ s. look_of (terms_of conv client place) s (sight_over standing prefix)) is)
+  led_is_by n place standing prefix (busy at flow (response_head side how)) is here = tt
+  led_is_by n place standing prefix (busy at flow (response_body side how)) is here = tt
+  led_is_by n place standing prefix (busy at flow (upgraded side)) is here = tt
+  led_is_by n place standing prefix (busy at flow given_head) is here = tt
+  led_is_by n place standing prefix (busy at flow given_body) is here = tt
+  led_is_by n place standing prefix (next at) is here = tt
+  led_is_by n place standing prefix flows.over is here = tt
+
+  led_is : (n : ℕ) (place : Place) (standing : Standing) (prefix : List (Timed Event)) → DialledAt n standing → IsLed n place standing prefix (led_at place standing)
+  led_is n places.Regular standing prefix here = tt
+  led_is n (places.Upstream proxy) standing prefix here = tt
+  led_is n (places.Fixed address side None) standing prefix here = tt
+  led_is n (places.Fixed address side (Some proxy)) standing prefix here =
+      led_is_by n (places.Fixed address side (Some proxy)) standing prefix standing.stage refl here
+
+  -- the dial was one more
+  proxy_dialled : (n : ℕ) (place : Place) (standing : Standing) (prefix : List (Timed Event)) (ask : Command) (from : Dialling) → IsLed n place standing prefix (Some from) →
+      (flows_at conv client place).look standing prefix ≡ Asks ask → from.at.dials + 1 ≡ n + length (dials_in (ask ∷ []))
+  proxy_dialled n place standing prefix ask from (is, looks) asks =
+      let found_same : Asks (commands.Dial from.at.dials (dialled_for place from.flow.request) None) ≡ Asks ask = sym looks ∙ asks in
+      let P : Look Command → Type 0 = λ l. from.at.dials + 1 ≡ n + length (dials_in (found l)) in
+      subst P found_same (ap (λ (k : ℕ). k + 1) is)
+
+  http_turns : (n : ℕ) (led : Option Dialling) (place : Place) (standing : Standing) (prefix : List (Timed Event)) (ask : Command) (answer : Timed Reply) (value : Reply) →
+      IsLed n place standing prefix led → DialledAt n standing → (flows_at conv client place).look standing prefix ≡ Asks ask →
+      (dials_in (turn_http conv client led place standing prefix answer value).owed ≡ [])
+      × DialledSo (n + length (dials_in (ask ∷ []))) (turn_http conv client led place standing prefix answer value).stage
+  http_turns n None place standing prefix ask answer value led is asks = (flows_counts place).turn n standing prefix ask answer is asks
+  http_turns n (Some from) place standing prefix ask answer (reply.Go given stream) led is asks = (flows_counts place).turn n standing prefix ask answer is asks
+  http_turns n (Some from) place standing prefix ask answer (reply.Respond response) led is asks = (flows_counts place).turn n standing prefix ask answer is asks
+  http_turns n (Some from) place standing prefix ask answer reply.Kill led is asks = (flows_counts place).turn n standing prefix ask answer is asks
+  http_turns n (Some from) place standing prefix ask answer reply.Discard led is asks = (flows_counts place).turn n standing prefix ask answer is asks
+  http_turns n (Some from) place standing prefix ask answer reply.Dialled led is asks = (refl, proxy_dialled n place standing prefix ask from led asks)
+  http_turns n (Some from) place standing prefix ask answer (reply.Refused fault) led is asks = (flows_counts place).turn n standing prefix ask answer is asks
+
   turns : (n : ℕ) (stage : Stage) (prefix : List (Timed Event)) (ask : Command) (answer : Timed Reply) → DialledSo n stage → (stack_chain conv client).look stage prefix ≡ Asks ask →
       (dials_in ((stack_chain conv client).turn stage prefix answer).owed ≡ []) × DialledSo (n + length (dials_in (ask ∷ []))) ((stack_chain conv client).turn stage prefix answer).stage
   turns n (http place standing) prefix ask answer is asks =
-      (flows_counts place).turn n standing prefix ask answer is (asks_same (unused_over standing.spare prefix) _ ask asks)
+      http_turns n (led_at place standing) place standing prefix ask answer answer.value (led_is n place standing prefix is) is
+      (asks_same (unused_over standing.spare prefix) _ ask asks)
   turns n (connecting tunnel) prefix ask answer is asks =
       let on = dial_turns n tunnel prefix answer.value answer.moment is in
       let P : ℕ → Type 0 = λ k. DialledSo (n + k) (turn_dial conv client tunnel prefix answer.value answer.moment).stage in
       (on.0, subst P (sym (dial_asked tunnel prefix ask asks)) on.1)
+  turns n (reaching goal side since) prefix ask answer is asks = absurd (waits_not goal side prefix ask asks)
   turns n (undecided tunnel spare since) prefix ask answer is asks = absurd (found_asks _ _ ask asks)
   turns n (raw ends) prefix ask answer is asks = (refl, tt)
   turns n over prefix ask answer is asks = (refl, tt)
