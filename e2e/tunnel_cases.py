@@ -135,13 +135,12 @@ def case_tunnel_to_nobody():
         same(mitm.lines(), [])
 
 
-def case_tunnels_of_other_modes():
-    """A reverse proxy's client may not ask for a tunnel, and through another proxy none is made yet."""
-    for mode in (f'mode = "upstream:http://127.0.0.1:{OTHER}"\n', f'mode = "reverse:http://127.0.0.1:{ORIGIN}"\n'):
-        with Mitm(mode=mode) as mitm:
-            status, _, err = run_curl(*THROUGH, f"https://127.0.0.1:{ORIGIN}/")
-            assert status == 56 and b"400" in err, (status, err)
-            same(mitm.lines(), [])
+def case_tunnel_in_reverse_mode():
+    """A reverse proxy's client may not ask for a tunnel."""
+    with Mitm() as mitm:
+        status, _, err = run_curl(*THROUGH, f"https://127.0.0.1:{ORIGIN}/")
+        assert status == 56 and b"400" in err, (status, err)
+        same(mitm.lines(), [])
 
 
 def stream_of(seed, size):
@@ -280,7 +279,7 @@ def case_page_of_two_hosts_in_a_browser():
 
 
 TUNNEL_CASES = [
-    case_https_goes_through_unread, case_http_in_a_tunnel_is_seen, case_tunnel_to_nobody, case_tunnels_of_other_modes,
+    case_https_goes_through_unread, case_http_in_a_tunnel_is_seen, case_tunnel_to_nobody, case_tunnel_in_reverse_mode,
     case_many_bytes_both_ways_at_once, case_response_of_code_101, case_who_vanishes,
     case_page_of_two_hosts_in_a_browser,
 ]
