@@ -152,15 +152,24 @@ impl Connection {
     /// It may go on in this way: what the slot is ready for. That it may be written is told only where a put waits for it.
     pub(crate) fn go_on(&mut self, slot: u32, way: Way) -> Option<Ready> {
         match way {
-            Way::Read => self.open(slot),
+            Way::Read => self.open_unless_held(slot),
             Way::ReadOn => {
                 self.reads_on = true;
-                self.open(slot)
+                self.open_unless_held(slot)
             }
             Way::ReadMore if self.reading == Reading::Held => self.open(slot),
             Way::ReadMore => None,
             Way::Write | Way::Settle => self.unblock(slot),
         }
+    }
+
+    // One that used up its share is told after the next poll, as was noted. Were it told now, it would be noted once more: so
+    // a socket that never runs dry would be noted, and told, more and more often.
+    fn open_unless_held(&mut self, slot: u32) -> Option<Ready> {
+        if self.reading == Reading::Held {
+            return None;
+        }
+        self.open(slot)
     }
 
     fn open(&mut self, slot: u32) -> Option<Ready> {
