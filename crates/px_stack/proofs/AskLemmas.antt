@@ -1,5 +1,5 @@
 -- The dial of a CONNECT is answered, or that of a flow: its server is connected, or another proxy, which is asked for a tunnel.
-use Rattle.std.proofs.Common.{◌≡◌, ℕ, ◌≤◌, ◌<◌, ◌+◌, Bool, true, false, List, [], ◌∷◌, ◌++◌, length, drop, Option, Some, None, refl, ap, sym, ◌∙◌, subst, arith}
+use Rattle.std.proofs.Common.{◌≡◌, ℕ, ◌≤◌, ◌+◌, Bool, true, false, List, [], ◌∷◌, ◌++◌, length, Option, Some, None, refl, ap, sym, ◌∙◌, subst, arith}
 use Rattle.std.specs.Prelude.{IfOk, Result, Ok, Err}
 use Rattle.std.specs.Global.{Box}
 use Rattle.std.specs.Option.{is_some}
@@ -12,7 +12,7 @@ use Rattle.px_event.specs.declared.event.Event.{Event}
 use Rattle.px_event.specs.declared.reply.Reply.{Reply}
 use Rattle.px_event.specs.declared.reply.Reply.TheVariants as reply
 use Rattle.px_event.specs.declared.side.Side.TheVariants.{Client, Server}
-use Rattle.px_event.specs.Chain.{Timed, Look, NotYet, Asks, Ends, Turn, found}
+use Rattle.px_event.specs.Chain.{Timed, Look, NotYet, Asks, Ends, Turn}
 use Rattle.px_event.specs.Laws.{owed_over}
 use Rattle.px_event.specs.View.{View, seen_of}
 use Rattle.px_event.proofs.Seen.{seen_append}
@@ -20,15 +20,13 @@ use Rattle.px_event.proofs.Steps.{Resumes}
 use Rattle.px_exchange.specs.declared.ending.Used.TheVariants.{ByServer}
 use Rattle.px_exchange.specs.declared.place.Place.{Place}
 use Rattle.px_exchange.specs.Endings.{refuses, shut_server}
-use Rattle.px_exchange.specs.Places.{address_of, dialled_for, terms_of}
+use Rattle.px_exchange.specs.Places.{address_of, dialled_for}
 use Rattle.px_exchange.specs.Texts.{connected_text}
-use Rattle.px_chain.specs.Sights.{Spare, Standing, unused_over}
-use Rattle.px_chain.specs.Stages.{busy, connection}
+use Rattle.px_chain.specs.Sights.{Spare, Standing}
 use Rattle.px_chain.specs.Streams.{Since, bytes_of, client_closed, from_here, is_closed}
 use Rattle.px_chain.proofs.FrontLaws.{now_here}
 use Rattle.px_http.specs.declared.conversation.HttpConv.{HttpConv}
 use Rattle.px_stream.specs.Anywhere.{OpensInTime}
-use Rattle.px_stream.specs.Left.{sequence_left}
 use Rattle.px_stream.specs.Through.{led_to}
 use Rattle.px_tunnel.specs.declared.upstream.UpstreamTunnel.{UpstreamTunnel}
 use Rattle.px_tunnel.specs.Reaching.{HasHeard}
@@ -38,10 +36,9 @@ use Rattle.px_stack.specs.declared.child.Child.TheVariants as children
 use Rattle.px_stack.specs.declared.child.Goal.{Goal as KeptGoal}
 use Rattle.px_stack.specs.declared.child.Goal.TheVariants as goals
 use Rattle.px_stack.specs.declared.child.Opening.{Opening}
-use Rattle.px_stack.specs.Chain.{asks_proxy, dialled_by, dialled_more, led_at, opening_look, shut_proxy, stack_chain, standing_of, text_of, tunnel_found, turn_connected, turn_dial, turn_http, waits_for, with_closes}
-use Rattle.px_stack.specs.Kept.{goal_left, left_by, tunnel_left}
-use Rattle.px_stack.specs.Stages.{Dialling, Goal, Stage, Tunnel, a_flow, a_tunnel, connecting, http, over, raw, reaching, undecided}
-use Rattle.px_stack.specs.Stands.{IsAskedFor, IsChild, IsConnecting, IsGoal, IsInFlows, IsLedOn, IsOpening, IsSomewhere, Keeps, KeepsBy}
+use Rattle.px_stack.specs.Chain.{asks_proxy, dialled_by, dialled_more, led_at, shut_proxy, stack_chain, standing_of, tunnel_found, turn_connected, turn_dial, turn_http, waits_for}
+use Rattle.px_stack.specs.Stages.{Dialling, Goal, Stage, Tunnel, Visitor, a_flow, a_tunnel, connecting, http, over, raw, reaching, socket, undecided}
+use Rattle.px_stack.specs.Stands.{IsAskedFor, IsChild, IsConnecting, IsGoal, IsInFlows, IsOpening, IsSomewhere, Keeps, KeepsBy}
 use Rattle.px_stack.specs.Steps.{Adds, Arrives, AsksFor, Decides, IsAsking, IsAskingBy, IsFewDials, MayDecide, ResumesChild, Tells, TellsThere, asked_owes}
 use Rattle.px_stack.proofs.HttpLemmas.{is_kept}
 use Rattle.px_stack.proofs.LedLemmas.{IsLed, is_led}
@@ -52,13 +49,13 @@ use Rattle.px_stack.proofs.RelayLemmas.{given_twice}
 -- ---- a proxy that is asked
 
 -- what a place owes behind something else
-behind_sent : (conv : ℕ) (client : Option Address) (view : View) (sent more : List Command) (stage : Stage) (prefix : List (Timed Event)) →
+behind_sent : (conv : ℕ) (client : Visitor) (view : View) (sent more : List Command) (stage : Stage) (prefix : List (Timed Event)) →
     seen_of view more ≡ seen_of view (owed_over (stack_chain conv client) stage prefix) →
     seen_of view (sent ++ more) ≡ seen_of view (sent ++ owed_over (stack_chain conv client) stage prefix)
 behind_sent conv client view sent more stage prefix gives =
     seen_append view sent more ∙ (ap (λ l. seen_of view sent ++ l) gives ∙ sym (seen_append view sent (owed_over (stack_chain conv client) stage prefix)))
 
-module _ (conv : ℕ) (client : Option Address) (goal : Goal) (server : ℕ) (prefix : List (Timed Event)) (moment : ℕ) where
+module _ (conv : ℕ) (client : Visitor) (goal : Goal) (server : ℕ) (prefix : List (Timed Event)) (moment : ℕ) where
   abbrev new_side : Spare
   new_side = record { server = server; opened = length prefix }
 
@@ -107,7 +104,7 @@ is_dialled tunnel prefix kept closed there =
 abbrev pub counted : Opening → Opening
 counted kept = record kept { numbers = record kept.numbers { server = kept.numbers.server + 1 } }
 
-module _ (conv : ℕ) (client : Option Address) (kept : Opening) (closed : Bool) where
+module _ (conv : ℕ) (client : Visitor) (kept : Opening) (closed : Bool) where
   none_kept : (stage : Stage) (prefix : List (Timed Event)) → (Keeps conv client (children.Connecting kept closed) stage prefix → ⊥) →
       (look : Look Command) → KeepsBy look conv client (children.Connecting kept closed) stage prefix → ⊥
   none_kept stage prefix none NotYet there = none there
@@ -126,6 +123,8 @@ module _ (conv : ℕ) (client : Option Address) (kept : Opening) (closed : Bool)
       absurd (none_kept (undecided tunnel spare since) prefix (λ at. let no : children.Connecting kept closed ≡ children.Undecided at.kept at.server = at.is in cc) _ there)
   at_dial P (raw ends) prefix there goes =
       absurd (none_kept (raw ends) prefix (λ at. let no : children.Connecting kept closed ≡ children.Raw at.kept = at.is in cc) _ there)
+  at_dial P (socket ends flow frames) prefix there goes =
+      absurd (none_kept (socket ends flow frames) prefix (λ at. let no : children.Connecting kept closed ≡ children.Socket at.kept = at.is in cc) _ there)
   at_dial P over prefix there goes = absurd (none_kept over prefix (λ at. at) (Ends []) there)
 
   -- its servers are few
@@ -248,7 +247,7 @@ module _ (conv : ℕ) (client : Option Address) (kept : Opening) (closed : Bool)
 
 -- ---- the client is told
 
-module _ (conv : ℕ) (client : Option Address) (kept : Opening) (server : ℕ) (moment : ℕ) (next : Child) where
+module _ (conv : ℕ) (client : Visitor) (kept : Opening) (server : ℕ) (moment : ℕ) (next : Child) where
   told_as : (closed : Bool) (more : List Command) (tunnel : Tunnel) (spare : Spare) (since : Since) (prefix : List (Timed Event)) →
       Arrives conv client next more (undecided tunnel spare since) prefix → TellsThere conv client next (commands.Send Client connected_text ∷ more) (undecided tunnel spare since) prefix
   told_as closed more tunnel spare since prefix to = record {
@@ -273,7 +272,7 @@ module _ (conv : ℕ) (client : Option Address) (kept : Opening) (server : ℕ) 
 
 -- ---- the dial of a flow is answered
 
-module _ (conv : ℕ) (client : Option Address) (boxed : Box HttpConv) (moment : ℕ) (next : Child) where
+module _ (conv : ℕ) (client : Visitor) (boxed : Box HttpConv) (moment : ℕ) (next : Child) where
   -- over plain parts
   asked_flow : (place : Place) (from : Dialling) (prefix : List (Timed Event)) → IsInFlows conv client place boxed.value (standing_of from) prefix → OpensInTime from.spare prefix →
       IsLed place boxed.value (standing_of from) (address_of from.flow.request) → led_at place (standing_of from) ≡ Some from →
@@ -339,7 +338,7 @@ none_there : (proxy : Option Address) → is_some proxy ≡ false → proxy ≡ 
 none_there None is = refl
 none_there (Some there) is = absurd (let no : true ≡ false = is in cc)
 
-module _ {E : Type 0} (conv : ℕ) (client : Option Address) (kept : Opening) (closed : Bool) (moment : ℕ) (out longer : List Command) where
+module _ {E : Type 0} (conv : ℕ) (client : Visitor) (kept : Opening) (closed : Bool) (moment : ℕ) (out longer : List Command) where
   pub told_resumed : is_some kept.proxy ≡ false → (result : Result Child E) →
       IfOk result (λ next. Adds (Tells conv client (counted kept) kept.numbers.server closed moment next) out longer) →
       IfOk result (λ next. Adds (ResumesChild conv client (children.Connecting kept closed) next moment reply.Dialled) out longer)
@@ -362,7 +361,7 @@ module _ {E : Type 0} (conv : ℕ) (client : Option Address) (kept : Opening) (c
       }
   asked_resumed through (Err error) asks = tt
 
-pub told_decided : {E : Type 0} (conv : ℕ) (client : Option Address) (kept : Opening) (server : ℕ) (closed : Bool) (moment : ℕ) (out mid longer : List Command) (text : List ℕ) →
+pub told_decided : {E : Type 0} (conv : ℕ) (client : Visitor) (kept : Opening) (server : ℕ) (closed : Bool) (moment : ℕ) (out mid longer : List Command) (text : List ℕ) →
     text ≡ connected_text → mid ≡ out ++ commands.Send Client text ∷ [] → closed ≡ false → (result : Result Child E) →
     IfOk result (λ next. Adds (Decides conv client kept server moment next) mid longer) →
     IfOk result (λ next. Adds (Tells conv client kept server closed moment next) out longer)
@@ -373,7 +372,7 @@ told_decided conv client kept server closed moment out mid longer text is sent o
 }
 told_decided conv client kept server closed moment out mid longer text is sent open_still (Err error) decides = tt
 
-pub told_over : (conv : ℕ) (client : Option Address) (kept : Opening) (server : ℕ) (closed : Bool) (moment : ℕ) (out mid longer : List Command) (text : List ℕ) →
+pub told_over : (conv : ℕ) (client : Visitor) (kept : Opening) (server : ℕ) (closed : Bool) (moment : ℕ) (out mid longer : List Command) (text : List ℕ) →
     text ≡ connected_text → mid ≡ out ++ commands.Send Client text ∷ [] → closed ≡ true → longer ≡ mid ++ shut_server (ByServer server false) →
     Adds (Tells conv client kept server closed moment children.Over) out longer
 told_over conv client kept server closed moment out mid longer text is sent gone gave = record {
@@ -382,7 +381,7 @@ told_over conv client kept server closed moment out mid longer text is sent gone
   holds = tells_over conv client kept server moment children.Over closed gone refl;
 }
 
-pub refused_resumed : (conv : ℕ) (client : Option Address) (kept : Opening) (closed : Bool) (moment : ℕ) (answer : Reply) (fault : Fault) (out longer : List Command) →
+pub refused_resumed : (conv : ℕ) (client : Visitor) (kept : Opening) (closed : Bool) (moment : ℕ) (answer : Reply) (fault : Fault) (out longer : List Command) →
     answer ≡ reply.Refused fault → longer ≡ out ++ refuses fault false closed →
     Adds (ResumesChild conv client (children.Connecting kept closed) children.Over moment answer) out longer
 refused_resumed conv client kept closed moment answer fault out longer is gave =
@@ -394,7 +393,7 @@ refused_resumed conv client kept closed moment answer fault out longer is gave =
     }
 
 -- no other reply comes to a dial
-turn_other : (conv : ℕ) (client : Option Address) (tunnel : Tunnel) (prefix : List (Timed Event)) (answer : Reply) (moment : ℕ) → (answer ≡ reply.Dialled → ⊥) →
+turn_other : (conv : ℕ) (client : Visitor) (tunnel : Tunnel) (prefix : List (Timed Event)) (answer : Reply) (moment : ℕ) → (answer ≡ reply.Dialled → ⊥) →
     ((fault : Fault) → answer ≡ reply.Refused fault → ⊥) → turn_dial conv client tunnel prefix answer moment ≡ record { owed = []; stage = over }
 turn_other conv client tunnel prefix reply.Dialled moment no_dialled no_refused = absurd (no_dialled refl)
 turn_other conv client tunnel prefix (reply.Refused fault) moment no_dialled no_refused = absurd (no_refused fault refl)
@@ -403,7 +402,7 @@ turn_other conv client tunnel prefix (reply.Respond given) moment no_dialled no_
 turn_other conv client tunnel prefix reply.Kill moment no_dialled no_refused = refl
 turn_other conv client tunnel prefix reply.Discard moment no_dialled no_refused = refl
 
-pub other_resumed : (conv : ℕ) (client : Option Address) (kept : Opening) (closed : Bool) (moment : ℕ) (answer : Reply) (out : List Command) →
+pub other_resumed : (conv : ℕ) (client : Visitor) (kept : Opening) (closed : Bool) (moment : ℕ) (answer : Reply) (out : List Command) →
     (answer ≡ reply.Dialled → ⊥) → ((fault : Fault) → answer ≡ reply.Refused fault → ⊥) →
     Adds (ResumesChild conv client (children.Connecting kept closed) children.Over moment answer) out out
 other_resumed conv client kept closed moment answer out no_dialled no_refused = record {
@@ -416,7 +415,7 @@ other_resumed conv client kept closed moment answer out no_dialled no_refused = 
 }
 
 -- the proxy of a flow was asked
-pub led_resumed : (conv : ℕ) (client : Option Address) (boxed : Box HttpConv) (moment server : ℕ) (address : Address) (asked : UpstreamTunnel) (text : List ℕ) (out longer : List Command) →
+pub led_resumed : (conv : ℕ) (client : Visitor) (boxed : Box HttpConv) (moment server : ℕ) (address : Address) (asked : UpstreamTunnel) (text : List ℕ) (out longer : List Command) →
     server ≡ boxed.value.stream.numbers.server → led_to boxed.value.stream.terms.place boxed.value.stream.phase ≡ Some address → HasHeard asked [] → text ≡ connect_text address →
     longer ≡ out ++ commands.Send (Server server) text ∷ [] →
     Adds (ResumesChild conv client (children.Http boxed) (children.Reaching (record { asked = asked; server = server; goal = goals.Flow boxed })) moment reply.Dialled) out longer

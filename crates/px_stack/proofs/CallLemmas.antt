@@ -1,7 +1,6 @@
--- The calls of a conversation, by what it keeps: a tunnel that is not read, and the end.
-use Rattle.std.proofs.Common.{◌≡◌, ℕ, ◌+◌, ◌≤◌, Bool, true, false, List, [], ◌∷◌, ◌++◌, Option, Some, None, refl, sym, subst}
-use Rattle.std.specs.Prelude.{◌||◌}
-use Rattle.px_message.specs.declared.address.Address.{Address}
+-- The calls of a conversation, by what it keeps: a tunnel that is not read, and the end; and what they do for one client.
+use Rattle.std.proofs.Common.{◌≡◌, ℕ, Bool, true, false, List, [], refl, sym, subst}
+use Rattle.std.specs.Prelude.{◌||◌, IfOk, Result, Ok, Err}
 use Rattle.px_event.specs.declared.command.Command.{Command}
 use Rattle.px_event.specs.declared.event.Event.{Event}
 use Rattle.px_event.specs.Chain.{Timed, Look, NotYet, Asks, Ends}
@@ -11,10 +10,10 @@ use Rattle.px_chain.specs.Streams.{client_closed}
 use Rattle.px_stack.specs.declared.child.Child.{Child}
 use Rattle.px_stack.specs.declared.child.Child.TheVariants as children
 use Rattle.px_stack.specs.declared.child.Relay.{Relay}
-use Rattle.px_stack.specs.Chain.{is_shut, raw_look, stack_chain, tunnel_found}
-use Rattle.px_stack.specs.Stages.{Ends as TunnelEnds, Stage, connecting, http, over, raw, reaching, undecided}
+use Rattle.px_stack.specs.Chain.{is_shut, stack_chain, tunnel_found}
+use Rattle.px_stack.specs.Stages.{Ends as TunnelEnds, Stage, Visitor, connecting, http, over, raw, reaching, socket, undecided}
 use Rattle.px_stack.specs.Stands.{IsChild, IsRelay, IsSomewhere, Keeps, KeepsBy}
-use Rattle.px_stack.specs.Steps.{RelayTakes, TakesChild}
+use Rattle.px_stack.specs.Steps.{Adds, RelayTakes, TakesChild}
 
 -- ---- a tunnel that is not read
 
@@ -27,7 +26,7 @@ record IsKeptRelay (kept : Relay) (stage : Stage) (prefix : List (Timed Event)) 
 same_relay : (a b : Relay) → children.Raw a ≡ children.Raw b → a ≡ b
 same_relay a b is = cc
 
-keeps_relay : (conv : ℕ) (client : Option Address) (kept : Relay) (stage : Stage) (prefix : List (Timed Event)) → Keeps conv client (children.Raw kept) stage prefix →
+keeps_relay : (conv : ℕ) (client : Visitor) (kept : Relay) (stage : Stage) (prefix : List (Timed Event)) → Keeps conv client (children.Raw kept) stage prefix →
     IsKeptRelay kept stage prefix
 keeps_relay conv client kept (http place standing) prefix is = absurd (let no : children.Raw kept ≡ children.Http is.flows = is.is in cc)
 keeps_relay conv client kept (connecting tunnel) prefix is = absurd (let no : children.Raw kept ≡ children.Connecting is.kept is.closed = is.is in cc)
@@ -36,30 +35,31 @@ keeps_relay conv client kept (undecided tunnel spare since) prefix is = absurd (
 keeps_relay conv client kept (raw ends) prefix is =
     let P : Relay → Type 0 = λ r. IsRelay ends prefix r in
     record { ends = ends; is = refl; relay = subst P (sym (same_relay kept is.kept is.is)) is.relay }
+keeps_relay conv client kept (socket ends flow frames) prefix is = absurd (let no : children.Raw kept ≡ children.Socket is.kept = is.is in cc)
 keeps_relay conv client kept over prefix is = absurd is
 
-keeps_by : (l : Look Command) (conv : ℕ) (client : Option Address) (kept : Relay) (stage : Stage) (prefix : List (Timed Event)) →
+keeps_by : (l : Look Command) (conv : ℕ) (client : Visitor) (kept : Relay) (stage : Stage) (prefix : List (Timed Event)) →
     KeepsBy l conv client (children.Raw kept) stage prefix → Keeps conv client (children.Raw kept) stage prefix
 keeps_by NotYet conv client kept stage prefix is = is
 keeps_by (Asks ask) conv client kept stage prefix is = is
 keeps_by (Ends owed) conv client kept stage prefix is = absurd (let no : children.Raw kept ≡ children.Over = is in cc)
 
-kept_relay : (conv : ℕ) (client : Option Address) (kept : Relay) (stage : Stage) (prefix : List (Timed Event)) → IsChild conv client (children.Raw kept) stage prefix →
+kept_relay : (conv : ℕ) (client : Visitor) (kept : Relay) (stage : Stage) (prefix : List (Timed Event)) → IsChild conv client (children.Raw kept) stage prefix →
     IsKeptRelay kept stage prefix
 kept_relay conv client kept stage prefix is =
     keeps_relay conv client kept stage prefix (keeps_by ((stack_chain conv client).look stage prefix) conv client kept stage prefix is)
 
 -- its tunnel has not ended
-pub relay_open : (conv : ℕ) (client : Option Address) (kept : Relay) → IsSomewhere conv client (children.Raw kept) → has_ended kept.tunnel ≡ false
+pub relay_open : (conv : ℕ) (client : Visitor) (kept : Relay) → IsSomewhere conv client (children.Raw kept) → has_ended kept.tunnel ≡ false
 relay_open conv client kept (stage, prefix, is) = (kept_relay conv client kept stage prefix is).relay.goes_on
 
 -- nothing was found there
-not_yet : (conv : ℕ) (client : Option Address) (kept : Relay) (ends : TunnelEnds) (prefix : List (Timed Event)) (closes : Bool) (owed : List Command) →
+not_yet : (conv : ℕ) (client : Visitor) (kept : Relay) (ends : TunnelEnds) (prefix : List (Timed Event)) (closes : Bool) (owed : List Command) →
     KeepsBy (tunnel_found closes owed) conv client (children.Raw kept) (raw ends) prefix → tunnel_found closes owed ≡ NotYet
 not_yet conv client kept ends prefix false owed is = refl
 not_yet conv client kept ends prefix true owed is = absurd (let no : children.Raw kept ≡ children.Over = is in cc)
 
-pub raw_takes : (conv : ℕ) (client : Option Address) (kept : Relay) (child : Child) (moment : ℕ) (event : Event) (more : List Command) → RelayTakes kept child event more →
+pub raw_takes : (conv : ℕ) (client : Visitor) (kept : Relay) (child : Child) (moment : ℕ) (event : Event) (more : List Command) → RelayTakes kept child event more →
     TakesChild conv client (children.Raw kept) child moment event more
 raw_takes conv client kept child moment event more takes stage prefix is =
     let there = kept_relay conv client kept stage prefix is in
@@ -71,21 +71,30 @@ raw_takes conv client kept child moment event more takes stage prefix is =
 -- ---- the end
 
 -- nothing is kept but there
-keeps_over : (conv : ℕ) (client : Option Address) (stage : Stage) (prefix : List (Timed Event)) → Keeps conv client children.Over stage prefix → ⊥
+keeps_over : (conv : ℕ) (client : Visitor) (stage : Stage) (prefix : List (Timed Event)) → Keeps conv client children.Over stage prefix → ⊥
 keeps_over conv client (http place standing) prefix is = let no : children.Over ≡ children.Http is.flows = is.is in cc
 keeps_over conv client (connecting tunnel) prefix is = let no : children.Over ≡ children.Connecting is.kept is.closed = is.is in cc
 keeps_over conv client (reaching goal side since) prefix is = let no : children.Over ≡ children.Reaching is.kept = is.is in cc
 keeps_over conv client (undecided tunnel spare since) prefix is = let no : children.Over ≡ children.Undecided is.kept is.server = is.is in cc
 keeps_over conv client (raw ends) prefix is = let no : children.Over ≡ children.Raw is.kept = is.is in cc
+keeps_over conv client (socket ends flow frames) prefix is = let no : children.Over ≡ children.Socket is.kept = is.is in cc
 keeps_over conv client over prefix is = is
 
-ends_there : (l : Look Command) (conv : ℕ) (client : Option Address) (stage : Stage) (prefix : List (Timed Event)) → KeepsBy l conv client children.Over stage prefix →
+ends_there : (l : Look Command) (conv : ℕ) (client : Visitor) (stage : Stage) (prefix : List (Timed Event)) → KeepsBy l conv client children.Over stage prefix →
     (owed : List Command) × (l ≡ Ends owed)
 ends_there NotYet conv client stage prefix is = absurd (keeps_over conv client stage prefix is)
 ends_there (Asks ask) conv client stage prefix is = absurd (keeps_over conv client stage prefix is)
 ends_there (Ends owed) conv client stage prefix is = (owed, refl)
 
 -- behind it nothing follows
-pub over_takes : (conv : ℕ) (client : Option Address) (moment : ℕ) (event : Event) → TakesChild conv client children.Over children.Over moment event []
+pub over_takes : (conv : ℕ) (client : Visitor) (moment : ℕ) (event : Event) → TakesChild conv client children.Over children.Over moment event []
 over_takes conv client moment event stage prefix is =
     let (owed, there) = ends_there ((stack_chain conv client).look stage prefix) conv client stage prefix is in past_end owed there is (λ view. refl)
+
+-- ---- what a call does for whoever has its key
+
+pub with_its_key : {E : Type 0} (result : Result Child E) (key : List ℕ) (conv : ℕ) (client : Visitor) (P : ℕ → Visitor → Child → List Command → Type 0) (out given : List Command) →
+    client.key ≡ key → IfOk result (λ next. Adds (λ more. (c : ℕ) (v : Visitor) → v.key ≡ key → P c v next more) out given) →
+    IfOk result (λ next. Adds (P conv client next) out given)
+with_its_key (Ok next) key conv client P out given keyed adds = record { more = adds.more; grown = adds.grown; holds = adds.holds conv client keyed }
+with_its_key (Err error) key conv client P out given keyed adds = tt

@@ -1,11 +1,11 @@
 -- What the first bytes decide stays decided.
 use Rattle.std.proofs.Common.{◌≡◌, ◌⊎◌, inl, inr, ℕ, Bool, true, false, List, [], ◌∷◌, ◌++◌, length, take, drop, refl, ap, sym, ◌∙◌, append_assoc}
-use Rattle.std.specs.Prelude.{◌||◌, ◌&&◌, not, bytes_eq}
+use Rattle.std.specs.Prelude.{◌||◌, ◌&&◌, not}
 use Rattle.std.specs.List.{list_any}
 use Rattle.std.proofs.Math.Seq.{take-append_seam}
 use Rattle.std.proofs.lemmas.List.{take-append-drop}
 use Rattle.std.proofs.lemmas.Slice.Eq.{bytes_eq-Decides}
-use Rattle.px_stack.specs.Decides.{Decision, beginnings, begins_with, decided, decided_by, has_method, is_http, is_raw, may_have_method, still}
+use Rattle.px_stack.specs.Decides.{beginnings, begins_with, decided, decided_by, has_method, is_http, is_raw, may_have_method, still}
 
 -- ---- lists of tests
 

@@ -1,20 +1,21 @@
 -- What follows HTTP is where the chain is, and gives what it owes beside what HTTP did.
-use Rattle.std.proofs.Common.{◌≡◌, inl, inr, ℕ, ◌+◌, ◌<◌, ◌≤◌, Bool, true, false, List, [], ◌∷◌, ◌++◌, length, drop, Option, Some, None, refl, ap, sym, ◌∙◌, subst, append_assoc, arith, zero-add}
+use Rattle.std.proofs.Common.{◌≡◌, inl, inr, ℕ, ◌+◌, ◌<◌, ◌≤◌, Bool, true, false, List, [], ◌∷◌, ◌++◌, Option, Some, None, refl, ap, sym, ◌∙◌, ap₂, subst, append_assoc, arith, option_to_list}
 use Rattle.std.specs.Prelude.{◌⊎◌, Result, Ok, Err, IfOk, OnOk, unwrap_or}
 use Rattle.std.specs.Global.{Box}
+use Rattle.std.proofs.lemmas.Grind.{flat_map-append}
 use Rattle.std.proofs.lemmas.List.{append-nil}
-use Rattle.px_message.specs.declared.address.Address.{Address}
 use Rattle.px_message.specs.declared.flow.Flow.{Flow}
+use Rattle.px_event.specs.declared.ask.Ask.{Ask}
 use Rattle.px_event.specs.declared.command.Command.{Command}
 use Rattle.px_event.specs.declared.command.Command.TheVariants as commands
 use Rattle.px_event.specs.declared.event.Event.{Event}
 use Rattle.px_event.specs.declared.event.Rests.{Rests}
-use Rattle.px_event.specs.Chain.{Timed, Look, NotYet, Asks, Ends, found}
-use Rattle.px_event.specs.Laws.{owed_here, owed_over}
+use Rattle.px_event.specs.Chain.{Timed, Look, NotYet, Asks, Ends, Turn, found}
+use Rattle.px_event.specs.Laws.{owed_here}
+use Rattle.px_event.specs.Layer.{AsksOnly, asks_in}
 use Rattle.px_event.specs.View.{View, seen_of}
 use Rattle.px_event.proofs.Seen.{seen_append}
 use Rattle.px_read.specs.Reader.{State}
-use Rattle.px_exchange.specs.declared.ending.Used.{Used}
 use Rattle.px_exchange.specs.declared.ending.Used.TheVariants.{ByServer}
 use Rattle.px_exchange.specs.declared.outcome.Outcome.{Outcome}
 use Rattle.px_exchange.specs.declared.outcome.Outcome.TheVariants as outcomes
@@ -26,7 +27,7 @@ use Rattle.px_chain.specs.Chain.{Connect, connect_in, look, sequence, so_far, us
 use Rattle.px_chain.specs.Sights.{Sight, Spare, Standing, Unused, request_in, sight_over, unused_over}
 use Rattle.px_chain.specs.Stages.{At, ServerSide, busy, connection, given_body, given_head, idle, next, request_body, response_body, response_head, upgraded}
 use Rattle.px_chain.specs.Stages as stages
-use Rattle.px_chain.specs.Streams.{Since, bytes_of, client_closed}
+use Rattle.px_chain.specs.Streams.{Since, client_closed}
 use Rattle.px_http.specs.declared.conversation.HttpConv.{HttpConv}
 use Rattle.px_stream.specs.declared.link.Link.{Link}
 use Rattle.px_stream.specs.declared.phase.Phase.{Phase}
@@ -36,19 +37,21 @@ use Rattle.px_stream.specs.declared.phase.Wanted.TheVariants as ready
 use Rattle.px_stream.specs.Anywhere.{OpensInTime}
 use Rattle.px_stream.specs.Left.{sequence_left}
 use Rattle.px_stream.specs.Rests.{phase_flow, phase_rest}
-use Rattle.px_stream.specs.Sequence.{IsCounted, IsInSequence, asked_tunnel, open_spare, outcome_in, unless_closed, upgraded_side}
-use Rattle.px_stream.specs.Stands.{IsConnecting as IsTunnelAsked, IsLast, IsLastAt, IsSpare, IsUpgraded, KeepsBehind, PhaseAt, is_last}
+use Rattle.px_stream.specs.Sequence.{IsCounted, asked_tunnel, open_spare, outcome_in, unless_closed, upgraded_side}
+use Rattle.px_stream.specs.Stands.{IsConnecting as IsTunnelAsked, IsLast, IsLastAt, IsSpare, IsUpgraded, PhaseAt, awaited_in, is_last}
 use Rattle.px_stream.specs.StateLaws.{ends_where_it_ends}
 use Rattle.px_stack.specs.declared.child.Child.{Child}
 use Rattle.px_stack.specs.declared.child.Child.TheVariants as children
 use Rattle.px_stack.specs.declared.child.Opening.{Opening}
 use Rattle.px_stack.specs.declared.closing.Sides.{Sides}
-use Rattle.px_stack.specs.Chain.{flows_at, hands_by, hands_over, opening_text, or_stays, proxy_at, shut_unused, stack_chain, tunnel_for, with_closes}
-use Rattle.px_stack.specs.Kept.{connecting_left, left_by, shut_open, tunnel_left}
+use Rattle.px_stack.specs.Chain.{begun, flows_at, hands_by, hands_over, or_stays, proxy_at, shut_unused, stack_chain, tunnel_for, upgrades as upgraded_to, with_closes}
+use Rattle.px_stack.specs.Kept.{awaited_by, connecting_left, left_by, most_asked, shut_open, tunnel_left}
 use Rattle.px_stack.specs.Laws.{hands, never_connects}
-use Rattle.px_stack.specs.Stages.{Ends as TunnelEnds, Stage, Tunnel, connecting, http, over, raw}
-use Rattle.px_stack.specs.Stands.{IsChild, IsConnecting, IsHttp, IsInFlows, IsOpening, KeepsBy, ahead_at, open_unused, unless_shut}
-use Rattle.px_stack.specs.Steps.{Arrives, Follows, FollowsAt, MayRelay, Relays}
+use Rattle.px_stack.specs.Stages.{Ends as TunnelEnds, Stage, Tunnel, Visitor, connecting, http}
+use Rattle.px_stack.specs.Stands.{IsChild, IsInFlows, KeepsBy, ahead_at, open_unused, unless_shut}
+use Rattle.px_stack.specs.Sockets.{is_websocket}
+use Rattle.px_stack.specs.Steps.{Adds, Arrives, AsksBehind, Follows, FollowsAt, GoesOnAs, MayRelay}
+use Rattle.px_stack.proofs.RelayLemmas.{given_twice}
 
 -- ---- what became of HTTP
 
@@ -143,9 +146,9 @@ spare_same (Some unused) (Some kept) is = ap (unless_closed kept) is.closed ∙ 
 
 -- ---- by the stage that follows
 
-module _ (conv : ℕ) (client : Option Address) (place : Place) (flows : HttpConv) (standing : Standing) (prefix : List (Timed Event)) where
+module _ (conv : ℕ) (client : Visitor) (place : Place) (flows : HttpConv) (standing : Standing) (prefix : List (Timed Event)) where
   abbrev terms : Terms
-  terms = terms_of conv client place
+  terms = terms_of conv client.address place
 
   abbrev seen : Sight
   seen = sight_over standing prefix
@@ -154,10 +157,14 @@ module _ (conv : ℕ) (client : Option Address) (place : Place) (flows : HttpCon
   abbrev looked : Look Command
   looked = look terms standing.stage seen
 
+  -- a WebSocket works off at once what has come
+  abbrev goes_to : Option Stage → Turn Stage Command
+  goes_to to = begun conv client (or_stays (http place standing) to) prefix
+
   record FollowsBy (next : Child) (more : List Command) (to : Option Stage) : Type 0 where
-    there : IsChild conv client next (or_stays (http place standing) to) prefix
+    there : IsChild conv client next (goes_to to).stage prefix
     gives : (view : View) → seen_of view (owed_here (flows_at conv client place) standing prefix) ++ seen_of view more
-        ≡ seen_of view (owed_here (stack_chain conv client) (or_stays (http place standing) to) prefix)
+        ≡ seen_of view ((goes_to to).owed ++ owed_here (stack_chain conv client) (goes_to to).stage prefix)
     left : left_by next ≤ sequence_left flows.stream + tunnel_left place
 
   as_follows : (next : Child) (more : List Command) (to : Option Stage) → hands_over place standing prefix ≡ to → FollowsBy next more to →
@@ -272,7 +279,7 @@ leaves_room (places.Fixed address side inside) at seen connects is =
 leaves_room places.Regular at seen connects is = record { none_ahead = refl; asks = refl }
 leaves_room (places.Upstream proxy) at seen connects is = record { none_ahead = refl; asks = refl }
 
-module _ (conv : ℕ) (client : Option Address) (place : Place) (flows : HttpConv) where
+module _ (conv : ℕ) (client : Visitor) (place : Place) (flows : HttpConv) where
   -- over plain parts of a standing
   module _ (at : At) (since : Since) (opened : ℕ) (spare : Option Spare) (prefix : List (Timed Event)) where
     abbrev here : Standing
@@ -292,7 +299,7 @@ module _ (conv : ℕ) (client : Option Address) (place : Place) (flows : HttpCon
         let room = leaves_room place at sight connects is in
         let tunnel : Tunnel = tunnel_of connects in
         let to : hands_over place here prefix ≡ Some (connecting tunnel) = ap (tunnel_for place at) is in
-        let over = hands (terms_of conv client place) here (idle at) sight (connecting tunnel) to in
+        let over = hands (terms_of conv client.address place) here (idle at) sight (connecting tunnel) to in
         let placed = in_flows.is_at.is_in.place in
         let counted : IsCounted (ahead_at place) at = in_flows.few in
         let few : at.dials ≤ at.flow + ahead_at place = counted.dials in
@@ -364,15 +371,27 @@ upgraded_not is = let no : outcomes.Upgraded ≡ outcomes.Going = is in cc
 -- A CONNECT was read: its server is dialled.
 pub connects : (flows : HttpConv) (kept : Opening) (closed : Bool) → outcome_in flows.stream.phase ≡ outcomes.Connects →
     kept.numbers ≡ flows.stream.numbers → asked_tunnel flows.stream.phase ≡ Some kept.address → kept.proxy ≡ proxy_at flows.stream.terms.place →
-    kept.rest ≡ flows.stream.requests.rest → closed ≡ flows.stream.client_closed → Follows flows (children.Connecting kept closed) (dials_for kept)
-connects flows kept closed is numbers address proxy rest client_is conv client place standing prefix at in_time =
+    kept.rest ≡ flows.stream.requests.rest → closed ≡ flows.stream.client_closed → (key : List ℕ) → Follows key flows (children.Connecting kept closed) (dials_for kept)
+connects flows kept closed is numbers address proxy rest client_is key conv client place standing prefix keyed at in_time =
     let last : is_last flows.stream.phase ≡ true = last_when flows.stream.phase (apart flows.stream.phase outcomes.Connects outcomes.Going is connects_not) in
     connect_by conv client place flows kept closed standing.since standing.opened standing.spare prefix standing.stage at is
     (found_end conv client place flows standing prefix at last) numbers address (proxy ∙ ap (λ t. proxy_at t.place) at.is_at.is_in.terms) rest client_is
 
 -- ---- another protocol
 
-module _ (conv : ℕ) (client : Option Address) (place : Place) (flows : HttpConv) where
+-- a WebSocket's stage, and that of what is not read, are passed alike
+begun_passes : (conv : ℕ) (client : Visitor) (b : Bool) (flow : Flow) (ends : TunnelEnds) (prefix : List (Timed Event)) →
+    (stack_chain conv client).pass (upgraded_to b flow ends) prefix ≡ begun conv client (upgraded_to b flow ends) prefix
+begun_passes conv client true flow ends prefix = refl
+begun_passes conv client false flow ends prefix = refl
+
+-- what is left for a WebSocket is left for it everywhere
+socket_room : (place : Place) → most_asked ≤ tunnel_left place
+socket_room (places.Fixed address side inside) = omega arith
+socket_room places.Regular = omega arith
+socket_room (places.Upstream proxy) = omega arith
+
+module _ (conv : ℕ) (client : Visitor) (place : Place) (flows : HttpConv) where
   module _ (at : At) (flow : Flow) (side : ServerSide) (since : Since) (opened : ℕ) (spare : Option Spare) (prefix : List (Timed Event)) where
     abbrev there_at : Standing
     there_at = record { stage = busy at flow (upgraded side); since = since; opened = opened; spare = spare }
@@ -380,47 +399,54 @@ module _ (conv : ℕ) (client : Option Address) (place : Place) (flows : HttpCon
     abbrev ends_of : TunnelEnds
     ends_of = record { used = at.used; side = side; opened = opened; flow = Some flow; spare = spare }
 
-    same_used : (a b : Used) → a ≡ b → Some a ≡ Some b
-    same_used a b is = ap Some is
+    abbrev stage_of : Stage
+    stage_of = upgraded_to (is_websocket flow (client_closed prefix)) flow ends_of
 
     upgrade_follows : IsInFlows conv client place flows there_at prefix → (last : Wanted) → flows.stream.phase ≡ phase.Ready last →
         IsUpgraded at (sight_over there_at prefix) flows.stream.requests flow side last →
-        (sides : Sides) (rests : Rests) (ended : Option Flow) (open_side : Option ℕ) (child : Child) (more : List Command) →
+        (sides : Sides) (rests : Rests) (given : Flow) (open_side : Option ℕ) (child : Child) (more : List Command) →
         upgraded_side flows.stream.phase ≡ Some (ByServer sides.server sides.shut) → sides.closed ≡ flows.stream.client_closed →
-        rests.client ≡ flows.stream.requests.rest → rests.server ≡ phase_rest flows.stream.phase → ended ≡ phase_flow flows.stream.phase →
-        open_side ≡ open_spare flows.stream.spare → left_by child ≡ 0 → Relays sides rests ended open_side child more →
+        rests.client ≡ flows.stream.requests.rest → rests.server ≡ phase_rest flows.stream.phase → Some given ≡ phase_flow flows.stream.phase →
+        open_side ≡ open_spare flows.stream.spare → left_by child ≤ most_asked → GoesOnAs client.key sides rests given open_side child more →
         FollowsAt conv client flows child more place there_at prefix
-    upgrade_follows in_flows last same asked sides rests ended open_side child more sides_are closed_is client_rest server_rest ended_is spare_is none_left relays =
+    upgrade_follows in_flows last same asked sides rests given open_side child more sides_are closed_is client_rest server_rest given_is spare_is few_left goes =
         let seen_there : Sight = sight_over there_at prefix in
         let kept : Link = asked.kept in
         let phase_is : flows.stream.phase ≡ phase.Ready (ready.Upgraded flow kept) = same ∙ ap phase.Ready asked.phase in
         let placed = in_flows.is_at.is_in.place in
-        let to : hands_over place there_at prefix ≡ Some (raw ends_of) = refl in
-        let over = hands (terms_of conv client place) there_at (busy at flow (upgraded side)) seen_there (raw ends_of) to in
+        let to : hands_over place there_at prefix ≡ Some stage_of = refl in
+        let over = hands (terms_of conv client.address place) there_at (busy at flow (upgraded side)) seen_there stage_of to in
         let used_are : Some (ByServer sides.server sides.shut) ≡ Some (ByServer kept.server kept.closed) = sym sides_are ∙ ap upgraded_side phase_is in
         let server_is : sides.server ≡ kept.server = cc in
         let shut_is : sides.shut ≡ kept.closed = cc in
-        let may : MayRelay ends_of prefix sides rests ended open_side = record {
+        let flows_are : Some given ≡ Some flow = given_is ∙ ap phase_flow phase_is in
+        let flow_is : given ≡ flow = cc in
+        let may : MayRelay ends_of prefix sides rests (Some given) open_side = record {
           server = server_is ∙ asked.server;
           shut = shut_is ∙ asked.closed;
           closed = closed_is ∙ placed.client;
           up = client_rest ∙ asked.keeps.rest;
           down = server_rest ∙ (ap phase_rest phase_is ∙ asked.rest);
-          same_flow = ended_is ∙ ap phase_flow phase_is;
+          same_flow = flows_are;
           same_spare = spare_is ∙ spare_same (unused_over spare prefix) flows.stream.spare in_flows.is_at.is_in.spare;
           used = placed.used;
           side_used = asked.within;
           opened = in_flows.is_at.within.opened;
           within = in_flows.is_at.within.spare;
         } in
-        let arrives = relays conv client ends_of prefix may in
-        as_follows conv client place flows there_at prefix child more (Some (raw ends_of)) to (record {
-          there = arrives.there;
-          gives = λ view. ap (λ l. seen_of view (found l) ++ seen_of view more) over.ends ∙ arrives.gives view;
+        let Q : Flow → Type 0 = λ f. Arrives conv client child more (upgraded_to (is_websocket f (client_closed prefix)) f ends_of) prefix in
+        let arrives : Arrives conv client child more stage_of prefix = subst Q flow_is (goes conv client ends_of prefix refl may) in
+        let passes = begun_passes conv client (is_websocket flow (client_closed prefix)) flow ends_of prefix in
+        let P : Turn Stage Command → Type 0 = λ t. IsChild conv client child t.stage prefix in
+        let room = socket_room place in
+        as_follows conv client place flows there_at prefix child more (Some stage_of) to (record {
+          there = subst P passes arrives.there;
+          gives = λ view. ap (λ l. seen_of view (found l) ++ seen_of view more) over.ends
+              ∙ (arrives.gives view ∙ ap (λ t. seen_of view (t.owed ++ owed_here (stack_chain conv client) t.stage prefix)) passes);
           left = omega arith;
         })
 
-  module _ (sides : Sides) (rests : Rests) (ended : Option Flow) (open_side : Option ℕ) (child : Child) (more : List Command)
+  module _ (sides : Sides) (rests : Rests) (given : Flow) (open_side : Option ℕ) (child : Child) (more : List Command)
       (since : Since) (opened : ℕ) (spare : Option Spare) (prefix : List (Timed Event)) where
     abbrev stands_at : stages.Stage → Standing
     stands_at stage = record { stage = stage; since = since; opened = opened; spare = spare }
@@ -428,31 +454,67 @@ module _ (conv : ℕ) (client : Option Address) (place : Place) (flows : HttpCon
     upgrade_by : (stage : stages.Stage) → IsInFlows conv client place flows (stands_at stage) prefix → outcome_in flows.stream.phase ≡ outcomes.Upgraded →
         EndsAs place (stands_at stage) stage (sight_over (stands_at stage) prefix) flows.stream.requests flows.stream.phase →
         upgraded_side flows.stream.phase ≡ Some (ByServer sides.server sides.shut) → sides.closed ≡ flows.stream.client_closed →
-        rests.client ≡ flows.stream.requests.rest → rests.server ≡ phase_rest flows.stream.phase → ended ≡ phase_flow flows.stream.phase →
-        open_side ≡ open_spare flows.stream.spare → left_by child ≡ 0 → Relays sides rests ended open_side child more →
+        rests.client ≡ flows.stream.requests.rest → rests.server ≡ phase_rest flows.stream.phase → Some given ≡ phase_flow flows.stream.phase →
+        open_side ≡ open_spare flows.stream.spare → left_by child ≤ most_asked → GoesOnAs client.key sides rests given open_side child more →
         FollowsAt conv client flows child more place (stands_at stage) prefix
-    upgrade_by stage in_flows outcome (by_connect at tunnel is whole last same asked) a b c d e f g relays =
+    upgrade_by stage in_flows outcome (by_connect at tunnel is whole last same asked) a b c d e f g goes =
         absurd (let no : outcomes.Connects ≡ outcomes.Upgraded = sym (ap outcome_in same ∙ ap (λ r. outcome_in (phase.Ready r)) asked.phase) ∙ outcome in cc)
-    upgrade_by stage in_flows outcome (by_upgrade at flow side is last same asked) a b c d e f g relays =
+    upgrade_by stage in_flows outcome (by_upgrade at flow side is last same asked) a b c d e f g goes =
         let P : stages.Stage → Type 0 = λ s. IsInFlows conv client place flows (stands_at s) prefix →
         IsUpgraded at (sight_over (stands_at s) prefix) flows.stream.requests flow side last → FollowsAt conv client flows child more place (stands_at s) prefix in
-        subst P (sym is) (λ flows_there asked_there. upgrade_follows at flow side since opened spare prefix flows_there last same asked_there sides rests ended open_side child more a b c d e f g relays)
+        subst P (sym is) (λ flows_there asked_there. upgrade_follows at flow side since opened spare prefix flows_there last same asked_there sides rests given open_side child more a b c d e f g goes)
         in_flows asked
-    upgrade_by stage in_flows outcome (by_end stays last same is) a b c d e f g relays =
+    upgrade_by stage in_flows outcome (by_end stays last same is) a b c d e f g goes =
         absurd (let no : outcomes.Over ≡ outcomes.Upgraded = sym (ap outcome_in same ∙ is) ∙ outcome in cc)
-    upgrade_by stage in_flows outcome (by_next stays last same is) a b c d e f g relays =
+    upgrade_by stage in_flows outcome (by_next stays last same is) a b c d e f g goes =
         absurd (let no : outcomes.Next ≡ outcomes.Upgraded = sym (ap outcome_in same ∙ is) ∙ outcome in cc)
 
--- A response of code 101 was sent: what follows on both sides is not read.
-pub upgrades : (flows : HttpConv) (sides : Sides) (rests : Rests) (ended : Option Flow) (open_side : Option ℕ) (child : Child) (more : List Command) →
+-- A response of code 101 was sent: what follows on both sides is a WebSocket, or is not read.
+pub upgrades : (key : List ℕ) (flows : HttpConv) (sides : Sides) (rests : Rests) (given : Flow) (open_side : Option ℕ) (child : Child) (more : List Command) →
     outcome_in flows.stream.phase ≡ outcomes.Upgraded → upgraded_side flows.stream.phase ≡ Some (ByServer sides.server sides.shut) → sides.closed ≡ flows.stream.client_closed →
-    rests.client ≡ flows.stream.requests.rest → rests.server ≡ phase_rest flows.stream.phase → ended ≡ phase_flow flows.stream.phase →
-    open_side ≡ open_spare flows.stream.spare → left_by child ≡ 0 → Relays sides rests ended open_side child more →
-    Follows flows child more
-upgrades flows sides rests ended open_side child more is a b c d e f g relays conv client place standing prefix at in_time =
+    rests.client ≡ flows.stream.requests.rest → rests.server ≡ phase_rest flows.stream.phase → Some given ≡ phase_flow flows.stream.phase →
+    open_side ≡ open_spare flows.stream.spare → left_by child ≤ most_asked → GoesOnAs key sides rests given open_side child more →
+    Follows key flows child more
+upgrades key flows sides rests given open_side child more is a b c d e f g goes conv client place standing prefix keyed at in_time =
     let last : is_last flows.stream.phase ≡ true = last_when flows.stream.phase (apart flows.stream.phase outcomes.Upgraded outcomes.Going is upgraded_not) in
-    upgrade_by conv client place flows sides rests ended open_side child more standing.since standing.opened standing.spare prefix standing.stage at is
-    (found_end conv client place flows standing prefix at last) a b c d e f g relays
+    let P : List ℕ → Type 0 = λ k. GoesOnAs k sides rests given open_side child more in
+    upgrade_by conv client place flows sides rests given open_side child more standing.since standing.opened standing.spare prefix standing.stage at is
+    (found_end conv client place flows standing prefix at last) a b c d e f g (subst P (sym keyed) goes)
+
+-- its flow is there
+pub upgraded_flow : (found : Phase) → outcome_in found ≡ outcomes.Upgraded → phase_flow found ≡ None → ⊥
+upgraded_flow (phase.Ready (ready.Upgraded flow link)) is none = let no : Some flow ≡ None = none in cc
+upgraded_flow (phase.Asked awaits) is none = let no : outcomes.Going ≡ outcomes.Upgraded = is in cc
+upgraded_flow (phase.Ready ready.Finished) is none = let no : outcomes.Next ≡ outcomes.Upgraded = is in cc
+upgraded_flow (phase.Ready ready.Over) is none = let no : outcomes.Over ≡ outcomes.Upgraded = is in cc
+upgraded_flow (phase.Ready (ready.Connects address)) is none = let no : outcomes.Connects ≡ outcomes.Upgraded = is in cc
+upgraded_flow (phase.Ready ready.Idle) is none = let no : outcomes.Going ≡ outcomes.Upgraded = is in cc
+upgraded_flow (phase.Ready (ready.Receiving flow given body)) is none = let no : outcomes.Going ≡ outcomes.Upgraded = is in cc
+upgraded_flow (phase.Ready (ready.Dialling flow)) is none = let no : outcomes.Going ≡ outcomes.Upgraded = is in cc
+upgraded_flow (phase.Ready (ready.Answering flow link)) is none = let no : outcomes.Going ≡ outcomes.Upgraded = is in cc
+upgraded_flow (phase.Ready (ready.Returning flow link body)) is none = let no : outcomes.Going ≡ outcomes.Upgraded = is in cc
+upgraded_flow (phase.Ready (ready.GivenHead flow)) is none = let no : outcomes.Going ≡ outcomes.Upgraded = is in cc
+upgraded_flow (phase.Ready (ready.GivenBody flow)) is none = let no : outcomes.Going ≡ outcomes.Upgraded = is in cc
+
+-- HTTP asked nothing there
+none_asked : (found : Phase) → outcome_in found ≡ outcomes.Upgraded → awaited_in found ≡ None
+none_asked (phase.Asked awaits) is = absurd (let no : outcomes.Going ≡ outcomes.Upgraded = is in cc)
+none_asked (phase.Ready last) is = refl
+
+pub asks_behind : {E : Type 0} (flows : HttpConv) (out longer : List Command) (result : Result Child E) → outcome_in flows.stream.phase ≡ outcomes.Upgraded →
+    IfOk result (λ next. AsksOnly (awaited_by next) out longer) → IfOk result (λ next. AsksBehind flows next out longer)
+asks_behind flows out longer (Ok child) is asks = λ before first. (
+  first.0 ++ asks.0,
+  given_twice before out longer first.0 asks.0 first.1 asks.1,
+  flat_map-append asks_in first.0 asks.0 ∙ ap₂ (λ (a b : List Ask). a ++ b) (first.2 ∙ ap option_to_list (none_asked flows.stream.phase is)) asks.2,
+)
+asks_behind flows out longer (Err error) is asks = tt
+
+-- what holds with each key holds with one
+pub with_one_key : {E : Type 0} (key : List ℕ) (flows : HttpConv) (out longer : List Command) (result : Result Child E) →
+    IfOk result (λ next. Adds (λ more. (key : List ℕ) → Follows key flows next more) out longer) → IfOk result (λ next. Adds (Follows key flows next) out longer)
+with_one_key key flows out longer (Ok child) adds = record { more = adds.more; grown = adds.grown; holds = adds.holds key }
+with_one_key key flows out longer (Err error) adds = tt
 
 -- ---- the end
 
@@ -471,8 +533,8 @@ ended found outcome is (inl here) other a b there = a (sym there ∙ (sym is ∙
 ended found outcome is (inr here) other a b there = b (sym there ∙ (sym is ∙ here))
 
 pub ends_with : (flows : HttpConv) (outcome : Outcome) → outcome ≡ outcome_in flows.stream.phase → (outcome ≡ outcomes.Next) ⊎ (outcome ≡ outcomes.Over) →
-    Follows flows children.Over (shut_open (open_spare flows.stream.spare))
-ends_with flows outcome is which conv client place standing prefix at in_time =
+    (key : List ℕ) → Follows key flows children.Over (shut_open (open_spare flows.stream.spare))
+ends_with flows outcome is which key conv client place standing prefix keyed at in_time =
     let apart_from = ended flows.stream.phase outcome is which in
     ends conv client place flows standing prefix at
     (last_when flows.stream.phase (apart_from outcomes.Going (λ e. let no : outcomes.Going ≡ outcomes.Next = e in cc) (λ e. let no : outcomes.Going ≡ outcomes.Over = e in cc)))

@@ -1,10 +1,9 @@
 -- What waits for another proxy's answer, over one event more.
-use Rattle.std.proofs.Common.{◌≡◌, ℕ, ◌≤◌, Bool, true, false, List, [], ◌∷◌, ◌++◌, length, drop, Option, refl, ap, sym, ◌∙◌, subst}
+use Rattle.std.proofs.Common.{◌≡◌, ℕ, false, List, [], ◌∷◌, ◌++◌, drop, refl, ap, sym, ◌∙◌, subst}
 use Rattle.std.specs.Prelude.{◌||◌}
 use Rattle.std.specs.Global.{Box}
 use Rattle.std.specs.Box.{with_value}
 use Rattle.std.proofs.lemmas.List.{append-nil, drop-append-le}
-use Rattle.px_message.specs.declared.address.Address.{Address}
 use Rattle.px_event.specs.declared.event.Event.{Event}
 use Rattle.px_event.specs.declared.event.Event.TheVariants as events
 use Rattle.px_event.specs.declared.side.Side.{Side}
@@ -12,19 +11,19 @@ use Rattle.px_event.specs.declared.side.Side.TheVariants.{Client, Server}
 use Rattle.px_event.specs.Chain.{Timed}
 use Rattle.px_exchange.specs.Places.{terms_of}
 use Rattle.px_chain.specs.Sights.{Spare}
-use Rattle.px_chain.specs.Streams.{bytes_of, client_closed, closes, piece_of}
+use Rattle.px_chain.specs.Streams.{bytes_of, closes, piece_of}
 use Rattle.px_chain.proofs.FrontLaws.{bytes_more, closed_more}
 use Rattle.px_http.specs.declared.conversation.HttpConv.{HttpConv}
 use Rattle.px_stream.specs.declared.phase.Phase.{Phase}
-use Rattle.px_stream.specs.Anywhere.{HearsWaiting, Somewhere}
+use Rattle.px_stream.specs.Anywhere.{HearsWaiting}
 use Rattle.px_stream.specs.Through.{IsDialling}
 use Rattle.px_stack.specs.declared.child.Goal.{Goal as KeptGoal}
 use Rattle.px_stack.specs.declared.child.Goal.TheVariants as goals
 use Rattle.px_stack.specs.declared.child.Opening.{Opening}
-use Rattle.px_stack.specs.Chain.{opening_text, standing_of}
+use Rattle.px_stack.specs.Chain.{standing_of}
 use Rattle.px_stack.specs.Kept.{is_left}
-use Rattle.px_stack.specs.Stages.{Tunnel, a_flow, a_tunnel}
-use Rattle.px_stack.specs.Stands.{IsAskedFor, IsOpening, ahead_at}
+use Rattle.px_stack.specs.Stages.{Tunnel, Visitor, a_flow, a_tunnel}
+use Rattle.px_stack.specs.Stands.{IsAskedFor, ahead_at}
 use Rattle.px_stack.specs.Steps.{HearsGoal}
 use Rattle.px_stack.proofs.RelayLemmas.{longer_bytes}
 use Rattle.px_stack.proofs.TimeLemmas.{in_time_more}
@@ -53,7 +52,7 @@ asked_more tunnel side prefix kept e stays at =
     }
 
 pub hears_tunnel : (kept after : Opening) (event : Event) → closes Client event ≡ false → after ≡ record kept { rest = kept.rest ++ piece_of Client event } →
-    (conv : ℕ) (client : Option Address) (moment : ℕ) → HearsGoal conv client (goals.Tunnel kept) (goals.Tunnel after) moment event
+    (conv : ℕ) (client : Visitor) (moment : ℕ) → HearsGoal conv client (goals.Tunnel kept) (goals.Tunnel after) moment event
 hears_tunnel kept after event stays is conv client moment (a_tunnel tunnel) side prefix at =
     let e : Timed Event = record { moment = moment; value = event } in
     let P : Opening → Type 0 = λ k. IsAskedFor tunnel side (prefix ++ e ∷ []) k in
@@ -80,13 +79,13 @@ unheard_others (events.Answered ask reply) none = refl
 -- ---- a flow
 
 pub hears_flow : (boxed after : Box HttpConv) (event : Event) → HearsWaiting boxed.value.stream after.value.stream event → after.value.stream.phase ≡ boxed.value.stream.phase →
-    (conv : ℕ) (client : Option Address) (moment : ℕ) → HearsGoal conv client (goals.Flow boxed) (goals.Flow after) moment event
+    (conv : ℕ) (client : Visitor) (moment : ℕ) → HearsGoal conv client (goals.Flow boxed) (goals.Flow after) moment event
 hears_flow boxed after event hears same conv client moment (a_tunnel tunnel) side prefix at = absurd at
 hears_flow boxed after event hears same conv client moment (a_flow place from) side prefix at =
     let e : Timed Event = record { moment = moment; value = event } in
     let P : Phase → Type 0 = IsDialling in
     record {
-      there = hears.hears (terms_of conv client place) (ahead_at place) (standing_of from) prefix moment from.at from.flow refl at.in_time at.there;
+      there = hears.hears (terms_of conv client.address place) (ahead_at place) (standing_of from) prefix moment from.at from.flow refl at.in_time at.there;
       in_time = in_time_more from.spare prefix e at.there.is_at.within.spare at.in_time;
       dialled = at.dialled;
       waits = subst P (sym same) at.waits;
@@ -96,7 +95,7 @@ hears_flow boxed after event hears same conv client moment (a_flow place from) s
 
 pub tunnel_heard : (goal : KeptGoal) (kept after : Opening) (event : Event) → goal ≡ goals.Tunnel kept → is_left goal event ≡ false →
     after ≡ record kept { rest = kept.rest ++ piece_of Client event } →
-    (conv : ℕ) (client : Option Address) (moment : ℕ) → HearsGoal conv client goal (goals.Tunnel after) moment event
+    (conv : ℕ) (client : Visitor) (moment : ℕ) → HearsGoal conv client goal (goals.Tunnel after) moment event
 tunnel_heard goal kept after event is stays grown conv client moment =
     let P : KeptGoal → Type 0 = λ g. HearsGoal conv client g (goals.Tunnel after) moment event in
     let open_still : closes Client event ≡ false = ap (λ g. is_left g event) (sym is) ∙ stays in
@@ -104,7 +103,7 @@ tunnel_heard goal kept after event is stays grown conv client moment =
 
 pub flow_heard : (goal : KeptGoal) (boxed : Box HttpConv) (before after : HttpConv) (event : Event) → goal ≡ goals.Flow boxed → before ≡ boxed.value →
     HearsWaiting before.stream after.stream event → after.stream.phase ≡ before.stream.phase →
-    (conv : ℕ) (client : Option Address) (moment : ℕ) → HearsGoal conv client goal (goals.Flow (with_value boxed after)) moment event
+    (conv : ℕ) (client : Visitor) (moment : ℕ) → HearsGoal conv client goal (goals.Flow (with_value boxed after)) moment event
 flow_heard goal boxed before after event is same hears same_phase conv client moment =
     let P : KeptGoal → Type 0 = λ g. HearsGoal conv client g (goals.Flow (with_value boxed after)) moment event in
     let Q : HttpConv → Type 0 = λ h. HearsWaiting h.stream after.stream event in

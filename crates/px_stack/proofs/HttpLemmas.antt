@@ -1,11 +1,10 @@
 -- What HTTP does with an event or a reply, and what follows it, is what the longer chain does there.
-use Rattle.std.proofs.Common.{◌≡◌, ℕ, ◌+◌, ◌<◌, ◌≤◌, Bool, true, false, List, [], ◌∷◌, ◌++◌, Option, Some, None, refl, ap, sym, ◌∙◌, subst, append_assoc, arith}
+use Rattle.std.proofs.Common.{◌≡◌, ℕ, ◌+◌, ◌<◌, ◌≤◌, List, [], ◌∷◌, ◌++◌, refl, ap, sym, ◌∙◌, subst, append_assoc, arith}
 use Rattle.std.specs.Global.{Box}
-use Rattle.px_message.specs.declared.address.Address.{Address}
 use Rattle.px_event.specs.declared.command.Command.{Command}
 use Rattle.px_event.specs.declared.event.Event.{Event}
 use Rattle.px_event.specs.declared.reply.Reply.{Reply}
-use Rattle.px_event.specs.Chain.{Timed, Look, NotYet, Asks, Ends, Turn, found}
+use Rattle.px_event.specs.Chain.{Timed, Look, NotYet, Asks, Ends, Turn}
 use Rattle.px_event.specs.Laws.{owed_here, owed_over}
 use Rattle.px_event.specs.View.{View, seen_of}
 use Rattle.px_event.proofs.Seen.{seen_append}
@@ -14,28 +13,25 @@ use Rattle.px_exchange.specs.declared.place.Place.{Place}
 use Rattle.px_exchange.specs.declared.terms.Terms.{Terms}
 use Rattle.px_exchange.specs.Places.{terms_of}
 use Rattle.px_chain.specs.Chain.{http_chain, sequence}
-use Rattle.px_chain.specs.Sights.{Spare, SpareIsWithin, Standing, Unused, unused_over}
-use Rattle.px_chain.specs.Streams.{Since}
+use Rattle.px_chain.specs.Sights.{SpareIsWithin, Standing, unused_over}
 use Rattle.px_http.specs.declared.conversation.HttpConv.{HttpConv}
-use Rattle.px_stream.specs.Anywhere.{OpensInTime, ResumesAnywhere, Somewhere, TakesAnywhere}
+use Rattle.px_stream.specs.Anywhere.{OpensInTime, Somewhere}
 use Rattle.px_stream.specs.Left.{sequence_left}
 use Rattle.px_stream.specs.Sequence.{IsInSequence}
 use Rattle.px_stack.specs.declared.child.Child.{Child}
 use Rattle.px_stack.specs.declared.child.Child.TheVariants as children
-use Rattle.px_stack.specs.declared.child.Opening.{Opening}
-use Rattle.px_stack.specs.declared.child.Relay.{Relay}
-use Rattle.px_stack.specs.Chain.{flows_at, hands_over, or_stays, raw_look, shut_unused, stack_chain, turn_flows, with_closes}
+use Rattle.px_stack.specs.Chain.{flows_at, shut_unused, stack_chain, turn_flows, with_closes}
 use Rattle.px_stack.specs.Kept.{left_by, tunnel_left}
-use Rattle.px_stack.specs.Stages.{Ends as TunnelEnds, Stage, Tunnel, connecting, http, over, raw, reaching, undecided}
-use Rattle.px_stack.specs.Stands.{IsChild, IsHttp, IsInFlows, IsSomewhere, IsUndecided, Keeps, KeepsBy, ahead_at}
-use Rattle.px_stack.specs.Steps.{Adds, Follows, FollowsAt, IsPlain, ResumesChild, TakesChild}
+use Rattle.px_stack.specs.Stages.{Stage, Visitor, connecting, http, over, raw, reaching, socket, undecided}
+use Rattle.px_stack.specs.Stands.{IsChild, IsInFlows, IsSomewhere, Keeps, KeepsBy, ahead_at}
+use Rattle.px_stack.specs.Steps.{Follows, IsPlain, ResumesChild, TakesChild}
 use Rattle.px_stack.proofs.LedLemmas.{plain_turn}
 use Rattle.px_stack.proofs.TimeLemmas.{in_time_more, in_time_taken}
 
 -- ---- where HTTP is kept
 
 -- what was kept is HTTP, so the stage is HTTP's, and the end was not found
-pub record IsKept (conv : ℕ) (client : Option Address) (flows : HttpConv) (stage : Stage) (prefix : List (Timed Event)) : Type 0 where
+pub record IsKept (conv : ℕ) (client : Visitor) (flows : HttpConv) (stage : Stage) (prefix : List (Timed Event)) : Type 0 where
   pub place : Place
   pub standing : Standing
   pub is : stage ≡ http place standing
@@ -45,7 +41,7 @@ pub record IsKept (conv : ℕ) (client : Option Address) (flows : HttpConv) (sta
 same_box : (a b : Box HttpConv) → children.Http a ≡ children.Http b → a ≡ b
 same_box a b is = cc
 
-keeps_http : (conv : ℕ) (client : Option Address) (boxed : Box HttpConv) (stage : Stage) (prefix : List (Timed Event)) →
+keeps_http : (conv : ℕ) (client : Visitor) (boxed : Box HttpConv) (stage : Stage) (prefix : List (Timed Event)) →
     Keeps conv client (children.Http boxed) stage prefix → IsKept conv client boxed.value stage prefix
 keeps_http conv client boxed (http place standing) prefix is =
     let P : Box HttpConv → Type 0 = λ b. IsInFlows conv client place b.value standing prefix in
@@ -54,27 +50,28 @@ keeps_http conv client boxed (connecting tunnel) prefix is = absurd (let no : ch
 keeps_http conv client boxed (reaching goal side since) prefix is = absurd (let no : children.Http boxed ≡ children.Reaching is.kept = is.is in cc)
 keeps_http conv client boxed (undecided tunnel spare since) prefix is = absurd (let no : children.Http boxed ≡ children.Undecided is.kept is.server = is.is in cc)
 keeps_http conv client boxed (raw ends) prefix is = absurd (let no : children.Http boxed ≡ children.Raw is.kept = is.is in cc)
+keeps_http conv client boxed (socket ends flow frames) prefix is = absurd (let no : children.Http boxed ≡ children.Socket is.kept = is.is in cc)
 keeps_http conv client boxed over prefix is = absurd is
 
-kept_by_look : (l : Look Command) (conv : ℕ) (client : Option Address) (boxed : Box HttpConv) (stage : Stage) (prefix : List (Timed Event)) →
+kept_by_look : (l : Look Command) (conv : ℕ) (client : Visitor) (boxed : Box HttpConv) (stage : Stage) (prefix : List (Timed Event)) →
     KeepsBy l conv client (children.Http boxed) stage prefix → Keeps conv client (children.Http boxed) stage prefix
 kept_by_look NotYet conv client boxed stage prefix is = is
 kept_by_look (Asks ask) conv client boxed stage prefix is = is
 kept_by_look (Ends owed) conv client boxed stage prefix is = absurd (let no : children.Http boxed ≡ children.Over = is in cc)
 
-pub is_kept : (conv : ℕ) (client : Option Address) (boxed : Box HttpConv) (stage : Stage) (prefix : List (Timed Event)) → IsChild conv client (children.Http boxed) stage prefix →
+pub is_kept : (conv : ℕ) (client : Visitor) (boxed : Box HttpConv) (stage : Stage) (prefix : List (Timed Event)) → IsChild conv client (children.Http boxed) stage prefix →
     IsKept conv client boxed.value stage prefix
 is_kept conv client boxed stage prefix is =
     keeps_http conv client boxed stage prefix (kept_by_look ((stack_chain conv client).look stage prefix) conv client boxed stage prefix is)
 
 -- so HTTP is somewhere
-pub somewhere : (conv : ℕ) (client : Option Address) (boxed : Box HttpConv) → IsSomewhere conv client (children.Http boxed) → Somewhere boxed.value.stream
+pub somewhere : (conv : ℕ) (client : Visitor) (boxed : Box HttpConv) → IsSomewhere conv client (children.Http boxed) → Somewhere boxed.value.stream
 somewhere conv client boxed (stage, prefix, is) =
     let kept = is_kept conv client boxed stage prefix is in
-    (terms_of conv client kept.place, ahead_at kept.place, kept.standing, prefix, kept.there)
+    (terms_of conv client.address kept.place, ahead_at kept.place, kept.standing, prefix, kept.there)
 
 -- the end was not found there
-not_ended : (l : Look Command) (conv : ℕ) (client : Option Address) (boxed : Box HttpConv) (stage : Stage) (prefix : List (Timed Event)) (owed : List Command) →
+not_ended : (l : Look Command) (conv : ℕ) (client : Visitor) (boxed : Box HttpConv) (stage : Stage) (prefix : List (Timed Event)) (owed : List Command) →
     KeepsBy l conv client (children.Http boxed) stage prefix → l ≡ Ends owed → ⊥
 not_ended NotYet conv client boxed stage prefix owed is ends = let no : NotYet ≡ Ends owed = ends in cc
 not_ended (Asks ask) conv client boxed stage prefix owed is ends = let no : Asks ask ≡ Ends owed = ends in cc
@@ -82,7 +79,7 @@ not_ended (Ends other) conv client boxed stage prefix owed is ends = let no : ch
 
 -- ---- an event
 
-module _ (conv : ℕ) (client : Option Address) (boxed : Box HttpConv) (after : HttpConv) (child : Child) (first second : List Command) (follows : Follows after child second) where
+module _ (conv : ℕ) (client : Visitor) (boxed : Box HttpConv) (after : HttpConv) (child : Child) (first second : List Command) (follows : Follows client.key after child second) where
   -- what the two gave, one behind the other
   gave_both : (view : View) (so_far all none owed : List Command) → none ≡ [] →
       seen_of view so_far ++ seen_of view first ≡ seen_of view (none ++ all) → seen_of view all ++ seen_of view second ≡ seen_of view owed →
@@ -96,12 +93,12 @@ module _ (conv : ℕ) (client : Option Address) (boxed : Box HttpConv) (after : 
   takes_there : (moment : ℕ) (event : Event) (place : Place) (standing : Standing) (prefix : List (Timed Event)) →
       SpareIsWithin standing.spare prefix → OpensInTime standing.spare prefix →
       ((owed : List Command) → (stack_chain conv client).look (http place standing) prefix ≡ Ends owed → ⊥) →
-      Takes (flows_at conv client place) (IsInSequence (terms_of conv client place) (ahead_at place)) after.stream moment event first standing prefix →
+      Takes (flows_at conv client place) (IsInSequence (terms_of conv client.address place) (ahead_at place)) after.stream moment event first standing prefix →
       Takes (stack_chain conv client) (IsChild conv client) child moment event (first ++ second) (http place standing) prefix
   takes_there moment event place standing prefix within in_time goes (onward is at gives) =
       let longer : List (Timed Event) = prefix ++ record { moment = moment; value = event } ∷ [] in
       let on = (flows_at conv client place).pass standing longer in
-      let next = follows conv client place on.stage longer at (in_time_more standing.spare prefix (record { moment = moment; value = event }) within in_time) in
+      let next = follows conv client place on.stage longer refl at (in_time_more standing.spare prefix (record { moment = moment; value = event }) within in_time) in
       onward (ap (with_closes conv client (unused_over standing.spare prefix)) is) next.there
       (λ view. gave_both view ((flows_at conv client place).so_far standing prefix) (owed_here (flows_at conv client place) on.stage longer) on.owed _ refl (gives view) (next.gives view))
   takes_there moment event place standing prefix within in_time goes (past_end owed is at gives) =
@@ -117,7 +114,7 @@ module _ (conv : ℕ) (client : Option Address) (boxed : Box HttpConv) (after : 
       subst P (sym kept.is)
       (λ there. takes_there moment event kept.place kept.standing prefix kept.there.is_at.within.spare kept.in_time
       (λ owed ends. not_ended ((stack_chain conv client).look (http kept.place kept.standing) prefix) conv client boxed (http kept.place kept.standing) prefix owed there ends)
-      (takes (terms_of conv client kept.place) (ahead_at kept.place) kept.standing prefix kept.there)) is
+      (takes (terms_of conv client.address kept.place) (ahead_at kept.place) kept.standing prefix kept.there)) is
 
   -- ---- a reply
 
@@ -127,13 +124,13 @@ module _ (conv : ℕ) (client : Option Address) (boxed : Box HttpConv) (after : 
 
   resumes_there : (moment : ℕ) (reply : Reply) (place : Place) (standing : Standing) (prefix : List (Timed Event)) → OpensInTime standing.spare prefix →
       Plain place standing prefix (record { moment = moment; value = reply }) →
-      Resumes (flows_at conv client place) (IsInSequence (terms_of conv client place) (ahead_at place)) after.stream moment reply first standing prefix →
+      Resumes (flows_at conv client place) (IsInSequence (terms_of conv client.address place) (ahead_at place)) after.stream moment reply first standing prefix →
       Resumes (stack_chain conv client) (IsChild conv client) child moment reply (first ++ second) (http place standing) prefix
   resumes_there moment reply place standing prefix in_time plain resumes =
       let answer : Timed Reply = record { moment = moment; value = reply } in
       let turned = (flows_at conv client place).turn standing prefix answer in
       let on = (flows_at conv client place).pass turned.stage prefix in
-      let next = follows conv client place on.stage prefix resumes.place (in_time_taken _ standing.spare prefix in_time) in
+      let next = follows conv client place on.stage prefix refl resumes.place (in_time_taken _ standing.spare prefix in_time) in
       let P : Turn Stage Command → Type 0 = λ t. IsChild conv client child ((stack_chain conv client).pass t.stage prefix).stage prefix in
       record {
         ask = resumes.ask;
@@ -158,42 +155,46 @@ module _ (conv : ℕ) (client : Option Address) (boxed : Box HttpConv) (after : 
       subst P (sym kept.is)
       (resumes_there moment reply kept.place kept.standing prefix kept.in_time
       (plain_turn conv client kept.place boxed.value kept.standing prefix moment reply kept.there plain)
-      (resumes (terms_of conv client kept.place) (ahead_at kept.place) kept.standing prefix kept.there))
+      (resumes (terms_of conv client.address kept.place) (ahead_at kept.place) kept.standing prefix kept.there))
 
 -- ---- how many replies may still be asked for
 
-module _ (boxed : Box HttpConv) (after : HttpConv) (child : Child) (first second : List Command) (follows : Follows after child second) where
-  places_left : (conv : ℕ) (client : Option Address) (place : Place) (standing : Standing) (prefix : List (Timed Event)) → IsInFlows conv client place boxed.value standing prefix →
+module _ (key : List ℕ) (boxed : Box HttpConv) (after : HttpConv) (child : Child) (first second : List Command) (follows : Follows key after child second) where
+  -- whatever the key: the bound does not hang on it
+  abbrev keyed : Visitor → Visitor
+  keyed client = record { address = client.address; key = key }
+
+  places_left : (conv : ℕ) (client : Visitor) (place : Place) (standing : Standing) (prefix : List (Timed Event)) → IsInFlows conv client place boxed.value standing prefix →
       tunnel_left boxed.value.stream.terms.place ≡ tunnel_left place
   places_left conv client place standing prefix at = ap (λ t. tunnel_left t.place) at.is_at.is_in.terms
 
-  takes_left_by : (conv : ℕ) (client : Option Address) (moment : ℕ) (event : Event) (place : Place) (standing : Standing) (prefix : List (Timed Event)) →
-      SpareIsWithin standing.spare prefix → OpensInTime standing.spare prefix → Takes (flows_at conv client place) (IsInSequence (terms_of conv client place) (ahead_at place)) after.stream moment event first standing prefix →
+  takes_left_by : (conv : ℕ) (client : Visitor) (moment : ℕ) (event : Event) (place : Place) (standing : Standing) (prefix : List (Timed Event)) →
+      SpareIsWithin standing.spare prefix → OpensInTime standing.spare prefix → Takes (flows_at conv client place) (IsInSequence (terms_of conv client.address place) (ahead_at place)) after.stream moment event first standing prefix →
       left_by child ≤ sequence_left after.stream + tunnel_left place
   takes_left_by conv client moment event place standing prefix within in_time (onward is at gives) =
       let e : Timed Event = record { moment = moment; value = event } in
-      (follows conv client place ((flows_at conv client place).pass standing (prefix ++ e ∷ [])).stage (prefix ++ e ∷ []) at (in_time_more standing.spare prefix e within in_time)).left
-  takes_left_by conv client moment event place standing prefix within in_time (past_end owed is at gives) = (follows conv client place standing prefix at in_time).left
+      (follows conv (keyed client) place ((flows_at conv client place).pass standing (prefix ++ e ∷ [])).stage (prefix ++ e ∷ []) refl at (in_time_more standing.spare prefix e within in_time)).left
+  takes_left_by conv client moment event place standing prefix within in_time (past_end owed is at gives) = (follows conv (keyed client) place standing prefix refl at in_time).left
 
-  pub takes_left : (conv : ℕ) (client : Option Address) (moment : ℕ) (event : Event) → IsSomewhere conv client (children.Http boxed) →
+  pub takes_left : (conv : ℕ) (client : Visitor) (moment : ℕ) (event : Event) → IsSomewhere conv client (children.Http boxed) →
       ((made : Terms) (ahead : ℕ) (place : Standing) (prefix : List (Timed Event)) → IsInSequence made ahead boxed.value.stream place prefix →
       Takes (http_chain sequence made) (IsInSequence made ahead) after.stream moment event first place prefix) →
       sequence_left after.stream ≤ sequence_left boxed.value.stream → left_by child ≤ left_by (children.Http boxed)
   takes_left conv client moment event (stage, prefix, is) takes fewer =
       let kept = is_kept conv client boxed stage prefix is in
-      let here = takes_left_by conv client moment event kept.place kept.standing prefix kept.there.is_at.within.spare kept.in_time (takes (terms_of conv client kept.place) (ahead_at kept.place) kept.standing prefix kept.there) in
+      let here = takes_left_by conv client moment event kept.place kept.standing prefix kept.there.is_at.within.spare kept.in_time (takes (terms_of conv client.address kept.place) (ahead_at kept.place) kept.standing prefix kept.there) in
       let same = places_left conv client kept.place kept.standing prefix kept.there in
       omega arith
 
-  pub resumes_left : (conv : ℕ) (client : Option Address) (moment : ℕ) (reply : Reply) → IsSomewhere conv client (children.Http boxed) →
+  pub resumes_left : (conv : ℕ) (client : Visitor) (moment : ℕ) (reply : Reply) → IsSomewhere conv client (children.Http boxed) →
       ((made : Terms) (ahead : ℕ) (place : Standing) (prefix : List (Timed Event)) → IsInSequence made ahead boxed.value.stream place prefix →
       Resumes (http_chain sequence made) (IsInSequence made ahead) after.stream moment reply first place prefix) →
       sequence_left after.stream < sequence_left boxed.value.stream → left_by child < left_by (children.Http boxed)
   resumes_left conv client moment reply (stage, prefix, is) resumes fewer =
       let kept = is_kept conv client boxed stage prefix is in
-      let resumed = resumes (terms_of conv client kept.place) (ahead_at kept.place) kept.standing prefix kept.there in
+      let resumed = resumes (terms_of conv client.address kept.place) (ahead_at kept.place) kept.standing prefix kept.there in
       let flows = flows_at conv client kept.place in
-      let here = (follows conv client kept.place (flows.pass (flows.turn kept.standing prefix (record { moment = moment; value = reply })).stage prefix).stage prefix resumed.place
+      let here = (follows conv (keyed client) kept.place (flows.pass (flows.turn kept.standing prefix (record { moment = moment; value = reply })).stage prefix).stage prefix refl resumed.place
       (in_time_taken _ kept.standing.spare prefix kept.in_time)).left in
       let same = places_left conv client kept.place kept.standing prefix kept.there in
       omega arith

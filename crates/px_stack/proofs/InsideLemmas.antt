@@ -1,5 +1,5 @@
 -- HTTP begins in a tunnel.
-use Rattle.std.proofs.Common.{◌≡◌, ℕ, ◌≤◌, ◌+◌, Bool, true, false, List, [], ◌∷◌, ◌++◌, length, drop, Option, Some, None, refl, ap, sym, ◌∙◌, subst, arith}
+use Rattle.std.proofs.Common.{◌≡◌, ℕ, ◌≤◌, ◌+◌, false, List, [], ◌∷◌, ◌++◌, drop, Option, Some, refl, ap, sym, ◌∙◌, subst, arith}
 use Rattle.std.specs.Prelude.{◌-◌, ◌*◌, IfOk, Result, Ok, Err}
 use Rattle.std.proofs.lemmas.List.{append-nil}
 use Rattle.px_message.specs.declared.address.Address.{Address}
@@ -28,8 +28,8 @@ use Rattle.px_stream.specs.Stands.{IsSpare}
 use Rattle.px_stack.specs.declared.child.Child.{Child}
 use Rattle.px_stack.specs.declared.child.Opening.{Opening}
 use Rattle.px_stack.specs.Chain.{inner_place, inner_standing}
-use Rattle.px_stack.specs.Kept.{awaited_by, left_by, opened_left}
-use Rattle.px_stack.specs.Stages.{Tunnel}
+use Rattle.px_stack.specs.Kept.{awaited_by, left_by, most_asked, opened_left}
+use Rattle.px_stack.specs.Stages.{Tunnel, Visitor}
 use Rattle.px_stack.specs.Steps.{Adds, AsksBehind, Follows, FollowsAt, GoesInside, IsFewDials, MayDecide}
 use Rattle.px_stack.proofs.RelayLemmas.{given_twice}
 use Rattle.px_stack.proofs.TimeLemmas.{open_in_time}
@@ -58,18 +58,18 @@ same_place tunnel spare kept server at is through =
     ap (λ a. places.Fixed a (Some server) kept.proxy) at
     ∙ (ap (λ n. places.Fixed tunnel.address (Some n) kept.proxy) is ∙ ap (λ p. places.Fixed tunnel.address (Some spare.server) p) through)
 
-module _ (conv : ℕ) (client : Option Address) (kept : Opening) (server : ℕ) (moment : ℕ) (before : Stream)
-    (terms : before.terms ≡ terms_of conv client (place_in kept server))
+module _ (conv : ℕ) (client : Visitor) (kept : Opening) (server : ℕ) (moment : ℕ) (before : Stream)
+    (terms : before.terms ≡ terms_of conv client.address (place_in kept server))
     (numbers : before.numbers ≡ record { flow = kept.numbers.flow; server = kept.numbers.server })
     (unheard : before.spare ≡ spare_at (place_in kept server)) where
   may_begin : (tunnel : Tunnel) (spare : Spare) (since : Since) (prefix : List (Timed Event)) → MayDecide tunnel spare since prefix kept server false moment →
-      MayBegin (terms_of conv client (inner_place tunnel spare)) 1 before moment false kept.rest (inner_standing tunnel spare since) prefix
+      MayBegin (terms_of conv client.address (inner_place tunnel spare)) 1 before moment false kept.rest (inner_standing tunnel spare since) prefix
   may_begin tunnel spare since prefix at =
       let opening = at.opened.opening in
       let last = at.opened.last in
       let dials = at.opened.dials in
       record {
-        terms = terms ∙ ap (λ p. terms_of conv client p) (same_place tunnel spare kept server opening.address at.opened.same opening.proxy);
+        terms = terms ∙ ap (λ p. terms_of conv client.address p) (same_place tunnel spare kept server opening.address at.opened.same opening.proxy);
         at = tunnel.at;
         stage = refl;
         flow = ap (λ n. n.flow) numbers ∙ opening.flow;
@@ -85,18 +85,18 @@ module _ (conv : ℕ) (client : Option Address) (kept : Opening) (server : ℕ) 
       }
 
   module _ (after : HttpConv) (next : Child) (out mid longer : List Command)
-      (begins : Begins before after.stream moment false kept.rest out mid) (follows : Adds (Follows after next) mid longer) where
+      (begins : Begins before after.stream moment false kept.rest out mid) (follows : Adds (Follows client.key after next) mid longer) where
     follows_at : (tunnel : Tunnel) (spare : Spare) (since : Since) (prefix : List (Timed Event)) → MayDecide tunnel spare since prefix kept server false moment →
         FollowsAt conv client after next follows.more (inner_place tunnel spare) (inner_standing tunnel spare since) prefix
     follows_at tunnel spare since prefix at =
-        follows.holds conv client (inner_place tunnel spare) (inner_standing tunnel spare since) prefix
-        (begins.begins (terms_of conv client (inner_place tunnel spare)) 1 (inner_standing tunnel spare since) prefix (may_begin tunnel spare since prefix at)).is_there
+        follows.holds conv client (inner_place tunnel spare) (inner_standing tunnel spare since) prefix refl
+        (begins.begins (terms_of conv client.address (inner_place tunnel spare)) 1 (inner_standing tunnel spare since) prefix (may_begin tunnel spare since prefix at)).is_there
         (open_in_time (Some spare) prefix at.client)
 
     goes_inside : GoesInside conv client kept server moment next (begins.more ++ follows.more)
     goes_inside tunnel spare since prefix at =
         let on = follows_at tunnel spare since prefix at in
-        let begun = begins.begins (terms_of conv client (inner_place tunnel spare)) 1 (inner_standing tunnel spare since) prefix (may_begin tunnel spare since prefix at) in
+        let begun = begins.begins (terms_of conv client.address (inner_place tunnel spare)) 1 (inner_standing tunnel spare since) prefix (may_begin tunnel spare since prefix at) in
         record {
           there = on.there;
           gives = λ view. seen_append view begins.more follows.more ∙ (ap (λ l. l ++ seen_of view follows.more) (begun.gives view) ∙ on.gives view);
@@ -129,15 +129,15 @@ some_decides kept server moment few = record {
   now = refl;
 }
 
-idle_left : (flow : ℕ) → 5 * (1000000 - flow) + 5 ≤ opened_left
+idle_left : (flow : ℕ) → 5 * (1000000 - flow) + 5 + most_asked ≤ opened_left
 idle_left flow = omega arith
 
-module _ (conv : ℕ) (client : Option Address) (kept : Opening) (server : ℕ) (moment : ℕ) (before : Stream)
-    (terms : before.terms ≡ terms_of conv client (place_in kept server))
+module _ (conv : ℕ) (client : Visitor) (kept : Opening) (server : ℕ) (moment : ℕ) (before : Stream)
+    (terms : before.terms ≡ terms_of conv client.address (place_in kept server))
     (numbers : before.numbers ≡ record { flow = kept.numbers.flow; server = kept.numbers.server })
     (unheard : before.spare ≡ spare_at (place_in kept server)) (new : IsNew before) (few : IsFewDials kept server)
     (after : HttpConv) (next : Child) (out mid longer : List Command)
-    (begins : Begins before after.stream moment false kept.rest out mid) (follows : Adds (Follows after next) mid longer) where
+    (begins : Begins before after.stream moment false kept.rest out mid) (follows : Adds (Follows client.key after next) mid longer) where
   inside_left : sequence_left after.stream ≤ sequence_left before → left_by next ≤ opened_left
   inside_left less =
       let tunnel = some_tunnel kept in
@@ -151,20 +151,24 @@ module _ (conv : ℕ) (client : Option Address) (kept : Opening) (server : ℕ) 
 
 -- ---- what the function gives
 
-module _ (conv : ℕ) (client : Option Address) (kept : Opening) (server : ℕ) (moment : ℕ) (made : Option Address) (same : made ≡ client) (before : Stream)
+module _ (conv : ℕ) (client : Visitor) (kept : Opening) (server : ℕ) (moment : ℕ) (key : List ℕ) (keyed : client.key ≡ key) (made : Option Address) (same : made ≡ client.address) (before : Stream)
     (terms : before.terms ≡ terms_of conv made (place_in kept server))
     (numbers : before.numbers ≡ record { flow = kept.numbers.flow; server = kept.numbers.server })
     (unheard : before.spare ≡ spare_at (place_in kept server))
     (after boxed : HttpConv) (boxes : boxed ≡ after) (out mid longer : List Command) (begins : Begins before after.stream moment false kept.rest out mid) where
-  terms_there : before.terms ≡ terms_of conv client (place_in kept server)
+  terms_there : before.terms ≡ terms_of conv client.address (place_in kept server)
   terms_there = terms ∙ ap (λ a. terms_of conv a (place_in kept server)) same
 
   begins_boxed : Begins before boxed.stream moment false kept.rest out mid
   begins_boxed = let P : HttpConv → Type 0 = λ h. Begins before h.stream moment false kept.rest out mid in subst P (sym boxes) begins
 
-  pub inside_begun : {E : Type 0} (result : Result Child E) → IfOk result (λ next. Adds (Follows boxed next) mid longer) →
+  -- whose key is the client's
+  keyed_follows : (next : Child) → Adds (Follows key boxed next) mid longer → Adds (Follows client.key boxed next) mid longer
+  keyed_follows next follows = let P : List ℕ → Type 0 = λ k. Adds (Follows k boxed next) mid longer in subst P (sym keyed) follows
+
+  pub inside_begun : {E : Type 0} (result : Result Child E) → IfOk result (λ next. Adds (Follows key boxed next) mid longer) →
       IfOk result (λ next. Adds (GoesInside conv client kept server moment next) out longer)
-  inside_begun (Ok next) follows = begun_inside conv client kept server moment before terms_there numbers unheard boxed next out mid longer begins_boxed follows
+  inside_begun (Ok next) follows = begun_inside conv client kept server moment before terms_there numbers unheard boxed next out mid longer begins_boxed (keyed_follows next follows)
   inside_begun (Err error) follows = tt
 
   pub inside_asks : {E : Type 0} → AsksOnly (awaits after) out mid → (result : Result Child E) → IfOk result (λ next. AsksBehind boxed next mid longer) →
@@ -174,8 +178,8 @@ module _ (conv : ℕ) (client : Option Address) (kept : Opening) (server : ℕ) 
   inside_asks asks (Err error) behind = tt
 
   pub inside_bound : {E : Type 0} → IsNew before → IsFewDials kept server → sequence_left after.stream ≤ sequence_left before → (result : Result Child E) →
-      IfOk result (λ next. Adds (Follows boxed next) mid longer) → IfOk result (λ next. left_by next ≤ opened_left)
+      IfOk result (λ next. Adds (Follows key boxed next) mid longer) → IfOk result (λ next. left_by next ≤ opened_left)
   inside_bound new few less (Ok next) follows =
       let P : HttpConv → Type 0 = λ h. sequence_left h.stream ≤ sequence_left before in
-      inside_left conv client kept server moment before terms_there numbers unheard new few boxed next out mid longer begins_boxed follows (subst P (sym boxes) less)
+      inside_left conv client kept server moment before terms_there numbers unheard new few boxed next out mid longer begins_boxed (keyed_follows next follows) (subst P (sym boxes) less)
   inside_bound new few less (Err error) follows = tt

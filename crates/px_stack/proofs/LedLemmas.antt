@@ -1,12 +1,11 @@
 -- A flow whose server is reached through another proxy: where the machine says so the chain does.
-use Rattle.std.proofs.Common.{◌≡◌, ℕ, List, [], ◌∷◌, Option, Some, None, refl, ap, sym, ◌∙◌, subst}
+use Rattle.std.proofs.Common.{◌≡◌, ℕ, List, Option, Some, None, refl, ap, sym, ◌∙◌, subst}
 use Rattle.px_message.specs.declared.address.Address.{Address}
-use Rattle.px_message.specs.declared.fault.Fault.{Fault}
 use Rattle.px_message.specs.declared.flow.Flow.{Flow}
 use Rattle.px_event.specs.declared.event.Event.{Event}
 use Rattle.px_event.specs.declared.reply.Reply.{Reply}
 use Rattle.px_event.specs.declared.reply.Reply.TheVariants as reply
-use Rattle.px_event.specs.Chain.{Timed, Look, NotYet, Asks, Ends}
+use Rattle.px_event.specs.Chain.{Timed}
 use Rattle.px_exchange.specs.declared.place.Place.{Place}
 use Rattle.px_exchange.specs.declared.place.Place.TheVariants as places
 use Rattle.px_exchange.specs.declared.terms.Terms.{Terms}
@@ -17,7 +16,6 @@ use Rattle.px_chain.specs.Stages.{At, busy, connection, given_body, given_head, 
 use Rattle.px_chain.specs.Stages as stages
 use Rattle.px_http.specs.declared.conversation.HttpConv.{HttpConv}
 use Rattle.px_read.specs.Reader.{State}
-use Rattle.px_stream.specs.declared.phase.Asked.{Asked}
 use Rattle.px_stream.specs.declared.phase.Asked.TheVariants as asked
 use Rattle.px_stream.specs.declared.phase.Phase.{Phase}
 use Rattle.px_stream.specs.declared.phase.Phase.TheVariants as phase
@@ -26,13 +24,13 @@ use Rattle.px_stream.specs.Through.{IsDialling, led_to, server_dialled}
 use Rattle.px_stream.specs.Through as through
 use Rattle.px_stream.proofs.WaitLemmas.{asked_at, is_at_dial}
 use Rattle.px_stack.specs.Chain.{led_at, led_by, standing_of, turn_flows, turn_http}
-use Rattle.px_stack.specs.Stages.{Dialling}
+use Rattle.px_stack.specs.Stages.{Dialling, Visitor}
 use Rattle.px_stack.specs.Stands.{IsInFlows}
 use Rattle.px_stack.specs.Steps.{IsPlain}
 
 -- ---- a reply that is not the connection of another proxy
 
-module _ (conv : ℕ) (client : Option Address) (place : Place) (standing : Standing) (prefix : List (Timed Event)) (answer : Timed Reply) where
+module _ (conv : ℕ) (client : Visitor) (place : Place) (standing : Standing) (prefix : List (Timed Event)) (answer : Timed Reply) where
   plain_by : (led : Option Dialling) (value : Reply) → (value ≡ reply.Dialled → led ≡ None) →
       turn_http conv client led place standing prefix answer value ≡ turn_flows conv client place standing prefix answer
   plain_by None reply.Dialled plain = refl
@@ -70,16 +68,16 @@ module _ (terms : Terms) (requests : State) (found : Phase) (seen : Sight) where
   none_led standing (next at) is none = refl
   none_led standing stages.over is none = refl
 
-none_at : (conv : ℕ) (client : Option Address) (place : Place) (flows : HttpConv) (standing : Standing) (prefix : List (Timed Event)) →
+none_at : (conv : ℕ) (client : Visitor) (place : Place) (flows : HttpConv) (standing : Standing) (prefix : List (Timed Event)) →
     IsInFlows conv client place flows standing prefix → led_to place flows.stream.phase ≡ None → led_at place standing ≡ None
 none_at conv client places.Regular flows standing prefix at none = refl
 none_at conv client (places.Upstream proxy) flows standing prefix at none = refl
 none_at conv client (places.Fixed address side None) flows standing prefix at none = refl
 none_at conv client (places.Fixed address side (Some proxy)) flows standing prefix at none =
-    none_led (terms_of conv client (places.Fixed address side (Some proxy))) flows.stream.requests flows.stream.phase (sight_over standing prefix) standing standing.stage
+    none_led (terms_of conv client.address (places.Fixed address side (Some proxy))) flows.stream.requests flows.stream.phase (sight_over standing prefix) standing standing.stage
     at.is_at.is_in.phase none
 
-pub plain_turn : (conv : ℕ) (client : Option Address) (place : Place) (flows : HttpConv) (standing : Standing) (prefix : List (Timed Event)) (moment : ℕ) (value : Reply) →
+pub plain_turn : (conv : ℕ) (client : Visitor) (place : Place) (flows : HttpConv) (standing : Standing) (prefix : List (Timed Event)) (moment : ℕ) (value : Reply) →
     IsInFlows conv client place flows standing prefix → IsPlain flows value →
     turn_http conv client (led_at place standing) place standing prefix (record { moment = moment; value = value }) value
     ≡ turn_flows conv client place standing prefix (record { moment = moment; value = value })
@@ -112,14 +110,14 @@ led_dials (Some proxy) (phase.Ready looked) address is = absurd (let no : None �
 same_address : (a b : Address) → Some a ≡ Some b → b ≡ a
 same_address a b is = cc
 
-module _ (conv : ℕ) (client : Option Address) (flows : HttpConv) (standing : Standing) (prefix : List (Timed Event)) (to : Address) where
+module _ (conv : ℕ) (client : Visitor) (flows : HttpConv) (standing : Standing) (prefix : List (Timed Event)) (to : Address) where
   led_on : (address : Address) (side : Option ℕ) (proxy : Address) →
       IsInFlows conv client (places.Fixed address side (Some proxy)) flows standing prefix → server_dialled flows.stream.phase ≡ Some to →
       IsLed (places.Fixed address side (Some proxy)) flows standing to
   led_on address side proxy at is =
       let dials = led_dials (Some proxy) flows.stream.phase to is in
       let (here, live) = asked_at flows.stream.phase dials in
-      let there = is_at_dial (terms_of conv client (places.Fixed address side (Some proxy))) flows.stream here standing.stage (sight_over standing prefix) dials live at.is_at.is_in in
+      let there = is_at_dial (terms_of conv client.address (places.Fixed address side (Some proxy))) flows.stream here standing.stage (sight_over standing prefix) dials live at.is_at.is_in in
       let goes_to : server_dialled flows.stream.phase ≡ Some (address_of there.flow.request) = ap server_dialled (live ∙ ap phase.Asked there.dials) in
       record {
         from = record { at = there.at; flow = there.flow; since = standing.since; opened = standing.opened; spare = standing.spare };

@@ -18,3 +18,5 @@ pub mod SaidLemmas
 pub mod AnswerLemmas
 pub mod ProxyFlowLemmas
 pub mod ProxyLemmas
+pub mod MessageLemmas
+pub mod SocketLemmas

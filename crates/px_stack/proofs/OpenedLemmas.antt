@@ -3,7 +3,6 @@ use Rattle.std.proofs.Common.{◌≡◌, ℕ, ◌==◌, Bool, true, false, List,
 use Rattle.std.specs.Prelude.{◌||◌, not, if◌then◌else◌, IfOk, Result, Ok, Err}
 use Rattle.std.proofs.lemmas.Bool.{eq-eqb, eqb-true, ne_eqb}
 use Rattle.std.proofs.lemmas.List.{append-nil}
-use Rattle.px_message.specs.declared.address.Address.{Address}
 use Rattle.px_event.specs.declared.ask.Ask.{Ask}
 use Rattle.px_event.specs.declared.command.Command.{Command}
 use Rattle.px_event.specs.declared.event.Event.{Event}
@@ -22,11 +21,11 @@ use Rattle.px_stack.specs.declared.child.Child.{Child}
 use Rattle.px_stack.specs.declared.child.Child.TheVariants as children
 use Rattle.px_stack.specs.declared.child.Opening.{Opening}
 use Rattle.px_stack.specs.declared.closing.Sides.{Sides}
-use Rattle.px_stack.specs.Chain.{closes_all, follows, goes_by, hands_over, has_answered, inner_place, inner_standing, opening_look, opening_text, or_stays, stack_chain, tunnel_ends, tunnel_for, tunnel_found}
+use Rattle.px_stack.specs.Chain.{begun, closes_all, follows, goes_by, hands_over, has_answered, inner_place, inner_standing, opening_look, opening_text, or_stays, stack_chain, tunnel_ends, tunnel_for, tunnel_found}
 use Rattle.px_stack.specs.Decides.{Decision, decided, decided_by, has_method, is_http, is_raw, may_have_method, still}
 use Rattle.px_stack.specs.Kept.{awaited_by}
 use Rattle.px_stack.specs.Laws.{never_connects}
-use Rattle.px_stack.specs.Stages.{Ends as TunnelEnds, Stage, Tunnel, connecting, http, over, raw, reaching, undecided}
+use Rattle.px_stack.specs.Stages.{Ends as TunnelEnds, Stage, Tunnel, Visitor, connecting, http, over, raw, reaching, socket, undecided}
 use Rattle.px_stack.specs.Stands.{IsChild, IsOpened, IsUndecided, Keeps, KeepsBy}
 use Rattle.px_stack.specs.Steps.{Adds, Arrives, Decides, GoesInside, MayDecide, MayRelay, Relays, TakesChild, sides_closed}
 use Rattle.px_stack.proofs.DecideLemmas.{answer_decides}
@@ -71,7 +70,7 @@ module _ (tunnel : Tunnel) (spare : Spare) (since : Since) (prefix : List (Timed
   pub goes_closed : client_closed prefix ≡ true → goes_by (client_closed prefix) tunnel spare since prefix ≡ undecided tunnel spare since
   goes_closed closed = ap (λ b. goes_by b tunnel spare since prefix) closed
 
-module _ (conv : ℕ) (client : Option Address) (next : Child) (more : List Command) (tunnel : Tunnel) (spare : Spare) (since : Since) (prefix : List (Timed Event)) where
+module _ (conv : ℕ) (client : Visitor) (next : Child) (more : List Command) (tunnel : Tunnel) (spare : Spare) (since : Since) (prefix : List (Timed Event)) where
   arrives_at : (stage : Stage) → goes_by (client_closed prefix) tunnel spare since prefix ≡ stage → IsChild conv client next stage prefix →
       ((view : View) → seen_of view more ≡ seen_of view (owed_here (stack_chain conv client) stage prefix)) → Arrives conv client next more (undecided tunnel spare since) prefix
   arrives_at stage is there gives = record {
@@ -94,9 +93,10 @@ module _ (conv : ℕ) (client : Option Address) (next : Child) (more : List Comm
       Arrives conv client next more (undecided tunnel spare since) prefix
   arrives_http open_still is to =
       let there : Stage = http (inner_place tunnel spare) (inner_standing tunnel spare since) in
-      let P : Option Stage → Type 0 = λ o. IsChild conv client next (or_stays there o) prefix in
+      let P : Option Stage → Type 0 = λ o. IsChild conv client next (begun conv client (or_stays there o) prefix).stage prefix in
       arrives_at there (goes_open tunnel spare since prefix is_http open_still is) (subst P none_handed to.there)
-      (λ view. to.gives view ∙ ap (λ o. seen_of view (owed_here (stack_chain conv client) (or_stays there o) prefix)) none_handed)
+      (λ view. to.gives view
+      ∙ ap (λ o. seen_of view ((begun conv client (or_stays there o) prefix).owed ++ owed_here (stack_chain conv client) (begun conv client (or_stays there o) prefix).stage prefix)) none_handed)
 
   -- nothing is decided yet, or it ends before that
   arrives_open : (kept : Opening) (server : ℕ) → client_closed prefix ≡ false → decided (opening_text tunnel prefix) (has_answered spare prefix) ≡ still →
@@ -116,7 +116,7 @@ module _ (conv : ℕ) (client : Option Address) (next : Child) (more : List Comm
 
 -- ---- the client's bytes decide
 
-module _ (conv : ℕ) (client : Option Address) (kept : Opening) (server : ℕ) (moment : ℕ) (next : Child) (more : List Command) where
+module _ (conv : ℕ) (client : Visitor) (kept : Opening) (server : ℕ) (moment : ℕ) (next : Child) (more : List Command) where
   decides_as : (tunnel : Tunnel) (spare : Spare) (since : Since) (prefix : List (Timed Event)) → MayDecide tunnel spare since prefix kept server false moment →
       (method may : Bool) → has_method kept.rest ≡ method → may_have_method kept.rest ≡ may →
       decided (opening_text tunnel prefix) (has_answered spare prefix) ≡ decided_by method may
@@ -215,7 +215,7 @@ never_asks : (ended : Bool) (owed : List Command) (ask : Command) → tunnel_fou
 never_asks true owed ask is = let no : Ends owed ≡ Asks ask = is in cc
 never_asks false owed ask is = let no : NotYet ≡ Asks ask = is in cc
 
-module _ (conv : ℕ) (client : Option Address) (kept : Opening) (server : ℕ) where
+module _ (conv : ℕ) (client : Visitor) (kept : Opening) (server : ℕ) where
   -- what it keeps is kept at no other stage
   none_kept : (stage : Stage) (prefix : List (Timed Event)) → (Keeps conv client (children.Undecided kept server) stage prefix → ⊥) →
       (look : Look Command) → KeepsBy look conv client (children.Undecided kept server) stage prefix → ⊥
@@ -242,6 +242,8 @@ module _ (conv : ℕ) (client : Option Address) (kept : Opening) (server : ℕ) 
   at_still P (undecided tunnel spare since) prefix there goes = undecided_there P tunnel spare since prefix (goes tunnel spare since) (opening_look spare prefix) refl there
   at_still P (raw ends) prefix there goes =
       absurd (none_kept (raw ends) prefix (λ at. let no : children.Undecided kept server ≡ children.Raw at.kept = at.is in cc) _ there)
+  at_still P (socket ends flow frames) prefix there goes =
+      absurd (none_kept (socket ends flow frames) prefix (λ at. let no : children.Undecided kept server ≡ children.Socket at.kept = at.is in cc) _ there)
   at_still P over prefix there goes = absurd (none_kept over prefix (λ at. at) (Ends []) there)
 
 -- ---- one event more
@@ -313,7 +315,7 @@ module _ (tunnel : Tunnel) (spare : Spare) (since : Since) (prefix : List (Timed
       ∙ (ap (λ b. decided (opening_text tunnel longer) (not b)) some
       ∙ (ap (λ t. decided t true) (text_same none_up) ∙ ap (λ b. decided_by b false) at.method))
 
-  module _ (conv : ℕ) (client : Option Address) (next : Child) (more : List Command) where
+  module _ (conv : ℕ) (client : Visitor) (next : Child) (more : List Command) where
     takes_to : Arrives conv client next more (undecided tunnel spare since) longer →
         Takes (stack_chain conv client) (IsChild conv client) next moment event more (undecided tunnel spare since) prefix
     takes_to to = onward at.look to.there to.gives
@@ -383,7 +385,7 @@ server_decides tunnel spare since prefix kept server at moment number bytes is =
 
 -- ---- the calls
 
-module _ (conv : ℕ) (client : Option Address) (kept : Opening) (server : ℕ) (moment : ℕ) (next : Child) (more : List Command) where
+module _ (conv : ℕ) (client : Visitor) (kept : Opening) (server : ℕ) (moment : ℕ) (next : Child) (more : List Command) where
   pub takes_over : (event : Event) (sides : Sides) → sides_closed server event ≡ Some sides → next ≡ children.Over → more ≡ closes_all sides.server sides.shut sides.closed →
       TakesChild conv client (children.Undecided kept server) next moment event more
   takes_over event sides closes_some same gave stage prefix there =
@@ -427,7 +429,7 @@ pub relay_asks : {E : Type 0} (out given : List Command) (result : Result Child 
 relay_asks out given (Ok next) asks = let P : Option Ask → Type 0 = λ asked. AsksOnly asked out given in subst P (sym asks.0) asks.1
 relay_asks out given (Err error) asks = tt
 
-module _ {E : Type 0} (conv : ℕ) (client : Option Address) (kept : Opening) (server : ℕ) (moment : ℕ) (out given : List Command) where
+module _ {E : Type 0} (conv : ℕ) (client : Visitor) (kept : Opening) (server : ℕ) (moment : ℕ) (out given : List Command) where
   pub http_decided : has_method kept.rest ≡ true → (result : Result Child E) →
       IfOk result (λ next. Adds (GoesInside conv client kept server moment next) out given) →
       IfOk result (λ next. Adds (Decides conv client kept server moment next) out given)
@@ -443,7 +445,7 @@ module _ {E : Type 0} (conv : ℕ) (client : Option Address) (kept : Opening) (s
       record { more = relays.more; grown = relays.grown; holds = decides_raw conv client kept server moment next relays.more method may (subst P none relays.holds) }
   raw_decided answered none method may (Err error) relays = tt
 
-pub still_decided : (conv : ℕ) (client : Option Address) (kept : Opening) (server : ℕ) (moment : ℕ) (out : List Command) →
+pub still_decided : (conv : ℕ) (client : Visitor) (kept : Opening) (server : ℕ) (moment : ℕ) (out : List Command) →
     has_method kept.rest ≡ false → may_have_method kept.rest ≡ true → Adds (Decides conv client kept server moment (children.Undecided kept server)) out out
 still_decided conv client kept server moment out method may = record {
   more = [];
@@ -451,7 +453,7 @@ still_decided conv client kept server moment out method may = record {
   holds = decides_still conv client kept server moment (children.Undecided kept server) [] method may refl refl;
 }
 
-pub over_taken : (conv : ℕ) (client : Option Address) (kept : Opening) (server : ℕ) (moment : ℕ) (event : Event) (out given : List Command) (sides : Sides) →
+pub over_taken : (conv : ℕ) (client : Visitor) (kept : Opening) (server : ℕ) (moment : ℕ) (event : Event) (out given : List Command) (sides : Sides) →
     sides_closed server event ≡ Some sides → given ≡ out ++ closes_all sides.server sides.shut sides.closed →
     Adds (TakesChild conv client (children.Undecided kept server) children.Over moment event) out given
 over_taken conv client kept server moment event out given sides closes_some gave = record {
@@ -460,7 +462,7 @@ over_taken conv client kept server moment event out given sides closes_some gave
   holds = takes_over conv client kept server moment children.Over (closes_all sides.server sides.shut sides.closed) event sides closes_some refl refl;
 }
 
-module _ {E : Type 0} (conv : ℕ) (client : Option Address) (kept : Opening) (server : ℕ) (moment : ℕ) (event : Event) (out given : List Command) where
+module _ {E : Type 0} (conv : ℕ) (client : Visitor) (kept : Opening) (server : ℕ) (moment : ℕ) (event : Event) (out given : List Command) where
   pub client_taken : (bytes : List ℕ) → event ≡ events.Piece Client bytes → (added : Opening) → added ≡ record kept { rest = kept.rest ++ bytes } → (result : Result Child E) →
       IfOk result (λ next. Adds (Decides conv client added server moment next) out given) →
       IfOk result (λ next. Adds (TakesChild conv client (children.Undecided kept server) next moment event) out given)
@@ -488,7 +490,7 @@ module _ {E : Type 0} (conv : ℕ) (client : Option Address) (kept : Opening) (s
       }
   server_taken number bytes answered is same number_is some (Err error) relays = tt
 
-pub nothing_taken : (conv : ℕ) (client : Option Address) (kept : Opening) (server : ℕ) (moment : ℕ) (event : Event) (out : List Command) →
+pub nothing_taken : (conv : ℕ) (client : Visitor) (kept : Opening) (server : ℕ) (moment : ℕ) (event : Event) (out : List Command) →
     sides_closed server event ≡ None → piece_of Client event ≡ [] → piece_of (Server server) event ≡ [] →
     Adds (TakesChild conv client (children.Undecided kept server) (children.Undecided kept server) moment event) out out
 nothing_taken conv client kept server moment event out closes_none none_up none_down = record {

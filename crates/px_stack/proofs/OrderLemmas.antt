@@ -1,6 +1,7 @@
 -- No hook of a flow is asked behind the flow's end, whatever follows a CONNECT.
-use Rattle.std.proofs.Common.{◌≡◌, ℕ, Bool, true, false, List, [], ◌∷◌, ◌++◌, drop, length, Option, Some, None, inl, inr, refl, ap, sym, ◌∙◌, subst, append_assoc, nat_lt}
-use Rattle.std.specs.Prelude.{⊤, ◌||◌}
+use Rattle.std.proofs.Common.{◌≡◌, ℕ, Bool, true, false, List, [], ◌∷◌, ◌++◌, drop, length, Option, Some, None, inl, inr, refl, ap, sym, ◌∙◌, subst, append_assoc, arith, nat_lt}
+use Rattle.std.specs.Prelude.{⊤, ◌||◌, ◌≢◌}
+use Rattle.std.proofs.lemmas.Bool.{eqb-true, ltb-true}
 use Rattle.px_message.specs.declared.address.Address.{Address}
 use Rattle.px_message.specs.declared.fault.Fault.TheVariants.{UpstreamRefused}
 use Rattle.px_message.specs.declared.flow.Flow.{Flow}
@@ -26,14 +27,23 @@ use Rattle.px_exchange.specs.Endings.{shut_client, shut_server}
 use Rattle.px_exchange.specs.Places.{address_of, dialled_for, terms_of}
 use Rattle.px_chain.specs.Chain.{Connect, connect_in, look as look_of, so_far as so_far_of}
 use Rattle.px_chain.specs.Sights.{Sight, Spare, Standing, Unused, request_in, sight_over, unused_over}
-use Rattle.px_chain.specs.Stages.{At, busy, connection, given_body, given_head, idle, next, request_body, response_body, response_head, upgraded}
+use Rattle.px_chain.specs.Stages.{At, ServerSide, busy, connection, given_body, given_head, idle, next, request_body, response_body, response_head, upgraded}
 use Rattle.px_chain.specs.Stages as flows
 use Rattle.px_chain.specs.Streams.{Since, client_closed, from_here, is_closed, now_over}
 use Rattle.px_http.proofs.OrderLemmas.{is_counted as is_counted_there, is_counted_at, is_past, is_past_at, leaves_flows}
 use Rattle.px_tunnel.specs.Upstream.{Granting, awaited, connect_text, granted, refused}
-use Rattle.px_stack.specs.Chain.{answer_of, asks_proxy, closed_of, closes_all, dialled_by, finished_flow, flows_at, follows, goes_by, hands_by, has_answered, is_empty, is_shut, led_at, led_by, opening_text, opens_by, or_stays, pass_reached, raw_look, shut_proxy, shut_unused, stack_chain, standing_of, text_behind, tunnel_for, tunnel_found, turn_connected, turn_dial, turn_flows, turn_http, waits_for, with_closes}
+use Rattle.px_relay.specs.declared.peer.Peer.{Peer}
+use Rattle.px_relay.specs.Chain.{message_ask, with_message}
+use Rattle.px_relay.specs.Chain as relay
+use Rattle.px_relay.specs.Messages.{Message}
+use Rattle.px_relay.specs.Sending.{Terms}
+use Rattle.px_relay.specs.Sights.{Sight as SocketSight}
+use Rattle.px_relay.specs.Stages.{At as MessageAt, Stage as Frames, holding, over as ended, relaying}
+use Rattle.px_stack.specs.Chain.{answer_of, asks_proxy, begun, closed_of, closes_all, dialled_by, finished_flow, flows_at, follows, goes_by, hands_by, has_answered, is_empty, is_shut, led_at, led_by, opening_text, opens_by, or_stays, pass_http, pass_reached, pass_socket, raw_look, shut_proxy, shut_unused, socket_sight, socket_terms, stack_chain, standing_of, text_behind, tunnel_for, tunnel_found, turn_connected, turn_dial, turn_flows, turn_http, upgrades, waits_for, with_closes}
 use Rattle.px_stack.specs.Decides.{Decision, decided, is_http, is_raw, still}
-use Rattle.px_stack.specs.Stages.{Dialling, Ends as TunnelEnds, Goal, Stage, Tunnel, a_flow, a_tunnel, connecting, http, over, raw, reaching, undecided}
+use Rattle.px_stack.specs.Frames.{AreSaid, IsOver, pass_says, turn_says}
+use Rattle.px_stack.specs.Sockets.{is_websocket}
+use Rattle.px_stack.specs.Stages.{Dialling, Ends as TunnelEnds, Goal, Stage, Tunnel, Visitor, a_flow, a_tunnel, connecting, http, over, raw, reaching, socket, undecided}
 
 -- ---- the tests
 
@@ -51,11 +61,18 @@ abbrev pub is_behind_goal : Goal → ℕ → Bool
 is_behind_goal (a_tunnel tunnel) index = nat_lt index tunnel.at.flow
 is_behind_goal (a_flow place from) index = is_past_at (standing_of from) index
 
+-- a WebSocket is past the flows before its own until it has ended
+abbrev pub is_behind_frames : Frames → ℕ → ℕ → Bool
+is_behind_frames (relaying at) own index = nat_lt index own
+is_behind_frames (holding from message at) own index = nat_lt index own
+is_behind_frames ended own index = true
+
 abbrev pub is_behind : Stage → ℕ → Bool
 is_behind (http place standing) index = is_past_at standing index
 is_behind (connecting tunnel) index = nat_lt index tunnel.at.flow
 is_behind (reaching goal side since) index = is_behind_goal goal index
 is_behind (undecided tunnel spare since) index = nat_lt index tunnel.at.flow
+is_behind (socket ends flow frames) index = is_behind_frames frames flow.id.index index
 is_behind stage index = true
 
 -- ---- closes behind a list
@@ -150,15 +167,60 @@ asks_not : (ends : Bool) (owed : List Command) (ask : Command) → tunnel_found 
 asks_not true owed ask is = let no : Ends owed ≡ Asks ask = is in cc
 asks_not false owed ask is = let no : NotYet ≡ Asks ask = is in cc
 
+-- ---- a WebSocket
+
+-- what its frames owe asks nothing, and finishes its flow at its end alone
+said_none : (terms : Terms) (to : Frames) (index : ℕ) (owed : List Command) → AreSaid terms to owed → AsksNoneOf index owed
+said_none terms to index [] said = tt
+said_none terms to index (commands.Send side text ∷ owed) (here, said) = said_none terms to index owed said
+said_none terms to index (commands.Close side ∷ owed) (here, said) = said_none terms to index owed said
+said_none terms to index (commands.Dial server address inside ∷ owed) (here, said) = absurd here
+said_none terms to index (commands.Ask ask flow ∷ owed) (here, said) = absurd here
+said_none terms to index (commands.Done flow ∷ owed) (here, said) = said_none terms to index owed said
+
+said_ordered : (terms : Terms) (to : Frames) (owed : List Command) → AreSaid terms to owed → AsksBeforeEnds owed
+said_ordered terms to [] said = tt
+said_ordered terms to (commands.Send side text ∷ owed) (here, said) = said_ordered terms to owed said
+said_ordered terms to (commands.Close side ∷ owed) (here, said) = said_ordered terms to owed said
+said_ordered terms to (commands.Dial server address inside ∷ owed) (here, said) = absurd here
+said_ordered terms to (commands.Ask ask flow ∷ owed) (here, said) = absurd here
+said_ordered terms to (commands.Done flow ∷ owed) (here, said) = (said_none terms to flow.id.index owed said, said_ordered terms to owed said)
+
+said_ends : (terms : Terms) (to : Frames) (index : ℕ) (owed : List Command) → AreSaid terms to owed → EndsOneOf index owed → IsOver to
+said_ends terms to index [] said ends = absurd ends
+said_ends terms to index (commands.Send side text ∷ owed) (here, said) ends = said_ends terms to index owed said ends
+said_ends terms to index (commands.Close side ∷ owed) (here, said) ends = said_ends terms to index owed said ends
+said_ends terms to index (commands.Dial server address inside ∷ owed) (here, said) ends = absurd here
+said_ends terms to index (commands.Ask ask flow ∷ owed) (here, said) ends = absurd here
+said_ends terms to index (commands.Done flow ∷ owed) (here, said) ends = here.1
+
+-- which is past its flow, and is past all that it was past before
+over_behind : (to : Frames) (own index : ℕ) → IsOver to → is_behind_frames to own index ≡ true
+over_behind (relaying at) own index is = absurd is
+over_behind (holding from message at) own index is = absurd is
+over_behind ended own index is = refl
+
+later_behind : (to : Frames) (own index : ℕ) → nat_lt index own ≡ true → is_behind_frames to own index ≡ true
+later_behind (relaying at) own index before = before
+later_behind (holding from message at) own index before = before
+later_behind ended own index before = refl
+
+apart_from : (own index : ℕ) → nat_lt index own ≡ true → own ≢ index
+apart_from own index before same = let less = ltb-true index own before in omega arith
+
+-- where nothing more comes of it its closes are left
+nothing_closed : (unused : Option Unused) → AsksNothing (shut_unused unused)
+nothing_closed unused = record { ordered = ordered_closed [] unused tt; none = λ index. none_closed index [] unused tt }
+
 -- ---- the chain
 
-module _ (conv : ℕ) (client : Option Address) where
+module _ (conv : ℕ) (client : Visitor) where
   abbrev Leaves : Stage → List Command → Stage → Type 0
   Leaves = LeavesBehind is_counted is_behind
 
   -- what HTTP leaves behind, where a stage follows that is past as much
   record Follows (standing : Standing) (to : Stage) : Type 0 where
-    keeps : (index : ℕ) → is_past_at standing index ≡ true → is_behind to index ≡ true
+    keeps : is_counted_at standing ≡ true → (index : ℕ) → is_past_at standing index ≡ true → is_behind to index ≡ true
     leads : is_counted_at standing ≡ true → is_counted to ≡ true
 
   leads_on : (place : Place) (from standing : Standing) (owed : List Command) (to : Stage) → Follows standing to → LeavesBehind is_counted_at is_past_at from owed standing →
@@ -166,19 +228,30 @@ module _ (conv : ℕ) (client : Option Address) where
   leads_on place from standing owed to on leaves = record {
     ordered = leaves.ordered;
     asks_none = leaves.asks_none;
-    ends = λ index ends. on.keeps index (leaves.ends index ends);
-    keeps = λ index before. on.keeps index (leaves.keeps index before);
+    ends = λ index ends. on.keeps leaves.leads index (leaves.ends index ends);
+    keeps = λ index before. on.keeps leaves.leads index (leaves.keeps index before);
     leads = on.leads leaves.leads;
   }
 
   same_follows : (place : Place) (standing : Standing) → Follows standing (http place standing)
-  same_follows place standing = record { keeps = λ index before. before; leads = λ is. is }
+  same_follows place standing = record { keeps = λ counted index before. before; leads = λ is. is }
 
   tunnel_follows : (place : Place) (standing : Standing) (at : At) (connect : Option Connect) → standing.stage ≡ idle at →
       Follows standing (or_stays (http place standing) (tunnel_for place at connect))
   tunnel_follows place standing at None is = same_follows place standing
   tunnel_follows place standing at (Some connect) is =
-      record { keeps = λ index before. ap (λ s. is_past s index) (sym is) ∙ before; leads = λ counted. refl }
+      record { keeps = λ counted index before. ap (λ s. is_past s index) (sym is) ∙ before; leads = λ counted. refl }
+
+  -- the flow that becomes a WebSocket is the one that HTTP counts
+  upgrades_follow : (is : Bool) (standing : Standing) (at : At) (flow : Flow) (side : ServerSide) (ends : TunnelEnds) → standing.stage ≡ busy at flow (upgraded side) →
+      Follows standing (upgrades is flow ends)
+  upgrades_follow true standing at flow side ends same = record {
+    keeps = λ counted index before.
+        let own : flow.id.index ≡ at.flow = eqb-true flow.id.index at.flow (ap is_counted_there (sym same) ∙ counted) in
+        ap (nat_lt index) own ∙ (ap (λ s. is_past s index) (sym same) ∙ before);
+    leads = λ counted. refl;
+  }
+  upgrades_follow false standing at flow side ends same = record { keeps = λ counted index before. refl; leads = λ counted. refl }
 
   hands_follow : (place : Place) (standing : Standing) (stage : flows.Stage) (seen : Sight) → standing.stage ≡ stage →
       Follows standing (or_stays (http place standing) (hands_by place standing stage seen))
@@ -187,7 +260,7 @@ module _ (conv : ℕ) (client : Option Address) where
   hands_follow place standing (busy at flow connection) seen is = same_follows place standing
   hands_follow place standing (busy at flow (response_head side how)) seen is = same_follows place standing
   hands_follow place standing (busy at flow (response_body side how)) seen is = same_follows place standing
-  hands_follow place standing (busy at flow (upgraded side)) seen is = record { keeps = λ index before. refl; leads = λ counted. refl }
+  hands_follow place standing (busy at flow (upgraded side)) seen is = upgrades_follow (is_websocket flow seen.closed) standing at flow side _ is
   hands_follow place standing (busy at flow given_head) seen is = same_follows place standing
   hands_follow place standing (busy at flow given_body) seen is = same_follows place standing
   hands_follow place standing (next at) seen is = same_follows place standing
@@ -241,7 +314,7 @@ module _ (conv : ℕ) (client : Option Address) where
       record { ordered = tt; asks_none = λ index before. tt; ends = λ index ends. absurd ends; keeps = λ index before. refl; leads = refl }
 
   flows_leave : (place : Place) → LeavesFlows (flows_at conv client place) is_counted_at is_past_at
-  flows_leave place = leaves_flows (terms_of conv client place)
+  flows_leave place = leaves_flows (terms_of conv client.address place)
 
   -- a flow that a proxy did not let through ends, and its side is closed behind that
   refused_leaves : (place : Place) (from : Dialling) (side : Spare) (since : Since) (prefix : List (Timed Event)) → is_counted_at (standing_of from) ≡ true →
@@ -278,15 +351,66 @@ module _ (conv : ℕ) (client : Option Address) where
       }
   reached_leaves (a_flow place from) side since prefix refused is = refused_leaves place from side since prefix is
 
+  -- ---- a WebSocket
+
+  socket_leaves : (ends : TunnelEnds) (flow : Flow) (frames to : Frames) (owed : List Command) → AreSaid (socket_terms client.key ends flow) to owed →
+      ((index : ℕ) → is_behind_frames frames flow.id.index index ≡ true → is_behind_frames to flow.id.index index ≡ true) →
+      Leaves (socket ends flow frames) owed (socket ends flow to)
+  socket_leaves ends flow frames to owed said keeps =
+      let terms : Terms = socket_terms client.key ends flow in
+      record {
+        ordered = said_ordered terms to owed said;
+        asks_none = λ index before. said_none terms to index owed said;
+        ends = λ index ended. over_behind to flow.id.index index (said_ends terms to index owed said ended);
+        keeps = keeps;
+        leads = refl;
+      }
+
+  socket_passes : (ends : TunnelEnds) (flow : Flow) (frames : Frames) (prefix : List (Timed Event)) →
+      Leaves (socket ends flow frames) (pass_socket conv client ends flow frames prefix).owed (pass_socket conv client ends flow frames prefix).stage
+  socket_passes ends flow (relaying at) prefix =
+      let terms : Terms = socket_terms client.key ends flow in
+      let on : Turn Frames Command = relay.pass terms (relaying at) (socket_sight ends prefix) in
+      socket_leaves ends flow (relaying at) on.stage on.owed (pass_says terms (socket_sight ends prefix) (relaying at)) (λ index before. later_behind on.stage flow.id.index index before)
+  socket_passes ends flow (holding from message at) prefix = socket_leaves ends flow (holding from message at) (holding from message at) [] tt (λ index before. before)
+  socket_passes ends flow ended prefix = socket_leaves ends flow ended ended [] tt (λ index before. before)
+
+  begun_leaves : (stage : Stage) (prefix : List (Timed Event)) → is_counted stage ≡ true → Leaves stage (begun conv client stage prefix).owed (begun conv client stage prefix).stage
+  begun_leaves (http place standing) prefix is = quietly (http place standing) (http place standing) (λ index before. before) is
+  begun_leaves (connecting tunnel) prefix is = quietly (connecting tunnel) (connecting tunnel) (λ index before. before) refl
+  begun_leaves (reaching goal side since) prefix is = quietly (reaching goal side since) (reaching goal side since) (λ index before. before) is
+  begun_leaves (undecided tunnel spare since) prefix is = quietly (undecided tunnel spare since) (undecided tunnel spare since) (λ index before. before) refl
+  begun_leaves (raw ends) prefix is = quietly (raw ends) (raw ends) (λ index before. before) refl
+  begun_leaves (socket ends flow frames) prefix is = socket_passes ends flow frames prefix
+  begun_leaves over prefix is = quietly over over (λ index before. before) refl
+
+  -- one behind the other, where the first owes nothing
+  leaves_further : (from to last : Stage) (owed : List Command) → Leaves from [] to → Leaves to owed last → Leaves from owed last
+  leaves_further from to last owed first more = record {
+    ordered = more.ordered;
+    asks_none = λ index before. more.asks_none index (first.keeps index before);
+    ends = more.ends;
+    keeps = λ index before. more.keeps index (first.keeps index before);
+    leads = more.leads;
+  }
+
+  http_passes : (place : Place) (standing : Standing) (prefix : List (Timed Event)) → is_counted_at standing ≡ true →
+      Leaves (http place standing) ((stack_chain conv client).pass (http place standing) prefix).owed ((stack_chain conv client).pass (http place standing) prefix).stage
+  http_passes place standing prefix is =
+      let on = (flows_at conv client place).pass standing prefix in
+      let to : Stage = pass_http conv client place on.stage prefix in
+      let first : Leaves (http place standing) [] to =
+      leads_on place standing on.stage [] to (hands_follow place on.stage on.stage.stage (sight_over on.stage prefix) refl) ((flows_leave place).passes standing prefix is) in
+      leaves_further (http place standing) to _ _ first (begun_leaves to prefix first.leads)
+
   passes : (stage : Stage) (prefix : List (Timed Event)) → is_counted stage ≡ true →
       Leaves stage ((stack_chain conv client).pass stage prefix).owed ((stack_chain conv client).pass stage prefix).stage
-  passes (http place standing) prefix is =
-      let on = (flows_at conv client place).pass standing prefix in
-      leads_on place standing on.stage on.owed _ (hands_follow place on.stage on.stage.stage (sight_over on.stage prefix) refl) ((flows_leave place).passes standing prefix is)
+  passes (http place standing) prefix is = http_passes place standing prefix is
   passes (connecting tunnel) prefix is = quietly (connecting tunnel) (connecting tunnel) (λ index before. before) refl
   passes (reaching goal side since) prefix is = reached_leaves goal side since prefix (answer_of side prefix) is
   passes (undecided tunnel spare since) prefix is = decided_leaves tunnel spare since prefix
   passes (raw ends) prefix is = quietly (raw ends) (raw ends) (λ index before. before) refl
+  passes (socket ends flow frames) prefix is = socket_passes ends flow frames prefix
   passes over prefix is = quietly over over (λ index before. before) refl
 
   -- a reply to a dial, as the rest of what is owed there
@@ -370,7 +494,7 @@ module _ (conv : ℕ) (client : Option Address) where
       let seen : Sight = sight_over standing prefix in
       let nothing : so_far_of standing.stage seen ≡ [] = ap (λ s. so_far_of s seen) is in
       let dial : Asks (commands.Dial from.at.dials (dialled_for place from.flow.request) None) ≡ Asks ask =
-      sym (ap (λ s. look_of (terms_of conv client place) s seen) is) ∙ asked in
+      sym (ap (λ s. look_of (terms_of conv client.address place) s seen) is) ∙ asked in
       let same : commands.Dial from.at.dials (dialled_for place from.flow.request) None ≡ ask = cc in
       ap (λ c. c ∷ owed) same ∙ ap (λ l. l ++ ask ∷ owed) (sym nothing)
 
@@ -414,6 +538,36 @@ module _ (conv : ℕ) (client : Option Address) where
   waits_not (a_tunnel tunnel) side prefix ask is = asks_not (client_closed prefix) (shut_proxy side prefix) ask is
   waits_not (a_flow place from) side prefix ask is = let no : NotYet ≡ Asks ask = is in cc
 
+  -- a message is asked about
+  message_turns : (ends : TunnelEnds) (flow : Flow) (from : Peer) (message : Message) (at : MessageAt) (seen : SocketSight) (answer : Timed Reply) →
+      (let terms : Terms = socket_terms client.key ends flow in
+      let on : Turn Frames Command = relay.turn terms (holding from message at) seen answer.value answer.moment in
+      Leaves (socket ends flow (holding from message at)) (commands.Ask (message_ask terms at) (with_message flow from message) ∷ on.owed) (socket ends flow on.stage))
+  message_turns ends flow from message at seen answer =
+      let terms : Terms = socket_terms client.key ends flow in
+      let on : Turn Frames Command = relay.turn terms (holding from message at) seen answer.value answer.moment in
+      let said : AreSaid terms on.stage on.owed = turn_says terms seen (holding from message at) answer.value answer.moment in
+      record {
+        ordered = said_ordered terms on.stage on.owed said;
+        asks_none = λ index before. (apart_from flow.id.index index before, said_none terms on.stage index on.owed said);
+        ends = λ index ended. over_behind on.stage flow.id.index index (said_ends terms on.stage index on.owed said ended);
+        keeps = λ index before. later_behind on.stage flow.id.index index before;
+        leads = refl;
+      }
+
+  socket_turns : (ends : TunnelEnds) (flow : Flow) (frames : Frames) (seen : SocketSight) (ask : Command) (answer : Timed Reply) →
+      relay.look (socket_terms client.key ends flow) frames ≡ Asks ask →
+      (let on : Turn Frames Command = relay.turn (socket_terms client.key ends flow) frames seen answer.value answer.moment in
+      Leaves (socket ends flow frames) (ask ∷ on.owed) (socket ends flow on.stage))
+  socket_turns ends flow (relaying at) seen ask answer asked = absurd (let no : NotYet ≡ Asks ask = asked in cc)
+  socket_turns ends flow (holding from message at) seen ask answer asked =
+      let terms : Terms = socket_terms client.key ends flow in
+      let on : Turn Frames Command = relay.turn terms (holding from message at) seen answer.value answer.moment in
+      let same : commands.Ask (message_ask terms at) (with_message flow from message) ≡ ask = cc in
+      let P : Command → Type 0 = λ c. Leaves (socket ends flow (holding from message at)) (c ∷ on.owed) (socket ends flow on.stage) in
+      subst P same (message_turns ends flow from message at seen answer)
+  socket_turns ends flow ended seen ask answer asked = absurd (let no : Ends [] ≡ Asks ask = asked in cc)
+
   turns : (stage : Stage) (prefix : List (Timed Event)) (ask : Command) → is_counted stage ≡ true → (stack_chain conv client).look stage prefix ≡ Asks ask →
       (answer : Timed Reply) →
       Leaves stage ((stack_chain conv client).so_far stage prefix ++ ask ∷ ((stack_chain conv client).turn stage prefix answer).owed) ((stack_chain conv client).turn stage prefix answer).stage
@@ -425,6 +579,9 @@ module _ (conv : ℕ) (client : Option Address) where
   turns (reaching goal side since) prefix ask is asked answer = absurd (waits_not goal side prefix ask asked)
   turns (undecided tunnel spare since) prefix ask is asked answer = absurd (asks_not _ _ ask asked)
   turns (raw ends) prefix ask is asked answer = absurd (asks_not _ _ ask asked)
+  turns (socket ends flow frames) prefix ask is asked answer =
+      socket_turns ends flow frames (socket_sight ends prefix) ask answer
+      (http_asked (unused_over ends.spare prefix) (relay.look (socket_terms client.key ends flow) frames) ask asked)
   turns over prefix ask is asked answer = absurd (let no : Ends [] ≡ Asks ask = asked in cc)
 
   -- where it stops
@@ -456,6 +613,12 @@ module _ (conv : ℕ) (client : Option Address) where
       found_nothing (client_closed prefix) (shut_proxy side prefix) (record { ordered = closes.ordered; none = closes.none })
   waits_still (a_flow place from) side prefix = record { ordered = tt; none = λ index. tt }
 
+  socket_stops : (ends : TunnelEnds) (flow : Flow) (frames : Frames) (prefix : List (Timed Event)) →
+      LeavesNone is_behind (socket ends flow frames) (found ((stack_chain conv client).look (socket ends flow frames) prefix))
+  socket_stops ends flow (relaying at) prefix = record { ordered = tt; asks_none = λ index before. tt }
+  socket_stops ends flow (holding from message at) prefix = record { ordered = tt; asks_none = λ index before. (apart_from flow.id.index index before, tt) }
+  socket_stops ends flow ended prefix = nothing_there (socket ends flow ended) _ (nothing_closed (unused_over ends.spare prefix))
+
   stops : (stage : Stage) (prefix : List (Timed Event)) → is_counted stage ≡ true →
       LeavesNone is_behind stage ((stack_chain conv client).so_far stage prefix ++ found ((stack_chain conv client).look stage prefix))
   stops (http place standing) prefix is =
@@ -472,6 +635,7 @@ module _ (conv : ℕ) (client : Option Address) where
       nothing_there (undecided tunnel spare since) _ (found_nothing (closed || shut) (closes_all spare.server shut closed) (record { ordered = closes.ordered; none = closes.none }))
   stops (raw ends) prefix is =
       let nothing = raw_stops ends prefix in record { ordered = nothing.ordered; asks_none = λ index before. nothing.none index }
+  stops (socket ends flow frames) prefix is = socket_stops ends flow frames prefix
   stops over prefix is = record { ordered = tt; asks_none = λ index before. tt }
 
   -- Whatever follows a CONNECT, the flows are left behind.

@@ -38,15 +38,19 @@ use Rattle.px_chain.specs.Streams.{Since, bytes_of, client_closed, from_here, is
 use Rattle.px_chain.proofs.CountedLemmas.{IsSilent, silent_both}
 use Rattle.px_chain.proofs.SilentLemmas.{AreBelow, fault_silent, looks_silent, so_far_silent}
 use Rattle.px_tunnel.specs.Upstream.{Granting, awaited, connect_text, granted, refused}
-use Rattle.px_stack.specs.Chain.{answer_of, asks_proxy, begins, closed_of, closes_all, finished_flow, flows_at, follows, goes_by, hands_by, has_answered, is_empty, is_shut, led_by, opening_text, opens_by, or_stays, pass_reached, proxy_at, shut_proxy, shut_unused, stack_chain, standing_of, text_behind, text_down, text_of, text_up, tunnel_for, tunnel_found, turn_connected, turn_dial, turn_flows, turn_http}
+use Rattle.px_relay.specs.Chain as relay
+use Rattle.px_relay.specs.Stages.{Stage as Frames}
+use Rattle.px_stack.specs.Chain.{answer_of, asks_proxy, begins, begun, closed_of, closes_all, finished_flow, flows_at, follows, goes_by, hands_by, has_answered, is_empty, is_shut, led_by, opening_text, opens_by, or_stays, pass_http, pass_reached, pass_socket, proxy_at, shut_proxy, shut_unused, socket_sight, socket_terms, socket_turn, stack_chain, standing_of, text_behind, text_down, text_of, text_up, tunnel_for, tunnel_found, turn_connected, turn_dial, turn_flows, turn_http, upgrades}
 use Rattle.px_stack.specs.Decides.{Decision, decided, is_http, is_raw, still}
+use Rattle.px_stack.specs.Frames.{Says, pass_says, turn_says}
 use Rattle.px_stack.specs.Laws.{never_connects}
 use Rattle.px_stack.specs.Modes.{mode_due}
 use Rattle.px_stack.specs.Proxies.{DecidesNothing, HasNotAnswered, IsOneRequest, for_tunnel, in_full, is_none, said_of}
-use Rattle.px_stack.specs.Stages.{Dialling, Goal, Stage, Tunnel, a_flow, a_tunnel, connecting, http, over, raw, reaching, undecided}
+use Rattle.px_stack.specs.Sockets.{is_websocket}
+use Rattle.px_stack.specs.Stages.{Dialling, Ends as TunnelEnds, Goal, Stage, Tunnel, Visitor, a_flow, a_tunnel, connecting, http, over, raw, reaching, socket, undecided}
 use Rattle.px_stack.proofs.AnswerLemmas.{answers_without, bytes_decide, grants_not, nothing_before, nothing_within, said_in, said_more, text_decides}
 use Rattle.px_stack.proofs.ProxyFlowLemmas.{ConnectsNone, FlowApart, FlowUntold, SeesNothing, SpareApart, Untold, onward_untold, pass_apart, pass_untold, send_silent, sequence_apart, turn_apart, turn_silent}
-use Rattle.px_stack.proofs.SilentLemmas.{AllBelow, client_silent, finished_silent, closes_silent, found_silent, server_silent, stack_counts, unused_silent, with_silent}
+use Rattle.px_stack.proofs.SilentLemmas.{AllBelow, client_silent, finished_silent, closes_silent, found_silent, frames_silent, said_silent, server_silent, stack_counts, unused_silent, with_silent}
 
 module _ (server : ℕ) where
   -- ---- texts
@@ -88,6 +92,7 @@ module _ (server : ℕ) where
   IsApart (reaching goal side since) = GoalApart goal
   IsApart (undecided tunnel spare since) = IsVia tunnel.proxy × (spare.server ≢ server)
   IsApart (raw ends) = ends.side.server ≢ server
+  IsApart (socket ends flow frames) = ends.side.server ≢ server
   IsApart over = ⊤
 
   -- nothing was sent to the server before it was dialled
@@ -101,6 +106,7 @@ module _ (server : ℕ) where
   IsUntold text (reaching goal side since) = GoalUntold text goal
   IsUntold text (undecided tunnel spare since) = Untold server text tunnel.at.dials
   IsUntold text (raw ends) = ⊤
+  IsUntold text (socket ends flow frames) = ⊤
   IsUntold text over = ⊤
 
   record Stays (text : List ℕ) (stage : Stage) : Type 0 where
@@ -143,7 +149,7 @@ module _ (server : ℕ) where
 
   -- ---- the chain
 
-  module _ (conv : ℕ) (client : Option Address) (text : List ℕ) (one : IsOneRequest text) where
+  module _ (conv : ℕ) (client : Visitor) (text : List ℕ) (one : IsOneRequest text) where
     -- where HTTP hands over
     tunnel_stays : (place : Place) (standing : Standing) (at : At) (connect : Option Connect) → Stays text (http place standing) → IsVia (proxy_at place) → Untold server text at.dials →
         Stays text (or_stays (http place standing) (tunnel_for place at connect))
@@ -159,6 +165,10 @@ module _ (server : ℕ) where
         let P : Option Connect → Type 0 = λ c. Stays text (or_stays (http place standing) (tunnel_for place at c)) in
         subst P (sym (never_connects address side inside item)) is
 
+    upgrades_stay : (is : Bool) (flow : Flow) (ends : TunnelEnds) → ends.side.server ≢ server → Stays text (upgrades is flow ends)
+    upgrades_stay true flow ends apart = record { apart = apart; untold = tt }
+    upgrades_stay false flow ends apart = record { apart = apart; untold = tt }
+
     hands_stay : (place : Place) (standing : Standing) (stage : flows.Stage) (seen : Sight) → Stays text (http place standing) → FlowApart server stage → FlowUntold server text stage →
         Stays text (or_stays (http place standing) (hands_by place standing stage seen))
     hands_stay place standing (idle at) seen is apart untold = connect_stays place standing at (request_in at seen) is untold
@@ -166,11 +176,30 @@ module _ (server : ℕ) where
     hands_stay place standing (busy at flow connection) seen is apart untold = is
     hands_stay place standing (busy at flow (response_head side how)) seen is apart untold = is
     hands_stay place standing (busy at flow (response_body side how)) seen is apart untold = is
-    hands_stay place standing (busy at flow (upgraded side)) seen is apart untold = record { apart = apart; untold = tt }
+    hands_stay place standing (busy at flow (upgraded side)) seen is apart untold = upgrades_stay (is_websocket flow seen.closed) flow _ apart
     hands_stay place standing (busy at flow given_head) seen is apart untold = is
     hands_stay place standing (busy at flow given_body) seen is apart untold = is
     hands_stay place standing (next at) seen is apart untold = is
     hands_stay place standing flows.over seen is apart untold = is
+
+    -- a WebSocket sends to its own server, which has answered
+    socket_goes : (ends : TunnelEnds) (flow : Flow) (on : Turn Frames Command) → ends.side.server ≢ server → Says (socket_terms client.key ends flow) on →
+        Goes text (socket_turn ends flow on)
+    socket_goes ends flow on apart said =
+        quietly text on.owed (socket ends flow on.stage) one (said_silent server (socket_terms client.key ends flow) on.stage apart on.owed said) (record { apart = apart; untold = tt })
+
+    socket_passes : (ends : TunnelEnds) (flow : Flow) (frames : Frames) (prefix : List (Timed Event)) → ends.side.server ≢ server →
+        Goes text (pass_socket conv client ends flow frames prefix)
+    socket_passes ends flow frames prefix apart = socket_goes ends flow _ apart (pass_says (socket_terms client.key ends flow) (socket_sight ends prefix) frames)
+
+    begun_goes : (stage : Stage) (prefix : List (Timed Event)) → Stays text stage → Goes text (begun conv client stage prefix)
+    begun_goes (http place standing) prefix is = quietly text [] (http place standing) one refl is
+    begun_goes (connecting tunnel) prefix is = quietly text [] (connecting tunnel) one refl is
+    begun_goes (reaching goal side since) prefix is = quietly text [] (reaching goal side since) one refl is
+    begun_goes (undecided tunnel spare since) prefix is = quietly text [] (undecided tunnel spare since) one refl is
+    begun_goes (raw ends) prefix is = quietly text [] (raw ends) one refl is
+    begun_goes (socket ends flow frames) prefix is = socket_passes ends flow frames prefix is.apart
+    begun_goes over prefix is = quietly text [] over one refl is
 
     http_passes : (place : Place) (standing : Standing) (prefix : List (Timed Event)) → Stays text (http place standing) → Goes text ((stack_chain conv client).pass (http place standing) prefix)
     http_passes place standing prefix is =
@@ -179,7 +208,7 @@ module _ (server : ℕ) where
         let apart : FlowApart server (pass_of standing.stage seen) = pass_apart server standing.stage seen is.apart.1.1 in
         let untold : FlowUntold server text (pass_of standing.stage seen) = pass_untold server text standing.stage seen is.untold in
         let there : Stays text (http place on.stage) = record { apart = (is.apart.0, (is.apart.1.0, apart)); untold = untold } in
-        quietly text [] _ one refl (hands_stay place on.stage on.stage.stage (sight_over on.stage prefix) there apart untold)
+        begun_goes (pass_http conv client place on.stage prefix) prefix (hands_stay place on.stage on.stage.stage (sight_over on.stage prefix) there apart untold)
 
     -- what follows a CONNECT
     follows_stay : (d : Decision) (tunnel : Tunnel) (spare : Spare) (since : Since) → Stays text (undecided tunnel spare since) → Stays text (follows d tunnel spare since)
@@ -239,6 +268,7 @@ module _ (server : ℕ) where
     passes (undecided tunnel spare since) prefix none is =
         quietly text [] (goes_by (client_closed prefix) tunnel spare since prefix) one refl (goes_stay (client_closed prefix) tunnel spare since prefix is)
     passes (raw ends) prefix none is = quietly text [] (raw ends) one refl is
+    passes (socket ends flow frames) prefix none is = socket_passes ends flow frames prefix is.apart
     passes over prefix none is = quietly text [] over one refl is
 
     -- ---- what is found, and what is owed while it waits
@@ -249,7 +279,7 @@ module _ (server : ℕ) where
     looks : (stage : Stage) (prefix : List (Timed Event)) → IsSilent server (found ((stack_chain conv client).look stage prefix))
     looks (http place standing) prefix =
         with_silent conv client server (unused_over standing.spare prefix) ((flows_at conv client place).look standing prefix)
-        (looks_silent server (terms_of conv client place) standing.stage (sight_over standing prefix))
+        (looks_silent server (terms_of conv client.address place) standing.stage (sight_over standing prefix))
     looks (connecting tunnel) prefix = refl
     looks (reaching (a_tunnel tunnel) side since) prefix = found_silent server (client_closed prefix) (shut_proxy side prefix) (shut_silent side prefix)
     looks (reaching (a_flow place from) side since) prefix = refl
@@ -262,6 +292,9 @@ module _ (server : ℕ) where
         found_silent server (closed || shut) (finished_flow ends.flow ++ (unused ++ closes))
         (silent_both server (finished_flow ends.flow) (unused ++ closes) (finished_silent server ends.flow)
         (silent_both server unused closes (unused_silent server (unused_over ends.spare prefix)) (closes_silent server ends.side.server shut closed)))
+    looks (socket ends flow frames) prefix =
+        let terms = socket_terms client.key ends flow in
+        with_silent conv client server (unused_over ends.spare prefix) (relay.look terms frames) (frames_silent server terms frames)
     looks over prefix = refl
 
     waits : (stage : Stage) (prefix : List (Timed Event)) → Stays text stage → IsSilent server ((stack_chain conv client).so_far stage prefix)
@@ -272,6 +305,7 @@ module _ (server : ℕ) where
     waits (raw ends) prefix is =
         silent_both server (commands.Send (Server ends.side.server) (text_up ends prefix) ∷ []) (commands.Send Client (text_down ends prefix) ∷ [])
         (send_silent server ends.side.server (text_up ends prefix) is.apart) refl
+    waits (socket ends flow frames) prefix is = refl
     waits over prefix is = refl
 
     -- ---- what a reply brings
@@ -327,7 +361,7 @@ module _ (server : ℕ) where
     flows_go : (place : Place) (standing : Standing) (prefix : List (Timed Event)) (answer : Timed Reply) → DecidesNothing (said_in server prefix) → AreBelow standing →
         ConnectsNone server standing.stage answer.value → Stays text (http place standing) → Goes text (turn_flows conv client place standing prefix answer)
     flows_go place standing prefix answer none below connects_none is =
-        let terms = terms_of conv client place in
+        let terms = terms_of conv client.address place in
         let seen : Sight = sight_over standing prefix in
         let turned : Turn flows.Stage Command = turn_of terms standing.stage seen answer in
         let apart : FlowApart server turned.stage = turn_apart server terms standing.stage seen answer is.apart.1.1 (sees_nothing standing prefix standing.stage none refl) in
@@ -355,7 +389,7 @@ module _ (server : ℕ) where
           Goes text (turn_flows conv client (places.Upstream proxy) standing prefix answer)
       request_goes proxy at flow is same stays =
           let place : Place = places.Upstream proxy in
-          let terms = terms_of conv client place in
+          let terms = terms_of conv client.address place in
           let seen : Sight = sight_over standing prefix in
           let request : List ℕ = onward_text Absolute flow.request in
           let to : flows.Stage = busy (record at { dials = at.dials + 1 }) (reached place flow) (response_head (new_side at.dials) all_sent) in
@@ -430,6 +464,8 @@ module _ (server : ℕ) where
     turns (reaching goal side since) prefix answer none below is = quietly text [] (reaching goal side since) one refl is
     turns (undecided tunnel spare since) prefix answer none below is = quietly text [] (undecided tunnel spare since) one refl is
     turns (raw ends) prefix answer none below is = quietly text [] (raw ends) one refl is
+    turns (socket ends flow frames) prefix answer none below is =
+        socket_goes ends flow _ is.apart (turn_says (socket_terms client.key ends flow) (socket_sight ends prefix) frames answer.value answer.moment)
     turns over prefix answer none below is = quietly text [] over one refl is
 
   -- ---- the walk
@@ -444,7 +480,7 @@ module _ (server : ℕ) where
   said_are step (Took moment event ∷ moves) = ap (λ l. piece_of (Server server) event ++ l) (said_are (step + 1) moves)
   said_are step (Replied moment answer ∷ moves) = said_are (step + 1) moves
 
-  module _ (conv : ℕ) (client : Option Address) (total : List ℕ) (none : DecidesNothing total) where
+  module _ (conv : ℕ) (client : Visitor) (total : List ℕ) (none : DecidesNothing total) where
     abbrev chain : Chain Stage Event Reply Command
     chain = stack_chain conv client
 
@@ -546,8 +582,8 @@ module _ (server : ℕ) where
         (there_one here.before here.stage here.prefix there.holds)
 
 -- In mode `upstream:` a server that has not answered was sent one request at most.
-pub mode_one_request : (proxy peer : Address) (conv server : ℕ) (moves : List Move) → HasNotAnswered server moves →
-    IsOneRequest (bytes_in (seen_of (line (Server server)) (mode_due (modes.Upstream proxy) conv peer moves)))
-mode_one_request proxy peer conv server moves none =
-    walk_one server conv (Some peer) (said_of server moves) none (replies_in 1 moves) never [] (begins (modes.Upstream proxy)) [] (events_in 1 moves)
+pub mode_one_request : (proxy peer : Address) (key : List ℕ) (conv server : ℕ) (moves : List Move) → HasNotAnswered server moves →
+    IsOneRequest (bytes_in (seen_of (line (Server server)) (mode_due (modes.Upstream proxy) key conv peer moves)))
+mode_one_request proxy peer key conv server moves none =
+    walk_one server conv (record { address = Some peer; key = key }) (said_of server moves) none (replies_in 1 moves) never [] (begins (modes.Upstream proxy)) [] (events_in 1 moves)
     (record { one = is_none refl; stays = record { apart = (tt, (tt, tt)); untold = λ before. refl }; below = tt }) (said_are server 1 moves)

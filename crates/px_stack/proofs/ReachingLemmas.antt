@@ -1,15 +1,13 @@
 -- Another proxy that is asked for a tunnel: where it is so, and what one event more does.
-use Rattle.std.proofs.Common.{◌≡◌, ℕ, ◌≤◌, ◌+◌, Bool, true, false, List, [], ◌∷◌, ◌++◌, length, drop, Option, Some, None, refl, ap, sym, ◌∙◌, subst, arith, length-append}
+use Rattle.std.proofs.Common.{◌≡◌, ℕ, ◌≤◌, Bool, true, false, List, [], ◌∷◌, ◌++◌, length, drop, refl, ap, sym, ◌∙◌, subst, arith, length-append}
 use Rattle.std.specs.Prelude.{◌||◌, IfOk, OnOk, Result, Ok, Err}
 use Rattle.std.proofs.lemmas.List.{append-nil, drop_all}
-use Rattle.px_message.specs.declared.address.Address.{Address}
 use Rattle.px_event.specs.declared.command.Command.{Command}
 use Rattle.px_event.specs.declared.event.Event.{Event}
 use Rattle.px_event.specs.declared.event.Event.TheVariants as events
 use Rattle.px_event.specs.declared.side.Side.TheVariants.{Client, Server}
 use Rattle.px_event.specs.Chain.{Timed, Look, NotYet, Asks, Ends, Turn, found}
-use Rattle.px_event.specs.Laws.{owed_over}
-use Rattle.px_event.specs.View.{View, seen_of}
+use Rattle.px_event.specs.View.{seen_of}
 use Rattle.px_event.proofs.Steps.{Takes, onward}
 use Rattle.px_exchange.specs.declared.ending.Used.TheVariants.{ByServer}
 use Rattle.px_exchange.specs.Endings.{shut_server}
@@ -18,7 +16,7 @@ use Rattle.px_chain.specs.Streams.{Since, client_closed, closes, piece_of}
 use Rattle.px_chain.proofs.FrontLaws.{closed_more as client_more, now_more}
 use Rattle.px_tunnel.specs.declared.upstream.UpstreamTunnel.{UpstreamTunnel}
 use Rattle.px_tunnel.specs.Reaching.{HasHeard, rest_of}
-use Rattle.px_tunnel.specs.Upstream.{Granting, awaited, granted, granting, refused}
+use Rattle.px_tunnel.specs.Upstream.{awaited, granting}
 use Rattle.px_stack.specs.declared.child.Child.{Child}
 use Rattle.px_stack.specs.declared.child.Child.TheVariants as children
 use Rattle.px_stack.specs.declared.child.Goal.{Goal as KeptGoal}
@@ -28,15 +26,15 @@ use Rattle.px_stack.specs.declared.reaching.ProxySays.{ProxySays}
 use Rattle.px_stack.specs.declared.reaching.ProxySays.TheVariants as told
 use Rattle.px_stack.specs.Chain.{answer_of, closed_of, pass_reached, shut_proxy, stack_chain, text_of, tunnel_found, waits_for}
 use Rattle.px_stack.specs.Kept.{is_left}
-use Rattle.px_stack.specs.Reached.{HearsProxy, HearsThere, says_by}
-use Rattle.px_stack.specs.Stages.{Goal, Stage, Tunnel, a_flow, a_tunnel, connecting, http, over, raw, reaching, undecided}
+use Rattle.px_stack.specs.Reached.{HearsProxy, HearsThere}
+use Rattle.px_stack.specs.Stages.{Goal, Stage, Tunnel, Visitor, a_flow, a_tunnel, connecting, http, over, raw, reaching, socket, undecided}
 use Rattle.px_stack.specs.Stands.{IsChild, IsGoal, IsReaching, IsSomewhere, Keeps, KeepsBy}
 use Rattle.px_stack.specs.Steps.{Adds, Arrives, CanGoOn, HearsGoal, IsGoalSomewhere, IsLetThrough, IsTurnedAway, LetsThrough, MayGoOn, TakesChild, TurnsAway}
 use Rattle.px_stack.proofs.SaidLemmas.{answer_more, awaits_open, closed_more, closing_piece, grants_open, heard_more, says_no, says_nothing, says_yes}
 
 -- ---- where nothing is answered yet
 
-module _ (conv : ℕ) (client : Option Address) where
+module _ (conv : ℕ) (client : Visitor) where
   awaits_by : (goal : Goal) (side : Spare) (since : Since) (prefix : List (Timed Event)) →
       pass_reached conv client goal side since prefix awaited ≡ record { owed = []; stage = reaching goal side since }
   awaits_by (a_tunnel tunnel) side since prefix = refl
@@ -89,14 +87,14 @@ new_answer server prefix = ap (λ l. granting (text_of server l) (closed_of serv
 
 -- ---- where it is asked
 
-pub waits_on : (conv : ℕ) (client : Option Address) (goal : Goal) (side : Spare) (prefix : List (Timed Event)) (kept : KeptGoal) → IsGoal conv client goal side prefix kept →
+pub waits_on : (conv : ℕ) (client : Visitor) (goal : Goal) (side : Spare) (prefix : List (Timed Event)) (kept : KeptGoal) → IsGoal conv client goal side prefix kept →
     waits_for goal side prefix ≡ NotYet
 waits_on conv client (a_tunnel tunnel) side prefix (goals.Tunnel kept) is = ap (λ b. tunnel_found b (shut_proxy side prefix)) is.client
 waits_on conv client (a_tunnel tunnel) side prefix (goals.Flow flows) is = absurd is
 waits_on conv client (a_flow place from) side prefix kept is = refl
 
 -- nothing was found there, and this is kept
-pub record IsAnswered (conv : ℕ) (client : Option Address) (goal : Goal) (side : Spare) (since : Since) (prefix : List (Timed Event)) (kept : Reaching) : Type 0 where
+pub record IsAnswered (conv : ℕ) (client : Visitor) (goal : Goal) (side : Spare) (since : Since) (prefix : List (Timed Event)) (kept : Reaching) : Type 0 where
   pub look : waits_for goal side prefix ≡ NotYet
   pub same : kept.server ≡ side.server
   pub opened : side.opened ≤ length prefix
@@ -116,7 +114,7 @@ never_asks : (goal : Goal) (side : Spare) (prefix : List (Timed Event)) (ask : C
 never_asks (a_tunnel tunnel) side prefix ask is = found_asks (client_closed prefix) (shut_proxy side prefix) ask is
 never_asks (a_flow place from) side prefix ask is = let no : NotYet ≡ Asks ask = is in cc
 
-module _ (conv : ℕ) (client : Option Address) (kept : Reaching) where
+module _ (conv : ℕ) (client : Visitor) (kept : Reaching) where
   none_kept : (stage : Stage) (prefix : List (Timed Event)) → (Keeps conv client (children.Reaching kept) stage prefix → ⊥) →
       (look : Look Command) → KeepsBy look conv client (children.Reaching kept) stage prefix → ⊥
   none_kept stage prefix none NotYet there = none there
@@ -156,11 +154,13 @@ module _ (conv : ℕ) (client : Option Address) (kept : Reaching) where
       absurd (none_kept (undecided tunnel spare since) prefix (λ at. let no : children.Reaching kept ≡ children.Undecided at.kept at.server = at.is in cc) _ there)
   at_reaching P (raw ends) prefix there goes =
       absurd (none_kept (raw ends) prefix (λ at. let no : children.Reaching kept ≡ children.Raw at.kept = at.is in cc) _ there)
+  at_reaching P (socket ends flow frames) prefix there goes =
+      absurd (none_kept (socket ends flow frames) prefix (λ at. let no : children.Reaching kept ≡ children.Socket at.kept = at.is in cc) _ there)
   at_reaching P over prefix there goes = absurd (none_kept over prefix (λ at. at) (Ends []) there)
 
 -- ---- one event more
 
-module _ (conv : ℕ) (client : Option Address) (goal : Goal) (side : Spare) (since : Since) (prefix : List (Timed Event)) (kept : Reaching)
+module _ (conv : ℕ) (client : Visitor) (goal : Goal) (side : Spare) (since : Since) (prefix : List (Timed Event)) (kept : Reaching)
     (at : IsAnswered conv client goal side since prefix kept) (moment : ℕ) (event : Event) where
   abbrev now : Timed Event
   now = record { moment = moment; value = event }
@@ -248,7 +248,7 @@ not_server server (events.Closed Client) is = (refl, refl)
 not_server server (events.Closed (Server number)) is = absurd (let no : false ≡ true = is in cc)
 not_server server (events.Answered ask reply) is = absurd (let no : false ≡ true = is in cc)
 
-module _ (conv : ℕ) (client : Option Address) (tunnel : Tunnel) (side : Spare) (since : Since) (prefix : List (Timed Event)) (kept : Reaching)
+module _ (conv : ℕ) (client : Visitor) (tunnel : Tunnel) (side : Spare) (since : Since) (prefix : List (Timed Event)) (kept : Reaching)
     (at : IsAnswered conv client (a_tunnel tunnel) side since prefix kept) (open_still : client_closed prefix ≡ false) (moment : ℕ) (event : Event)
     (leaves : closes Client event ≡ true) where
   left_there : (next : Child) (more : List Command) → next ≡ children.Over → more ≡ shut_server (ByServer kept.server false) →
@@ -267,7 +267,7 @@ module _ (conv : ℕ) (client : Option Address) (tunnel : Tunnel) (side : Spare)
       (ap (λ b. tunnel_found b (shut_proxy side (prefix ++ e ∷ []))) closed_now
       ∙ ap Ends (ap (λ b. shut_server (ByServer side.server b)) unshut ∙ (ap (λ n. shut_server (ByServer n false)) (sym at.same) ∙ sym gave))) same
 
-module _ (conv : ℕ) (client : Option Address) (kept : Reaching) (moment : ℕ) (event : Event) (next : Child) (more : List Command) where
+module _ (conv : ℕ) (client : Visitor) (kept : Reaching) (moment : ℕ) (event : Event) (next : Child) (more : List Command) where
   left_by_goal : (goal : Goal) (side : Spare) (since : Since) (prefix : List (Timed Event)) → IsAnswered conv client goal side since prefix kept →
       (waits : KeptGoal) → IsGoal conv client goal side prefix waits → is_left waits event ≡ true → next ≡ children.Over → more ≡ shut_server (ByServer kept.server false) →
       Arrives conv client next more (reaching goal side since) (prefix ++ record { moment = moment; value = event } ∷ [])
@@ -286,7 +286,7 @@ module _ (conv : ℕ) (client : Option Address) (kept : Reaching) (moment : ℕ)
 
   -- ---- what it says
 
-  module _ (waits : KeptGoal) (after : UpstreamTunnel) (hears : (conv : ℕ) (client : Option Address) (moment : ℕ) → HearsGoal conv client kept.goal waits moment event) where
+  module _ (waits : KeptGoal) (after : UpstreamTunnel) (hears : (conv : ℕ) (client : Visitor) (moment : ℕ) → HearsGoal conv client kept.goal waits moment event) where
     pub takes_nothing : HearsProxy kept.server kept.asked after event told.Nothing → next ≡ children.Reaching (record { asked = after; server = kept.server; goal = waits }) →
         more ≡ [] → TakesChild conv client (children.Reaching kept) next moment event more
     takes_nothing says same none stage prefix there =
@@ -314,7 +314,7 @@ module _ (conv : ℕ) (client : Option Address) (kept : Reaching) (moment : ℕ)
 
 -- ---- where it is so
 
-module _ (conv : ℕ) (client : Option Address) (kept : Reaching) (somewhere : IsSomewhere conv client (children.Reaching kept)) where
+module _ (conv : ℕ) (client : Visitor) (kept : Reaching) (somewhere : IsSomewhere conv client (children.Reaching kept)) where
   pub goal_somewhere : IsGoalSomewhere kept.goal
   goal_somewhere =
       let (stage, prefix, there) = somewhere in
@@ -327,7 +327,7 @@ module _ (conv : ℕ) (client : Option Address) (kept : Reaching) (somewhere : I
       at_reaching conv client kept (λ s. (text : List ℕ) × HasHeard kept.asked text) stage prefix there
       (λ goal side since at. (text_of side.server (drop side.opened prefix), at.heard))
 
-  module _ (moment : ℕ) (event : Event) (waits : KeptGoal) (after : UpstreamTunnel) (hears : (conv : ℕ) (client : Option Address) (moment : ℕ) → HearsGoal conv client kept.goal waits moment event) where
+  module _ (moment : ℕ) (event : Event) (waits : KeptGoal) (after : UpstreamTunnel) (hears : (conv : ℕ) (client : Visitor) (moment : ℕ) → HearsGoal conv client kept.goal waits moment event) where
     pub can_go_on : (rest : List ℕ) → HearsProxy kept.server kept.asked after event told.Yes → rest ≡ rest_of after → CanGoOn kept.server waits rest moment
     can_go_on rest says left =
         let (stage, prefix, there) = somewhere in
@@ -357,7 +357,7 @@ module _ (conv : ℕ) (client : Option Address) (kept : Reaching) (somewhere : I
 
 -- ---- what the functions give
 
-pub left_taken : {E : Type 0} (conv : ℕ) (client : Option Address) (kept : Reaching) (moment : ℕ) (event : Event) (out given : List Command) → is_left kept.goal event ≡ true →
+pub left_taken : {E : Type 0} (conv : ℕ) (client : Visitor) (kept : Reaching) (moment : ℕ) (event : Event) (out given : List Command) → is_left kept.goal event ≡ true →
     (result : Result Child E) → IfOk result (λ next. next ≡ children.Over) → OnOk result (given ≡ out ++ shut_server (ByServer kept.server false)) →
     IfOk result (λ next. Adds (TakesChild conv client (children.Reaching kept) next moment event) out given)
 left_taken conv client kept moment event out given left (Ok next) same gave = record {
@@ -367,8 +367,8 @@ left_taken conv client kept moment event out given left (Ok next) same gave = re
 }
 left_taken conv client kept moment event out given left (Err error) same gave = tt
 
-module _ (conv : ℕ) (client : Option Address) (kept : Reaching) (moment : ℕ) (event : Event) (waits : KeptGoal) (after : UpstreamTunnel)
-    (hears : (conv : ℕ) (client : Option Address) (moment : ℕ) → HearsGoal conv client kept.goal waits moment event) (says : ProxySays)
+module _ (conv : ℕ) (client : Visitor) (kept : Reaching) (moment : ℕ) (event : Event) (waits : KeptGoal) (after : UpstreamTunnel)
+    (hears : (conv : ℕ) (client : Visitor) (moment : ℕ) → HearsGoal conv client kept.goal waits moment event) (says : ProxySays)
     (heard : HearsProxy kept.server kept.asked after event says) where
   heard_as : (known : ProxySays) → says ≡ known → HearsProxy kept.server kept.asked after event known
   heard_as known is = let P : ProxySays → Type 0 = λ s. HearsProxy kept.server kept.asked after event s in subst P is heard

@@ -2,7 +2,6 @@
 use Rattle.std.proofs.Common.{◌≡◌, ℕ, ◌≤◌, ◌==◌, Bool, true, false, List, [], ◌∷◌, ◌++◌, length, drop, Option, Some, None, refl, ap, sym, ◌∙◌, subst, arith, append_assoc, length-append}
 use Rattle.std.specs.Prelude.{◌||◌, if◌then◌else◌, IfOk, OnOk, Result, Ok, Err}
 use Rattle.std.proofs.lemmas.List.{append-nil, drop-append-le}
-use Rattle.px_message.specs.declared.address.Address.{Address}
 use Rattle.px_message.specs.declared.flow.Flow.{Flow}
 use Rattle.px_event.specs.declared.command.Command.{Command}
 use Rattle.px_event.specs.declared.event.Event.{Event}
@@ -10,12 +9,12 @@ use Rattle.px_event.specs.declared.event.Event.TheVariants as events
 use Rattle.px_event.specs.declared.event.Rests.{Rests}
 use Rattle.px_event.specs.declared.side.Side.{Side}
 use Rattle.px_event.specs.declared.side.Side.TheVariants.{Client, Server}
-use Rattle.px_event.specs.Chain.{Timed, Look, NotYet, Asks, Ends, found}
+use Rattle.px_event.specs.Chain.{Timed, Look, NotYet, Ends, found}
 use Rattle.px_event.specs.View.{View, seen_of}
 use Rattle.px_event.proofs.Seen.{seen_append}
-use Rattle.px_event.proofs.Steps.{Takes, onward}
+use Rattle.px_event.proofs.Steps.{onward}
 use Rattle.px_exchange.specs.declared.ending.Used.TheVariants.{ByServer}
-use Rattle.px_exchange.specs.Endings.{shut_client, shut_server}
+use Rattle.px_exchange.specs.Endings.{shut_server}
 use Rattle.px_chain.specs.Sights.{IsWithin, SpareIsWithin, Standing, Unused, unused_over, unused_with}
 use Rattle.px_chain.specs.Stages.{idle}
 use Rattle.px_chain.specs.Streams.{bytes_of, client_closed, closes, is_closed, piece_of}
@@ -30,11 +29,11 @@ use Rattle.px_stack.specs.declared.child.Child.{Child}
 use Rattle.px_stack.specs.declared.child.Child.TheVariants as children
 use Rattle.px_stack.specs.declared.child.Relay.{Relay}
 use Rattle.px_stack.specs.declared.closing.Sides.{Sides}
-use Rattle.px_stack.specs.Chain.{closes_all, finished_flow, first_at, is_shut, raw_look, shut_unused, stack_chain, text_down, text_up, tunnel_found}
+use Rattle.px_stack.specs.Chain.{closes_all, finished_flow, first_at, is_shut, raw_look, shut_unused, text_down, text_up, tunnel_found}
 use Rattle.px_stack.specs.Kept.{open_behind, shut_open}
-use Rattle.px_stack.specs.Stages.{Ends as TunnelEnds, raw}
+use Rattle.px_stack.specs.Stages.{Ends as TunnelEnds, Visitor, raw}
 use Rattle.px_stack.specs.Stands.{IsChild, IsRaw, IsRelay, KeepsBy, open_unused, unless_shut}
-use Rattle.px_stack.specs.Steps.{Adds, Arrives, GoesOn, MayRelay, RelayTakes, Relays, sides_by, sides_closed}
+use Rattle.px_stack.specs.Steps.{Adds, GoesOn, MayRelay, RelayTakes, Relays, sides_by, sides_closed}
 
 -- ---- what an event brings, once nothing is left
 
@@ -109,7 +108,7 @@ some_close server true closed sides is = let same = same_sides (record { server 
 -- ---- the spare side
 
 -- its close is owed while it is connected
-shut_same : (spare : Option Unused) → shut_unused spare ≡ shut_open (open_unused spare)
+pub shut_same : (spare : Option Unused) → shut_unused spare ≡ shut_open (open_unused spare)
 shut_same None = refl
 shut_same (Some unused) = by unused.shut
   where
@@ -138,7 +137,7 @@ open_with (Some unused) event =
 -- ---- one event more, where no side has closed
 
 -- a place with this side and this spare one
-abbrev place_at : TunnelEnds → Standing
+abbrev pub place_at : TunnelEnds → Standing
 place_at ends = record { stage = idle first_at; since = record { events = 0; moment = 0 }; opened = ends.opened; spare = ends.spare }
 
 pub longer_bytes : (used : ℕ) (bytes piece longer : List ℕ) → longer ≡ bytes ++ piece → used ≤ length bytes → used ≤ length longer
@@ -168,15 +167,15 @@ module _ (ends : TunnelEnds) (prefix : List (Timed Event)) (e : Timed Event) (op
   pub up_more : ends.used ≤ length (bytes_of Client prefix) → text_up ends (prefix ++ e ∷ []) ≡ text_up ends prefix ++ piece_of Client e.value
   up_more within = ap (λ l. drop ends.used l) client_more ∙ drop-append-le ends.used (bytes_of Client prefix) (piece_of Client e.value) within
 
-  down_more : ends.side.used ≤ length (bytes_of (Server ends.side.server) (drop ends.opened prefix)) →
+  pub down_more : ends.side.used ≤ length (bytes_of (Server ends.side.server) (drop ends.opened prefix)) →
       text_down ends (prefix ++ e ∷ []) ≡ text_down ends prefix ++ piece_of (Server ends.side.server) e.value
   down_more within = ap (λ l. drop ends.side.used l) server_more
       ∙ drop-append-le ends.side.used (bytes_of (Server ends.side.server) (drop ends.opened prefix)) (piece_of (Server ends.side.server) e.value) within
 
-  is_within : SpareIsWithin ends.spare prefix → IsWithin (place_at ends) prefix
+  pub is_within : SpareIsWithin ends.spare prefix → IsWithin (place_at ends) prefix
   is_within within = record { since = omega arith; opened = opened; spare = within }
 
-  spare_more : SpareIsWithin ends.spare prefix →
+  pub spare_more : SpareIsWithin ends.spare prefix →
       open_unused (unused_over ends.spare (prefix ++ e ∷ [])) ≡ open_behind (open_unused (unused_over ends.spare prefix)) e.value
   spare_more within = ap (λ seen. open_unused seen.spare) (sight_more (place_at ends) prefix e open_client (is_within within))
       ∙ open_with (unused_over ends.spare prefix) e.value
@@ -253,7 +252,7 @@ both_as server server' up up' down down' a b c = rw (a, b, c) refl
 begun_seen : (view : View) (server : ℕ) (rests : Rests) → seen_of view (given_for server rests events.Begun) ≡ seen_of view (both_ways server rests.client rests.server)
 begun_seen view server rests = seen_given view server rests events.Begun ∙ append-nil (seen_of view (both_ways server rests.client rests.server))
 
-module _ (conv : ℕ) (client : Option Address) (ends : TunnelEnds) (prefix : List (Timed Event)) (next : Child) where
+module _ (conv : ℕ) (client : Visitor) (ends : TunnelEnds) (prefix : List (Timed Event)) (next : Child) where
   -- what is kept at an end, and where it goes on
   kept_over : (owed : List Command) → raw_look ends prefix ≡ Ends owed → next ≡ children.Over → IsChild conv client next (raw ends) prefix
   kept_over owed look is = let P : Look Command → Type 0 = λ l. KeepsBy l conv client next (raw ends) prefix in subst P (sym look) is

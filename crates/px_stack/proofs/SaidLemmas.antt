@@ -1,7 +1,7 @@
 -- What has come of another proxy that is asked for a tunnel, over one event more, and what it says.
-use Rattle.std.proofs.Common.{◌≡◌, ℕ, ◌≤◌, Bool, true, false, List, [], ◌∷◌, ◌++◌, length, drop, refl, ap, sym, ◌∙◌, subst, arith, append_assoc}
+use Rattle.std.proofs.Common.{◌≡◌, ℕ, ◌≤◌, Bool, true, false, List, [], ◌∷◌, ◌++◌, length, drop, refl, ap, sym, ◌∙◌, subst, append_assoc}
 use Rattle.std.specs.Prelude.{◌||◌, if◌then◌else◌}
-use Rattle.std.proofs.lemmas.List.{append-nil, drop-append-le, drop_all}
+use Rattle.std.proofs.lemmas.List.{append-nil, drop-append-le}
 use Rattle.px_event.specs.declared.event.Event.{Event}
 use Rattle.px_event.specs.declared.event.Event.TheVariants as events
 use Rattle.px_event.specs.declared.side.Side.{Side}
@@ -10,7 +10,6 @@ use Rattle.px_event.specs.Chain.{Timed}
 use Rattle.px_event.specs.Trace.{is_same_side}
 use Rattle.px_chain.specs.Sights.{Spare}
 use Rattle.px_chain.specs.Streams.{bytes_of, client_closed, closes, is_closed, piece_of}
-use Rattle.px_chain.proofs.FrontLaws.{open_behind}
 use Rattle.px_tunnel.specs.declared.upstream.ProxyAnswer.{ProxyAnswer}
 use Rattle.px_tunnel.specs.declared.upstream.ProxyAnswer.TheVariants as answer
 use Rattle.px_tunnel.specs.declared.upstream.UpstreamTunnel.{UpstreamTunnel}
@@ -20,7 +19,7 @@ use Rattle.px_tunnel.proofs.UpstreamLemmas.{close_refuses}
 use Rattle.px_stack.specs.declared.reaching.ProxySays.{ProxySays}
 use Rattle.px_stack.specs.declared.reaching.ProxySays.TheVariants as told
 use Rattle.px_stack.specs.Chain.{answer_of, closed_of, text_of}
-use Rattle.px_stack.specs.Reached.{HearsProxy, HearsThere, says_answer, says_by, says_close, says_of}
+use Rattle.px_stack.specs.Reached.{HearsProxy, says_answer, says_close, says_of}
 
 -- ---- one event more
 

@@ -1,6 +1,6 @@
 -- A server is sent nothing before its dial was answered with the connection, whatever follows a CONNECT; and before the first call nobody is.
-use Rattle.std.proofs.Common.{◌≡◌, ℕ, ◌+◌, ◌<◌, ◌≤◌, Bool, true, false, cond, List, [], ◌∷◌, ◌++◌, drop, length, map, Option, Some, None, refl, ap, arith}
-use Rattle.std.specs.Prelude.{◌==◌, ◌||◌, ⊤}
+use Rattle.std.proofs.Common.{◌≡◌, ℕ, ◌+◌, ◌<◌, ◌≤◌, Bool, true, false, cond, List, [], ◌∷◌, ◌++◌, drop, length, map, Option, Some, None, refl, ap, sym, ◌∙◌, arith}
+use Rattle.std.specs.Prelude.{◌==◌, ◌≢◌, ◌||◌, ⊤}
 use Rattle.std.proofs.lemmas.Bool.{eqb-true}
 use Rattle.px_message.specs.declared.address.Address.{Address}
 use Rattle.px_message.specs.declared.fault.Fault.TheVariants.{UpstreamRefused}
@@ -11,7 +11,7 @@ use Rattle.px_event.specs.declared.event.Event.{Event}
 use Rattle.px_event.specs.declared.reply.Reply.{Reply}
 use Rattle.px_event.specs.declared.reply.Reply.TheVariants as reply
 use Rattle.px_event.specs.declared.side.Side.TheVariants.{Client, Server}
-use Rattle.px_event.specs.Chain.{Timed, Look, NotYet, Asks, Ends, found}
+use Rattle.px_event.specs.Chain.{Timed, Look, NotYet, Asks, Ends, Turn, found}
 use Rattle.px_event.specs.Layer.{Move}
 use Rattle.px_event.specs.View.{byte, bytes_in, close, line, seen_of}
 use Rattle.px_exchange.specs.declared.mode.Mode.{Mode}
@@ -28,10 +28,15 @@ use Rattle.px_chain.specs.Streams.{Since, client_closed, from_here, is_closed, n
 use Rattle.px_chain.proofs.CountedLemmas.{Counts, CountsServers, IsSilent, counted_silent, silent_both}
 use Rattle.px_chain.proofs.SilentLemmas.{AreBelow, ServersBelow, dialled, dialled_at, http_counts}
 use Rattle.px_tunnel.specs.Upstream.{Granting, awaited, connect_text, granted, refused}
-use Rattle.px_stack.specs.Chain.{answer_of, asks_proxy, begins, closed_of, closes_all, finished_flow, flows_at, follows, goes_by, hands_by, has_answered, is_empty, is_shut, led_at, led_by, opening_text, opens_by, or_stays, pass_reached, shut_proxy, shut_unused, stack_chain, standing_of, text_behind, text_down, text_up, tunnel_for, tunnel_found, turn_connected, turn_dial, turn_flows, turn_http, waits_for, way_by, with_closes}
+use Rattle.px_relay.specs.Chain as relay
+use Rattle.px_relay.specs.Sending.{Terms}
+use Rattle.px_relay.specs.Stages.{Stage as Frames, holding, over as ended, relaying}
+use Rattle.px_stack.specs.Chain.{answer_of, asks_proxy, begins, begun, closed_of, closes_all, finished_flow, flows_at, follows, goes_by, hands_by, has_answered, is_empty, is_shut, led_at, led_by, opening_text, opens_by, or_stays, pass_http, pass_reached, pass_socket, shut_proxy, shut_unused, socket_sight, socket_terms, socket_turn, stack_chain, standing_of, text_behind, text_down, text_up, tunnel_for, tunnel_found, turn_connected, turn_dial, turn_flows, turn_http, upgrades, waits_for, way_by, with_closes}
 use Rattle.px_stack.specs.Decides.{Decision, decided, is_http, is_raw, still}
+use Rattle.px_stack.specs.Frames.{AreSaid, Says, pass_says, turn_says}
 use Rattle.px_stack.specs.Modes.{mode_due}
-use Rattle.px_stack.specs.Stages.{Dialling, Goal, Stage, Tunnel, a_flow, a_tunnel, connecting, http, over, raw, reaching, undecided}
+use Rattle.px_stack.specs.Sockets.{is_websocket}
+use Rattle.px_stack.specs.Stages.{Dialling, Ends as TunnelEnds, Goal, Stage, Tunnel, Visitor, a_flow, a_tunnel, connecting, http, over, raw, reaching, socket, undecided}
 
 -- ---- what is counted
 
@@ -46,6 +51,7 @@ dials_at (connecting tunnel) = tunnel.at.dials
 dials_at (reaching goal side since) = dials_of goal
 dials_at (undecided tunnel spare since) = tunnel.at.dials
 dials_at (raw ends) = ends.side.server + 1
+dials_at (socket ends flow frames) = ends.side.server + 1
 dials_at over = 0
 
 -- the server's sides of a stage are among those that were dialled before it
@@ -102,9 +108,34 @@ module _ (server : ℕ) where
   both_silent number up down below =
       ap (λ same. bytes_in (cond same (map byte up) [] ++ [])) (other number (number == server) refl below)
 
+  -- a WebSocket sends to its own server alone
+  frame_silent : (number : ℕ) (text : List ℕ) (own : ℕ) → number ≡ own → own ≢ server → IsSilent server (commands.Send (Server number) text ∷ [])
+  frame_silent number text own is apart = by (number == server) refl
+    where
+      by : (same : Bool) → (number == server) ≡ same → IsSilent server (commands.Send (Server number) text ∷ [])
+      by true same = absurd (apart (sym is ∙ eqb-true number server same))
+      by false same = ap (λ b. bytes_in (cond b (map byte text) [] ++ [])) same
+
+  pub said_silent : (terms : Terms) (to : Frames) → terms.server ≢ server → (owed : List Command) → AreSaid terms to owed → IsSilent server owed
+  said_silent terms to apart [] said = refl
+  said_silent terms to apart (commands.Send Client text ∷ owed) (here, said) = said_silent terms to apart owed said
+  said_silent terms to apart (commands.Send (Server number) text ∷ owed) (here, said) =
+      silent_both server (commands.Send (Server number) text ∷ []) owed (frame_silent number text terms.server here apart) (said_silent terms to apart owed said)
+  said_silent terms to apart (commands.Close Client ∷ owed) (here, said) = said_silent terms to apart owed said
+  said_silent terms to apart (commands.Close (Server number) ∷ owed) (here, said) =
+      silent_both server (commands.Close (Server number) ∷ []) owed (close_silent (number == server)) (said_silent terms to apart owed said)
+  said_silent terms to apart (commands.Dial number address inside ∷ owed) (here, said) = absurd here
+  said_silent terms to apart (commands.Ask ask flow ∷ owed) (here, said) = absurd here
+  said_silent terms to apart (commands.Done flow ∷ owed) (here, said) = said_silent terms to apart owed said
+
+  pub frames_silent : (terms : Terms) (frames : Frames) → IsSilent server (found (relay.look terms frames))
+  frames_silent terms (relaying at) = refl
+  frames_silent terms (holding from message at) = refl
+  frames_silent terms ended = refl
+
 -- ---- the chain
 
-module _ (conv : ℕ) (client : Option Address) where
+module _ (conv : ℕ) (client : Visitor) where
   abbrev Few : ℕ → Stage → Type 0
   Few most stage = (dials_at stage ≤ most) × AllBelow stage
 
@@ -112,6 +143,10 @@ module _ (conv : ℕ) (client : Option Address) where
       Few (dialled_at standing) (or_stays (http place standing) (tunnel_for place at connect))
   tunnel_few place standing at None is below = (omega arith, below)
   tunnel_few place standing at (Some connect) is below = let same : dialled standing.stage ≡ at.dials = ap dialled is in (omega arith, tt)
+
+  upgrades_few : (most : ℕ) (is : Bool) (flow : Flow) (ends : TunnelEnds) → ends.side.server + 1 ≤ most → Few most (upgrades is flow ends)
+  upgrades_few most true flow ends less = (less, tt)
+  upgrades_few most false flow ends less = (less, tt)
 
   hands_few : (place : Place) (standing : Standing) (stage : flows.Stage) (seen : Sight) → standing.stage ≡ stage → AreBelow standing →
       ServersBelow standing.spare stage → Few (dialled_at standing) (or_stays (http place standing) (hands_by place standing stage seen))
@@ -121,14 +156,16 @@ module _ (conv : ℕ) (client : Option Address) where
   hands_few place standing (busy at flow (response_head side how)) seen is below here = (omega arith, below)
   hands_few place standing (busy at flow (response_body side how)) seen is below here = (omega arith, below)
   hands_few place standing (busy at flow (upgraded side)) seen is below here =
-      let same : dialled standing.stage ≡ at.dials = ap dialled is in let less : side.server < at.dials = here.1 in (omega arith, tt)
+      let same : dialled standing.stage ≡ at.dials = ap dialled is in
+      let less : side.server < at.dials = here.1 in
+      upgrades_few (dialled_at standing) (is_websocket flow seen.closed) flow _ (omega arith)
   hands_few place standing (busy at flow given_head) seen is below here = (omega arith, below)
   hands_few place standing (busy at flow given_body) seen is below here = (omega arith, below)
   hands_few place standing (next at) seen is below here = (omega arith, below)
   hands_few place standing flows.over seen is below here = (omega arith, below)
 
   flows_count : (place : Place) → CountsServers (flows_at conv client place) dialled_at AreBelow
-  flows_count place = http_counts sequence (is_sequence refl) (terms_of conv client place)
+  flows_count place = http_counts sequence (is_sequence refl) (terms_of conv client.address place)
 
   quietly : (most : ℕ) (stage : Stage) → Few most stage → Counts dials_at AllBelow most (record { owed = []; stage = stage })
   quietly most stage few = record { silent = λ server beyond. refl; few = few.0; stays = few.1 }
@@ -198,19 +235,49 @@ module _ (conv : ℕ) (client : Option Address) where
   }
   reached_counts (a_flow place from) side since prefix refused is = refused_counts place from side since prefix is
 
+  -- a WebSocket
+  socket_counts : (ends : TunnelEnds) (flow : Flow) (most : ℕ) (on : Turn Frames Command) → ends.side.server + 1 ≤ most → Says (socket_terms client.key ends flow) on →
+      Counts dials_at AllBelow most (socket_turn ends flow on)
+  socket_counts ends flow most on less said = record {
+    silent = λ server beyond. said_silent server (socket_terms client.key ends flow) on.stage (λ same. omega arith) on.owed said;
+    few = less;
+    stays = tt;
+  }
+
+  socket_passes : (ends : TunnelEnds) (flow : Flow) (frames : Frames) (prefix : List (Timed Event)) →
+      Counts dials_at AllBelow (ends.side.server + 1) (pass_socket conv client ends flow frames prefix)
+  socket_passes ends flow frames prefix = socket_counts ends flow (ends.side.server + 1) _ (omega arith) (pass_says (socket_terms client.key ends flow) (socket_sight ends prefix) frames)
+
+  begun_counts : (stage : Stage) (prefix : List (Timed Event)) → AllBelow stage → Counts dials_at AllBelow (dials_at stage) (begun conv client stage prefix)
+  begun_counts (http place standing) prefix is = quietly (dialled_at standing) (http place standing) (omega arith, is)
+  begun_counts (connecting tunnel) prefix is = quietly tunnel.at.dials (connecting tunnel) (omega arith, tt)
+  begun_counts (reaching goal side since) prefix is = quietly (dials_of goal) (reaching goal side since) (omega arith, is)
+  begun_counts (undecided tunnel spare since) prefix is = quietly tunnel.at.dials (undecided tunnel spare since) (omega arith, is)
+  begun_counts (raw ends) prefix is = quietly (ends.side.server + 1) (raw ends) (omega arith, tt)
+  begun_counts (socket ends flow frames) prefix is = socket_passes ends flow frames prefix
+  begun_counts over prefix is = quietly 0 over (omega arith, tt)
+
   passes : (stage : Stage) (prefix : List (Timed Event)) → AllBelow stage → Counts dials_at AllBelow (dials_at stage) ((stack_chain conv client).pass stage prefix)
   passes (http place standing) prefix is =
       let on = (flows_at conv client place).pass standing prefix in
       let counts = (flows_count place).passes standing prefix is in
       let few = hands_few place on.stage on.stage.stage (sight_over on.stage prefix) refl counts.stays counts.stays in
+      let to : Stage = pass_http conv client place on.stage prefix in
+      let further = begun_counts to prefix few.1 in
       let fewer = counts.few in
       let below = few.0 in
-      record { silent = counts.silent; few = omega arith; stays = few.1 }
+      let last = further.few in
+      record {
+        silent = λ server beyond. silent_both server on.owed (begun conv client to prefix).owed (counts.silent server beyond) (further.silent server (omega arith));
+        few = omega arith;
+        stays = further.stays;
+      }
   passes (connecting tunnel) prefix is = quietly tunnel.at.dials (connecting tunnel) (omega arith, tt)
   passes (reaching goal side since) prefix is = reached_counts goal side since prefix (answer_of side prefix) is
   passes (undecided tunnel spare since) prefix is =
       quietly tunnel.at.dials (goes_by (client_closed prefix) tunnel spare since prefix) (goes_few (client_closed prefix) tunnel spare since prefix is)
   passes (raw ends) prefix is = quietly (ends.side.server + 1) (raw ends) (omega arith, tt)
+  passes (socket ends flow frames) prefix is = socket_passes ends flow frames prefix
   passes over prefix is = quietly 0 over (omega arith, tt)
 
   pub with_silent : (server : ℕ) (unused : Option Unused) (l : Look Command) → IsSilent server (found l) → IsSilent server (found (with_closes conv client unused l))
@@ -239,6 +306,9 @@ module _ (conv : ℕ) (client : Option Address) where
       found_silent server (closed || shut) (finished_flow ends.flow ++ (shut_unused unused ++ closes))
       (silent_both server (finished_flow ends.flow) (shut_unused unused ++ closes) (finished_silent server ends.flow)
       (silent_both server (shut_unused unused) closes (unused_silent server unused) (closes_silent server ends.side.server shut closed)))
+  looks (socket ends flow frames) prefix is server beyond =
+      let terms : Terms = socket_terms client.key ends flow in
+      with_silent server (unused_over ends.spare prefix) (relay.look terms frames) (frames_silent server terms frames)
   looks over prefix is server beyond = refl
 
   waits : (stage : Stage) (prefix : List (Timed Event)) → AllBelow stage → (server : ℕ) → dials_at stage ≤ server → IsSilent server ((stack_chain conv client).so_far stage prefix)
@@ -247,6 +317,7 @@ module _ (conv : ℕ) (client : Option Address) where
   waits (reaching goal side since) prefix is server beyond = refl
   waits (undecided tunnel spare since) prefix is server beyond = refl
   waits (raw ends) prefix is server beyond = both_silent server ends.side.server (text_up ends prefix) (text_down ends prefix) beyond
+  waits (socket ends flow frames) prefix is server beyond = refl
   waits over prefix is server beyond = refl
 
   -- a proxy is sent the request for a tunnel behind its connection
@@ -339,17 +410,22 @@ module _ (conv : ℕ) (client : Option Address) where
   turns (reaching goal side since) prefix ask answer is asked = absurd (waits_not goal side prefix ask asked)
   turns (undecided tunnel spare since) prefix ask answer is asked = absurd (asks_not _ _ ask asked)
   turns (raw ends) prefix ask answer is asked = absurd (asks_not _ _ ask asked)
+  turns (socket ends flow frames) prefix ask answer is asked =
+      let more = connects answer.value in
+      socket_counts ends flow (ends.side.server + 1 + connects answer.value) _ (omega arith)
+      (turn_says (socket_terms client.key ends flow) (socket_sight ends prefix) frames answer.value answer.moment)
   turns over prefix ask answer is asked = absurd (let no : Ends [] ≡ Asks ask = asked in cc)
 
   pub stack_counts : CountsServers (stack_chain conv client) dials_at AllBelow
   stack_counts = record { passes = passes; looks = looks; waits = waits; turns = turns }
 
 -- No byte is due to a server while no call answers its dial with the connection. Servers are numbered from 0 in the order of their dials.
-pub mode_silent : (mode : Mode) (conv : ℕ) (peer : Address) (server : ℕ) (moves : List Move) → NoAnswer server moves →
-    bytes_in (seen_of (line (Server server)) (mode_due mode conv peer moves)) ≡ []
-mode_silent mode conv peer server moves none =
-    counted_silent (stack_chain conv (Some peer)) dials_at AllBelow (stack_counts conv (Some peer)) server (begins mode) moves tt refl none
+pub mode_silent : (mode : Mode) (key : List ℕ) (conv : ℕ) (peer : Address) (server : ℕ) (moves : List Move) → NoAnswer server moves →
+    bytes_in (seen_of (line (Server server)) (mode_due mode key conv peer moves)) ≡ []
+mode_silent mode key conv peer server moves none =
+    let client : Visitor = record { address = Some peer; key = key } in
+    counted_silent (stack_chain conv client) dials_at AllBelow (stack_counts conv client) server (begins mode) moves tt refl none
 
 -- Nothing at all is due before the first call.
-pub mode_nothing_yet : (mode : Mode) (conv : ℕ) (peer : Address) → mode_due mode conv peer [] ≡ []
-mode_nothing_yet mode conv peer = refl
+pub mode_nothing_yet : (mode : Mode) (key : List ℕ) (conv : ℕ) (peer : Address) → mode_due mode key conv peer [] ≡ []
+mode_nothing_yet mode key conv peer = refl

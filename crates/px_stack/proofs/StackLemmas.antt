@@ -1,7 +1,8 @@
 -- From what a child does to what its conversation does.
-use Rattle.std.proofs.Common.{◌≡◌, ℕ, List, [], ◌++◌, Option, Some, None, refl, ap, sym, ◌∙◌, subst}
+use Rattle.std.proofs.Common.{◌≡◌, ℕ, List, [], Option, Some, refl, ap, sym, ◌∙◌, subst}
 use Rattle.std.specs.Global.{Box}
 use Rattle.std.specs.Prelude.{IfOk, Result, Ok, Err}
+use Rattle.rand_chacha.specs.ChaCha.{key_of}
 use Rattle.px_message.specs.declared.address.Address.{Address}
 use Rattle.px_event.specs.declared.command.Command.{Command}
 use Rattle.px_event.specs.declared.event.Event.{Event}
@@ -16,7 +17,6 @@ use Rattle.px_exchange.specs.declared.place.Place.{Place}
 use Rattle.px_exchange.specs.declared.terms.Terms.{Terms}
 use Rattle.px_exchange.specs.Places.{place_of, terms_of}
 use Rattle.px_chain.specs.Chain.{begin, begin_with, http_chain, sequence, spare_of}
-use Rattle.px_chain.specs.Sights.{Standing}
 use Rattle.px_chain.specs.Stages.{idle}
 use Rattle.px_http.specs.declared.conversation.HttpConv.{HttpConv}
 use Rattle.px_http.specs.Stands.{HttpStands}
@@ -30,9 +30,9 @@ use Rattle.px_stack.specs.declared.stack.Stack.{Stack}
 use Rattle.px_stack.specs.Chain.{begins, first_at, stack_chain}
 use Rattle.px_stack.specs.Kept.{awaited_by}
 use Rattle.px_stack.specs.Modes.{mode_due}
-use Rattle.px_stack.specs.Stack.{IsAt, StackStands, chain_of, start_by, start_of}
+use Rattle.px_stack.specs.Stack.{IsAt, StackStands, chain_of, start_by, start_of, visitor_of}
 use Rattle.px_stack.specs.StackLaws.{settles_there}
-use Rattle.px_stack.specs.Stages.{Stage, http}
+use Rattle.px_stack.specs.Stages.{Stage, Visitor, http}
 use Rattle.px_stack.specs.Stands.{IsChild, IsInFlows, IsSomewhere, ahead_at}
 use Rattle.px_stack.specs.Steps.{Adds, ResumesChild, TakesChild}
 
@@ -57,8 +57,8 @@ FirstIn stream terms numbers =
     let stop = stop_of (http_chain sequence terms) (begin_with (spare_of terms.place) (idle (flow_start numbers))) [] in
     IsInSequence terms (ahead_of numbers) stream stop.stage stop.prefix
 
-first_there : (conv : ℕ) (client : Option Address) (mode : Mode) (stream : Stream) → FirstIn stream (terms_of conv client (place_of mode)) (record { flow = 0; server = 0 }) →
-    IsInSequence (terms_of conv client (place_of mode)) (ahead_at (place_of mode)) stream (begin (idle first_at)) []
+first_there : (conv : ℕ) (client : Visitor) (mode : Mode) (stream : Stream) → FirstIn stream (terms_of conv client.address (place_of mode)) (record { flow = 0; server = 0 }) →
+    IsInSequence (terms_of conv client.address (place_of mode)) (ahead_at (place_of mode)) stream (begin (idle first_at)) []
 first_there conv client modes.Regular stream there = there
 first_there conv client (modes.Reverse address) stream there = there
 first_there conv client (modes.Upstream proxy) stream there = there
@@ -75,17 +75,17 @@ starts_there made mode flows is =
     ap start_by is.child ∙ starts mode flows.value.stream.terms.place flows.value.stream.numbers (ap (λ t. t.place) is.terms) is.numbers
 
 flows_there : (made : Stack) (mode : Mode) (flows : Box HttpConv) → IsMade made mode flows →
-    IsInFlows made.conv made.client (place_of mode) flows.value (begin (idle first_at)) []
+    IsInFlows made.conv (visitor_of made) (place_of mode) flows.value (begin (idle first_at)) []
 flows_there made mode flows is =
     let P : Terms → Type 0 = λ terms. FirstIn flows.value.stream terms flows.value.stream.numbers in
     let Q : Numbers → Type 0 = λ numbers. FirstIn flows.value.stream (terms_of made.conv made.client (place_of mode)) numbers in
-    first_there made.conv made.client mode flows.value.stream (subst Q is.numbers (subst P is.terms is.stands.place))
+    first_there made.conv (visitor_of made) mode flows.value.stream (subst Q is.numbers (subst P is.terms is.stands.place))
 
 pub stands_made : (made : Stack) (mode : Mode) (flows : Box HttpConv) → IsMade made mode flows → StackStands made made [] []
 stands_made made mode flows is =
     let P : Stage → Type 0 = λ start. StandsAt (chain_of made) start (IsAt made) made [] [] in
     let there : IsAt made made (begins mode) [] =
-    record { conv = refl; client = refl; child = record { flows = flows; is = is.child; there = flows_there made mode flows is; in_time = tt } } in
+    record { conv = refl; client = refl; mask_key = refl; child = record { flows = flows; is = is.child; there = flows_there made mode flows is; in_time = tt } } in
     subst P (sym (starts_there made mode flows is)) (begins_at (chain_of made) (settles_there made) (begins mode) (IsAt made) made there (λ view. refl))
 
 pub new_made : (made : Stack) (mode : Mode) (flows : Box HttpConv) (peer : Address) → made.child ≡ children.Http flows → made.client ≡ Some peer →
@@ -105,69 +105,79 @@ has_no_side mode place is = subst (λ at. IsSideBelow at 0) (sym is) (by mode)
 
 -- ---- one move more
 
-pub somewhere : (state : Stack) → IsSound StackStands state → IsSomewhere state.conv state.client state.child
+-- who is at the other end, by the fields
+visitor_as : (address address' : Option Address) (key key' : List ℕ) → address ≡ address' → key ≡ key' →
+    (let a : Visitor = record { address = address; key = key_of key } in a) ≡ (let b : Visitor = record { address = address'; key = key_of key' } in b)
+visitor_as address address' key key' p q = rw (p, q) refl
+
+same_visitor : (state made : Stack) → state.client ≡ made.client → state.mask_key ≡ made.mask_key → visitor_of state ≡ visitor_of made
+same_visitor state made client key = visitor_as state.client made.client state.mask_key made.mask_key client key
+
+pub somewhere : (state : Stack) → IsSound StackStands state → IsSomewhere state.conv (visitor_of state) state.child
 somewhere state (made, past, given, stands) =
     let stop = stop_of (chain_of made) (start_of made) past in
     let at : IsAt made state stop.stage stop.prefix = stands.place in
-    let P : ℕ → Type 0 = λ conv. IsChild conv made.client state.child stop.stage stop.prefix in
-    let Q : Option Address → Type 0 = λ client. IsChild state.conv client state.child stop.stage stop.prefix in
-    (stop.stage, stop.prefix, subst Q (sym at.client) (subst P (sym at.conv) at.child))
+    let P : ℕ → Type 0 = λ conv. IsChild conv (visitor_of made) state.child stop.stage stop.prefix in
+    let Q : Visitor → Type 0 = λ client. IsChild state.conv client state.child stop.stage stop.prefix in
+    (stop.stage, stop.prefix, subst Q (sym (same_visitor state made at.client at.mask_key)) (subst P (sym at.conv) at.child))
 
 -- the conversation with another child
 abbrev pub with_child : Stack → Child → Stack
 with_child before next = record before { child = next }
 
 module _ (made before : Stack) (next : Child) (stage : Stage) (prefix : List (Timed Event)) (at : IsAt made before stage prefix) where
-  next_at : (after : Stage) (over : List (Timed Event)) → IsChild made.conv made.client next after over → IsAt made (with_child before next) after over
-  next_at after over there = record { conv = at.conv; client = at.client; child = there }
+  next_at : (after : Stage) (over : List (Timed Event)) → IsChild made.conv (visitor_of made) next after over → IsAt made (with_child before next) after over
+  next_at after over there = record { conv = at.conv; client = at.client; mask_key = at.mask_key; child = there }
 
-  takes_as : (moment : ℕ) (event : Event) (more : List Command) → Takes (chain_of made) (IsChild made.conv made.client) next moment event more stage prefix →
+  takes_as : (moment : ℕ) (event : Event) (more : List Command) → Takes (chain_of made) (IsChild made.conv (visitor_of made)) next moment event more stage prefix →
       Takes (chain_of made) (IsAt made) (with_child before next) moment event more stage prefix
   takes_as moment event more (onward is place gives) = onward is (next_at _ _ place) gives
   takes_as moment event more (past_end owed is place gives) = past_end owed is (next_at _ _ place) gives
 
-  takes_at : (moment : ℕ) (event : Event) (more : List Command) → TakesChild before.conv before.client before.child next moment event more →
+  takes_at : (moment : ℕ) (event : Event) (more : List Command) → TakesChild before.conv (visitor_of before) before.child next moment event more →
       Takes (chain_of made) (IsAt made) (with_child before next) moment event more stage prefix
   takes_at moment event more takes =
-      let P : ℕ → Type 0 = λ conv. TakesChild conv before.client before.child next moment event more in
-      let Q : Option Address → Type 0 = λ client. TakesChild made.conv client before.child next moment event more in
-      let here : TakesChild made.conv made.client before.child next moment event more = subst Q at.client (subst P at.conv takes) in
+      let P : ℕ → Type 0 = λ conv. TakesChild conv (visitor_of before) before.child next moment event more in
+      let Q : Visitor → Type 0 = λ client. TakesChild made.conv client before.child next moment event more in
+      let here : TakesChild made.conv (visitor_of made) before.child next moment event more =
+      subst Q (same_visitor before made at.client at.mask_key) (subst P at.conv takes) in
       takes_as moment event more (here stage prefix at.child)
 
-  resumes_at : (moment : ℕ) (reply : Reply) (more : List Command) → ResumesChild before.conv before.client before.child next moment reply more →
+  resumes_at : (moment : ℕ) (reply : Reply) (more : List Command) → ResumesChild before.conv (visitor_of before) before.child next moment reply more →
       Resumes (chain_of made) (IsAt made) (with_child before next) moment reply more stage prefix
   resumes_at moment reply more resumes =
-      let P : ℕ → Type 0 = λ conv. ResumesChild conv before.client before.child next moment reply more in
-      let Q : Option Address → Type 0 = λ client. ResumesChild made.conv client before.child next moment reply more in
-      let here : ResumesChild made.conv made.client before.child next moment reply more = subst Q at.client (subst P at.conv resumes) in
+      let P : ℕ → Type 0 = λ conv. ResumesChild conv (visitor_of before) before.child next moment reply more in
+      let Q : Visitor → Type 0 = λ client. ResumesChild made.conv client before.child next moment reply more in
+      let here : ResumesChild made.conv (visitor_of made) before.child next moment reply more =
+      subst Q (same_visitor before made at.client at.mask_key) (subst P at.conv resumes) in
       let on = here stage prefix at.child in
       record { ask = on.ask; asked = on.asked; place = next_at _ _ on.place; gives = on.gives }
 
 -- the law of a `take`, and of a `resume`
 pub take_stands : (before : Stack) (next : Child) (moment : ℕ) (event : Event) (out longer : List Command) →
-    Adds (TakesChild before.conv before.client before.child next moment event) out longer → Goes StackStands before (with_child before next) (Took moment event) out longer
+    Adds (TakesChild before.conv (visitor_of before) before.child next moment event) out longer → Goes StackStands before (with_child before next) (Took moment event) out longer
 take_stands before next moment event out longer adds =
     take_goes chain_of settles_there start_of IsAt before (with_child before next) moment event adds.more out longer adds.grown
     (λ made stage prefix settled at. takes_at made before next stage prefix at moment event adds.more adds.holds)
 
 pub resume_stands : (before : Stack) (next : Child) (moment : ℕ) (reply : Reply) (out longer : List Command) →
-    Adds (ResumesChild before.conv before.client before.child next moment reply) out longer → Goes StackStands before (with_child before next) (Replied moment reply) out longer
+    Adds (ResumesChild before.conv (visitor_of before) before.child next moment reply) out longer → Goes StackStands before (with_child before next) (Replied moment reply) out longer
 resume_stands before next moment reply out longer adds =
     resume_goes chain_of settles_there start_of IsAt before (with_child before next) moment reply adds.more out longer adds.grown
     (λ made stage prefix settled at. resumes_at made before next stage prefix at moment reply adds.more adds.holds)
 
 -- and where the child was taken out and put back
 pub took : (before : Stack) (child next kept : Child) (moment : ℕ) (event : Event) (out longer : List Command) → child ≡ before.child → kept ≡ next →
-    Adds (TakesChild before.conv before.client child next moment event) out longer → Goes StackStands before (with_child before kept) (Took moment event) out longer
+    Adds (TakesChild before.conv (visitor_of before) child next moment event) out longer → Goes StackStands before (with_child before kept) (Took moment event) out longer
 took before child next kept moment event out longer had put adds =
-    let P : Child → Type 0 = λ c. Adds (TakesChild before.conv before.client c next moment event) out longer in
+    let P : Child → Type 0 = λ c. Adds (TakesChild before.conv (visitor_of before) c next moment event) out longer in
     let Q : Child → Type 0 = λ c. Goes StackStands before (with_child before c) (Took moment event) out longer in
     subst Q (sym put) (take_stands before next moment event out longer (subst P had adds))
 
 pub resumed : (before : Stack) (child next kept : Child) (moment : ℕ) (reply : Reply) (out longer : List Command) → child ≡ before.child → kept ≡ next →
-    Adds (ResumesChild before.conv before.client child next moment reply) out longer → Goes StackStands before (with_child before kept) (Replied moment reply) out longer
+    Adds (ResumesChild before.conv (visitor_of before) child next moment reply) out longer → Goes StackStands before (with_child before kept) (Replied moment reply) out longer
 resumed before child next kept moment reply out longer had put adds =
-    let P : Child → Type 0 = λ c. Adds (ResumesChild before.conv before.client c next moment reply) out longer in
+    let P : Child → Type 0 = λ c. Adds (ResumesChild before.conv (visitor_of before) c next moment reply) out longer in
     let Q : Child → Type 0 = λ c. Goes StackStands before (with_child before c) (Replied moment reply) out longer in
     subst Q (sym put) (resume_stands before next moment reply out longer (subst P had adds))
 
@@ -176,11 +186,12 @@ asked kept next out longer put asks = subst (λ c. AsksOnly (awaited_by c) out l
 
 -- ---- what is due of one that was made
 
-pub makes_due : {E : Type 0} (result : Result Stack E) (mode : Mode) (conv : ℕ) (peer : Address) → IfOk result (λ made. made.conv ≡ conv) →
-    IfOk result (λ made. made.client ≡ Some peer) → IfOk result (λ made. start_of made ≡ begins mode) →
-    IfOk result (λ made. (moves : List Move) → due_by (chain_of made) (start_of made) moves ≡ mode_due mode conv peer moves)
-makes_due (Ok made) mode conv peer number client start = λ moves.
-    ap (λ c. due_by (stack_chain c made.client) (start_of made) moves) number
-    ∙ (ap (λ at. due_by (stack_chain conv at) (start_of made) moves) client
-    ∙ ap (λ stage. due_by (stack_chain conv (Some peer)) stage moves) start)
-makes_due (Err failed) mode conv peer number client start = tt
+pub makes_due : {E : Type 0} (result : Result Stack E) (mode : Mode) (mask_key : List ℕ) (conv : ℕ) (peer : Address) → IfOk result (λ made. made.conv ≡ conv) →
+    IfOk result (λ made. made.client ≡ Some peer) → IfOk result (λ made. made.mask_key ≡ mask_key) → IfOk result (λ made. start_of made ≡ begins mode) →
+    IfOk result (λ made. (moves : List Move) → due_by (chain_of made) (start_of made) moves ≡ mode_due mode (key_of mask_key) conv peer moves)
+makes_due (Ok made) mode mask_key conv peer number client key start = λ moves.
+    let there : Visitor = record { address = Some peer; key = key_of mask_key } in
+    ap (λ c. due_by (stack_chain c (visitor_of made)) (start_of made) moves) number
+    ∙ (ap (λ at. due_by (stack_chain conv at) (start_of made) moves) (visitor_as made.client (Some peer) made.mask_key mask_key client key)
+    ∙ ap (λ stage. due_by (stack_chain conv there) stage moves) start)
+makes_due (Err failed) mode mask_key conv peer number client key start = tt

@@ -1,6 +1,6 @@
 -- What is due in a conversation: HTTP's chain, until a CONNECT or a response of code 101 hands over; then a tunnel, in which HTTP may
 -- follow again. All of it looks at joined prefixes alone, so what the one has not used is there for the other.
-use Rattle.std.specs.Prelude.{◌≡◌, ℕ, ◌+◌, ◌==◌, Bool, true, false, ◌||◌, not, if◌then◌else◌, List, [], ◌∷◌, ◌++◌, drop, length, Option, Some, None, unwrap_or}
+use Rattle.std.specs.Prelude.{ℕ, ◌+◌, ◌==◌, Bool, true, false, ◌||◌, not, if◌then◌else◌, List, [], ◌∷◌, ◌++◌, drop, length, Option, Some, None, unwrap_or}
 use Rattle.px_message.specs.declared.address.Address.{Address}
 use Rattle.px_message.specs.declared.fault.Fault.TheVariants.{UpstreamRefused}
 use Rattle.px_message.specs.declared.flow.Flow.{Flow}
@@ -19,14 +19,19 @@ use Rattle.px_exchange.specs.Dials.{connected_owes}
 use Rattle.px_exchange.specs.Endings.{refuses, shut_all, shut_server}
 use Rattle.px_exchange.specs.Places.{address_of, place_of, terms_of}
 use Rattle.px_exchange.specs.Texts.{connected_text}
-use Rattle.px_chain.specs.Chain.{Connect, begin, begin_with, connect_in, http_chain, new_side, reached, sequence, used_more}
+use Rattle.px_chain.specs.Chain.{Connect, begin, connect_in, http_chain, new_side, reached, sequence, used_more}
 use Rattle.px_chain.specs.Sights.{Sight, Spare, Standing, Unused, request_in, sight_over, unused_over}
 use Rattle.px_chain.specs.Stages.{At, ServerSide, all_sent, busy, connection, idle, response_head, upgraded}
 use Rattle.px_chain.specs.Stages as flows
 use Rattle.px_chain.specs.Streams.{Since, bytes_of, client_closed, closes, from_here, is_closed, now_over, piece_of}
 use Rattle.px_stack.specs.Decides.{Decision, decided, is_http, is_raw, still}
 use Rattle.px_tunnel.specs.Upstream.{Granting, awaited, connect_text, granted, granting, refused}
-use Rattle.px_stack.specs.Stages.{Dialling, Ends as TunnelEnds, Goal, Stage, Tunnel, a_flow, a_tunnel, connecting, http, over, raw, reaching, undecided}
+use Rattle.px_relay.specs.Chain as relay
+use Rattle.px_relay.specs.Sending.{Terms}
+use Rattle.px_relay.specs.Sights.{Sight as SocketSight}
+use Rattle.px_relay.specs.Stages.{Stage as Frames, relaying}
+use Rattle.px_stack.specs.Sockets.{is_websocket}
+use Rattle.px_stack.specs.Stages.{Dialling, Ends as TunnelEnds, Goal, Stage, Tunnel, Visitor, a_flow, a_tunnel, connecting, http, over, raw, reaching, socket, undecided}
 
 -- ---- where HTTP hands over
 
@@ -40,11 +45,16 @@ tunnel_for place at None = None
 tunnel_for place at (Some connect) =
     Some (connecting (record { at = used_more at connect.used; address = connect.address; proxy = proxy_at place }))
 
+-- Another protocol follows: a WebSocket, or one that is not read. Where a WebSocket begins, no frame was read yet.
+abbrev pub upgrades : Bool → Flow → TunnelEnds → Stage
+upgrades true flow ends = socket ends (record flow { websocket = true }) (relaying relay.first_at)
+upgrades false flow ends = raw ends
+
 -- behind a CONNECT, and behind a response of code 101
 abbrev pub hands_by : Place → Standing → flows.Stage → Sight → Option Stage
 hands_by place standing (idle at) seen = tunnel_for place at (connect_in place (request_in at seen))
-hands_by place standing (busy at flow (upgraded side)) seen =
-    Some (raw (record { used = at.used; side = side; opened = standing.opened; flow = Some flow; spare = standing.spare }))
+hands_by place standing (busy at flow (upgraded side)) seen = Some (upgrades (is_websocket flow seen.closed) flow
+    (record { used = at.used; side = side; opened = standing.opened; flow = Some flow; spare = standing.spare }))
 hands_by place standing stage seen = None
 
 abbrev pub hands_over : Place → Standing → List (Timed Event) → Option Stage
@@ -222,12 +232,29 @@ abbrev pub waits_for : Goal → Spare → List (Timed Event) → Look Command
 waits_for (a_tunnel tunnel) side prefix = tunnel_found (client_closed prefix) (shut_proxy side prefix)
 waits_for (a_flow place from) side prefix = NotYet
 
+-- ---- a WebSocket
+
+abbrev pub socket_terms : List ℕ → TunnelEnds → Flow → Terms
+socket_terms key ends flow = record { flow = flow; server = ends.side.server; key = key }
+
+abbrev pub socket_sight : TunnelEnds → List (Timed Event) → SocketSight
+socket_sight ends prefix = record {
+  client = text_up ends prefix;
+  closed = client_closed prefix;
+  server = text_down ends prefix;
+  shut = is_shut ends prefix;
+}
+
+-- where it leads, by what its frames owe and lead to
+abbrev pub socket_turn : TunnelEnds → Flow → Turn Frames Command → Turn Stage Command
+socket_turn ends flow on = record { owed = on.owed; stage = socket ends flow on.stage }
+
 -- ---- the chain
 
-module _ (conv : ℕ) (client : Option Address) where
+module _ (conv : ℕ) (client : Visitor) where
   -- HTTP at a place: flows in sequence
   abbrev pub flows_at : Place → Chain Standing Event Reply Command
-  flows_at place = http_chain sequence (terms_of conv client place)
+  flows_at place = http_chain sequence (terms_of conv client.address place)
 
   abbrev pub pass_http : Place → Standing → List (Timed Event) → Stage
   pass_http place standing prefix = or_stays (http place standing) (hands_over place standing prefix)
@@ -249,9 +276,20 @@ module _ (conv : ℕ) (client : Option Address) where
       let on = (flows_at place).turn (standing_of from) prefix (record { moment = now_over since prefix; value = reply.Refused UpstreamRefused }) in
       record { owed = on.owed ++ shut_proxy side prefix; stage = http place on.stage }
 
+  abbrev pub pass_socket : TunnelEnds → Flow → Frames → List (Timed Event) → Turn Stage Command
+  pass_socket ends flow frames prefix = socket_turn ends flow (relay.pass (socket_terms client.key ends flow) frames (socket_sight ends prefix))
+
+  -- a WebSocket works off at once what has come of it
+  abbrev pub begun : Stage → List (Timed Event) → Turn Stage Command
+  begun (socket ends flow frames) prefix = pass_socket ends flow frames prefix
+  begun stage prefix = record { owed = []; stage = stage }
+
   abbrev pub pass : Stage → List (Timed Event) → Turn Stage Command
   pass (http place standing) prefix =
-      let on = (flows_at place).pass standing prefix in record { owed = on.owed; stage = pass_http place on.stage prefix }
+      let on = (flows_at place).pass standing prefix in
+      let to = begun (pass_http place on.stage prefix) prefix in
+      record { owed = on.owed ++ to.owed; stage = to.stage }
+  pass (socket ends flow frames) prefix = pass_socket ends flow frames prefix
   pass (reaching goal side since) prefix = pass_reached goal side since prefix (answer_of side prefix)
   pass (undecided tunnel spare since) prefix = record { owed = []; stage = goes_by (client_closed prefix) tunnel spare since prefix }
   pass stage prefix = record { owed = []; stage = stage }
@@ -267,6 +305,8 @@ module _ (conv : ℕ) (client : Option Address) where
   look (reaching goal side since) prefix = waits_for goal side prefix
   look (undecided tunnel spare since) prefix = opening_look spare prefix
   look (raw ends) prefix = raw_look ends prefix
+  look (socket ends flow frames) prefix =
+      with_closes (unused_over ends.spare prefix) (relay.look (socket_terms client.key ends flow) frames)
   look over prefix = Ends []
 
   -- what a tunnel owes so far: to each side what has come of the other
@@ -312,6 +352,8 @@ module _ (conv : ℕ) (client : Option Address) where
   abbrev pub turn : Stage → List (Timed Event) → Timed Reply → Turn Stage Command
   turn (http place standing) prefix answer = turn_http (led_at place standing) place standing prefix answer answer.value
   turn (connecting tunnel) prefix answer = turn_dial tunnel prefix answer.value answer.moment
+  turn (socket ends flow frames) prefix answer =
+      socket_turn ends flow (relay.turn (socket_terms client.key ends flow) frames (socket_sight ends prefix) answer.value answer.moment)
   turn stage prefix answer = record { owed = []; stage = stage }
 
   abbrev pub stack_chain : Chain Stage Event Reply Command

@@ -1,6 +1,6 @@
 -- What follows a CONNECT that was answered, by the first bytes: HTTP where the client's begin with a known method and a space (RFC 9110
 -- section 9.3, RFC 5789), and else a tunnel that is not read.
-use Rattle.std.specs.Prelude.{◌≡◌, Bool, true, false, ◌&&◌, not, if◌then◌else◌, ℕ, List, [], ◌∷◌, codes, bytes_eq, length, take}
+use Rattle.std.specs.Prelude.{Bool, true, false, ◌&&◌, not, ℕ, List, [], ◌∷◌, codes, bytes_eq, length, take}
 use Rattle.std.specs.List.{list_any}
 
 -- the methods, each with the space behind it

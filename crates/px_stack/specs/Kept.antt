@@ -10,6 +10,10 @@ use Rattle.px_exchange.specs.declared.place.Place.{Place}
 use Rattle.px_exchange.specs.declared.place.Place.TheVariants as places
 use Rattle.px_chain.specs.Streams.{closes}
 use Rattle.px_http.specs.Stands.{awaits}
+use Rattle.px_relay.specs.declared.layer.WsLayer.{WsLayer}
+use Rattle.px_relay.specs.Chain.{most_whole}
+use Rattle.px_relay.specs.Kept.{left_in, ws_keeps}
+use Rattle.px_relay.specs.Stands as frames
 use Rattle.px_stream.specs.Kept.{stream_keeps}
 use Rattle.px_stream.specs.Left.{sequence_left}
 use Rattle.px_tunnel.specs.Reaching.{rest_of}
@@ -37,6 +41,7 @@ is_left (goals.Flow flows) event = false
 abbrev pub awaited_by : Child → Option Ask
 awaited_by (children.Http flows) = awaits flows.value
 awaited_by (children.Connecting opening closed) = Some (asks.Dial opening.numbers.server)
+awaited_by (children.Socket kept) = frames.awaits kept.layer.value
 awaited_by child = None
 
 -- nothing more comes of it
@@ -44,15 +49,22 @@ abbrev pub is_over : Child → Bool
 is_over children.Over = true
 is_over child = false
 
--- How many replies can still be asked for: HTTP's own, and where a tunnel may follow it, the dial of a CONNECT and those of HTTP in the tunnel.
+-- How many replies can still be asked for: HTTP's own; where a tunnel may follow it, the dial of a CONNECT and those of HTTP in the tunnel; and
+-- at last those to the messages of a WebSocket, of which px_relay relays no more than so many, whatever comes.
+abbrev pub most_asked : ℕ
+most_asked = most_whole
+
+abbrev pub socket_left : WsLayer → ℕ
+socket_left layer = left_in layer.phase (most_asked - layer.messages)
+
 abbrev pub opened_left : ℕ
-opened_left = 5000005
+opened_left = 5000005 + most_asked
 
 abbrev pub connecting_left : ℕ
-connecting_left = 5000006
+connecting_left = 5000006 + most_asked
 
 abbrev pub tunnel_left : Place → ℕ
-tunnel_left (places.Fixed address side inside) = 0
+tunnel_left (places.Fixed address side inside) = most_asked
 tunnel_left place = connecting_left
 
 -- the dial of a flow is answered where another proxy is asked for its way
@@ -65,9 +77,10 @@ left_by (children.Http flows) = sequence_left flows.value.stream + tunnel_left f
 left_by (children.Connecting opening closed) = connecting_left
 left_by (children.Reaching kept) = goal_left kept.goal
 left_by (children.Undecided opening server) = opened_left
+left_by (children.Socket kept) = socket_left kept.layer.value
 left_by child = 0
 
--- how many bytes it keeps: what HTTP does, those by which nothing is decided, and those of a proxy's head
+-- how many bytes it keeps: what HTTP or a WebSocket does, those by which nothing is decided, and those of a proxy's head
 abbrev pub goal_keeps : Goal → ℕ
 goal_keeps (goals.Tunnel opening) = length opening.rest
 goal_keeps (goals.Flow flows) = stream_keeps flows.value.stream
@@ -76,4 +89,5 @@ abbrev pub kept_by : Child → ℕ
 kept_by (children.Http flows) = stream_keeps flows.value.stream
 kept_by (children.Reaching kept) = goal_keeps kept.goal + length (rest_of kept.asked)
 kept_by (children.Undecided opening server) = length opening.rest
+kept_by (children.Socket kept) = ws_keeps kept.layer.value
 kept_by child = 0

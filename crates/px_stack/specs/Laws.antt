@@ -1,10 +1,11 @@
 -- The laws of the chain: at one prefix passing settles at once, and in each view what is owed while it waits only grows.
-use Rattle.std.proofs.Common.{◌≡◌, ℕ, Bool, true, false, List, [], ◌∷◌, ◌++◌, drop, Option, Some, None, refl, ap, sym, ◌∙◌, subst, append_assoc, length}
+use Rattle.std.proofs.Common.{◌≡◌, ℕ, Bool, true, false, List, [], ◌∷◌, ◌++◌, drop, Option, Some, None, refl, ap, sym, ◌∙◌, subst, append-nil, append_assoc, length}
 use Rattle.std.specs.Prelude.{zero, suc, ◌≢◌, ◌||◌, ⊤, bytes_eq, Result, Ok, Err}
 use Rattle.px_text.specs.Prefix.{IsPrefixOf}
 use Rattle.px_message.specs.declared.address.Address.{Address}
 use Rattle.px_message.specs.declared.fault.Fault.{Fault}
 use Rattle.px_message.specs.declared.fault.Fault.TheVariants.{UpstreamRefused}
+use Rattle.px_message.specs.declared.flow.Flow.{Flow}
 use Rattle.px_message.specs.declared.length.Length.{Length}
 use Rattle.px_message.specs.declared.request.Request.{Request}
 use Rattle.px_event.specs.declared.command.Command.{Command}
@@ -37,9 +38,12 @@ use Rattle.px_chain.proofs.FrontLaws.{DropMore, behind, none, bytes_more, drop_m
 use Rattle.px_tunnel.specs.Tunnel.{both_ways}
 use Rattle.px_tunnel.specs.Laws.{both_append}
 use Rattle.px_tunnel.specs.Upstream.{Granting, awaited, granted, refused}
-use Rattle.px_stack.specs.Chain.{answer_of, connected_on, flows_at, follows, goes_by, hands_by, hands_over, has_answered, inner_place, inner_standing, is_empty, is_shut, opening_text, opens_by, or_stays, pass_http, pass_reached, proxy_at, raw_look, shut_unused, stack_chain, standing_of, text_behind, text_down, text_up, tunnel_for, tunnel_found, way_to, with_closes}
+use Rattle.px_relay.specs.Laws.{settles as frames_settle}
+use Rattle.px_relay.specs.Stages.{Stage as Frames}
+use Rattle.px_stack.specs.Chain.{answer_of, begun, connected_on, flows_at, follows, goes_by, hands_by, hands_over, has_answered, inner_place, inner_standing, is_empty, is_shut, opening_text, opens_by, or_stays, pass_http, pass_reached, pass_socket, proxy_at, raw_look, shut_unused, socket_sight, socket_terms, stack_chain, standing_of, text_behind, text_down, text_up, tunnel_for, tunnel_found, upgrades, way_to, with_closes}
 use Rattle.px_stack.specs.Decides.{Decision, decided, is_http, is_raw, still}
-use Rattle.px_stack.specs.Stages.{Dialling, Ends as TunnelEnds, Goal, Stage, Tunnel, a_flow, a_tunnel, connecting, http, over, raw, reaching, undecided}
+use Rattle.px_stack.specs.Sockets.{is_websocket}
+use Rattle.px_stack.specs.Stages.{Dialling, Ends as TunnelEnds, Goal, Stage, Tunnel, Visitor, a_flow, a_tunnel, connecting, http, over, raw, reaching, socket, undecided}
 
 -- ---- at one address nothing is a CONNECT
 
@@ -72,7 +76,12 @@ never_connects address side inside (bad_body fault head body) = refl
 abbrev pub IsTunnel : Stage → Type 0
 IsTunnel (connecting tunnel) = ⊤
 IsTunnel (raw ends) = ⊤
+IsTunnel (socket ends flow frames) = ⊤
 IsTunnel stage = ⊥
+
+upgrades_tunnel : (is : Bool) (flow : Flow) (ends : TunnelEnds) → IsTunnel (upgrades is flow ends)
+upgrades_tunnel true flow ends = tt
+upgrades_tunnel false flow ends = tt
 
 -- Where HTTP hands over, it owes nothing, and nothing more of it comes.
 pub record HandsOver (terms : Terms) (stage : flows.Stage) (seen : Sight) (to : Stage) : Type 0 where
@@ -121,8 +130,11 @@ hands terms standing (busy at flow (request_body given)) seen to is = absurd (le
 hands terms standing (busy at flow connection) seen to is = absurd (let no : None ≡ Some to = is in cc)
 hands terms standing (busy at flow (response_head side how)) seen to is = absurd (let no : None ≡ Some to = is in cc)
 hands terms standing (busy at flow (response_body side how)) seen to is = absurd (let no : None ≡ Some to = is in cc)
-hands terms standing (busy at flow (upgraded side)) seen to is =
-    record { is_tunnel = let P : Stage → Type 0 = IsTunnel in subst P (some_same _ to is) tt; owes = refl; ends = leaves_nothing seen.closed [] }
+hands terms standing (busy at flow (upgraded side)) seen to is = record {
+  is_tunnel = let P : Stage → Type 0 = IsTunnel in subst P (some_same _ to is) (upgrades_tunnel (is_websocket flow seen.closed) flow _);
+  owes = refl;
+  ends = leaves_nothing seen.closed [];
+}
 hands terms standing (busy at flow given_head) seen to is = absurd (let no : None ≡ Some to = is in cc)
 hands terms standing (busy at flow given_body) seen to is = absurd (let no : None ≡ Some to = is in cc)
 hands terms standing (next at) seen to is = absurd (let no : None ≡ Some to = is in cc)
@@ -130,28 +142,40 @@ hands terms standing flows.over seen to is = absurd (let no : None ≡ Some to =
 
 -- ---- passing settles at once
 
-module _ (conv : ℕ) (client : Option Address) where
-  tunnel_settled : (stage : Stage) (prefix : List (Timed Event)) → IsTunnel stage → IsSettled (stack_chain conv client) stage prefix
+module _ (conv : ℕ) (client : Visitor) where
+  -- where the frames of a WebSocket were worked off
+  socket_settled : (ends : TunnelEnds) (flow : Flow) (frames : Frames) (prefix : List (Timed Event)) →
+      IsSettled (stack_chain conv client) (pass_socket conv client ends flow frames prefix).stage prefix
+  socket_settled ends flow frames prefix =
+      let at = (frames_settle (socket_terms client.key ends flow) (socket_sight ends)).at frames prefix in
+      record { stays = ap (λ to. socket ends flow to) at.stays; owes_nothing = at.owes_nothing }
+
+  tunnel_settled : (stage : Stage) (prefix : List (Timed Event)) → IsTunnel stage → IsSettled (stack_chain conv client) (begun conv client stage prefix).stage prefix
   tunnel_settled (http place standing) prefix is = absurd is
   tunnel_settled (connecting tunnel) prefix is = record { stays = refl; owes_nothing = refl }
   tunnel_settled (reaching goal side since) prefix is = absurd is
   tunnel_settled (undecided tunnel spare since) prefix is = absurd is
   tunnel_settled (raw ends) prefix is = record { stays = refl; owes_nothing = refl }
+  tunnel_settled (socket ends flow frames) prefix is = socket_settled ends flow frames prefix
   tunnel_settled over prefix is = absurd is
 
   -- where HTTP stood still and does not hand over, it goes on standing still
   stays_settled : (place : Place) (standing : Standing) (prefix : List (Timed Event)) → IsSettled (flows_at conv client place) standing prefix →
       hands_over place standing prefix ≡ None → IsSettled (stack_chain conv client) (http place standing) prefix
-  stays_settled place standing prefix at is = record {
-    stays = ap (λ s. pass_http conv client place s prefix) at.stays ∙ ap (λ o. or_stays (http place standing) o) is;
-    owes_nothing = at.owes_nothing;
-  }
+  stays_settled place standing prefix at is =
+      let on = (flows_at conv client place).pass standing prefix in
+      let goes : pass_http conv client place on.stage prefix ≡ http place standing =
+      ap (λ s. pass_http conv client place s prefix) at.stays ∙ ap (λ o. or_stays (http place standing) o) is in
+      record {
+        stays = ap (λ s. (begun conv client s prefix).stage) goes;
+        owes_nothing = ap (λ s. on.owed ++ (begun conv client s prefix).owed) goes ∙ ap (λ l. l ++ []) at.owes_nothing;
+      }
 
   http_settled : (place : Place) (standing : Standing) (prefix : List (Timed Event)) (to : Option Stage) → IsSettled (flows_at conv client place) standing prefix →
-      hands_over place standing prefix ≡ to → IsSettled (stack_chain conv client) (or_stays (http place standing) to) prefix
+      hands_over place standing prefix ≡ to → IsSettled (stack_chain conv client) (begun conv client (or_stays (http place standing) to) prefix).stage prefix
   http_settled place standing prefix None at is = stays_settled place standing prefix at is
   http_settled place standing prefix (Some to) at is =
-      tunnel_settled to prefix (hands (terms_of conv client place) standing standing.stage (sight_over standing prefix) to is).is_tunnel
+      tunnel_settled to prefix (hands (terms_of conv client.address place) standing standing.stage (sight_over standing prefix) to is).is_tunnel
 
   decided_settled : (tunnel : Tunnel) (spare : Spare) (since : Since) (prefix : List (Timed Event)) (d : Decision) → client_closed prefix ≡ false →
       decided (opening_text tunnel prefix) (has_answered spare prefix) ≡ d → IsSettled (stack_chain conv client) (follows d tunnel spare since) prefix
@@ -207,12 +231,13 @@ module _ (conv : ℕ) (client : Option Address) where
   settled_at : (stage : Stage) (prefix : List (Timed Event)) → IsSettled (stack_chain conv client) ((stack_chain conv client).pass stage prefix).stage prefix
   settled_at (http place standing) prefix =
       let on = (flows_at conv client place).pass standing prefix in
-      let law = flows_settle sequence (terms_of conv client place) in
+      let law = flows_settle sequence (terms_of conv client.address place) in
       http_settled place on.stage prefix (hands_over place on.stage prefix) (law.at standing prefix) refl
   settled_at (connecting tunnel) prefix = record { stays = refl; owes_nothing = refl }
   settled_at (reaching goal side since) prefix = reached_settled goal side since prefix (answer_of side prefix) refl
   settled_at (undecided tunnel spare since) prefix = goes_settled tunnel spare since prefix (client_closed prefix) refl
   settled_at (raw ends) prefix = record { stays = refl; owes_nothing = refl }
+  settled_at (socket ends flow frames) prefix = socket_settled ends flow frames prefix
   settled_at over prefix = record { stays = refl; owes_nothing = refl }
 
   pub settles : Settles (stack_chain conv client)
@@ -235,10 +260,10 @@ drops zero xs ys = (ys, refl)
 drops (suc n) [] ys = (drop (suc n) ys, refl)
 drops (suc n) (x ∷ xs) ys = drops n xs ys
 
-begins_as : (xs ys zs : List ℕ) → IsPrefixOf xs ys → ys ≡ zs → IsPrefixOf xs zs
+begins_as : {A : Type 0} (xs ys zs : List A) → IsPrefixOf xs ys → ys ≡ zs → IsPrefixOf xs zs
 begins_as xs ys zs (rest, is) same = (rest, sym same ∙ is)
 
-module _ (conv : ℕ) (client : Option Address) where
+module _ (conv : ℕ) (client : Visitor) where
   -- nothing was found before the closes were added
   not_yet : (unused : Option Unused) (l : Look Command) → with_closes conv client unused l ≡ NotYet → l ≡ NotYet
   not_yet unused NotYet is = refl
@@ -265,16 +290,19 @@ module _ (conv : ℕ) (client : Option Address) where
     http_grows : (place : Place) (owed : List Command) (before : List Command) (standing : Standing) (prefix : List (Timed Event)) (to : Option Stage) →
         hands_over place standing prefix ≡ to → before ≡ [] →
         IsPrefixOf (seen_of view owed) (seen_of view (before ++ owed_here (flows_at conv client place) standing prefix)) →
-        IsPrefixOf (seen_of view owed) (seen_of view (before ++ owed_here (stack_chain conv client) (or_stays (http place standing) to) prefix))
+        (let on = begun conv client (or_stays (http place standing) to) prefix in
+        IsPrefixOf (seen_of view owed) (seen_of view ((before ++ on.owed) ++ owed_here (stack_chain conv client) on.stage prefix)))
     http_grows place owed before standing prefix None is empty begins =
         let so_far : List Command = (flows_at conv client place).so_far standing prefix in
         let found_there : Look Command = (flows_at conv client place).look standing prefix in
         let more = adds_closes (unused_over standing.spare prefix) found_there in
         begins_on owed (before ++ (so_far ++ found found_there)) _ begins
+        (begins_as (seen_of view (before ++ (so_far ++ found found_there))) _ _
         (seen_begins before (so_far ++ found found_there) _
         (more.0, ap (λ l. so_far ++ l) more.1 ∙ sym (append_assoc so_far (found found_there) more.0)))
+        (ap (λ b. seen_of view (b ++ owed_here (stack_chain conv client) (http place standing) prefix)) (sym (append-nil before))))
     http_grows place owed before standing prefix (Some to) is empty begins =
-        let over = hands (terms_of conv client place) standing standing.stage (sight_over standing prefix) to is in
+        let over = hands (terms_of conv client.address place) standing standing.stage (sight_over standing prefix) to is in
         of_nothing (seen_of view owed) _ _ begins
         (ap (seen_of view) (ap (λ b. b ++ owed_here (flows_at conv client place) standing prefix) empty
         ∙ (ap (λ l. l ++ found ((flows_at conv client place).look standing prefix)) over.owes ∙ ap found over.ends)))
@@ -330,13 +358,14 @@ module _ (conv : ℕ) (client : Option Address) where
     grows_at (http place standing) prefix event is =
         let longer : List (Timed Event) = prefix ++ event ∷ [] in
         let on = (flows_at conv client place).pass standing longer in
-        let law = flows_grow sequence (terms_of conv client place) view in
+        let law = flows_grow sequence (terms_of conv client.address place) view in
         http_grows place _ on.owed on.stage longer (hands_over place on.stage longer) refl refl
         (law.grows standing prefix event (not_yet (unused_over standing.spare prefix) _ is))
     grows_at (connecting tunnel) prefix event is = (_, refl)
     grows_at (reaching goal side since) prefix event is = (_, refl)
     grows_at (undecided tunnel spare since) prefix event is = (_, refl)
     grows_at (raw ends) prefix event is = raw_grows ends prefix event is
+    grows_at (socket ends flow frames) prefix event is = (_, refl)
     grows_at over prefix event is = (_, refl)
 
   pub so_far_grows : (view : View) → SoFarGrows (stack_chain conv client) (seen_of view)

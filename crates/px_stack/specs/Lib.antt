@@ -1,5 +1,7 @@
 pub mod Stages
 pub mod Decides
+pub mod Sockets
+pub mod Frames
 pub mod Chain
 pub mod Laws
 pub mod Names

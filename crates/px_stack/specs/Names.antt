@@ -1,10 +1,11 @@
 -- What is due of a conversation names it alone.
-use Rattle.std.proofs.Common.{◌≡◌, ℕ, List, [], ◌∷◌, ◌++◌, Bool, true, false, drop, length, Option, Some, None, refl}
+use Rattle.std.proofs.Common.{◌≡◌, ℕ, List, [], ◌∷◌, ◌++◌, Bool, true, false, drop, length, Option, Some, None, refl, ap, sym, ◌∙◌, subst}
 use Rattle.std.specs.Prelude.{⊤, ◌||◌}
 use Rattle.px_message.specs.declared.address.Address.{Address}
 use Rattle.px_message.specs.declared.fault.Fault.TheVariants.{UpstreamRefused}
 use Rattle.px_message.specs.declared.flow.Flow.{Flow}
 use Rattle.px_event.specs.declared.command.Command.{Command}
+use Rattle.px_event.specs.declared.command.Command.TheVariants as commands
 use Rattle.px_event.specs.declared.event.Event.{Event}
 use Rattle.px_event.specs.declared.reply.Reply.{Reply}
 use Rattle.px_event.specs.declared.reply.Reply.TheVariants as reply
@@ -28,9 +29,15 @@ use Rattle.px_chain.specs.Streams.{Since, client_closed, from_here, is_closed, n
 use Rattle.px_chain.proofs.Quiet.{IsOf}
 use Rattle.px_http.specs.Names.{OfConversation, stays as flows_stay}
 use Rattle.px_tunnel.specs.Upstream.{Granting, awaited, granted, refused}
-use Rattle.px_stack.specs.Chain.{answer_of, closed_of, closes_all, finished_flow, flows_at, follows, goes_by, hands_by, has_answered, is_empty, is_shut, led_at, led_by, opening_text, opens_by, or_stays, pass_reached, shut_proxy, shut_unused, stack_chain, standing_of, text_behind, tunnel_for, tunnel_found, turn_connected, turn_dial, turn_http, waits_for, with_closes}
+use Rattle.px_relay.specs.Chain as relay
+use Rattle.px_relay.specs.Sending.{Terms}
+use Rattle.px_relay.specs.Sights.{Sight as SocketSight}
+use Rattle.px_relay.specs.Stages.{Stage as Frames, holding, over as ended, relaying}
+use Rattle.px_stack.specs.Chain.{answer_of, begun, closed_of, closes_all, finished_flow, flows_at, follows, goes_by, hands_by, has_answered, is_empty, is_shut, led_at, led_by, opening_text, opens_by, or_stays, pass_http, pass_reached, pass_socket, shut_proxy, shut_unused, socket_sight, socket_terms, stack_chain, standing_of, text_behind, tunnel_for, tunnel_found, turn_connected, turn_dial, turn_http, upgrades, waits_for, with_closes}
 use Rattle.px_stack.specs.Decides.{Decision, decided, is_http, is_raw, still}
-use Rattle.px_stack.specs.Stages.{Dialling, Goal, Stage, Tunnel, a_flow, a_tunnel, connecting, http, over, raw, reaching, undecided}
+use Rattle.px_stack.specs.Frames.{AreSaid, pass_says, turn_says}
+use Rattle.px_stack.specs.Sockets.{is_websocket}
+use Rattle.px_stack.specs.Stages.{Dialling, Ends as TunnelEnds, Goal, Stage, Tunnel, Visitor, a_flow, a_tunnel, connecting, http, over, raw, reaching, socket, undecided}
 
 -- the flow of a place is the conversation's, and so are the one that became a tunnel and the one for which a proxy is asked
 abbrev pub IsFlowOf : ℕ → Option Flow → Type 0
@@ -41,10 +48,11 @@ abbrev pub IsGoalOf : ℕ → Goal → Type 0
 IsGoalOf conv (a_tunnel tunnel) = ⊤
 IsGoalOf conv (a_flow place from) = from.flow.id.conv ≡ conv
 
-abbrev pub IsOfIt : ℕ → Option Address → Stage → Type 0
-IsOfIt conv client (http place standing) = IsOf (terms_of conv client place) (OfConversation conv) standing.stage
+abbrev pub IsOfIt : ℕ → Visitor → Stage → Type 0
+IsOfIt conv client (http place standing) = IsOf (terms_of conv client.address place) (OfConversation conv) standing.stage
 IsOfIt conv client (reaching goal side since) = IsGoalOf conv goal
 IsOfIt conv client (raw ends) = IsFlowOf conv ends.flow
+IsOfIt conv client (socket ends flow frames) = flow.id.conv ≡ conv
 IsOfIt conv client stage = ⊤
 
 -- ---- lists
@@ -78,28 +86,46 @@ module _ (conv : ℕ) where
   tunnel_named true owed all = all
   tunnel_named false owed all = tt
 
+  -- a WebSocket finishes its flow, and asks hooks of it
+  said_named : (terms : Terms) (to : Frames) → terms.flow.id.conv ≡ conv → (owed : List Command) → AreSaid terms to owed → AllNamed conv owed
+  said_named terms to is [] said = tt
+  said_named terms to is (commands.Send side text ∷ owed) (here, said) = (tt, said_named terms to is owed said)
+  said_named terms to is (commands.Close side ∷ owed) (here, said) = (tt, said_named terms to is owed said)
+  said_named terms to is (commands.Dial server address inside ∷ owed) (here, said) = absurd here
+  said_named terms to is (commands.Ask ask flow ∷ owed) (here, said) = absurd here
+  said_named terms to is (commands.Done flow ∷ owed) (here, said) = (ap (λ id. id.conv) here.0 ∙ is, said_named terms to is owed said)
+
+  frames_named : (terms : Terms) (frames : Frames) → terms.flow.id.conv ≡ conv → AllNamed conv (found (relay.look terms frames))
+  frames_named terms (relaying at) is = tt
+  frames_named terms (holding from message at) is = ((is, refl), tt)
+  frames_named terms ended is = tt
+
   -- ---- the chain
 
-  module _ (client : Option Address) where
+  module _ (client : Visitor) where
     with_named : (unused : Option Unused) (l : Look Command) → AllNamed conv (found l) → AllNamed conv (found (with_closes conv client unused l))
     with_named unused NotYet all = tt
     with_named unused (Asks ask) all = all
     with_named unused (Ends owed) all = named_append conv owed (shut_unused unused) all (unused_named unused)
 
     -- where HTTP hands over
-    tunnel_is : (place : Place) (standing : Standing) (at : At) (connect : Option Connect) → IsOf (terms_of conv client place) (OfConversation conv) standing.stage →
+    tunnel_is : (place : Place) (standing : Standing) (at : At) (connect : Option Connect) → IsOf (terms_of conv client.address place) (OfConversation conv) standing.stage →
         IsOfIt conv client (or_stays (http place standing) (tunnel_for place at connect))
     tunnel_is place standing at None is = is
     tunnel_is place standing at (Some connect) is = tt
 
-    hands_is : (place : Place) (standing : Standing) (stage : flows.Stage) (seen : Sight) → IsOf (terms_of conv client place) (OfConversation conv) standing.stage →
-        IsOf (terms_of conv client place) (OfConversation conv) stage → IsOfIt conv client (or_stays (http place standing) (hands_by place standing stage seen))
+    upgrades_is : (is : Bool) (flow : Flow) (ends : TunnelEnds) → flow.id.conv ≡ conv → ends.flow ≡ Some flow → IsOfIt conv client (upgrades is flow ends)
+    upgrades_is true flow ends is same = is
+    upgrades_is false flow ends is same = let P : Option Flow → Type 0 = IsFlowOf conv in subst P (sym same) is
+
+    hands_is : (place : Place) (standing : Standing) (stage : flows.Stage) (seen : Sight) → IsOf (terms_of conv client.address place) (OfConversation conv) standing.stage →
+        IsOf (terms_of conv client.address place) (OfConversation conv) stage → IsOfIt conv client (or_stays (http place standing) (hands_by place standing stage seen))
     hands_is place standing (idle at) seen is here = tunnel_is place standing at (connect_in place (request_in at seen)) is
     hands_is place standing (busy at flow (request_body given)) seen is here = is
     hands_is place standing (busy at flow connection) seen is here = is
     hands_is place standing (busy at flow (response_head side how)) seen is here = is
     hands_is place standing (busy at flow (response_body side how)) seen is here = is
-    hands_is place standing (busy at flow (upgraded side)) seen is here = here
+    hands_is place standing (busy at flow (upgraded side)) seen is here = upgrades_is (is_websocket flow seen.closed) flow _ here refl
     hands_is place standing (busy at flow given_head) seen is here = is
     hands_is place standing (busy at flow given_body) seen is here = is
     hands_is place standing (next at) seen is here = is
@@ -123,8 +149,8 @@ module _ (conv : ℕ) where
     abbrev IsNamedTurn : Turn Stage Command → Type 0
     IsNamedTurn turned = AllNamed conv turned.owed × IsOfIt conv client turned.stage
 
-    its_flows : (place : Place) → StaysNamed conv (flows_at conv client place) (λ standing. IsOf (terms_of conv client place) (OfConversation conv) standing.stage)
-    its_flows place = flows_stay (terms_of conv client place)
+    its_flows : (place : Place) → StaysNamed conv (flows_at conv client place) (λ standing. IsOf (terms_of conv client.address place) (OfConversation conv) standing.stage)
+    its_flows place = flows_stay (terms_of conv client.address place)
 
     -- where a proxy has answered
     shut_named : (side : Spare) (prefix : List (Timed Event)) → AllNamed conv (shut_proxy side prefix)
@@ -151,16 +177,34 @@ module _ (conv : ℕ) where
     waits_named (a_tunnel tunnel) side prefix = tunnel_named (client_closed prefix) (shut_proxy side prefix) (shut_named side prefix)
     waits_named (a_flow place from) side prefix = tt
 
+    socket_is : (ends : TunnelEnds) (flow : Flow) (frames : Frames) (prefix : List (Timed Event)) → flow.id.conv ≡ conv →
+        IsNamedTurn (pass_socket conv client ends flow frames prefix)
+    socket_is ends flow frames prefix is =
+        let terms : Terms = socket_terms client.key ends flow in
+        let on : Turn Frames Command = relay.pass terms frames (socket_sight ends prefix) in
+        (said_named terms on.stage is on.owed (pass_says terms (socket_sight ends prefix) frames), is)
+
+    begun_is : (stage : Stage) (prefix : List (Timed Event)) → IsOfIt conv client stage → IsNamedTurn (begun conv client stage prefix)
+    begun_is (http place standing) prefix is = (tt, is)
+    begun_is (connecting tunnel) prefix is = (tt, tt)
+    begun_is (reaching goal side since) prefix is = (tt, is)
+    begun_is (undecided tunnel spare since) prefix is = (tt, tt)
+    begun_is (raw ends) prefix is = (tt, is)
+    begun_is (socket ends flow frames) prefix is = socket_is ends flow frames prefix is
+    begun_is over prefix is = (tt, tt)
+
     passes : (stage : Stage) (prefix : List (Timed Event)) → IsOfIt conv client stage →
         AllNamed conv ((stack_chain conv client).pass stage prefix).owed × IsOfIt conv client ((stack_chain conv client).pass stage prefix).stage
     passes (http place standing) prefix is =
         let on = (flows_at conv client place).pass standing prefix in
         let named = (its_flows place).pass standing prefix is in
-        (named.0, hands_is place on.stage on.stage.stage (sight_over on.stage prefix) named.1 named.1)
+        let to = begun_is (pass_http conv client place on.stage prefix) prefix (hands_is place on.stage on.stage.stage (sight_over on.stage prefix) named.1 named.1) in
+        (named_append conv on.owed (begun conv client (pass_http conv client place on.stage prefix) prefix).owed named.0 to.0, to.1)
     passes (connecting tunnel) prefix is = (tt, tt)
     passes (reaching goal side since) prefix is = reached_is goal side since prefix (answer_of side prefix) is
     passes (undecided tunnel spare since) prefix is = (tt, goes_is (client_closed prefix) tunnel spare since prefix)
     passes (raw ends) prefix is = (tt, is)
+    passes (socket ends flow frames) prefix is = socket_is ends flow frames prefix is
     passes over prefix is = (tt, tt)
 
     looks : (stage : Stage) (prefix : List (Timed Event)) → IsOfIt conv client stage → AllNamed conv (found ((stack_chain conv client).look stage prefix))
@@ -179,6 +223,9 @@ module _ (conv : ℕ) where
         tunnel_named (closed || shut) (finished_flow ends.flow ++ (shut_unused unused ++ closes))
         (named_append conv (finished_flow ends.flow) (shut_unused unused ++ closes) (finished_named ends.flow is)
         (named_append conv (shut_unused unused) closes (unused_named unused) (closes_named (ByServer ends.side.server shut) closed)))
+    looks (socket ends flow frames) prefix is =
+        let terms : Terms = socket_terms client.key ends flow in
+        with_named (unused_over ends.spare prefix) (relay.look terms frames) (frames_named terms frames is)
     looks over prefix is = tt
 
     waits : (stage : Stage) (prefix : List (Timed Event)) → IsOfIt conv client stage → AllNamed conv ((stack_chain conv client).so_far stage prefix)
@@ -187,6 +234,7 @@ module _ (conv : ℕ) where
     waits (reaching goal side since) prefix is = tt
     waits (undecided tunnel spare since) prefix is = tt
     waits (raw ends) prefix is = (tt, (tt, tt))
+    waits (socket ends flow frames) prefix is = tt
     waits over prefix is = tt
 
     connected_is : (proxy : Option Address) (tunnel : Tunnel) (prefix : List (Timed Event)) (moment : ℕ) → IsNamedTurn (turn_connected conv client proxy tunnel prefix moment)
@@ -207,7 +255,7 @@ module _ (conv : ℕ) where
     IsLedOf None = ⊤
     IsLedOf (Some from) = from.flow.id.conv ≡ conv
 
-    led_is_by : (place : Place) (standing : Standing) (stage : flows.Stage) → IsOf (terms_of conv client place) (OfConversation conv) stage → IsLedOf (led_by standing stage)
+    led_is_by : (place : Place) (standing : Standing) (stage : flows.Stage) → IsOf (terms_of conv client.address place) (OfConversation conv) stage → IsLedOf (led_by standing stage)
     led_is_by place standing (idle at) is = tt
     led_is_by place standing (busy at flow (request_body given)) is = tt
     led_is_by place standing (busy at flow connection) is = is
@@ -219,7 +267,7 @@ module _ (conv : ℕ) where
     led_is_by place standing (next at) is = tt
     led_is_by place standing flows.over is = tt
 
-    led_is : (place : Place) (standing : Standing) → IsOf (terms_of conv client place) (OfConversation conv) standing.stage → IsLedOf (led_at place standing)
+    led_is : (place : Place) (standing : Standing) → IsOf (terms_of conv client.address place) (OfConversation conv) standing.stage → IsLedOf (led_at place standing)
     led_is places.Regular standing is = tt
     led_is (places.Upstream proxy) standing is = tt
     led_is (places.Fixed address side None) standing is = tt
@@ -242,12 +290,17 @@ module _ (conv : ℕ) where
     turns (reaching goal side since) prefix answer is = (tt, is)
     turns (undecided tunnel spare since) prefix answer is = (tt, tt)
     turns (raw ends) prefix answer is = (tt, is)
+    turns (socket ends flow frames) prefix answer is =
+        let terms : Terms = socket_terms client.key ends flow in
+        let seen : SocketSight = socket_sight ends prefix in
+        let on : Turn Frames Command = relay.turn terms frames seen answer.value answer.moment in
+        (said_named terms on.stage is on.owed (turn_says terms seen frames answer.value answer.moment), is)
     turns over prefix answer is = (tt, tt)
 
     pub stays : StaysNamed conv (stack_chain conv client) (IsOfIt conv client)
     stays = record { pass = passes; look = looks; so_far = waits; turn = turns }
 
 -- What is due names flows of the conversation alone.
-pub stack_names : (conv : ℕ) (client : Option Address) (start : Stage) → IsOfIt conv client start → (moves : List Move) →
+pub stack_names : (conv : ℕ) (client : Visitor) (start : Stage) → IsOfIt conv client start → (moves : List Move) →
     AllNamed conv (due_by (stack_chain conv client) start moves)
 stack_names conv client start is moves = stays_named conv (stack_chain conv client) (IsOfIt conv client) start (stays conv client) is moves

@@ -1,6 +1,6 @@
 -- What a conversation stands for.
-use Rattle.std.specs.Prelude.{◌≡◌, ℕ, List, Option, Some, None}
-use Rattle.px_message.specs.declared.address.Address.{Address}
+use Rattle.std.specs.Prelude.{◌≡◌, List, Option}
+use Rattle.rand_chacha.specs.ChaCha.{key_of}
 use Rattle.px_event.specs.declared.ask.Ask.{Ask}
 use Rattle.px_event.specs.declared.command.Command.{Command}
 use Rattle.px_event.specs.declared.event.Event.{Event}
@@ -14,12 +14,16 @@ use Rattle.px_stack.specs.declared.child.Child.TheVariants as children
 use Rattle.px_stack.specs.declared.stack.Stack.{Stack}
 use Rattle.px_stack.specs.Chain.{stack_chain}
 use Rattle.px_stack.specs.Kept.{awaited_by}
-use Rattle.px_stack.specs.Stages.{Stage, http, over}
+use Rattle.px_stack.specs.Stages.{Stage, Visitor, http, over}
 use Rattle.px_stack.specs.Stands.{IsChild}
+
+-- its client, and the key of masks
+abbrev pub visitor_of : Stack → Visitor
+visitor_of made = record { address = made.client; key = key_of made.mask_key }
 
 -- its chain
 abbrev pub chain_of : Stack → Chain Stage Event Reply Command
-chain_of made = stack_chain made.conv made.client
+chain_of made = stack_chain made.conv (visitor_of made)
 
 -- where it starts: one that was made has HTTP
 abbrev pub start_by : Child → Stage
@@ -33,7 +37,8 @@ start_of made = start_by made.child
 pub record IsAt (made state : Stack) (stage : Stage) (prefix : List (Timed Event)) : Type 0 where
   pub conv : state.conv ≡ made.conv
   pub client : state.client ≡ made.client
-  pub child : IsChild made.conv made.client state.child stage prefix
+  pub mask_key : state.mask_key ≡ made.mask_key
+  pub child : IsChild made.conv (visitor_of made) state.child stage prefix
 
 abbrev pub StackStands : Stack → Stack → List Move → List Command → Type 0
 StackStands made state moves given = StandsAt (chain_of made) (start_of made) (IsAt made) state moves given

@@ -1,7 +1,6 @@
 -- The laws of a conversation as a layer whose due is a chain.
-use Rattle.std.proofs.Common.{◌≡◌, ℕ, ◌++◌, Bool, true, false, List, Option, Some, None, refl, ap, sym, ◌∙◌, subst}
-use Rattle.std.specs.Global.{Box}
-use Rattle.px_message.specs.declared.address.Address.{Address}
+use Rattle.std.proofs.Common.{◌≡◌, ℕ, ◌++◌, Bool, true, false, List, [], Option, Some, None, refl, ap, sym, ◌∙◌, subst}
+use Rattle.px_message.specs.declared.flow.Flow.{Flow}
 use Rattle.px_event.specs.declared.ask.Ask.{Ask}
 use Rattle.px_event.specs.declared.command.Command.{Command}
 use Rattle.px_event.specs.declared.event.Event.{Event}
@@ -11,23 +10,25 @@ use Rattle.px_event.specs.Layer.{Move}
 use Rattle.px_event.specs.Stands.{AwaitsWhatItAsks, EndsWhereItEnds, StandsAt, due_by}
 use Rattle.px_event.specs.View.{View, seen_of}
 use Rattle.px_core.specs.Conversation.{AllNamed}
-use Rattle.px_exchange.specs.declared.place.Place.{Place}
 use Rattle.px_exchange.specs.Places.{terms_of}
 use Rattle.px_chain.specs.Chain.{sequence}
 use Rattle.px_chain.specs.Sights.{Spare, Unused, unused_over}
 use Rattle.px_chain.specs.Streams.{client_closed}
-use Rattle.px_http.specs.declared.conversation.HttpConv.{HttpConv}
+use Rattle.px_relay.specs.Chain.{look as frames_look}
+use Rattle.px_relay.specs.Stages.{Stage as Frames, holding, over as frames_over, relaying}
+use Rattle.px_relay.specs.Stands.{awaited_in, awaits as frames_awaits}
 use Rattle.px_stream.specs.StateLaws.{awaits_what_it_asks}
 use Rattle.px_stack.specs.declared.child.Child.{Child}
 use Rattle.px_stack.specs.declared.child.Child.TheVariants as children
+use Rattle.px_stack.specs.declared.child.Socket.{Socket}
 use Rattle.px_stack.specs.declared.stack.Stack.{Stack}
-use Rattle.px_stack.specs.Chain.{flows_at, opening_look, raw_look, shut_proxy, shut_unused, stack_chain, tunnel_found, waits_for, with_closes}
+use Rattle.px_stack.specs.Chain.{flows_at, shut_proxy, shut_unused, socket_terms, stack_chain, tunnel_found, waits_for, with_closes}
 use Rattle.px_stack.specs.Kept.{awaited_by, is_over}
 use Rattle.px_stack.specs.Laws.{settles, so_far_grows}
 use Rattle.px_stack.specs.Names.{IsOfIt, stack_names}
-use Rattle.px_stack.specs.Stack.{IsAt, StackStands, awaits, chain_of, start_by, start_of}
-use Rattle.px_stack.specs.Stages.{Goal, Stage, a_flow, a_tunnel, connecting, http, over, raw, reaching, undecided}
-use Rattle.px_stack.specs.Stands.{IsChild, Keeps, KeepsBy}
+use Rattle.px_stack.specs.Stack.{IsAt, StackStands, awaits, chain_of, start_by, start_of, visitor_of}
+use Rattle.px_stack.specs.Stages.{Ends as TunnelEnds, Goal, Stage, Visitor, a_flow, a_tunnel, connecting, http, over, raw, reaching, socket, undecided}
+use Rattle.px_stack.specs.Stands.{IsChild, IsFraming, Keeps, KeepsBy}
 
 -- ---- what is found in HTTP and in a tunnel
 
@@ -40,7 +41,23 @@ never_waits : (goal : Goal) (side : Spare) (prefix : List (Timed Event)) (ask : 
 never_waits (a_tunnel tunnel) side prefix ask is = never_asks (client_closed prefix) (shut_proxy side prefix) ask is
 never_waits (a_flow place from) side prefix ask is = let no : NotYet ≡ Asks ask = is in cc
 
-module _ (conv : ℕ) (client : Option Address) where
+-- a WebSocket's layer asks exactly where its stage does
+socket_free : (key : List ℕ) (ends : TunnelEnds) (flow : Flow) (frames : Frames) (prefix : List (Timed Event)) (kept : Socket) → IsFraming key ends flow frames prefix kept →
+    frames_awaits kept.layer.value ≡ None → (ask : Command) → frames_look (socket_terms key ends flow) frames ≡ Asks ask → ⊥
+socket_free key ends flow (relaying at) prefix kept is free ask asks = let no : NotYet ≡ Asks ask = asks in cc
+socket_free key ends flow (holding from message at) prefix kept is free ask asks =
+    let no : Some _ ≡ None = ap (λ p. awaited_in kept.layer.value.flow p) (sym is.there.phase) ∙ free in cc
+socket_free key ends flow frames_over prefix kept is free ask asks = let no : Ends [] ≡ Asks ask = asks in cc
+
+socket_asks : (key : List ℕ) (ends : TunnelEnds) (flow : Flow) (frames : Frames) (prefix : List (Timed Event)) (kept : Socket) → IsFraming key ends flow frames prefix kept →
+    (ask : Ask) → frames_awaits kept.layer.value ≡ Some ask → (command : Command) × (frames_look (socket_terms key ends flow) frames ≡ Asks command)
+socket_asks key ends flow (relaying at) prefix kept is ask waits =
+    absurd (let no : None ≡ Some ask = ap (λ p. awaited_in kept.layer.value.flow p) (sym is.there.ready.between.phase) ∙ waits in cc)
+socket_asks key ends flow (holding from message at) prefix kept is ask waits = (_, refl)
+socket_asks key ends flow frames_over prefix kept is ask waits =
+    absurd (let no : None ≡ Some ask = ap (λ p. awaited_in kept.layer.value.flow p) (sym is.there) ∙ waits in cc)
+
+module _ (conv : ℕ) (client : Visitor) where
   http_asks : (unused : Option Unused) (l : Look Command) (ask : Command) → with_closes conv client unused l ≡ Asks ask → l ≡ Asks ask
   http_asks unused NotYet ask is = absurd (let no : NotYet ≡ Asks ask = is in cc)
   http_asks unused (Asks one) ask is = is
@@ -56,25 +73,31 @@ module _ (conv : ℕ) (client : Option Address) where
   free_by : (child : Child) (stage : Stage) (prefix : List (Timed Event)) (ask : Command) → Keeps conv client child stage prefix → awaited_by child ≡ None →
       (stack_chain conv client).look stage prefix ≡ Asks ask → ⊥
   free_by child (http place standing) prefix ask kept free asks =
-      (awaits_what_it_asks sequence (terms_of conv client place)).free kept.flows.value.stream standing prefix ask kept.there.is_at
+      (awaits_what_it_asks sequence (terms_of conv client.address place)).free kept.flows.value.stream standing prefix ask kept.there.is_at
       (ap awaited_by (sym kept.is) ∙ free) (http_asks (unused_over standing.spare prefix) ((flows_at conv client place).look standing prefix) ask asks)
   free_by child (connecting tunnel) prefix ask kept free asks =
       let no : awaited_by (children.Connecting kept.kept kept.closed) ≡ None = ap awaited_by (sym kept.is) ∙ free in cc
   free_by child (reaching goal side since) prefix ask kept free asks = never_waits goal side prefix ask asks
   free_by child (undecided tunnel spare since) prefix ask kept free asks = never_asks _ _ ask asks
   free_by child (raw ends) prefix ask kept free asks = never_asks _ _ ask asks
+  free_by child (socket ends flow frames) prefix ask kept free asks =
+      socket_free client.key ends flow frames prefix kept.kept kept.framing (ap awaited_by (sym kept.is) ∙ free) ask
+      (http_asks (unused_over ends.spare prefix) (frames_look (socket_terms client.key ends flow) frames) ask asks)
   free_by child over prefix ask kept free asks = kept
 
   waits_by : (child : Child) (stage : Stage) (prefix : List (Timed Event)) (ask : Ask) → Keeps conv client child stage prefix → awaited_by child ≡ Some ask →
       (stack_chain conv client).look stage prefix ≡ NotYet → ⊥
   waits_by child (http place standing) prefix ask kept waits found =
-      let asked = (awaits_what_it_asks sequence (terms_of conv client place)).asks kept.flows.value.stream standing prefix ask kept.there.is_at (ap awaited_by (sym kept.is) ∙ waits) in
+      let asked = (awaits_what_it_asks sequence (terms_of conv client.address place)).asks kept.flows.value.stream standing prefix ask kept.there.is_at (ap awaited_by (sym kept.is) ∙ waits) in
       http_waits (unused_over standing.spare prefix) ((flows_at conv client place).look standing prefix) asked.0 asked.1 found
   waits_by child (connecting tunnel) prefix ask kept waits found = let no : (stack_chain conv client).look (connecting tunnel) prefix ≡ NotYet = found in cc
   waits_by child (reaching goal side since) prefix ask kept waits found = let no : None ≡ Some ask = ap awaited_by (sym kept.is) ∙ waits in cc
   waits_by child (undecided tunnel spare since) prefix ask kept waits found =
       let no : None ≡ Some ask = ap awaited_by (sym kept.is) ∙ waits in cc
   waits_by child (raw ends) prefix ask kept waits found = let no : None ≡ Some ask = ap awaited_by (sym kept.is) ∙ waits in cc
+  waits_by child (socket ends flow frames) prefix ask kept waits found =
+      let asked = socket_asks client.key ends flow frames prefix kept.kept kept.framing ask (ap awaited_by (sym kept.is) ∙ waits) in
+      http_waits (unused_over ends.spare prefix) (frames_look (socket_terms client.key ends flow) frames) asked.0 asked.1 found
   waits_by child over prefix ask kept waits found = kept
 
   asks_by : (child : Child) (stage : Stage) (prefix : List (Timed Event)) (ask : Ask) (l : Look Command) → (stack_chain conv client).look stage prefix ≡ l →
@@ -91,6 +114,7 @@ module _ (conv : ℕ) (client : Option Address) where
   goes_on child (reaching goal side since) prefix kept ended = let no : false ≡ true = ap is_over (sym kept.is) ∙ ended in cc
   goes_on child (undecided tunnel spare since) prefix kept ended = let no : false ≡ true = ap is_over (sym kept.is) ∙ ended in cc
   goes_on child (raw ends) prefix kept ended = let no : false ≡ true = ap is_over (sym kept.is) ∙ ended in cc
+  goes_on child (socket ends flow frames) prefix kept ended = let no : false ≡ true = ap is_over (sym kept.is) ∙ ended in cc
   goes_on child over prefix kept ended = kept
 
   ends_by : (child : Child) (stage : Stage) (prefix : List (Timed Event)) (l : Look Command) → KeepsBy l conv client child stage prefix →
@@ -112,38 +136,39 @@ pub stands_there : (made state : Stack) (moves : List Move) (given : List Comman
 stands_there made state moves given stands = stands
 
 pub settles_there : (made : Stack) → Settles (chain_of made)
-settles_there made = settles made.conv made.client
+settles_there made = settles made.conv (visitor_of made)
 
 pub grows_there : (made : Stack) (view : View) → SoFarGrows (chain_of made) (seen_of view)
-grows_there made view = so_far_grows made.conv made.client view
+grows_there made view = so_far_grows made.conv (visitor_of made) view
 
 pub asks_there : (made : Stack) → AwaitsWhatItAsks (chain_of made) (IsAt made) awaits
 asks_there made = record {
   free = λ state stage prefix ask at is asks.
-      free_by made.conv made.client state.child stage prefix ask (found_there made.conv made.client state.child stage prefix (Asks ask) asks at.child) is asks;
+      free_by made.conv (visitor_of made) state.child stage prefix ask (found_there made.conv (visitor_of made) state.child stage prefix (Asks ask) asks at.child) is asks;
   asks = λ state stage prefix ask at is.
-      asks_by made.conv made.client state.child stage prefix ask ((chain_of made).look stage prefix) refl at.child is;
+      asks_by made.conv (visitor_of made) state.child stage prefix ask ((chain_of made).look stage prefix) refl at.child is;
 }
 
 pub ends_there : (made : Stack) → EndsWhereItEnds (chain_of made) (IsAt made) (λ state. is_over state.child)
 ends_there made = record {
-  ends = λ state stage prefix at ended. ends_by made.conv made.client state.child stage prefix ((chain_of made).look stage prefix) at.child ended;
-  there = λ state stage prefix owed at is. ap is_over (found_there made.conv made.client state.child stage prefix (Ends owed) is at.child);
+  ends = λ state stage prefix at ended. ends_by made.conv (visitor_of made) state.child stage prefix ((chain_of made).look stage prefix) at.child ended;
+  there = λ state stage prefix owed at is. ap is_over (found_there made.conv (visitor_of made) state.child stage prefix (Ends owed) is at.child);
 }
 
 -- ---- its number
 
-start_is : (conv : ℕ) (client : Option Address) (child : Child) → IsOfIt conv client (start_by child)
+start_is : (conv : ℕ) (client : Visitor) (child : Child) → IsOfIt conv client (start_by child)
 start_is conv client (children.Http flows) = refl
 start_is conv client (children.Connecting opening closed) = tt
 start_is conv client (children.Reaching kept) = tt
 start_is conv client (children.Undecided opening server) = tt
 start_is conv client (children.Raw relay) = tt
+start_is conv client (children.Socket kept) = tt
 start_is conv client children.Over = tt
 
 -- What is due names flows of the conversation alone.
 pub names_there : (made : Stack) (moves : List Move) → AllNamed made.conv (due_by (chain_of made) (start_of made) moves)
-names_there made moves = stack_names made.conv made.client (start_of made) (start_is made.conv made.client made.child) moves
+names_there made moves = stack_names made.conv (visitor_of made) (start_of made) (start_is made.conv (visitor_of made) made.child) moves
 
 -- no move changes its number
 pub keeps_number : (made state : Stack) (moves : List Move) (given : List Command) → StackStands made state moves given → state.conv ≡ made.conv

@@ -1,12 +1,19 @@
 -- Where a conversation stands: HTTP at some place, a CONNECT that waits for its server, another proxy that is asked for a tunnel, a tunnel of
--- which nothing is decided yet, or one whose bytes go both ways unread.
-use Rattle.std.specs.Prelude.{ℕ, Option}
+-- which nothing is decided yet, one whose bytes go both ways unread, or a WebSocket.
+use Rattle.std.specs.Prelude.{ℕ, List, Option}
 use Rattle.px_message.specs.declared.address.Address.{Address}
 use Rattle.px_message.specs.declared.flow.Flow.{Flow}
 use Rattle.px_exchange.specs.declared.place.Place.{Place}
 use Rattle.px_chain.specs.Sights.{Spare, Standing}
 use Rattle.px_chain.specs.Stages.{At, ServerSide}
 use Rattle.px_chain.specs.Streams.{Since}
+use Rattle.px_relay.specs.Stages.{Stage as Frames}
+
+-- Who is at the other end of a conversation: where the client is, if it is known, and the eight words of the key by which frames of a
+-- WebSocket to its servers are masked.
+pub record Visitor : Type 0 where
+  pub address : Option Address
+  pub key : List ℕ
 
 -- A CONNECT: where in its conversation it stands, behind its head, where it asks for a tunnel to, and the proxy through which that is
 -- reached, if there is one.
@@ -48,5 +55,7 @@ pub data Stage : Type 0 where
   undecided : (tunnel : Tunnel) (spare : Spare) (since : Since) → Stage
   -- each side's bytes go to the other
   raw : (ends : Ends) → Stage
+  -- a WebSocket: the tunnel whose sides it has, the flow that became it, and where its frames stand
+  socket : (ends : Ends) (flow : Flow) (frames : Frames) → Stage
   -- the conversation has ended
   over : Stage

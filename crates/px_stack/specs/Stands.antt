@@ -1,7 +1,6 @@
 -- Where a conversation is: what it keeps at a stage and over a prefix.
-use Rattle.std.specs.Prelude.{◌≡◌, ◌≤◌, ◌<◌, ◌+◌, ℕ, Bool, true, false, List, [], length, drop, Option, Some, None}
+use Rattle.std.specs.Prelude.{◌≡◌, ◌≤◌, ◌<◌, ◌+◌, ℕ, Bool, true, false, List, length, drop, Option, Some, None}
 use Rattle.std.specs.Global.{Box}
-use Rattle.px_message.specs.declared.address.Address.{Address}
 use Rattle.px_event.specs.declared.command.Command.{Command}
 use Rattle.px_event.specs.declared.event.Event.{Event}
 use Rattle.px_event.specs.declared.side.Side.TheVariants.{Client, Server}
@@ -12,6 +11,10 @@ use Rattle.px_exchange.specs.Places.{terms_of}
 use Rattle.px_chain.specs.Sights.{Spare, SpareIsWithin, Standing, Unused, unused_over}
 use Rattle.px_chain.specs.Streams.{Since, bytes_of, client_closed}
 use Rattle.px_http.specs.declared.conversation.HttpConv.{HttpConv}
+use Rattle.px_message.specs.declared.flow.Flow.{Flow}
+use Rattle.px_relay.specs.Sights.{no_rests as nothing_left}
+use Rattle.px_relay.specs.Stages.{Stage as Frames}
+use Rattle.px_relay.specs.Stands.{IsIn}
 use Rattle.px_stream.specs.Anywhere.{OpensInTime}
 use Rattle.px_stream.specs.Sequence.{IsInSequence}
 use Rattle.px_stream.specs.Through.{IsDialling}
@@ -25,9 +28,10 @@ use Rattle.px_stack.specs.declared.child.Goal.TheVariants as goals
 use Rattle.px_stack.specs.declared.child.Opening.{Opening}
 use Rattle.px_stack.specs.declared.child.Reaching.{Reaching}
 use Rattle.px_stack.specs.declared.child.Relay.{Relay}
-use Rattle.px_stack.specs.Chain.{closed_of, has_answered, opening_text, stack_chain, standing_of, text_of}
+use Rattle.px_stack.specs.declared.child.Socket.{Socket}
+use Rattle.px_stack.specs.Chain.{closed_of, has_answered, opening_text, socket_sight, socket_terms, stack_chain, standing_of, text_of}
 use Rattle.px_stack.specs.Decides.{decided, still}
-use Rattle.px_stack.specs.Stages.{Dialling, Ends as TunnelEnds, Goal, Stage, Tunnel, a_flow, a_tunnel, connecting, http, over, raw, reaching, undecided}
+use Rattle.px_stack.specs.Stages.{Dialling, Ends as TunnelEnds, Goal, Stage, Tunnel, Visitor, a_flow, a_tunnel, connecting, http, over, raw, reaching, socket, undecided}
 
 -- ---- HTTP
 
@@ -36,8 +40,8 @@ abbrev pub ahead_at : Place → ℕ
 ahead_at (places.Fixed address (Some server) inside) = 1
 ahead_at place = 0
 
-abbrev pub IsInFlows : ℕ → Option Address → Place → HttpConv → Standing → List (Timed Event) → Type 0
-IsInFlows conv client place flows standing prefix = IsInSequence (terms_of conv client place) (ahead_at place) flows.stream standing prefix
+abbrev pub IsInFlows : ℕ → Visitor → Place → HttpConv → Standing → List (Timed Event) → Type 0
+IsInFlows conv client place flows standing prefix = IsInSequence (terms_of conv client.address place) (ahead_at place) flows.stream standing prefix
 
 -- ---- a CONNECT, and what follows it
 
@@ -68,7 +72,7 @@ pub record IsAskedFor (tunnel : Tunnel) (side : Spare) (prefix : List (Timed Eve
   pub client : client_closed prefix ≡ false
 
 -- or for the way of a flow
-pub record IsLedOn (conv : ℕ) (client : Option Address) (place : Place) (from : Dialling) (side : Spare) (prefix : List (Timed Event)) (flows : HttpConv) : Type 0 where
+pub record IsLedOn (conv : ℕ) (client : Visitor) (place : Place) (from : Dialling) (side : Spare) (prefix : List (Timed Event)) (flows : HttpConv) : Type 0 where
   pub there : IsInFlows conv client place flows (standing_of from) prefix
   -- the spare side was connected before the client closed
   pub in_time : OpensInTime from.spare prefix
@@ -76,7 +80,7 @@ pub record IsLedOn (conv : ℕ) (client : Option Address) (place : Place) (from 
   -- the answer to its dial is awaited
   pub waits : IsDialling flows.stream.phase
 
-abbrev pub IsGoal : ℕ → Option Address → Goal → Spare → List (Timed Event) → KeptGoal → Type 0
+abbrev pub IsGoal : ℕ → Visitor → Goal → Spare → List (Timed Event) → KeptGoal → Type 0
 IsGoal conv client (a_tunnel tunnel) side prefix (goals.Tunnel kept) = IsAskedFor tunnel side prefix kept
 IsGoal conv client (a_flow place from) side prefix (goals.Flow flows) = IsLedOn conv client place from side prefix flows.value
 IsGoal conv client goal side prefix kept = ⊥
@@ -103,9 +107,19 @@ pub record IsRelay (ends : TunnelEnds) (prefix : List (Timed Event)) (kept : Rel
   pub opened : ends.opened ≤ length prefix
   pub within : SpareIsWithin ends.spare prefix
 
+-- a WebSocket's layer stands at its stage, in what is seen of the two sides
+pub record IsFraming (key : List ℕ) (ends : TunnelEnds) (flow : Flow) (frames : Frames) (prefix : List (Timed Event)) (kept : Socket) : Type 0 where
+  pub there : IsIn (socket_terms key ends flow) kept.layer.value frames (socket_sight ends prefix)
+  pub rests : kept.layer.value.rests ≡ nothing_left
+  pub spare : kept.spare ≡ open_unused (unused_over ends.spare prefix)
+  pub used : ends.used ≤ length (bytes_of Client prefix)
+  pub side_used : ends.side.used ≤ length (bytes_of (Server ends.side.server) (drop ends.opened prefix))
+  pub opened : ends.opened ≤ length prefix
+  pub within : SpareIsWithin ends.spare prefix
+
 -- ---- by the stage
 
-pub record IsHttp (conv : ℕ) (client : Option Address) (place : Place) (standing : Standing) (prefix : List (Timed Event)) (child : Child) : Type 0 where
+pub record IsHttp (conv : ℕ) (client : Visitor) (place : Place) (standing : Standing) (prefix : List (Timed Event)) (child : Child) : Type 0 where
   pub flows : Box HttpConv
   pub is : child ≡ children.Http flows
   pub there : IsInFlows conv client place flows.value standing prefix
@@ -121,7 +135,7 @@ pub record IsConnecting (tunnel : Tunnel) (prefix : List (Timed Event)) (child :
   pub client : closed ≡ client_closed prefix
 
 -- nothing is decided by what has come of the proxy, which has not closed
-pub record IsReaching (conv : ℕ) (client : Option Address) (goal : Goal) (side : Spare) (since : Since) (prefix : List (Timed Event)) (child : Child) : Type 0 where
+pub record IsReaching (conv : ℕ) (client : Visitor) (goal : Goal) (side : Spare) (since : Since) (prefix : List (Timed Event)) (child : Child) : Type 0 where
   pub kept : Reaching
   pub is : child ≡ children.Reaching kept
   pub server : kept.server ≡ side.server
@@ -143,24 +157,30 @@ pub record IsRaw (ends : TunnelEnds) (prefix : List (Timed Event)) (child : Chil
   pub is : child ≡ children.Raw kept
   pub relay : IsRelay ends prefix kept
 
-abbrev pub Keeps : ℕ → Option Address → Child → Stage → List (Timed Event) → Type 0
+pub record IsSocket (key : List ℕ) (ends : TunnelEnds) (flow : Flow) (frames : Frames) (prefix : List (Timed Event)) (child : Child) : Type 0 where
+  pub kept : Socket
+  pub is : child ≡ children.Socket kept
+  pub framing : IsFraming key ends flow frames prefix kept
+
+abbrev pub Keeps : ℕ → Visitor → Child → Stage → List (Timed Event) → Type 0
 Keeps conv client child (http place standing) prefix = IsHttp conv client place standing prefix child
 Keeps conv client child (connecting tunnel) prefix = IsConnecting tunnel prefix child
 Keeps conv client child (reaching goal side since) prefix = IsReaching conv client goal side since prefix child
 Keeps conv client child (undecided tunnel spare since) prefix = IsUndecided tunnel spare since prefix child
 Keeps conv client child (raw ends) prefix = IsRaw ends prefix child
+Keeps conv client child (socket ends flow frames) prefix = IsSocket client.key ends flow frames prefix child
 Keeps conv client child over prefix = ⊥
 
 -- where the end is found nothing is kept
-abbrev pub KeepsBy : Look Command → ℕ → Option Address → Child → Stage → List (Timed Event) → Type 0
+abbrev pub KeepsBy : Look Command → ℕ → Visitor → Child → Stage → List (Timed Event) → Type 0
 KeepsBy NotYet conv client child stage prefix = Keeps conv client child stage prefix
 KeepsBy (Asks ask) conv client child stage prefix = Keeps conv client child stage prefix
 KeepsBy (Ends owed) conv client child stage prefix = child ≡ children.Over
 
 -- What is kept where the walk stopped at this stage and over this prefix.
-abbrev pub IsChild : ℕ → Option Address → Child → Stage → List (Timed Event) → Type 0
+abbrev pub IsChild : ℕ → Visitor → Child → Stage → List (Timed Event) → Type 0
 IsChild conv client child stage prefix = KeepsBy ((stack_chain conv client).look stage prefix) conv client child stage prefix
 
 -- and it is so somewhere
-abbrev pub IsSomewhere : ℕ → Option Address → Child → Type 0
+abbrev pub IsSomewhere : ℕ → Visitor → Child → Type 0
 IsSomewhere conv client child = (stage : Stage) × (prefix : List (Timed Event)) × IsChild conv client child stage prefix

@@ -10,7 +10,7 @@ use Rattle.px_event.specs.declared.event.Rests.{Rests}
 use Rattle.px_event.specs.declared.reply.Reply.{Reply}
 use Rattle.px_event.specs.declared.reply.Reply.TheVariants as replies
 use Rattle.px_event.specs.declared.side.Side.TheVariants.{Client, Server}
-use Rattle.px_event.specs.Chain.{Timed, NotYet}
+use Rattle.px_event.specs.Chain.{Timed, NotYet, Turn}
 use Rattle.px_event.specs.Laws.{owed_here, owed_over}
 use Rattle.px_event.specs.Layer.{AsksOnly}
 use Rattle.px_event.specs.View.{View, seen_of}
@@ -24,6 +24,9 @@ use Rattle.px_chain.specs.Sights.{Spare, SpareIsWithin, Standing, unused_over}
 use Rattle.px_chain.specs.Streams.{Since, bytes_of, client_closed, closes, from_here, is_closed, now_over}
 use Rattle.px_http.specs.declared.conversation.HttpConv.{HttpConv}
 use Rattle.px_http.specs.Stands.{awaits}
+use Rattle.px_relay.specs.Chain.{first_at}
+use Rattle.px_relay.specs.Stages.{relaying}
+use Rattle.px_relay.specs.Stands.{is_over as has_ended_in}
 use Rattle.px_stream.specs.Anywhere.{OpensInTime}
 use Rattle.px_stream.specs.Left.{sequence_left}
 use Rattle.px_stream.specs.Through.{led_to}
@@ -39,10 +42,12 @@ use Rattle.px_stack.specs.declared.child.Goal.{Goal as KeptGoal}
 use Rattle.px_stack.specs.declared.child.Goal.TheVariants as goals
 use Rattle.px_stack.specs.declared.child.Opening.{Opening}
 use Rattle.px_stack.specs.declared.child.Relay.{Relay}
+use Rattle.px_stack.specs.declared.child.Socket.{Socket}
 use Rattle.px_stack.specs.declared.closing.Sides.{Sides}
-use Rattle.px_stack.specs.Chain.{answer_of, closed_of, connected_on, flows_at, hands_over, inner_place, inner_standing, is_shut, opens, or_stays, raw_look, stack_chain, text_behind, text_down, text_of, text_up, way_to}
-use Rattle.px_stack.specs.Kept.{awaited_by, left_by, tunnel_left}
-use Rattle.px_stack.specs.Stages.{Dialling, Ends as TunnelEnds, Goal, Stage, Tunnel, a_flow, a_tunnel, http, raw, reaching, undecided}
+use Rattle.px_stack.specs.Chain.{answer_of, begun, closed_of, connected_on, flows_at, inner_place, inner_standing, is_shut, opens, pass_http, raw_look, stack_chain, text_behind, text_down, text_of, text_up, upgrades, way_to}
+use Rattle.px_stack.specs.Kept.{awaited_by, left_by, shut_open, tunnel_left}
+use Rattle.px_stack.specs.Sockets.{is_websocket}
+use Rattle.px_stack.specs.Stages.{Dialling, Ends as TunnelEnds, Goal, Stage, Tunnel, Visitor, a_flow, a_tunnel, http, raw, reaching, socket, undecided}
 use Rattle.px_stack.specs.Stands.{IsChild, IsGoal, IsInFlows, IsOpened, IsRelay, open_unused}
 
 -- commands were added, of which this holds
@@ -52,12 +57,12 @@ pub record Adds (holds_of : List Command → Type 0) (out longer : List Command)
   pub holds : holds_of more
 
 -- It is at a stage over a prefix, and gave what is owed there.
-pub record IsHere (conv : ℕ) (client : Option Address) (child : Child) (more : List Command) (stage : Stage) (prefix : List (Timed Event)) : Type 0 where
+pub record IsHere (conv : ℕ) (client : Visitor) (child : Child) (more : List Command) (stage : Stage) (prefix : List (Timed Event)) : Type 0 where
   pub there : IsChild conv client child stage prefix
   pub gives : (view : View) → seen_of view more ≡ seen_of view (owed_here (stack_chain conv client) stage prefix)
 
 -- It came to a stage over a prefix, passed on, and gave what is owed there.
-pub record Arrives (conv : ℕ) (client : Option Address) (child : Child) (more : List Command) (stage : Stage) (prefix : List (Timed Event)) : Type 0 where
+pub record Arrives (conv : ℕ) (client : Visitor) (child : Child) (more : List Command) (stage : Stage) (prefix : List (Timed Event)) : Type 0 where
   pub there : IsChild conv client child ((stack_chain conv client).pass stage prefix).stage prefix
   pub gives : (view : View) → seen_of view more ≡ seen_of view (owed_over (stack_chain conv client) stage prefix)
 
@@ -86,12 +91,12 @@ pub record MayRelay (ends : TunnelEnds) (prefix : List (Timed Event)) (sides : S
   pub within : SpareIsWithin ends.spare prefix
 
 abbrev pub Relays : Sides → Rests → Option Flow → Option ℕ → Child → List Command → Type 0
-Relays sides rests flow spare next more = (conv : ℕ) (client : Option Address) (ends : TunnelEnds) (prefix : List (Timed Event)) →
+Relays sides rests flow spare next more = (conv : ℕ) (client : Visitor) (ends : TunnelEnds) (prefix : List (Timed Event)) →
     MayRelay ends prefix sides rests flow spare → Arrives conv client next more (raw ends) prefix
 
 -- one that is there takes an event
 abbrev pub RelayTakes : Relay → Child → Event → List Command → Type 0
-RelayTakes kept next event more = (conv : ℕ) (client : Option Address) (moment : ℕ) (ends : TunnelEnds) (prefix : List (Timed Event)) →
+RelayTakes kept next event more = (conv : ℕ) (client : Visitor) (moment : ℕ) (ends : TunnelEnds) (prefix : List (Timed Event)) →
     raw_look ends prefix ≡ NotYet → IsRelay ends prefix kept → Takes (stack_chain conv client) (IsChild conv client) next moment event more (raw ends) prefix
 
 -- and hands it on
@@ -102,6 +107,35 @@ pub record GoesOn (kept : Relay) (event : Event) (next : Child) (out longer : Li
   pub rests : rests_of tunnel ≡ left_behind (rests_of kept.tunnel) event
   pub closed : has_ended tunnel ≡ is_alone (left_alone (server_of kept.tunnel) event)
   pub gives : longer ≡ out ++ given_for (server_of kept.tunnel) (rests_of kept.tunnel) event
+
+-- ---- a WebSocket
+
+-- where one begins, with what was left of both sides, of which the client has not closed
+abbrev pub BeginsSocket : List ℕ → Sides → Rests → Flow → Option ℕ → Child → List Command → Type 0
+BeginsSocket key sides rests flow spare next more = (conv : ℕ) (client : Visitor) (ends : TunnelEnds) (prefix : List (Timed Event)) →
+    client.key ≡ key → client_closed prefix ≡ false → MayRelay ends prefix sides rests (Some flow) spare →
+    Arrives conv client next more (socket ends (record flow { websocket = true }) (relaying first_at)) prefix
+
+-- behind a call: it goes on, or it has ended, and the spare side is closed
+abbrev pub comes_by : Bool → Socket → Child
+comes_by true kept = children.Over
+comes_by false kept = children.Socket kept
+
+abbrev pub shut_by : Bool → Option ℕ → List Command
+shut_by true spare = shut_open spare
+shut_by false spare = []
+
+abbrev pub comes_to : Socket → Child
+comes_to kept = comes_by (has_ended_in kept.layer.value.phase) kept
+
+abbrev pub shut_behind : Socket → List Command
+shut_behind kept = shut_by (has_ended_in kept.layer.value.phase) kept.spare
+
+-- what follows a response of code 101: a WebSocket, or what is not read
+abbrev pub GoesOnAs : List ℕ → Sides → Rests → Flow → Option ℕ → Child → List Command → Type 0
+GoesOnAs key sides rests flow spare next more = (conv : ℕ) (client : Visitor) (ends : TunnelEnds) (prefix : List (Timed Event)) →
+    client.key ≡ key → MayRelay ends prefix sides rests (Some flow) spare →
+    Arrives conv client next more (upgrades (is_websocket flow (client_closed prefix)) flow ends) prefix
 
 -- ---- a tunnel of which nothing is decided
 
@@ -119,21 +153,21 @@ pub record IsFewDials (kept : Opening) (server : ℕ) : Type 0 where
   pub last : kept.numbers.server ≡ server + 1
   pub dials : server ≤ kept.numbers.flow
 
-abbrev pub Decides : ℕ → Option Address → Opening → ℕ → ℕ → Child → List Command → Type 0
+abbrev pub Decides : ℕ → Visitor → Opening → ℕ → ℕ → Child → List Command → Type 0
 Decides conv client kept server moment next more = (tunnel : Tunnel) (spare : Spare) (since : Since) (prefix : List (Timed Event)) →
     MayDecide tunnel spare since prefix kept server false moment → Arrives conv client next more (undecided tunnel spare since) prefix
 
 -- HTTP begins in it
-abbrev pub GoesInside : ℕ → Option Address → Opening → ℕ → ℕ → Child → List Command → Type 0
+abbrev pub GoesInside : ℕ → Visitor → Opening → ℕ → ℕ → Child → List Command → Type 0
 GoesInside conv client kept server moment next more = (tunnel : Tunnel) (spare : Spare) (since : Since) (prefix : List (Timed Event)) →
     MayDecide tunnel spare since prefix kept server false moment → Arrives conv client next more (http (inner_place tunnel spare) (inner_standing tunnel spare since)) prefix
 
 -- the client was told of the connection before
-pub record TellsThere (conv : ℕ) (client : Option Address) (next : Child) (more : List Command) (stage : Stage) (prefix : List (Timed Event)) : Type 0 where
+pub record TellsThere (conv : ℕ) (client : Visitor) (next : Child) (more : List Command) (stage : Stage) (prefix : List (Timed Event)) : Type 0 where
   pub there : IsChild conv client next ((stack_chain conv client).pass stage prefix).stage prefix
   pub gives : (view : View) → seen_of view more ≡ seen_of view (commands.Send Client connected_text ∷ owed_over (stack_chain conv client) stage prefix)
 
-abbrev pub Tells : ℕ → Option Address → Opening → ℕ → Bool → ℕ → Child → List Command → Type 0
+abbrev pub Tells : ℕ → Visitor → Opening → ℕ → Bool → ℕ → Child → List Command → Type 0
 Tells conv client kept server closed moment next more = (tunnel : Tunnel) (spare : Spare) (since : Since) (prefix : List (Timed Event)) →
     MayDecide tunnel spare since prefix kept server closed moment → TellsThere conv client next more (undecided tunnel spare since) prefix
 
@@ -160,19 +194,19 @@ pub record AsksFor (kept : Opening) (server : ℕ) (closed : Bool) (next : Child
 -- what waits for the proxy is kept somewhere
 pub record IsGoalSomewhere (kept : KeptGoal) : Type 0 where
   pub conv : ℕ
-  pub client : Option Address
+  pub client : Visitor
   pub goal : Goal
   pub side : Spare
   pub prefix : List (Timed Event)
   pub at : IsGoal conv client goal side prefix kept
 
 -- What it kept behind an event: the client's bytes and close, and for a flow what a spare side did.
-abbrev pub HearsGoal : ℕ → Option Address → KeptGoal → KeptGoal → ℕ → Event → Type 0
+abbrev pub HearsGoal : ℕ → Visitor → KeptGoal → KeptGoal → ℕ → Event → Type 0
 HearsGoal conv client before after moment event = (goal : Goal) (side : Spare) (prefix : List (Timed Event)) →
     IsGoal conv client goal side prefix before → IsGoal conv client goal side (prefix ++ (record { moment = moment; value = event }) ∷ []) after
 
 -- its answer was read, over a prefix at this moment: what came of the server behind its head, or whether its side closed
-pub record MayGoOn (conv : ℕ) (client : Option Address) (goal : Goal) (side : Spare) (since : Since) (prefix : List (Timed Event)) (server : ℕ) (kept : KeptGoal) (moment : ℕ) : Type 0 where
+pub record MayGoOn (conv : ℕ) (client : Visitor) (goal : Goal) (side : Spare) (since : Since) (prefix : List (Timed Event)) (server : ℕ) (kept : KeptGoal) (moment : ℕ) : Type 0 where
   pub same : server ≡ side.server
   pub opened : side.opened ≤ length prefix
   pub come : since.events ≤ length prefix
@@ -189,18 +223,18 @@ pub record IsTurnedAway (side : Spare) (prefix : List (Timed Event)) (shut : Boo
   pub answer : answer_of side prefix ≡ refused
   pub shut_is : shut ≡ closed_of side.server (drop side.opened prefix)
 
-abbrev pub LetsThrough : ℕ → Option Address → ℕ → KeptGoal → List ℕ → ℕ → Child → List Command → Type 0
+abbrev pub LetsThrough : ℕ → Visitor → ℕ → KeptGoal → List ℕ → ℕ → Child → List Command → Type 0
 LetsThrough conv client server kept rest moment next more = (goal : Goal) (side : Spare) (since : Since) (prefix : List (Timed Event)) →
     MayGoOn conv client goal side since prefix server kept moment → IsLetThrough side prefix rest → Arrives conv client next more (reaching goal side since) prefix
 
-abbrev pub TurnsAway : ℕ → Option Address → ℕ → KeptGoal → Bool → ℕ → Child → List Command → Type 0
+abbrev pub TurnsAway : ℕ → Visitor → ℕ → KeptGoal → Bool → ℕ → Child → List Command → Type 0
 TurnsAway conv client server kept shut moment next more = (goal : Goal) (side : Spare) (since : Since) (prefix : List (Timed Event)) →
     MayGoOn conv client goal side since prefix server kept moment → IsTurnedAway side prefix shut → Arrives conv client next more (reaching goal side since) prefix
 
 -- it was let through somewhere
 pub record CanGoOn (server : ℕ) (kept : KeptGoal) (rest : List ℕ) (moment : ℕ) : Type 0 where
   pub conv : ℕ
-  pub client : Option Address
+  pub client : Visitor
   pub goal : Goal
   pub side : Spare
   pub since : Since
@@ -216,7 +250,7 @@ pub record IsBehind (side : Spare) (used : ℕ) (prefix : List (Timed Event)) (r
   pub rest_is : rest ≡ text_behind side used prefix
 
 -- a tunnel of the client's opens
-abbrev pub Opens : ℕ → Option Address → Opening → ℕ → List ℕ → ℕ → Child → List Command → Type 0
+abbrev pub Opens : ℕ → Visitor → Opening → ℕ → List ℕ → ℕ → Child → List Command → Type 0
 Opens conv client kept server rest moment next more = (tunnel : Tunnel) (side : Spare) (since : Since) (prefix : List (Timed Event)) (used : ℕ) →
     MayGoOn conv client (a_tunnel tunnel) side since prefix server (goals.Tunnel kept) moment → IsBehind side used prefix rest →
     IsHere conv client next more (opens tunnel side used (from_here (now_over since prefix) prefix) prefix) prefix
@@ -226,19 +260,19 @@ abbrev pub flow_reached : Place → Dialling → Spare → ℕ → Since → Lis
 flow_reached place from side used since prefix =
     http place (connected_on place from (way_to side used prefix) (from_here (now_over since prefix) prefix))
 
-pub record LeadsThere (conv : ℕ) (client : Option Address) (next : Child) (more owed : List Command) (stage : Stage) (prefix : List (Timed Event)) : Type 0 where
+pub record LeadsThere (conv : ℕ) (client : Visitor) (next : Child) (more owed : List Command) (stage : Stage) (prefix : List (Timed Event)) : Type 0 where
   pub there : IsChild conv client next stage prefix
   pub gives : (view : View) → seen_of view more ≡ seen_of view (owed ++ owed_here (stack_chain conv client) stage prefix)
 
-abbrev pub Leads : Box HttpConv → List ℕ → ℕ → Child → List Command → Type 0
-Leads flows rest moment next more = (conv : ℕ) (client : Option Address) (place : Place) (from : Dialling) (side : Spare) (since : Since) (prefix : List (Timed Event)) (used : ℕ) →
-    MayGoOn conv client (a_flow place from) side since prefix side.server (goals.Flow flows) moment → IsBehind side used prefix rest →
+abbrev pub Leads : List ℕ → Box HttpConv → List ℕ → ℕ → Child → List Command → Type 0
+Leads key flows rest moment next more = (conv : ℕ) (client : Visitor) (place : Place) (from : Dialling) (side : Spare) (since : Since) (prefix : List (Timed Event)) (used : ℕ) →
+    client.key ≡ key → MayGoOn conv client (a_flow place from) side since prefix side.server (goals.Flow flows) moment → IsBehind side used prefix rest →
     LeadsThere conv client next more (connected_owes place from.flow side.server) (flow_reached place from side used since prefix) prefix
 
 -- and it may, somewhere
 pub record CanReach (flows : Box HttpConv) (rest : List ℕ) (moment : ℕ) : Type 0 where
   pub conv : ℕ
-  pub client : Option Address
+  pub client : Visitor
   pub place : Place
   pub from : Dialling
   pub side : Spare
@@ -254,16 +288,20 @@ IsPlain flows reply = reply ≡ replies.Dialled → led_to flows.stream.terms.pl
 
 -- ---- what follows HTTP
 
+-- where that is; a WebSocket works off at once what has come
+abbrev pub follows_to : ℕ → Visitor → Place → Standing → List (Timed Event) → Turn Stage Command
+follows_to conv client place standing prefix = begun conv client (pass_http conv client place standing prefix) prefix
+
 -- Where it stands, and what it owes there beside what HTTP did; and no more asks may follow.
-pub record FollowsAt (conv : ℕ) (client : Option Address) (flows : HttpConv) (next : Child) (more : List Command) (place : Place) (standing : Standing) (prefix : List (Timed Event)) : Type 0 where
-  pub there : IsChild conv client next (or_stays (http place standing) (hands_over place standing prefix)) prefix
+pub record FollowsAt (conv : ℕ) (client : Visitor) (flows : HttpConv) (next : Child) (more : List Command) (place : Place) (standing : Standing) (prefix : List (Timed Event)) : Type 0 where
+  pub there : IsChild conv client next (follows_to conv client place standing prefix).stage prefix
   pub gives : (view : View) → seen_of view (owed_here (flows_at conv client place) standing prefix) ++ seen_of view more
-      ≡ seen_of view (owed_here (stack_chain conv client) (or_stays (http place standing) (hands_over place standing prefix)) prefix)
+      ≡ seen_of view ((follows_to conv client place standing prefix).owed ++ owed_here (stack_chain conv client) (follows_to conv client place standing prefix).stage prefix)
   pub left : left_by next ≤ sequence_left flows.stream + tunnel_left place
 
-abbrev pub Follows : HttpConv → Child → List Command → Type 0
-Follows flows next more = (conv : ℕ) (client : Option Address) (place : Place) (standing : Standing) (prefix : List (Timed Event)) →
-    IsInFlows conv client place flows standing prefix → OpensInTime standing.spare prefix → FollowsAt conv client flows next more place standing prefix
+abbrev pub Follows : List ℕ → HttpConv → Child → List Command → Type 0
+Follows key flows next more = (conv : ℕ) (client : Visitor) (place : Place) (standing : Standing) (prefix : List (Timed Event)) →
+    client.key ≡ key → IsInFlows conv client place flows standing prefix → OpensInTime standing.spare prefix → FollowsAt conv client flows next more place standing prefix
 
 -- what HTTP asked is asked, or it asked nothing
 abbrev pub AsksBehind : HttpConv → Child → List Command → List Command → Type 0
@@ -271,10 +309,10 @@ AsksBehind flows next out longer = (before : List Command) → AsksOnly (awaits 
 
 -- ---- calls
 
-abbrev pub TakesChild : ℕ → Option Address → Child → Child → ℕ → Event → List Command → Type 0
+abbrev pub TakesChild : ℕ → Visitor → Child → Child → ℕ → Event → List Command → Type 0
 TakesChild conv client child next moment event more = (stage : Stage) (prefix : List (Timed Event)) → IsChild conv client child stage prefix →
     Takes (stack_chain conv client) (IsChild conv client) next moment event more stage prefix
 
-abbrev pub ResumesChild : ℕ → Option Address → Child → Child → ℕ → Reply → List Command → Type 0
+abbrev pub ResumesChild : ℕ → Visitor → Child → Child → ℕ → Reply → List Command → Type 0
 ResumesChild conv client child next moment reply more = (stage : Stage) (prefix : List (Timed Event)) → IsChild conv client child stage prefix →
     Resumes (stack_chain conv client) (IsChild conv client) next moment reply more stage prefix

@@ -6,6 +6,7 @@ ghost use Rattle.px_tunnel.specs.Reaching.{rest_of};
 use px_event::{Ask, Layer};
 use px_http::HttpConv;
 use px_message::{Address, Flow};
+use px_relay::WsLayer;
 use px_stream::Numbers;
 use px_text::Bytes;
 use px_tunnel::{RawTunnel, UpstreamTunnel};
@@ -46,6 +47,13 @@ pub struct Relay {
     pub spare: Option<u32>,
 }
 
+/// A WebSocket, and the spare side that was left, while it is connected.
+#[derive(Drop)]
+pub struct Socket {
+    pub layer: Box<WsLayer>,
+    pub spare: Option<u32>,
+}
+
 /// What a conversation keeps.
 #[derive(Drop)]
 pub enum Child {
@@ -59,6 +67,8 @@ pub enum Child {
     Undecided { opening: Opening, server: u32 },
     /// Each side's bytes go to the other.
     Raw(Relay),
+    /// Each side's frames go to the other, and whole messages are asked about.
+    Socket(Socket),
     /// Nothing: it has ended.
     Over,
 }
@@ -82,7 +92,7 @@ fn size_of_goal(goal: &Goal) -> usize
 }
 
 impl Child {
-    /// What is awaited: what HTTP does, or the server of a CONNECT.
+    /// What is awaited: what HTTP does, the server of a CONNECT, or a message of a WebSocket.
     pub fn waiting(&self) -> Option<Ask>
         ensures { result ≡ awaited_by self.now }
     {
@@ -91,12 +101,13 @@ impl Child {
             Child::Connecting { opening, .. } => Some(Ask::Dial {
                 server: opening.numbers.server,
             }),
+            Child::Socket(socket) => socket.layer.waiting(),
             Child::Reaching(_) | Child::Undecided { .. } | Child::Raw(_) | Child::Over => None,
         }
     }
 
-    /// How many bytes it keeps, or 2^64 - 1 where that is more: what HTTP does, those by which nothing is decided, and those of a proxy's
-    /// head.
+    /// How many bytes it keeps, or 2^64 - 1 where that is more: what HTTP or a WebSocket does, those by which nothing is decided, and those
+    /// of a proxy's head.
     pub fn kept(&self) -> usize
         ensures { result ≡ min (kept_by self.now) (2 ^ 64 - 1) }
     {
@@ -104,6 +115,7 @@ impl Child {
             Child::Http(http) => http.kept(),
             Child::Reaching(reaching) => reaching.kept(),
             Child::Undecided { opening, .. } => opening.rest.len(),
+            Child::Socket(socket) => socket.layer.kept(),
             Child::Connecting { .. } | Child::Raw(_) | Child::Over => 0,
         }
     }

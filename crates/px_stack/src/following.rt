@@ -1,16 +1,19 @@
 //! What follows HTTP: it goes on, a CONNECT is answered, another protocol goes on, or it has ended.
-ghost use Rattle.std.specs.Prelude.{◌≡◌, ◌++◌, ◌∷◌, [], Some, None, IfOk, OnOk, unwrap_or};
+ghost use Rattle.std.specs.Prelude.{◌≡◌, ◌≤◌, ◌++◌, ◌∷◌, ℕ, List, [], Some, None, IfOk, OnOk, unwrap_or};
+ghost use Rattle.rand_chacha.specs.ChaCha.{key_of};
+ghost use Rattle.px_event.specs.Layer.{AsksOnly};
 ghost use Rattle.px_event.specs.declared.command.Command.TheVariants.{Dial as TheDial};
 ghost use Rattle.px_stream.specs.Rests.{phase_flow, phase_rest};
 ghost use Rattle.px_stream.specs.Sequence.{asked_tunnel, open_spare, outcome_in, upgraded_side};
 ghost use Rattle.px_exchange.specs.declared.ending.Used.TheVariants.{ByServer as TheServer};
 ghost use Rattle.px_stack.specs.Chain.{proxy_at};
-ghost use Rattle.px_stack.specs.Kept.{shut_open};
-ghost use Rattle.px_stack.specs.Steps.{Adds, AsksBehind, Follows};
+ghost use Rattle.px_stack.specs.Kept.{awaited_by, left_by, most_asked, shut_open};
+ghost use Rattle.px_stack.specs.Steps.{Adds, AsksBehind, Follows, GoesOnAs};
 
 use crate::child::{Child, Opening};
 use crate::closing::{Sides, close_spare};
 use crate::relay::begin_relay;
+use crate::socket::{Means, begin_socket, is_websocket};
 use px_event::{Command, Rests};
 use px_exchange::ending::Used;
 use px_exchange::{Outcome, Place};
@@ -19,14 +22,14 @@ use px_message::{Address, Flow};
 use px_text::NoMemory;
 
 /// What follows HTTP, which has worked off all that came.
-pub fn follow(http: Box<HttpConv>, out: &mut Vec<Command>) -> Result<Child, NoMemory>
-    ensures follows { IfOk result (λ next. Adds (Follows http.value next) out.old.items out.new.items) }
+pub fn follow(means: Means, http: Box<HttpConv>, out: &mut Vec<Command>) -> Result<Child, NoMemory>
+    ensures follows { IfOk result (λ next. Adds (Follows (key_of means.mask_key) http.value next) out.old.items out.new.items) }
     ensures asks { IfOk result (λ next. AsksBehind http.value next out.old.items out.new.items) }
 {
     match http.outcome() {
         Outcome::Going => Ok(Child::Http(http)),
         Outcome::Connects => connect(http, out),
-        Outcome::Upgraded => upgrade(http, out),
+        Outcome::Upgraded => upgrade(means, http, out),
         Outcome::Next | Outcome::Over => end(http, out),
     }
 }
@@ -34,7 +37,7 @@ pub fn follow(http: Box<HttpConv>, out: &mut Vec<Command>) -> Result<Child, NoMe
 // The server of a CONNECT is dialled.
 fn connect(http: Box<HttpConv>, out: &mut Vec<Command>) -> Result<Child, NoMemory>
     requires { outcome_in http.value.stream.phase ≡ Outcome.Connects }
-    ensures follows { IfOk result (λ next. Adds (Follows http.value next) out.old.items out.new.items) }
+    ensures follows { IfOk result (λ next. Adds (λ more. (key : List ℕ) → Follows key http.value next more) out.old.items out.new.items) }
     ensures asks { IfOk result (λ next. AsksBehind http.value next out.old.items out.new.items) }
 {
     let closed = http.client_closed();
@@ -100,16 +103,38 @@ fn read_address(http: &HttpConv) -> Result<Address, NoMemory>
     }
 }
 
-// Another protocol goes on, on the same connections.
-fn upgrade(http: Box<HttpConv>, out: &mut Vec<Command>) -> Result<Child, NoMemory>
+// Another protocol goes on, on the same connections: a WebSocket, or one that is not read.
+fn upgrade(means: Means, http: Box<HttpConv>, out: &mut Vec<Command>) -> Result<Child, NoMemory>
     requires { outcome_in http.value.stream.phase ≡ Outcome.Upgraded }
-    ensures follows { IfOk result (λ next. Adds (Follows http.value next) out.old.items out.new.items) }
+    ensures follows { IfOk result (λ next. Adds (Follows (key_of means.mask_key) http.value next) out.old.items out.new.items) }
     ensures asks { IfOk result (λ next. AsksBehind http.value next out.old.items out.new.items) }
 {
     let sides = read_sides(&http);
     let spare = http.spare();
     let (rests, flow) = Box::into_inner(http).into_rests()?;
-    begin_relay(sides, rests, flow, spare, out)
+    match flow {
+        Some(flow) => go_on_as(means, sides, rests, flow, spare, out),
+        None => unreachable!(),
+    }
+}
+
+// Goes on as what its flow asked for.
+fn go_on_as(
+    means: Means,
+    sides: Sides,
+    rests: Rests,
+    flow: Flow,
+    spare: Option<u32>,
+    out: &mut Vec<Command>,
+) -> Result<Child, NoMemory>
+    ensures follows { IfOk result (λ next. Adds (GoesOnAs (key_of means.mask_key) sides rests flow spare next) out.old.items out.new.items) }
+    ensures asks { IfOk result (λ next. AsksOnly (awaited_by next) out.old.items out.new.items) }
+    ensures left { IfOk result (λ next. left_by next ≤ most_asked) }
+{
+    if is_websocket(&flow, sides.closed) {
+        return begin_socket(means, sides, rests, flow, spare, out);
+    }
+    begin_relay(sides, rests, Some(flow), spare, out)
 }
 
 // The sides on which it goes on.

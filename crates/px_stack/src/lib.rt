@@ -24,6 +24,7 @@ pub mod laws;
 mod placed;
 mod reaching;
 mod relay;
+mod socket;
 mod stack;
 
 pub use placed::Placed;

@@ -10,7 +10,9 @@ ghost use Rattle.px_message.specs.declared.address.Address.{Address};
 ghost use Rattle.px_tunnel.specs.Reaching.{HasHeard};
 ghost use Rattle.px_stack.specs.Kept.{goal_left, is_left};
 ghost use Rattle.px_stack.specs.Reached.{HearsProxy, says_answer, says_close};
+ghost use Rattle.px_stack.specs.Stages.{Visitor};
 ghost use Rattle.px_stack.specs.Steps.{HearsGoal, IsGoalSomewhere};
+ghost use Rattle.px_stack.specs.Stages.{Visitor};
 
 use crate::child::{Child, Goal, Opening, Reaching};
 use crate::closing::close_server;
@@ -131,7 +133,7 @@ pub fn leave(reaching: Reaching, out: &mut Vec<Command>) -> Result<Child, NoMemo
 pub fn hear_goal(alloc: Global, goal: Goal, event: &Event) -> Result<Goal, NoMemory>
     requires there { IsGoalSomewhere goal }
     requires stays { is_left goal event.now ≡ false }
-    ensures hears { IfOk result (λ next. (conv : ℕ) (client : Option Address) (moment : ℕ) → HearsGoal conv client goal next moment event.now) }
+    ensures hears { IfOk result (λ next. (conv : ℕ) (client : Visitor) (moment : ℕ) → HearsGoal conv client goal next moment event.now) }
     ensures left { IfOk result (λ next. goal_left next ≡ goal_left goal) }
 {
     match goal {

@@ -77,8 +77,8 @@ fn end_relay(relay: Relay, sides: Sides, out: &mut Vec<Command>) -> Result<Child
     Ok(Child::Over)
 }
 
-// The spare side, unless the event closes it.
-fn still_open(spare: Option<u32>, event: &Event) -> Option<u32>
+/// The spare side, unless the event closes it.
+pub fn still_open(spare: Option<u32>, event: &Event) -> Option<u32>
     ensures { result ≡ open_behind spare event.now }
 {
     match (spare, event) {

@@ -1,15 +1,17 @@
 //! A conversation: HTTP, until a CONNECT or a response of code 101 hands over, and what follows.
 ghost use Rattle.std.specs.Prelude.{◌≡◌, ◌≤◌, ◌<◌, ◌++◌, ℕ, List, [], Option, Some, None, IfOk, OnOk, false};
+ghost use Rattle.rand_chacha.specs.ChaCha.{key_of};
 ghost use Rattle.px_event.specs.Layer.{AsksOnly, MayAnswer};
 ghost use Rattle.px_exchange.specs.Places.{place_of, terms_of};
 ghost use Rattle.px_http.specs.Stands.{HttpStands};
 ghost use Rattle.px_stack.specs.Chain.{begins};
 ghost use Rattle.px_stack.specs.Chain.{unless_closed};
 ghost use Rattle.px_stack.specs.Kept.{awaited_by, goal_left, is_left, left_by, opened_left};
-ghost use Rattle.px_stack.specs.Stack.{StackStands, awaits, start_of};
+ghost use Rattle.px_stack.specs.Stack.{StackStands, awaits, start_of, visitor_of};
 ghost use Rattle.px_stack.specs.Stands.{IsSomewhere};
 ghost use Rattle.px_stack.specs.Steps.{Adds, AsksFor, CanGoOn, CanReach, Decides, GoesInside, IsFewDials, IsGoalSomewhere, IsPlain, Leads, LetsThrough, Opens, Relays, ResumesChild, TakesChild, Tells, TurnsAway};
 ghost use Rattle.px_stream.specs.Through.{led_to};
+ghost use Rattle.px_stack.specs.Stages.{Visitor};
 
 use crate::child::{Child, Goal, Opening, Reaching};
 use crate::closing::{Sides, close_server, close_sides, closed_by};
@@ -17,6 +19,7 @@ use crate::deciding::{has_method, may_have_method};
 use crate::following::follow;
 use crate::reaching::{ProxySays, add, hear_goal, hear_proxy, is_left, leave};
 use crate::relay::{begin_relay, relay_takes};
+use crate::socket::{Means, socket_resumes, socket_takes};
 use px_event::{Ask, Command, Event, Layer, Reply, Rests, Side};
 use px_exchange::ending::refuse;
 use px_exchange::said::send;
@@ -36,17 +39,27 @@ pub struct Stack {
     alloc: Global,
     conv: u32,
     client: Option<Address>,
+    // the key of the masks of frames
+    mask_key: [u8; 32],
     child: Child,
 }
 
 impl Stack {
-    /// The conversation of this number in this mode, whose client is at the other end of its connection there.
+    /// The conversation of this number in this mode, whose client is at the other end of its connection there, with this key for the
+    /// masks of frames.
     ///
     /// It stands for itself by no moves, has given nothing and awaits nothing.
-    pub fn new(alloc: Global, mode: &Mode, conv: u32, peer: &Address) -> Result<Stack, NoMemory>
+    pub fn new(
+        alloc: Global,
+        mode: &Mode,
+        conv: u32,
+        peer: &Address,
+        mask_key: [u8; 32],
+    ) -> Result<Stack, NoMemory>
         ensures stands { IfOk result (λ made. StackStands made made [] []) }
         ensures conv { IfOk result (λ made. made.conv ≡ conv) }
         ensures client { IfOk result (λ made. made.client ≡ Some peer.now) }
+        ensures mask_key { IfOk result (λ made. made.mask_key ≡ mask_key) }
         ensures start { IfOk result (λ made. start_of made ≡ begins mode.now) }
         ensures free { IfOk result (λ made. awaits made ≡ None) }
     {
@@ -56,8 +69,19 @@ impl Stack {
             alloc,
             conv,
             client,
+            mask_key,
             child: Child::Http(http),
         })
+    }
+
+    // What a WebSocket of this conversation is made with.
+    fn means(&self) -> Means
+        ensures { key_of result.mask_key ≡ (visitor_of self.now).key }
+    {
+        Means {
+            alloc: self.alloc,
+            mask_key: self.mask_key,
+        }
     }
 
     // Takes an event.
@@ -68,14 +92,14 @@ impl Stack {
         event: Event,
         out: &mut Vec<Command>,
     ) -> Result<Child, NoMemory>
-        requires somewhere { IsSomewhere self.now.conv self.now.client child }
+        requires somewhere { IsSomewhere self.now.conv (visitor_of self.now) child }
         requires free { awaited_by child ≡ None }
-        ensures takes { IfOk result (λ next. Adds (TakesChild self.now.conv self.now.client child next moment event) out.old.items out.new.items) }
+        ensures takes { IfOk result (λ next. Adds (TakesChild self.now.conv (visitor_of self.now) child next moment event) out.old.items out.new.items) }
         ensures asks { IfOk result (λ next. AsksOnly (awaited_by next) out.old.items out.new.items) }
         ensures left { IfOk result (λ next. left_by next ≤ left_by child) }
     {
         match child {
-            Child::Http(http) => http_takes(http, moment, event, out),
+            Child::Http(http) => http_takes(self.means(), http, moment, event, out),
             Child::Connecting { .. } => unreachable!(),
             Child::Reaching(reaching) => {
                 let taken = self.reaching_takes(reaching, moment, &event, out);
@@ -89,6 +113,11 @@ impl Stack {
             }
             Child::Raw(relay) => {
                 let taken = relay_takes(relay, &event, out);
+                drop(event);
+                taken
+            }
+            Child::Socket(socket) => {
+                let taken = socket_takes(socket, &event, out);
                 drop(event);
                 taken
             }
@@ -107,8 +136,8 @@ impl Stack {
         event: &Event,
         out: &mut Vec<Command>,
     ) -> Result<Child, NoMemory>
-        requires somewhere { IsSomewhere self.now.conv self.now.client (Child.Reaching reaching) }
-        ensures takes { IfOk result (λ next. Adds (TakesChild self.now.conv self.now.client (Child.Reaching reaching) next moment event.now) out.old.items out.new.items) }
+        requires somewhere { IsSomewhere self.now.conv (visitor_of self.now) (Child.Reaching reaching) }
+        ensures takes { IfOk result (λ next. Adds (TakesChild self.now.conv (visitor_of self.now) (Child.Reaching reaching) next moment event.now) out.old.items out.new.items) }
         ensures asks { IfOk result (λ next. AsksOnly (awaited_by next) out.old.items out.new.items) }
         ensures left { IfOk result (λ next. left_by next ≤ left_by (Child.Reaching reaching)) }
     {
@@ -126,9 +155,9 @@ impl Stack {
         event: &Event,
         out: &mut Vec<Command>,
     ) -> Result<Child, NoMemory>
-        requires somewhere { IsSomewhere self.now.conv self.now.client (Child.Reaching reaching) }
+        requires somewhere { IsSomewhere self.now.conv (visitor_of self.now) (Child.Reaching reaching) }
         requires stays { is_left reaching.goal event.now ≡ false }
-        ensures takes { IfOk result (λ next. Adds (TakesChild self.now.conv self.now.client (Child.Reaching reaching) next moment event.now) out.old.items out.new.items) }
+        ensures takes { IfOk result (λ next. Adds (TakesChild self.now.conv (visitor_of self.now) (Child.Reaching reaching) next moment event.now) out.old.items out.new.items) }
         ensures asks { IfOk result (λ next. AsksOnly (awaited_by next) out.old.items out.new.items) }
         ensures left { IfOk result (λ next. left_by next ≤ left_by (Child.Reaching reaching)) }
     {
@@ -163,7 +192,7 @@ impl Stack {
         out: &mut Vec<Command>,
     ) -> Result<Child, NoMemory>
         requires there { CanGoOn server goal rest moment }
-        ensures lets_through { IfOk result (λ next. Adds (LetsThrough self.now.conv self.now.client server goal rest moment next) out.old.items out.new.items) }
+        ensures lets_through { IfOk result (λ next. Adds (LetsThrough self.now.conv (visitor_of self.now) server goal rest moment next) out.old.items out.new.items) }
         ensures asks { IfOk result (λ next. AsksOnly (awaited_by next) out.old.items out.new.items) }
         ensures left { IfOk result (λ next. left_by next ≤ goal_left goal) }
     {
@@ -174,7 +203,7 @@ impl Stack {
             }
             Goal::Flow(http) => {
                 let rest = unless_closed(http.client_closed(), rest);
-                reach(http, rest, moment, out)
+                reach(self.means(), http, rest, moment, out)
             }
         }
     }
@@ -189,7 +218,7 @@ impl Stack {
         out: &mut Vec<Command>,
     ) -> Result<Child, NoMemory>
         requires few { IsFewDials opening server }
-        ensures opens { IfOk result (λ next. Adds (Opens self.now.conv self.now.client opening server rest moment next) out.old.items out.new.items) }
+        ensures opens { IfOk result (λ next. Adds (Opens self.now.conv (visitor_of self.now) opening server rest moment next) out.old.items out.new.items) }
         ensures asks { IfOk result (λ next. AsksOnly (awaited_by next) out.old.items out.new.items) }
         ensures left { IfOk result (λ next. left_by next ≤ opened_left) }
     {
@@ -209,7 +238,7 @@ impl Stack {
         out: &mut Vec<Command>,
     ) -> Result<Child, NoMemory>
         requires there { IsGoalSomewhere goal }
-        ensures turns_away { IfOk result (λ next. Adds (TurnsAway self.now.conv self.now.client server goal shut moment next) out.old.items out.new.items) }
+        ensures turns_away { IfOk result (λ next. Adds (TurnsAway self.now.conv (visitor_of self.now) server goal shut moment next) out.old.items out.new.items) }
         ensures asks { IfOk result (λ next. AsksOnly (awaited_by next) out.old.items out.new.items) }
         ensures left { IfOk result (λ next. left_by next ≤ goal_left goal) }
     {
@@ -225,7 +254,7 @@ impl Stack {
                 close_server(server, shut, out)?;
                 Ok(Child::Over)
             }
-            Goal::Flow(http) => refuse_flow(http, server, shut, moment, out),
+            Goal::Flow(http) => refuse_flow(self.means(), http, server, shut, moment, out),
         }
     }
 
@@ -238,8 +267,8 @@ impl Stack {
         event: &Event,
         out: &mut Vec<Command>,
     ) -> Result<Child, NoMemory>
-        requires somewhere { IsSomewhere self.now.conv self.now.client (Child.Undecided opening server) }
-        ensures takes { IfOk result (λ next. Adds (TakesChild self.now.conv self.now.client (Child.Undecided opening server) next moment event.now) out.old.items out.new.items) }
+        requires somewhere { IsSomewhere self.now.conv (visitor_of self.now) (Child.Undecided opening server) }
+        ensures takes { IfOk result (λ next. Adds (TakesChild self.now.conv (visitor_of self.now) (Child.Undecided opening server) next moment event.now) out.old.items out.new.items) }
         ensures asks { IfOk result (λ next. AsksOnly (awaited_by next) out.old.items out.new.items) }
         ensures left { IfOk result (λ next. left_by next ≤ opened_left) }
     {
@@ -266,7 +295,7 @@ impl Stack {
         out: &mut Vec<Command>,
     ) -> Result<Child, NoMemory>
         requires few { IsFewDials opening server }
-        ensures takes { IfOk result (λ next. Adds (TakesChild self.now.conv self.now.client (Child.Undecided opening server) next moment (Event.Piece side bytes.now)) out.old.items out.new.items) }
+        ensures takes { IfOk result (λ next. Adds (TakesChild self.now.conv (visitor_of self.now) (Child.Undecided opening server) next moment (Event.Piece side bytes.now)) out.old.items out.new.items) }
         ensures asks { IfOk result (λ next. AsksOnly (awaited_by next) out.old.items out.new.items) }
         ensures left { IfOk result (λ next. left_by next ≤ opened_left) }
     {
@@ -291,7 +320,7 @@ impl Stack {
         out: &mut Vec<Command>,
     ) -> Result<Child, NoMemory>
         requires few { IsFewDials opening server }
-        ensures decides { IfOk result (λ next. Adds (Decides self.now.conv self.now.client opening server moment next) out.old.items out.new.items) }
+        ensures decides { IfOk result (λ next. Adds (Decides self.now.conv (visitor_of self.now) opening server moment next) out.old.items out.new.items) }
         ensures asks { IfOk result (λ next. AsksOnly (awaited_by next) out.old.items out.new.items) }
         ensures left { IfOk result (λ next. left_by next ≤ opened_left) }
     {
@@ -313,7 +342,7 @@ impl Stack {
         out: &mut Vec<Command>,
     ) -> Result<Child, NoMemory>
         requires few { IsFewDials opening server }
-        ensures inside { IfOk result (λ next. Adds (GoesInside self.now.conv self.now.client opening server moment next) out.old.items out.new.items) }
+        ensures inside { IfOk result (λ next. Adds (GoesInside self.now.conv (visitor_of self.now) opening server moment next) out.old.items out.new.items) }
         ensures asks { IfOk result (λ next. AsksOnly (awaited_by next) out.old.items out.new.items) }
         ensures left { IfOk result (λ next. left_by next ≤ opened_left) }
     {
@@ -337,7 +366,7 @@ impl Stack {
             numbers.server,
         );
         http.begin(moment, false, &rest, out)?;
-        follow(Box::new(self.alloc, http)?, out)
+        follow(self.means(), Box::new(self.alloc, http)?, out)
     }
 
     // Takes the reply to what is awaited.
@@ -348,9 +377,9 @@ impl Stack {
         reply: Reply,
         out: &mut Vec<Command>,
     ) -> Result<Child, NoMemory>
-        requires somewhere { IsSomewhere self.now.conv self.now.client child }
+        requires somewhere { IsSomewhere self.now.conv (visitor_of self.now) child }
         requires answers { MayAnswer (awaited_by child) reply }
-        ensures resumes { IfOk result (λ next. Adds (ResumesChild self.now.conv self.now.client child next moment reply) out.old.items out.new.items) }
+        ensures resumes { IfOk result (λ next. Adds (ResumesChild self.now.conv (visitor_of self.now) child next moment reply) out.old.items out.new.items) }
         ensures asks { IfOk result (λ next. AsksOnly (awaited_by next) out.old.items out.new.items) }
         ensures left { IfOk result (λ next. left_by next < left_by child) }
     {
@@ -358,6 +387,11 @@ impl Stack {
             Child::Http(http) => self.http_answers(http, moment, reply, out),
             Child::Connecting { opening, closed } => {
                 self.dialled(opening, closed, moment, reply, out)
+            }
+            Child::Socket(socket) => {
+                let resumed = socket_resumes(socket, moment, &reply, out);
+                drop(reply);
+                resumed
             }
             Child::Reaching(_) | Child::Undecided { .. } | Child::Raw(_) | Child::Over => {
                 unreachable!()
@@ -373,15 +407,15 @@ impl Stack {
         reply: Reply,
         out: &mut Vec<Command>,
     ) -> Result<Child, NoMemory>
-        requires somewhere { IsSomewhere self.now.conv self.now.client (Child.Http http) }
+        requires somewhere { IsSomewhere self.now.conv (visitor_of self.now) (Child.Http http) }
         requires answers { MayAnswer (awaited_by (Child.Http http)) reply }
-        ensures resumes { IfOk result (λ next. Adds (ResumesChild self.now.conv self.now.client (Child.Http http) next moment reply) out.old.items out.new.items) }
+        ensures resumes { IfOk result (λ next. Adds (ResumesChild self.now.conv (visitor_of self.now) (Child.Http http) next moment reply) out.old.items out.new.items) }
         ensures asks { IfOk result (λ next. AsksOnly (awaited_by next) out.old.items out.new.items) }
         ensures left { IfOk result (λ next. left_by next < left_by (Child.Http http)) }
     {
         match reply {
             Reply::Dialled => self.flow_dialled(http, moment, out),
-            other => http_resumes(http, moment, other, out),
+            other => http_resumes(self.means(), http, moment, other, out),
         }
     }
 
@@ -392,15 +426,15 @@ impl Stack {
         moment: u64,
         out: &mut Vec<Command>,
     ) -> Result<Child, NoMemory>
-        requires somewhere { IsSomewhere self.now.conv self.now.client (Child.Http http) }
+        requires somewhere { IsSomewhere self.now.conv (visitor_of self.now) (Child.Http http) }
         requires answers { MayAnswer (awaited_by (Child.Http http)) Reply.Dialled }
-        ensures resumes { IfOk result (λ next. Adds (ResumesChild self.now.conv self.now.client (Child.Http http) next moment Reply.Dialled) out.old.items out.new.items) }
+        ensures resumes { IfOk result (λ next. Adds (ResumesChild self.now.conv (visitor_of self.now) (Child.Http http) next moment Reply.Dialled) out.old.items out.new.items) }
         ensures asks { IfOk result (λ next. AsksOnly (awaited_by next) out.old.items out.new.items) }
         ensures left { IfOk result (λ next. left_by next < left_by (Child.Http http)) }
     {
         match http.leads_to()? {
             Some(address) => self.ask_proxy(http, &address, out),
-            None => http_resumes(http, moment, Reply::Dialled, out),
+            None => http_resumes(self.means(), http, moment, Reply::Dialled, out),
         }
     }
 
@@ -411,9 +445,9 @@ impl Stack {
         address: &Address,
         out: &mut Vec<Command>,
     ) -> Result<Child, NoMemory>
-        requires somewhere { IsSomewhere self.now.conv self.now.client (Child.Http http) }
+        requires somewhere { IsSomewhere self.now.conv (visitor_of self.now) (Child.Http http) }
         requires leads { led_to http.value.stream.terms.place http.value.stream.phase ≡ Some address.now }
-        ensures resumes { (moment : ℕ) → IfOk result (λ next. Adds (ResumesChild self.now.conv self.now.client (Child.Http http) next moment Reply.Dialled) out.old.items out.new.items) }
+        ensures resumes { (moment : ℕ) → IfOk result (λ next. Adds (ResumesChild self.now.conv (visitor_of self.now) (Child.Http http) next moment Reply.Dialled) out.old.items out.new.items) }
         ensures asks { IfOk result (λ next. AsksOnly (awaited_by next) out.old.items out.new.items) }
         ensures left { IfOk result (λ next. left_by next < left_by (Child.Http http)) }
     {
@@ -439,8 +473,8 @@ impl Stack {
         reply: Reply,
         out: &mut Vec<Command>,
     ) -> Result<Child, NoMemory>
-        requires somewhere { IsSomewhere self.now.conv self.now.client (Child.Connecting opening closed) }
-        ensures resumes { IfOk result (λ next. Adds (ResumesChild self.now.conv self.now.client (Child.Connecting opening closed) next moment reply) out.old.items out.new.items) }
+        requires somewhere { IsSomewhere self.now.conv (visitor_of self.now) (Child.Connecting opening closed) }
+        ensures resumes { IfOk result (λ next. Adds (ResumesChild self.now.conv (visitor_of self.now) (Child.Connecting opening closed) next moment reply) out.old.items out.new.items) }
         ensures asks { IfOk result (λ next. AsksOnly (awaited_by next) out.old.items out.new.items) }
         ensures left { IfOk result (λ next. left_by next ≤ opened_left) }
     {
@@ -467,8 +501,8 @@ impl Stack {
         moment: u64,
         out: &mut Vec<Command>,
     ) -> Result<Child, NoMemory>
-        requires somewhere { IsSomewhere self.now.conv self.now.client (Child.Connecting opening closed) }
-        ensures resumes { IfOk result (λ next. Adds (ResumesChild self.now.conv self.now.client (Child.Connecting opening closed) next moment Reply.Dialled) out.old.items out.new.items) }
+        requires somewhere { IsSomewhere self.now.conv (visitor_of self.now) (Child.Connecting opening closed) }
+        ensures resumes { IfOk result (λ next. Adds (ResumesChild self.now.conv (visitor_of self.now) (Child.Connecting opening closed) next moment Reply.Dialled) out.old.items out.new.items) }
         ensures asks { IfOk result (λ next. AsksOnly (awaited_by next) out.old.items out.new.items) }
         ensures left { IfOk result (λ next. left_by next ≤ opened_left) }
     {
@@ -517,7 +551,7 @@ impl Stack {
         out: &mut Vec<Command>,
     ) -> Result<Child, NoMemory>
         requires few { IsFewDials opening server }
-        ensures tells { IfOk result (λ next. Adds (Tells self.now.conv self.now.client opening server closed moment next) out.old.items out.new.items) }
+        ensures tells { IfOk result (λ next. Adds (Tells self.now.conv (visitor_of self.now) opening server closed moment next) out.old.items out.new.items) }
         ensures asks { IfOk result (λ next. AsksOnly (awaited_by next) out.old.items out.new.items) }
         ensures left { IfOk result (λ next. left_by next ≤ opened_left) }
     {
@@ -551,60 +585,64 @@ fn new_http(
 
 // HTTP takes an event, and what follows it.
 fn http_takes(
+    means: Means,
     http: Box<HttpConv>,
     moment: u64,
     event: Event,
     out: &mut Vec<Command>,
 ) -> Result<Child, NoMemory>
-    requires somewhere { (conv : ℕ) × (client : Option Address) × IsSomewhere conv client (Child.Http http) }
+    requires somewhere { (conv : ℕ) × (client : Visitor) × IsSomewhere conv client (Child.Http http) }
     requires free { awaited_by (Child.Http http) ≡ None }
-    ensures takes { IfOk result (λ next. Adds (λ more. (conv : ℕ) (client : Option Address) → TakesChild conv client (Child.Http http) next moment event more) out.old.items out.new.items) }
+    ensures takes { IfOk result (λ next. Adds (λ more. (conv : ℕ) (client : Visitor) → client.key ≡ key_of means.mask_key → TakesChild conv client (Child.Http http) next moment event more) out.old.items out.new.items) }
     ensures asks { IfOk result (λ next. AsksOnly (awaited_by next) out.old.items out.new.items) }
     ensures left { IfOk result (λ next. left_by next ≤ left_by (Child.Http http)) }
 {
     let mut http = http;
     http.take_anywhere(moment, event, out)?;
-    follow(http, out)
+    follow(means, http, out)
 }
 
 // HTTP takes a reply that is not the connection of another proxy, and what follows it.
 fn http_resumes(
+    means: Means,
     http: Box<HttpConv>,
     moment: u64,
     reply: Reply,
     out: &mut Vec<Command>,
 ) -> Result<Child, NoMemory>
-    requires somewhere { (conv : ℕ) × (client : Option Address) × IsSomewhere conv client (Child.Http http) }
+    requires somewhere { (conv : ℕ) × (client : Visitor) × IsSomewhere conv client (Child.Http http) }
     requires answers { MayAnswer (awaited_by (Child.Http http)) reply }
     requires plain { IsPlain http.value reply }
-    ensures resumes { IfOk result (λ next. Adds (λ more. (conv : ℕ) (client : Option Address) → ResumesChild conv client (Child.Http http) next moment reply more) out.old.items out.new.items) }
+    ensures resumes { IfOk result (λ next. Adds (λ more. (conv : ℕ) (client : Visitor) → client.key ≡ key_of means.mask_key → ResumesChild conv client (Child.Http http) next moment reply more) out.old.items out.new.items) }
     ensures asks { IfOk result (λ next. AsksOnly (awaited_by next) out.old.items out.new.items) }
     ensures left { IfOk result (λ next. left_by next < left_by (Child.Http http)) }
 {
     let mut http = http;
     http.resume_anywhere(moment, reply, out)?;
-    follow(http, out)
+    follow(means, http, out)
 }
 
 // The present flow is connected through another proxy, and goes on with what has come of its server.
 fn reach(
+    means: Means,
     http: Box<HttpConv>,
     rest: Bytes,
     moment: u64,
     out: &mut Vec<Command>,
 ) -> Result<Child, NoMemory>
     requires there { CanReach http rest moment }
-    ensures leads { IfOk result (λ next. Adds (Leads http rest moment next) out.old.items out.new.items) }
+    ensures leads { IfOk result (λ next. Adds (Leads (key_of means.mask_key) http rest moment next) out.old.items out.new.items) }
     ensures asks { IfOk result (λ next. AsksOnly (awaited_by next) out.old.items out.new.items) }
     ensures left { IfOk result (λ next. left_by next ≤ goal_left (Goal.Flow http)) }
 {
     let mut http = http;
     http.reach(moment, &rest, out)?;
-    follow(http, out)
+    follow(means, http, out)
 }
 
 // It is refused as by its dial, and the proxy's side is closed.
 fn refuse_flow(
+    means: Means,
     http: Box<HttpConv>,
     server: u32,
     shut: bool,
@@ -612,14 +650,14 @@ fn refuse_flow(
     out: &mut Vec<Command>,
 ) -> Result<Child, NoMemory>
     requires there { IsGoalSomewhere (Goal.Flow http) }
-    ensures turns_away { IfOk result (λ next. Adds (λ more. (conv : ℕ) (client : Option Address) → TurnsAway conv client server (Goal.Flow http) shut moment next more) out.old.items out.new.items) }
+    ensures turns_away { IfOk result (λ next. Adds (λ more. (conv : ℕ) (client : Visitor) → client.key ≡ key_of means.mask_key → TurnsAway conv client server (Goal.Flow http) shut moment next more) out.old.items out.new.items) }
     ensures asks { IfOk result (λ next. AsksOnly (awaited_by next) out.old.items out.new.items) }
     ensures left { IfOk result (λ next. left_by next ≤ goal_left (Goal.Flow http)) }
 {
     let mut http = http;
     http.resume_anywhere(moment, Reply::Refused(Fault::UpstreamRefused), out)?;
     close_server(server, shut, out)?;
-    follow(http, out)
+    follow(means, http, out)
 }
 
 // What came of a server, unless the client has closed: behind its close nothing is heard.

@@ -1,9 +1,3 @@
-use Rattle.std.proofs.Common.{ap, sym, ◌∙◌, subst}
-use Rattle.px_event.specs.declared.event.Event.{Event}
-use Rattle.px_stack.specs.declared.child.Goal.{Goal as KeptGoal}
-use Rattle.px_stack.specs.declared.child.Goal.TheVariants as goals
-use Rattle.px_stack.specs.Kept.{is_left}
-use Rattle.px_stack.specs.Steps.{HearsGoal}
 use Rattle.px_stack.proofs.GoalLemmas.{flow_heard, tunnel_heard}
 use Rattle.px_stack.proofs.reaching.hear_goal.Goals as goal
 

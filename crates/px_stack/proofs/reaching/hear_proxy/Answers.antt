@@ -1,4 +1,3 @@
-use Rattle.std.proofs.Common.{ap, sym, ◌∙◌, refl}
 use Rattle.px_event.specs.declared.side.Side.TheVariants.{Server}
 use Rattle.px_stack.proofs.SaidLemmas.{hears_nothing, unshut_others}
 use Rattle.px_stack.proofs.OpenedLemmas.{none_of_others}
