@@ -179,6 +179,7 @@ pub fn serve_clients(alloc: Global, count: u32) -> Result<u64, NoMemory> {
         &mut out,
         &mut notes,
         Vec::new(alloc),
+        [0; 32],
     ) {
         0 => Ok(out.bytes),
         _ => Err(NoMemory),

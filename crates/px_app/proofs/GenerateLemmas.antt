@@ -1,5 +1,5 @@
 -- Runs of generated flows.
-use Rattle.std.proofs.Common.{◌≡◌, ◌≢◌, ◌⊎◌, inl, inr, ℕ, [], Option, Some, None, refl, sym, ap, subst, arith}
+use Rattle.std.proofs.Common.{◌≡◌, ◌≢◌, ◌⊎◌, inl, inr, ℕ, List, [], Option, Some, None, refl, sym, ap, subst, arith}
 use Rattle.std.proofs.lemmas.List.{append-nil}
 use Rattle.px_event.specs.Trace.{Trace}
 use Rattle.px_core.specs.Answers.{Answering, Failing}
@@ -29,10 +29,10 @@ not_printed : (status : ℕ) → status ≡ 8 → (failed : Type 0) (P : Type 0)
 not_printed status is failed P (inl zero) = absurd (omega arith)
 not_printed status is failed P (inr (other, quiet)) = absurd (other is)
 
-module _ {S : Type 0} {answers : Answering S} {fails : Failing S} {IsChain : Settings → S → Type 0} {out : Type 0} where
+module _ {S : Type 0} {answers : Answering S} {fails : Failing S} {key : List ℕ} {IsChain : Settings → S → Type 0} {out : Type 0} where
   -- memory ran out before anything was told
   pub nothing_told : (count : ℕ) (before after : Outside) → after.trace ≡ before.trace → after.listening ≡ before.listening → after.written ≡ before.written → after.noted ≡ before.noted →
-      after.files ≡ before.files → Generates answers fails IsChain out count before after 8
+      after.files ≡ before.files → Generates answers fails key IsChain out count before after 8
   nothing_told count before after trace listening written notes files = record {
     run = [];
     hears = none_heard count;
@@ -51,8 +51,8 @@ module _ {S : Type 0} {answers : Answering S} {fails : Failing S} {IsChain : Set
   }
 
   -- the number is the one in the words
-  pub generates_at : {count other : ℕ} {before after : Outside} {status : ℕ} → count ≡ other → Generates answers fails IsChain out count before after status → Generates answers fails IsChain out other before after status
-  generates_at {before = before} {after = after} {status = status} same h = subst (λ n. Generates answers fails IsChain out n before after status) same h
+  pub generates_at : {count other : ℕ} {before after : Outside} {status : ℕ} → count ≡ other → Generates answers fails key IsChain out count before after status → Generates answers fails key IsChain out other before after status
+  generates_at {before = before} {after = after} {status = status} same h = subst (λ n. Generates answers fails key IsChain out n before after status) same h
 
 -- all was printed, but for a sink that failed and out of memory
 pub complete_by : (failed : Type 0) (status : ℕ) → (status ≡ 0) ⊎ ((status ≡ 7) ⊎ (status ≡ 8)) → (status ≡ 7 → failed) → ¬ failed → (status ≡ 0) ⊎ (status ≡ 8)
@@ -61,9 +61,9 @@ complete_by failed status (inr (inl seven)) lost quiet = absurd (quiet (lost sev
 complete_by failed status (inr (inr eight)) lost quiet = inr eight
 
 -- a run by one chain is one by a chain that is so
-pub generates_by : {S : Type 0} {answers : Answering S} {fails : Failing S} {IsChain : Settings → S → Type 0} {out : Type 0} {count : ℕ} {before after : Outside} {status : ℕ} (chain : S) →
-    IsChain generator_settings chain → Generates answers fails (λ settings other. other ≡ chain) out count before after status → Generates answers fails IsChain out count before after status
-generates_by {S} {answers} {fails} {IsChain} {out} {count} {before} {after} {status} chain so h = record {
+pub generates_by : {S : Type 0} {answers : Answering S} {fails : Failing S} {key : List ℕ} {IsChain : Settings → S → Type 0} {out : Type 0} {count : ℕ} {before after : Outside} {status : ℕ} (chain : S) →
+    IsChain generator_settings chain → Generates answers fails key (λ settings other. other ≡ chain) out count before after status → Generates answers fails key IsChain out count before after status
+generates_by {S} {answers} {fails} {key} {IsChain} {out} {count} {before} {after} {status} chain so h = record {
   run = h.run;
   hears = h.hears;
   ends = h.ends;

@@ -1,5 +1,5 @@
 -- The dials that are due in a conversation are numbered by their order: those of HTTP, that of a CONNECT, and those of HTTP inside it. A proxy
--- that is asked for a tunnel stands behind its dial.
+-- that is asked for a tunnel stands behind its dial, and a WebSocket dials nothing.
 use Rattle.std.proofs.Common.{◌≡◌, ◌∙◌, ℕ, ◌+◌, Bool, true, false, List, [], ◌∷◌, ◌++◌, drop, length, Option, Some, None, refl, sym, ap, subst}
 use Rattle.std.specs.Prelude.{⊤, ◌||◌}
 use Rattle.std.proofs.lemmas.List.{append-nil}
@@ -12,7 +12,7 @@ use Rattle.px_event.specs.declared.event.Event.{Event}
 use Rattle.px_event.specs.declared.reply.Reply.{Reply}
 use Rattle.px_event.specs.declared.reply.Reply.TheVariants as reply
 use Rattle.px_event.specs.declared.side.Side.TheVariants.{Server}
-use Rattle.px_event.specs.Chain.{Timed, Look, NotYet, Asks, Ends, found}
+use Rattle.px_event.specs.Chain.{Timed, Look, NotYet, Asks, Ends, Turn, found}
 use Rattle.px_event.specs.Layer.{Move}
 use Rattle.px_exchange.specs.declared.mode.Mode.{Mode}
 use Rattle.px_exchange.specs.declared.place.Place.{Place}
@@ -27,10 +27,16 @@ use Rattle.px_chain.specs.Stages.{At, busy, connection, given_body, given_head, 
 use Rattle.px_chain.specs.Stages as flows
 use Rattle.px_chain.specs.Streams.{Since, client_closed, from_here, is_closed, now_over}
 use Rattle.px_tunnel.specs.Upstream.{Granting, awaited, granted, refused}
-use Rattle.px_stack.specs.Chain.{answer_of, begins, closed_of, closes_all, finished_flow, flows_at, follows, goes_by, hands_by, has_answered, is_empty, is_shut, led_at, led_by, opening_look, opening_text, opens_by, or_stays, pass_reached, raw_look, shut_proxy, shut_unused, stack_chain, standing_of, text_behind, tunnel_for, tunnel_found, turn_connected, turn_dial, turn_http, waits_for, with_closes}
+use Rattle.px_relay.specs.Chain as relay
+use Rattle.px_relay.specs.Sending.{Terms}
+use Rattle.px_relay.specs.Sights.{Sight as SocketSight}
+use Rattle.px_relay.specs.Stages.{Stage as Frames, holding, over as ended, relaying}
+use Rattle.px_stack.specs.Chain.{answer_of, begins, begun, closed_of, closes_all, finished_flow, flows_at, follows, goes_by, hands_by, has_answered, is_empty, is_shut, led_at, led_by, opening_look, opening_text, opens_by, or_stays, pass_http, pass_reached, pass_socket, raw_look, shut_proxy, shut_unused, socket_sight, socket_terms, stack_chain, standing_of, text_behind, tunnel_for, tunnel_found, turn_connected, turn_dial, turn_http, upgrades, waits_for, with_closes}
 use Rattle.px_stack.specs.Decides.{Decision, decided, is_http, is_raw, still}
+use Rattle.px_stack.specs.Frames.{AreSaid, pass_says, turn_says}
 use Rattle.px_stack.specs.Modes.{mode_due}
-use Rattle.px_stack.specs.Stages.{Dialling, Ends as TunnelEnds, Goal, Stage, Tunnel, a_flow, a_tunnel, connecting, http, over, raw, reaching, undecided}
+use Rattle.px_stack.specs.Sockets.{is_websocket}
+use Rattle.px_stack.specs.Stages.{Dialling, Ends as TunnelEnds, Goal, Stage, Tunnel, Visitor, a_flow, a_tunnel, connecting, http, over, raw, reaching, socket, undecided}
 use Rattle.px_app.specs.Servers.{CountsFrom}
 use Rattle.px_app.proofs.HttpServers.{Dialled, DialledAt, counts as flows_count}
 use Rattle.px_app.proofs.ServerLemmas.{CountsDials, dials_in, dials_more, due_counts}
@@ -46,6 +52,7 @@ DialledSo n (connecting tunnel) = tunnel.at.dials ≡ n
 DialledSo n (reaching goal side since) = DialledFor n goal
 DialledSo n (undecided tunnel spare since) = tunnel.at.dials ≡ n
 DialledSo n (raw ends) = ⊤
+DialledSo n (socket ends flow frames) = ⊤
 DialledSo n over = ⊤
 
 -- ---- closes dial nothing
@@ -77,11 +84,25 @@ found_none : (closed : Bool) (owed : List Command) → dials_in owed ≡ [] → 
 found_none true owed none = none
 found_none false owed none = refl
 
+-- the frames of a WebSocket dial nothing
+said_none : (terms : Terms) (to : Frames) (owed : List Command) → AreSaid terms to owed → dials_in owed ≡ []
+said_none terms to [] said = refl
+said_none terms to (commands.Send side text ∷ owed) (here, said) = said_none terms to owed said
+said_none terms to (commands.Close side ∷ owed) (here, said) = said_none terms to owed said
+said_none terms to (commands.Dial server address inside ∷ owed) (here, said) = absurd here
+said_none terms to (commands.Ask ask flow ∷ owed) (here, said) = absurd here
+said_none terms to (commands.Done flow ∷ owed) (here, said) = said_none terms to owed said
+
+frames_none : (terms : Terms) (frames : Frames) → dials_in (found (relay.look terms frames)) ≡ []
+frames_none terms (relaying at) = refl
+frames_none terms (holding from message at) = refl
+frames_none terms ended = refl
+
 -- a list of no dials counts from anywhere
 counts_none : (n : ℕ) (list : List Command) → dials_in list ≡ [] → CountsFrom n (dials_in list)
 counts_none n list none = let P : List ℕ → Type 0 = CountsFrom n in subst P (sym none) tt
 
-module _ (conv : ℕ) (client : Option Address) where
+module _ (conv : ℕ) (client : Visitor) where
   -- the closes behind an end leave the dials as they were
   with_same : (unused : Option Unused) (l : Look Command) → dials_in (found (with_closes conv client unused l)) ≡ dials_in (found l)
   with_same unused NotYet = refl
@@ -105,6 +126,10 @@ module _ (conv : ℕ) (client : Option Address) where
   tunnel_dialled n place standing at None is here = is
   tunnel_dialled n place standing at (Some connect) is here = here
 
+  upgrades_dialled : (n : ℕ) (is : Bool) (flow : Flow) (ends : TunnelEnds) → DialledSo n (upgrades is flow ends)
+  upgrades_dialled n true flow ends = tt
+  upgrades_dialled n false flow ends = tt
+
   hands_dialled : (n : ℕ) (place : Place) (standing : Standing) (stage : flows.Stage) (seen : Sight) → DialledAt n standing → Dialled n stage →
       DialledSo n (or_stays (http place standing) (hands_by place standing stage seen))
   hands_dialled n place standing (idle at) seen is here = tunnel_dialled n place standing at (connect_in place (request_in at seen)) is here
@@ -112,7 +137,7 @@ module _ (conv : ℕ) (client : Option Address) where
   hands_dialled n place standing (busy at flow connection) seen is here = is
   hands_dialled n place standing (busy at flow (response_head side how)) seen is here = is
   hands_dialled n place standing (busy at flow (response_body side how)) seen is here = is
-  hands_dialled n place standing (busy at flow (upgraded side)) seen is here = tt
+  hands_dialled n place standing (busy at flow (upgraded side)) seen is here = upgrades_dialled n (is_websocket flow seen.closed) flow _
   hands_dialled n place standing (busy at flow given_head) seen is here = is
   hands_dialled n place standing (busy at flow given_body) seen is here = is
   hands_dialled n place standing (next at) seen is here = is
@@ -124,7 +149,7 @@ module _ (conv : ℕ) (client : Option Address) where
   follows_dialled n is_raw tunnel spare since is = tt
 
   flows_counts : (place : Place) → CountsDials (flows_at conv client place) DialledAt
-  flows_counts place = flows_count (terms_of conv client place)
+  flows_counts place = flows_count (terms_of conv client.address place)
 
   goes_dialled : (n : ℕ) (closed : Bool) (tunnel : Tunnel) (spare : Spare) (since : Since) (prefix : List (Timed Event)) → tunnel.at.dials ≡ n →
       DialledSo n (goes_by closed tunnel spare since prefix)
@@ -161,16 +186,36 @@ module _ (conv : ℕ) (client : Option Address) where
       (none_both (shut_client (client_closed prefix)) (shut_proxy side prefix) (client_none (client_closed prefix)) (shut_none side prefix), tt)
   reached_dialled n (a_flow place from) side since prefix refused is = refused_dialled n place from side since prefix is
 
+  -- a WebSocket
+  socket_none : (ends : TunnelEnds) (flow : Flow) (frames : Frames) (prefix : List (Timed Event)) → dials_in (pass_socket conv client ends flow frames prefix).owed ≡ []
+  socket_none ends flow frames prefix =
+      let terms : Terms = socket_terms client.key ends flow in
+      let on : Turn Frames Command = relay.pass terms frames (socket_sight ends prefix) in
+      said_none terms on.stage on.owed (pass_says terms (socket_sight ends prefix) frames)
+
+  begun_dialled : (n : ℕ) (stage : Stage) (prefix : List (Timed Event)) → DialledSo n stage →
+      (dials_in (begun conv client stage prefix).owed ≡ []) × DialledSo n (begun conv client stage prefix).stage
+  begun_dialled n (http place standing) prefix is = (refl, is)
+  begun_dialled n (connecting tunnel) prefix is = (refl, is)
+  begun_dialled n (reaching goal side since) prefix is = (refl, is)
+  begun_dialled n (undecided tunnel spare since) prefix is = (refl, is)
+  begun_dialled n (raw ends) prefix is = (refl, tt)
+  begun_dialled n (socket ends flow frames) prefix is = (socket_none ends flow frames prefix, tt)
+  begun_dialled n over prefix is = (refl, tt)
+
   passes : (n : ℕ) (stage : Stage) (prefix : List (Timed Event)) → DialledSo n stage →
       (dials_in ((stack_chain conv client).pass stage prefix).owed ≡ []) × DialledSo n ((stack_chain conv client).pass stage prefix).stage
   passes n (http place standing) prefix is =
       let on = (flows_at conv client place).pass standing prefix in
       let knows = (flows_counts place).pass n standing prefix is in
-      (knows.0, hands_dialled n place on.stage on.stage.stage (sight_over on.stage prefix) knows.1 knows.1)
+      let to : Stage = pass_http conv client place on.stage prefix in
+      let further = begun_dialled n to prefix (hands_dialled n place on.stage on.stage.stage (sight_over on.stage prefix) knows.1 knows.1) in
+      (none_both on.owed (begun conv client to prefix).owed knows.0 further.0, further.1)
   passes n (connecting tunnel) prefix is = (refl, is)
   passes n (reaching goal side since) prefix is = reached_dialled n goal side since prefix (answer_of side prefix) is
   passes n (undecided tunnel spare since) prefix is = (refl, goes_dialled n (client_closed prefix) tunnel spare since prefix is)
   passes n (raw ends) prefix is = (refl, tt)
+  passes n (socket ends flow frames) prefix is = (socket_none ends flow frames prefix, tt)
   passes n over prefix is = (refl, tt)
 
   -- ---- what it owes and what it finds
@@ -181,6 +226,7 @@ module _ (conv : ℕ) (client : Option Address) where
   waits (reaching goal side since) prefix = refl
   waits (undecided tunnel spare since) prefix = refl
   waits (raw ends) prefix = refl
+  waits (socket ends flow frames) prefix = refl
   waits over prefix = refl
 
   opening_none : (spare : Spare) (prefix : List (Timed Event)) → dials_in (found (opening_look spare prefix)) ≡ []
@@ -209,6 +255,9 @@ module _ (conv : ℕ) (client : Option Address) where
   looks n (reaching goal side since) prefix is = counts_none n (found (waits_for goal side prefix)) (waits_none goal side prefix)
   looks n (undecided tunnel spare since) prefix is = counts_none n (found (opening_look spare prefix)) (opening_none spare prefix)
   looks n (raw ends) prefix is = counts_none n (found (raw_look ends prefix)) (raw_none ends prefix)
+  looks n (socket ends flow frames) prefix is =
+      let terms : Terms = socket_terms client.key ends flow in
+      with_counts n (unused_over ends.spare prefix) (relay.look terms frames) (counts_none n (found (relay.look terms frames)) (frames_none terms frames))
   looks n over prefix is = tt
 
   -- ---- what a reply brings
@@ -250,7 +299,7 @@ module _ (conv : ℕ) (client : Option Address) where
       IsLed n place standing prefix (led_by standing stage)
   led_is_by n place standing prefix (idle at) is here = tt
   led_is_by n place standing prefix (busy at flow (request_body given)) is here = tt
-  led_is_by n place standing prefix (busy at flow connection) is here = (here, ap (λ s. look_of (terms_of conv client place) s (sight_over standing prefix)) is)
+  led_is_by n place standing prefix (busy at flow connection) is here = (here, ap (λ s. look_of (terms_of conv client.address place) s (sight_over standing prefix)) is)
   led_is_by n place standing prefix (busy at flow (response_head side how)) is here = tt
   led_is_by n place standing prefix (busy at flow (response_body side how)) is here = tt
   led_is_by n place standing prefix (busy at flow (upgraded side)) is here = tt
@@ -298,11 +347,17 @@ module _ (conv : ℕ) (client : Option Address) where
   turns n (reaching goal side since) prefix ask answer is asks = absurd (waits_not goal side prefix ask asks)
   turns n (undecided tunnel spare since) prefix ask answer is asks = absurd (found_asks _ _ ask asks)
   turns n (raw ends) prefix ask answer is asks = (refl, tt)
+  turns n (socket ends flow frames) prefix ask answer is asks =
+      let terms : Terms = socket_terms client.key ends flow in
+      let seen : SocketSight = socket_sight ends prefix in
+      let on : Turn Frames Command = relay.turn terms frames seen answer.value answer.moment in
+      (said_none terms on.stage on.owed (turn_says terms seen frames answer.value answer.moment), tt)
   turns n over prefix ask answer is asks = (refl, tt)
 
   counts : CountsDials (stack_chain conv client) DialledSo
   counts = record { pass = passes; so_far = waits; look = looks; turn = turns }
 
 -- the n-th dial that is due names server n
-pub mode_counts : (mode : Mode) (conv : ℕ) (peer : Address) (moves : List Move) → CountsFrom 0 (dials_in (mode_due mode conv peer moves))
-mode_counts mode conv peer moves = due_counts (stack_chain conv (Some peer)) DialledSo (begins mode) (counts conv (Some peer)) refl moves
+pub mode_counts : (mode : Mode) (key : List ℕ) (conv : ℕ) (peer : Address) (moves : List Move) → CountsFrom 0 (dials_in (mode_due mode key conv peer moves))
+mode_counts mode key conv peer moves =
+    let client : Visitor = record { address = Some peer; key = key } in due_counts (stack_chain conv client) DialledSo (begins mode) (counts conv client) refl moves

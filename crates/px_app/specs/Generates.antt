@@ -46,16 +46,16 @@ generator_settings = record {
 abbrev pub SavesNone : {S : Type 0} → List (Change S) → Type 0
 SavesNone changes = (reached : Printing) × (made : List Append) × SavedOver None reached changes made
 
--- A run of so many generated flows, over a network in memory. Another network was told what was asked, answered and finished in it,
+-- A run of so many generated flows, with this key of masks, over a network in memory. Another network was told what was asked, answered and finished in it,
 -- and its counts were printed.
-pub record Generates {S : Type 0} (answers : Answering S) (fails : Failing S) (IsChain : Settings → S → Type 0) (out_failed : Type 0) (count : ℕ) (before after : Outside) (status : ℕ) : Type 0 where
+pub record Generates {S : Type 0} (answers : Answering S) (fails : Failing S) (key : List ℕ) (IsChain : Settings → S → Type 0) (out_failed : Type 0) (count : ℕ) (before after : Outside) (status : ℕ) : Type 0 where
   -- the run, in which what was heard begins the script; it was heard to its end, unless out of memory
   pub run : Trace
   pub hears : Hears count run
   pub ends : status ≢ 8 → ends_heard run ≡ true
   -- where it began, every peer got what was due to it, and nothing was saved
   pub by_chain : run ≢ [] → (chain : S) × (changes : List (Change S)) × IsChain generator_settings chain
-      × Promises answers fails generator_mode (record { own = chain; files = before.files }) changes after.files status run × SavesNone changes
+      × Promises answers fails generator_mode key (record { own = chain; files = before.files }) changes after.files status run × SavesNone changes
   -- what was told, and nothing else is asked of that network
   pub told : status ≢ 8 → after.trace ≡ with_steps before.trace (noted run)
   pub told_part : HasGrownByFront (noted run) before.trace after.trace

@@ -18,23 +18,23 @@ use Rattle.px_app.specs.Statuses.{heard_count, ends_heard}
 use Rattle.px_app.specs.declared.printing.Printing.{Printing}
 use Rattle.px_app.specs.declared.printing.Printing.TheVariants.{Whole, Failed}
 
--- The trace of a run in this mode, whose answerer answers so, which with the files was this at first, and that
+-- The trace of a run in this mode, with this key of masks, whose answerer answers so, which with the files was this at first, and that
 -- ended with this status and with these files, where files were changed so beside the answers.
-pub record Promises {S : Type 0} (answers : Answering S) (fails : Failing S) (mode : Mode) (first : AnswererState S) (changes : List (Change S)) (files : FilesMeaning) (status : ℕ)
+pub record Promises {S : Type 0} (answers : Answering S) (fails : Failing S) (mode : Mode) (key : List ℕ) (first : AnswererState S) (changes : List (Change S)) (files : FilesMeaning) (status : ℕ)
     (trace : Trace) : Type 0 where
   -- At every moment, in each conversation and each view, it has a beginning of what is due, and before each thing heard all of it.
   -- A hook is asked only where none is open in its conversation, and an answer is to the hook that is open.
-  pub served : IsServed answers (mode_due mode) trace
+  pub served : IsServed answers (mode_due mode key) trace
   -- From what it was at first the answerer came over the whole trace: it moved at each hook that was asked, once, in the order of the
   -- trace, and at the changes; and a reply that it gave is that hook's answer.
-  pub follows : IsAnswered answers (mode_due mode) (course_from first changes) trace
+  pub follows : IsAnswered answers (mode_due mode key) (course_from first changes) trace
   -- and so the files are what its last answer or the last change left; unless out of memory, where more may have been answered than
   -- the trace has
-  pub leaves : LeavesFiles answers fails (mode_due mode) (course_from first changes) (status ≢ 8) files trace
+  pub leaves : LeavesFiles answers fails (mode_due mode key) (course_from first changes) (status ≢ 8) files trace
   -- before each thing heard no hook is open
   pub hooks : BeforeEachHeard IsAllAnswered trace
   -- and at the end all of it is there and no hook is open, unless out of memory
-  pub whole : status ≢ 8 → IsAllTold (mode_due mode) trace
+  pub whole : status ≢ 8 → IsAllTold (mode_due mode key) trace
   pub hooks_whole : status ≢ 8 → IsAllAnswered trace
   -- each step is of the conversation that was heard last
   pub own : IsOwn trace

@@ -42,11 +42,11 @@ pub record Stops (net_is_same out_failed notes_failed : Type 0) (code : ℕ) (li
   pub prints : IsTold out_failed status line before.written after.written
   pub notes : IsTold notes_failed status note before.noted after.noted
 
--- A run that served as these options say, whose hooks this chain answered, and that began with these files.
-pub record Serves {S : Type 0} (answers : Answering S) (fails : Failing S) (net_failed out_failed save_failed notes_failed : Type 0) (settings : Settings) (chain : S) (read : FilesMeaning) (before after : Outside) (status : ℕ) : Type 0 where
-  -- every peer gets what is due to it in the mode of the options, and each hook is answered once, at once, by the chain alone; and what is printed and saved
+-- A run that served as these options say, with this key of masks, whose hooks this chain answered, and that began with these files.
+pub record Serves {S : Type 0} (answers : Answering S) (fails : Failing S) (key : List ℕ) (net_failed out_failed save_failed notes_failed : Type 0) (settings : Settings) (chain : S) (read : FilesMeaning) (before after : Outside) (status : ℕ) : Type 0 where
+  -- every peer gets what is due to it in the mode of the options with this key, and each hook is answered once, at once, by the chain alone; and what is printed and saved
   pub promises : (mode : Mode) (trace : Trace) → settings.mode ≡ mode_view mode → before.trace ≡ Some [] → after.trace ≡ Some trace →
-      (changes : List (Change S)) × Promises answers fails mode (record { own = chain; files = read }) changes after.files status trace
+      (changes : List (Change S)) × Promises answers fails mode key (record { own = chain; files = read }) changes after.files status trace
       × Outputs (out_failed ⊎ save_failed) (saves_of settings) changes status trace before.written after.written
   -- no file is read but by the chain's answers, none is appended to but where flows are saved, and none is changed else
   pub files : LeavesBehind answers fails (saves_of settings) (record { own = chain; files = read }) after.files
@@ -59,7 +59,7 @@ pub record Serves {S : Type 0} (answers : Answering S) (fails : Failing S) (net_
   pub prints : (trace : Trace) → before.trace ≡ Some [] → after.trace ≡ Some trace → Prints (out_failed ⊎ save_failed) status trace before.written after.written
   pub notes : IsTold notes_failed status (where_listening after.listening (start_note settings.listen settings.mode)) before.noted after.noted
 
-module _ {S : Type 0} (answers : Answering S) (fails : Failing S) (IsChain : Settings → S → Type 0) (net_is_same net_failed out_failed save_failed notes_failed : Type 0) where
+module _ {S : Type 0} (answers : Answering S) (fails : Failing S) (key : List ℕ) (IsChain : Settings → S → Type 0) (net_is_same net_failed out_failed save_failed notes_failed : Type 0) where
   -- the run by what came of the options file of this path, with the files as its read left them
   abbrev pub RunsOn : List ℕ → Opened → FilesMeaning → Outside → Outside → ℕ → Type 0
   RunsOn path nothing_read read before after status = Stops net_is_same out_failed notes_failed 8 [] [] read before after status
@@ -68,7 +68,7 @@ module _ {S : Type 0} (answers : Answering S) (fails : Failing S) (IsChain : Set
   RunsOn path (unjudged bytes) read before after status = Stops net_is_same out_failed notes_failed 8 [] [] read before after status
   RunsOn path (refused bytes why) read before after status = IsRefused bytes why × Stops net_is_same out_failed notes_failed 2 (refusal_line why) (refusal_note why) read before after status
   RunsOn path (says bytes settings) read before after status =
-      Says bytes (Ok settings) × ((chain : S) × IsChain settings chain × Serves answers fails net_failed out_failed save_failed notes_failed settings chain read before after status)
+      Says bytes (Ok settings) × ((chain : S) × IsChain settings chain × Serves answers fails key net_failed out_failed save_failed notes_failed settings chain read before after status)
 
   -- The file of this path is read first, once, and this came of it.
   pub record ServesFile (path : List ℕ) (opened : Opened) (before after : Outside) (status : ℕ) : Type 0 where

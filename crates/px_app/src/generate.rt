@@ -3,6 +3,7 @@
 //! What was heard is told by the type of that network, so the run is one over this script, as any run is. What was asked, answered
 //! and finished in it is told to the network that was handed in, and the counts are printed.
 ghost use Rattle.std.specs.Prelude.{◌≡◌, ◌≢◌, ◌≤◌, ◌⊎◌, [], Some, None, Err, IfOk, OnOk};
+ghost use Rattle.rand_chacha.specs.ChaCha.{key_of};
 ghost use Rattle.px_outside.specs.Count.{Rose};
 ghost use Rattle.px_outside.specs.Sink.{Writes, WritesPart};
 ghost use Rattle.px_core.specs.Answers.{FilesAfter, files_meaning};
@@ -33,7 +34,7 @@ use px_text::NoMemory;
 use std::alloc::Global;
 use std::marker::Brand;
 
-/// Runs so many generated flows with the rules of the generator and no addon. What was asked, answered and finished in that run is
+/// Runs so many generated flows with the rules of the generator, no addon and this key for the masks of frames. What was asked, answered and finished in that run is
 /// told to `net`, which is asked nothing else; then its counts are printed, and nothing is told to `notes`. Answers the exit status: 0
 /// where all is printed, 7 where it was not printed whole, 8 where memory ran out.
 pub(crate) fn generate<N: Net, F: Files, S: Sink, T: Sink>(
@@ -44,9 +45,10 @@ pub(crate) fn generate<N: Net, F: Files, S: Sink, T: Sink>(
     out: &mut S,
     notes: &T,
     addons: Vec<Box<dyn Addon>>,
+    mask_key: [u8; 32],
 ) -> u8
     requires small { count ≤ 10000 }
-    ensures { Generates ⟦<Chain as Answerer>⟧.answers ⟦<Chain as Answerer>⟧.fails (λ settings chain. AreRulesOf settings chain.rules × (chain.addons.items ≡ [])) (Rose (S.faults out.old) (S.faults out.new)) count
+    ensures { Generates ⟦<Chain as Answerer>⟧.answers ⟦<Chain as Answerer>⟧.fails (key_of mask_key) (λ settings chain. AreRulesOf settings chain.rules × (chain.addons.items ≡ [])) (Rose (S.faults out.old) (S.faults out.new)) count
         (outside N.trace N.listening F.contents F.calls F.misses F.faults F.losses S.written T.written net.old files.old out.old notes.now)
         (outside N.trace N.listening F.contents F.calls F.misses F.faults F.losses S.written T.written net.new files.new out.new notes.now) result }
 {
@@ -55,7 +57,7 @@ pub(crate) fn generate<N: Net, F: Files, S: Sink, T: Sink>(
         return NO_MEMORY;
     };
     let chain = Chain::new(rules, Vec::new(alloc));
-    run_script::<Brand, N, F, S, T>(alloc, count, chain, net, files, out, notes)
+    run_script::<Brand, N, F, S, T>(alloc, count, chain, mask_key, net, files, out, notes)
 }
 
 // The same, by this chain, which reads no file.
@@ -63,6 +65,7 @@ fn run_script<K: Scripted, N: Net, F: Files, S: Sink, T: Sink>(
     alloc: Global,
     count: u64,
     chain: Chain,
+    mask_key: [u8; 32],
     net: &mut N,
     files: &mut F,
     out: &mut S,
@@ -71,7 +74,7 @@ fn run_script<K: Scripted, N: Net, F: Files, S: Sink, T: Sink>(
     requires small { count ≤ 10000 }
     requires count { K.count ≡ count }
     requires local { local_views chain.rules.local ≡ [] }
-    ensures { Generates ⟦<Chain as Answerer>⟧.answers ⟦<Chain as Answerer>⟧.fails (λ settings other. other ≡ chain) (Rose (S.faults out.old) (S.faults out.new)) count
+    ensures { Generates ⟦<Chain as Answerer>⟧.answers ⟦<Chain as Answerer>⟧.fails (key_of mask_key) (λ settings other. other ≡ chain) (Rose (S.faults out.old) (S.faults out.new)) count
         (outside N.trace N.listening F.contents F.calls F.misses F.faults F.losses S.written T.written net.old files.old out.old notes.now)
         (outside N.trace N.listening F.contents F.calls F.misses F.faults F.losses S.written T.written net.new files.new out.new notes.now) result }
 {
@@ -80,24 +83,25 @@ fn run_script<K: Scripted, N: Net, F: Files, S: Sink, T: Sink>(
         return NO_MEMORY;
     };
     let mut generated = Generated::<K>::new(alloc, script);
-    match serve_generated(alloc, mode, chain, &mut generated, files) {
+    match serve_generated(alloc, mode, mask_key, chain, &mut generated, files) {
         Ok(()) => tell_run(alloc, generated.trace(), net, out),
         Err(NoMemory) => NO_MEMORY,
     }
 }
 
-// Serves the network of a run of generated flows in this mode, whose hooks this chain answers, to its end.
+// Serves the network of a run of generated flows in this mode and with this key, whose hooks this chain answers, to its end.
 fn serve_generated<K: Scripted, F: Files>(
     alloc: Global,
     mode: Mode,
+    mask_key: [u8; 32],
     chain: Chain,
     generated: &mut Generated<K>,
     files: &mut F,
 ) -> Result<(), NoMemory>
-    ensures ok { ⟦<Generated<K> as Net>⟧.trace generated.old ≡ Some [] → OnOk result ((printing : Printing) × Told (IsRun ⟦<Chain as Answerer>⟧.answers ⟦<Chain as Answerer>⟧.fails (mode_due mode) (record { own = chain; files = files_meaning F.contents F.calls F.misses F.faults F.losses files.old }) None 18446744073709551615 Status.Ended printing (files_meaning F.contents F.calls F.misses F.faults F.losses files.new) None None) (⟦<Generated<K> as Net>⟧.trace generated.new)) }
+    ensures ok { ⟦<Generated<K> as Net>⟧.trace generated.old ≡ Some [] → OnOk result ((printing : Printing) × Told (IsRun ⟦<Chain as Answerer>⟧.answers ⟦<Chain as Answerer>⟧.fails (mode_due mode (key_of mask_key)) (record { own = chain; files = files_meaning F.contents F.calls F.misses F.faults F.losses files.old }) None 18446744073709551615 Status.Ended printing (files_meaning F.contents F.calls F.misses F.faults F.losses files.new) None None) (⟦<Generated<K> as Net>⟧.trace generated.new)) }
     ensures files { FilesAfter ⟦<Chain as Answerer>⟧.answers ⟦<Chain as Answerer>⟧.fails (record { own = chain; files = files_meaning F.contents F.calls F.misses F.faults F.losses files.old }) (files_meaning F.contents F.calls F.misses F.faults F.losses files.new) }
 {
-    let maker = Gates::new(alloc, Placed::new(alloc, mode));
+    let maker = Gates::new(alloc, Placed::new(alloc, mode, mask_key));
     let mut serving = Serving::<Conv, Chain, Gates<Placed>>::new(alloc, chain, maker, None);
     match serve_all(
         alloc,

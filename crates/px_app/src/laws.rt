@@ -28,12 +28,12 @@ use px_core::{Answerer, Kind};
 
 /// Where at every moment the trace is within what is due, at every moment the n-th dial of each conversation names its server n.
 pub fn dials_count_up()
-    ensures { (mode : Mode) (trace : Trace) → Always (IsWithinDue (mode_due mode)) trace → Always CountsServers trace }
+    ensures { (mode : Mode) (key : List ℕ) (trace : Trace) → Always (IsWithinDue (mode_due mode key)) trace → Always CountsServers trace }
 {}
 
 /// Where the trace is within what is due, no hook of a flow is asked once the flow is finished.
 pub fn no_hook_is_asked_behind_its_end()
-    ensures { (mode : Mode) (trace : Trace) → IsWithinDue (mode_due mode) trace → IsInOrder trace }
+    ensures { (mode : Mode) (key : List ℕ) (trace : Trace) → IsWithinDue (mode_due mode key) trace → IsInOrder trace }
 {}
 
 /// Where each step is of the conversation that was heard last, at every moment what is due to a conversation is what is due by its
@@ -45,10 +45,10 @@ pub fn conversations_do_not_touch_each_other()
 /// Where a run's chain has no rules and each of its addons leaves every draft as it is, nothing is changed, killed or streamed: each
 /// answer goes on with the flow that was due when its hook was asked. So it is whatever is saved.
 pub fn addons_that_leave_drafts_change_nothing(chain: &Chain)
-    ensures { (mode : Mode) (files last : FilesMeaning) (to : Option SavesTo) (changes : List (Change ⟦<Chain as Answerer>⟧.State)) (made : List Append) (reached : Printing) (status : ℕ) (trace : Trace) →
+    ensures { (mode : Mode) (key : List ℕ) (files last : FilesMeaning) (to : Option SavesTo) (changes : List (Change ⟦<Chain as Answerer>⟧.State)) (made : List Append) (reached : Printing) (status : ℕ) (trace : Trace) →
         ⟦<Chain as Kind>⟧.is_so chain.now →
-        Promises ⟦<Chain as Answerer>⟧.answers ⟦<Chain as Answerer>⟧.fails mode (record { own = chain.now; files = files }) changes last status trace →
-        SavedOver to reached changes made → Always (EndsOfKind goes_on_unchanged (mode_due mode)) trace }
+        Promises ⟦<Chain as Answerer>⟧.answers ⟦<Chain as Answerer>⟧.fails mode key (record { own = chain.now; files = files }) changes last status trace →
+        SavedOver to reached changes made → Always (EndsOfKind goes_on_unchanged (mode_due mode key)) trace }
 {}
 
 /// A run reads no file but those that the map local rules of its chain name, and changes none but the one where its flows are saved: each
@@ -56,11 +56,11 @@ pub fn addons_that_leave_drafts_change_nothing(chain: &Chain)
 /// segment is `..` and which does not begin with a slash. What stands under each path but that one is what stood there, and a read of it gave
 /// that. Where no flows are saved, each call is such a read, and no file is changed.
 pub fn a_run_touches_only_what_options_name(chain: &Chain)
-    ensures touches { (mode : Mode) (files last : FilesMeaning) (to : Option SavesTo) (changes : List (Change ⟦<Chain as Answerer>⟧.State)) (made : List Append) (reached : Printing) (status : ℕ) (trace : Trace) →
-        Promises ⟦<Chain as Answerer>⟧.answers ⟦<Chain as Answerer>⟧.fails mode (record { own = chain.now; files = files }) changes last status trace →
+    ensures touches { (mode : Mode) (key : List ℕ) (files last : FilesMeaning) (to : Option SavesTo) (changes : List (Change ⟦<Chain as Answerer>⟧.State)) (made : List Append) (reached : Printing) (status : ℕ) (trace : Trace) →
+        Promises ⟦<Chain as Answerer>⟧.answers ⟦<Chain as Answerer>⟧.fails mode key (record { own = chain.now; files = files }) changes last status trace →
         SavedOver to reached changes made → TouchesOnly (local_views chain.now.rules.local) to files last }
-    ensures unsaved { (mode : Mode) (files last : FilesMeaning) (changes : List (Change ⟦<Chain as Answerer>⟧.State)) (made : List Append) (reached : Printing) (status : ℕ) (trace : Trace) →
-        Promises ⟦<Chain as Answerer>⟧.answers ⟦<Chain as Answerer>⟧.fails mode (record { own = chain.now; files = files }) changes last status trace →
+    ensures unsaved { (mode : Mode) (key : List ℕ) (files last : FilesMeaning) (changes : List (Change ⟦<Chain as Answerer>⟧.State)) (made : List Append) (reached : Printing) (status : ℕ) (trace : Trace) →
+        Promises ⟦<Chain as Answerer>⟧.answers ⟦<Chain as Answerer>⟧.fails mode key (record { own = chain.now; files = files }) changes last status trace →
         SavedOver None reached changes made → ReadsOfRules (local_views chain.now.rules.local) files last }
 {}
 
@@ -69,14 +69,14 @@ pub fn a_run_touches_only_what_options_name(chain: &Chain)
 /// of the appends. And where the run printed and saved all, it is what stood there with the texts of the flows behind it that finished and are to
 /// be saved, in their order.
 pub fn what_is_saved_stands_behind_what_stood_there(chain: &Chain)
-    ensures part { (mode : Mode) (files last : FilesMeaning) (to : SavesTo) (changes : List (Change ⟦<Chain as Answerer>⟧.State)) (made : List Append) (reached : Printing) (status : ℕ) (trace : Trace) →
-        Promises ⟦<Chain as Answerer>⟧.answers ⟦<Chain as Answerer>⟧.fails mode (record { own = chain.now; files = files }) changes last status trace →
+    ensures part { (mode : Mode) (key : List ℕ) (files last : FilesMeaning) (to : SavesTo) (changes : List (Change ⟦<Chain as Answerer>⟧.State)) (made : List Append) (reached : Printing) (status : ℕ) (trace : Trace) →
+        Promises ⟦<Chain as Answerer>⟧.answers ⟦<Chain as Answerer>⟧.fails mode key (record { own = chain.now; files = files }) changes last status trace →
         SavedOver (Some to) reached changes made → (so_far : List Append) × IsPrefixOf so_far made × Told (Grown to.path so_far) files.contents last.contents }
-    ensures whole { (mode : Mode) (files last : FilesMeaning) (to : SavesTo) (changes : List (Change ⟦<Chain as Answerer>⟧.State)) (made : List Append) (reached : Printing) (status : ℕ) (trace : Trace) →
-        Promises ⟦<Chain as Answerer>⟧.answers ⟦<Chain as Answerer>⟧.fails mode (record { own = chain.now; files = files }) changes last status trace →
+    ensures whole { (mode : Mode) (key : List ℕ) (files last : FilesMeaning) (to : SavesTo) (changes : List (Change ⟦<Chain as Answerer>⟧.State)) (made : List Append) (reached : Printing) (status : ℕ) (trace : Trace) →
+        Promises ⟦<Chain as Answerer>⟧.answers ⟦<Chain as Answerer>⟧.fails mode key (record { own = chain.now; files = files }) changes last status trace →
         SavedOver (Some to) reached changes made → status ≢ 8 → Told (Grown to.path made) files.contents last.contents }
-    ensures all { (mode : Mode) (files last : FilesMeaning) (to : SavesTo) (changes : List (Change ⟦<Chain as Answerer>⟧.State)) (made : List Append) (status : ℕ) (trace : Trace) (start now : Option (List ℕ)) →
-        Promises ⟦<Chain as Answerer>⟧.answers ⟦<Chain as Answerer>⟧.fails mode (record { own = chain.now; files = files }) changes last status trace →
+    ensures all { (mode : Mode) (key : List ℕ) (files last : FilesMeaning) (to : SavesTo) (changes : List (Change ⟦<Chain as Answerer>⟧.State)) (made : List Append) (status : ℕ) (trace : Trace) (start now : Option (List ℕ)) →
+        Promises ⟦<Chain as Answerer>⟧.answers ⟦<Chain as Answerer>⟧.fails mode key (record { own = chain.now; files = files }) changes last status trace →
         Reaches (Some to) Printing.Whole changes made trace start now → status ≢ 8 →
         Told (GrowsUnder to.path (texts (saved (Some to) (finished_in trace)))) files.contents last.contents }
 {}

@@ -1,9 +1,10 @@
 //! What the program does: the words, then the run that they ask for.
 //!
-//! `run` is the whole program over a network, files, two sinks and addons that are handed in. Each promise is in a clause of it.
+//! `run` is the whole program over a network, files, two sinks, addons and a key for the masks of frames that are handed in. Each promise is in a
+//! clause of it.
 //!
 //! With the words `serve OPTIONS` the options file is read, once and first, and what came of that is told (`specs/Opened.antt`). Where it
-//! says options, what each peer of each conversation was sent is what is due to it in the options' mode by px_stack's `mode_due`, by where its client is and
+//! says options, what each peer of each conversation was sent is what is due to it in the options' mode and with that key by px_stack's `mode_due`, by where its client is and
 //! the calls that the trace has of the conversation; each hook was answered by the chain of the options' rules and the addons alone;
 //! what is printed is a line of each finished flow of the trace, and the status's line behind them; and each status has its cause in the
 //! trace or in a count of faults (`specs/Serves.antt`). With the words `flows FILE FILTER` the file is read, and the line of each of its flows on
@@ -12,6 +13,7 @@
 //! lines is printed.
 ghost use Rattle.std.specs.Prelude.{◌≡◌, ◌≤◌, ◌⊎◌, ◌++◌, ℕ, List, [], Option, map, option_map};
 ghost use Rattle.std.specs.String.{string_bytes};
+ghost use Rattle.rand_chacha.specs.ChaCha.{key_of};
 ghost use Rattle.px_outside.specs.Count.{Rose};
 ghost use Rattle.px_outside.specs.Net.{idle};
 ghost use Rattle.px_core.specs.Answers.{files_meaning};
@@ -53,7 +55,7 @@ const USAGE: &str = "usage: mitm serve OPTIONS | flows FILE FILTER | gen N\n";
 /// Runs the program with these words, and answers the exit status.
 ///
 /// `serve OPTIONS` reads the options file of that path, listens where it says, tells a note of that, serves each connection in the
-/// mode that it names by its rules and these addons, and prints a line of each finished flow. `flows FILE FILTER` reads that file of flows
+/// mode that it names by its rules and these addons, with this key for the masks of frames, and prints a line of each finished flow. `flows FILE FILTER` reads that file of flows
 /// and prints the line of each on which the filter holds. `gen N` runs N generated flows over a network in memory, tells `net` what was
 /// asked, answered and finished, and prints three counts.
 ///
@@ -71,11 +73,12 @@ pub fn run<N: Net, F: Files, S: Sink, T: Sink>(
     out: &mut S,
     notes: &mut T,
     addons: Vec<Box<dyn Addon>>,
+    mask_key: [u8; 32],
 ) -> u8
     requires idle { N.listening net.old ≡ idle }
 
     // With the words `serve OPTIONS`: the file is read, and the run is as what came of that says.
-    ensures serves { (path : List ℕ) → IsServe (map string_bytes words.now) path → (opened : Opened) × ServesFile ⟦<Chain as Answerer>⟧.answers ⟦<Chain as Answerer>⟧.fails
+    ensures serves { (path : List ℕ) → IsServe (map string_bytes words.now) path → (opened : Opened) × ServesFile ⟦<Chain as Answerer>⟧.answers ⟦<Chain as Answerer>⟧.fails (key_of mask_key)
         (λ settings chain. AreRulesOf settings chain.rules × (chain.addons ≡ addons)) (net.new ≡ net.old) (Rose (N.faults net.old) (N.faults net.new)) (Rose (S.faults out.old) (S.faults out.new)) (Rose (F.losses files.old) (F.losses files.new)) (Rose (T.faults notes.old) (T.faults notes.new)) path opened
         (outside N.trace N.listening F.contents F.calls F.misses F.faults F.losses S.written T.written net.old files.old out.old notes.old)
         (outside N.trace N.listening F.contents F.calls F.misses F.faults F.losses S.written T.written net.new files.new out.new notes.new) result }
@@ -86,7 +89,7 @@ pub fn run<N: Net, F: Files, S: Sink, T: Sink>(
         (outside N.trace N.listening F.contents F.calls F.misses F.faults F.losses S.written T.written net.new files.new out.new notes.new) result }
 
     // With the words `gen N`: the run of so many generated flows.
-    ensures generates { (count : ℕ) → IsGen (map string_bytes words.now) count → Generates ⟦<Chain as Answerer>⟧.answers ⟦<Chain as Answerer>⟧.fails
+    ensures generates { (count : ℕ) → IsGen (map string_bytes words.now) count → Generates ⟦<Chain as Answerer>⟧.answers ⟦<Chain as Answerer>⟧.fails (key_of mask_key)
         (λ settings chain. AreRulesOf settings chain.rules × (chain.addons.items ≡ [])) (Rose (S.faults out.old) (S.faults out.new)) count
         (outside N.trace N.listening F.contents F.calls F.misses F.faults F.losses S.written T.written net.old files.old out.old notes.old)
         (outside N.trace N.listening F.contents F.calls F.misses F.faults F.losses S.written T.written net.new files.new out.new notes.new) result }
@@ -98,14 +101,14 @@ pub fn run<N: Net, F: Files, S: Sink, T: Sink>(
         (outside N.trace N.listening F.contents F.calls F.misses F.faults F.losses S.written T.written net.new files.new out.new notes.new) result }
 {
     if let Some(path) = options_path(words) {
-        return serve_file(alloc, path, net, files, out, notes, addons);
+        return serve_file(alloc, path, net, files, out, notes, addons, mask_key);
     }
     if let Some(found) = flow_words(words) {
         drop(addons);
         return list_flows(alloc, found.0, found.1, &*net, files, out, notes);
     }
     if let Some(count) = flow_count(words) {
-        return generate(alloc, count, net, files, out, &*notes, addons);
+        return generate(alloc, count, net, files, out, &*notes, addons, mask_key);
     }
     drop(addons);
     stop_with(out, notes, Stop::Usage, USAGE.as_bytes(), b"")
@@ -120,15 +123,16 @@ fn serve_file<N: Net, F: Files, S: Sink, T: Sink>(
     out: &mut S,
     notes: &mut T,
     addons: Vec<Box<dyn Addon>>,
+    mask_key: [u8; 32],
 ) -> u8
     requires idle { N.listening net.old ≡ idle }
-    ensures { (opened : Opened) × ServesFile ⟦<Chain as Answerer>⟧.answers ⟦<Chain as Answerer>⟧.fails
+    ensures { (opened : Opened) × ServesFile ⟦<Chain as Answerer>⟧.answers ⟦<Chain as Answerer>⟧.fails (key_of mask_key)
         (λ settings chain. AreRulesOf settings chain.rules × (chain.addons ≡ addons)) (net.new ≡ net.old) (Rose (N.faults net.old) (N.faults net.new)) (Rose (S.faults out.old) (S.faults out.new)) (Rose (F.losses files.old) (F.losses files.new)) (Rose (T.faults notes.old) (T.faults notes.new)) path.now opened
         (outside N.trace N.listening F.contents F.calls F.misses F.faults F.losses S.written T.written net.old files.old out.old notes.old)
         (outside N.trace N.listening F.contents F.calls F.misses F.faults F.losses S.written T.written net.new files.new out.new notes.new) result }
 {
     match read_file(alloc, path, files) {
-        Ok(options) => serve_options(alloc, options, net, files, out, notes, addons),
+        Ok(options) => serve_options(alloc, options, net, files, out, notes, addons, mask_key),
         Err(error) => {
             drop(addons);
             refuse(alloc, path, &error, out, notes)
@@ -189,9 +193,10 @@ fn serve_options<N: Net, F: Files, S: Sink, T: Sink>(
     out: &mut S,
     notes: &mut T,
     addons: Vec<Box<dyn Addon>>,
+    mask_key: [u8; 32],
 ) -> u8
     requires idle { N.listening net.old ≡ idle }
-    ensures { (chain : ⟦<Chain as Answerer>⟧.State) × (AreRulesOf (settings options) chain.rules × (chain.addons ≡ addons)) × Serves ⟦<Chain as Answerer>⟧.answers ⟦<Chain as Answerer>⟧.fails
+    ensures { (chain : ⟦<Chain as Answerer>⟧.State) × (AreRulesOf (settings options) chain.rules × (chain.addons ≡ addons)) × Serves ⟦<Chain as Answerer>⟧.answers ⟦<Chain as Answerer>⟧.fails (key_of mask_key)
         (Rose (N.faults net.old) (N.faults net.new)) (Rose (S.faults out.old) (S.faults out.new)) (Rose (F.losses files.old) (F.losses files.new)) (Rose (T.faults notes.old) (T.faults notes.new)) (settings options) chain (files_meaning F.contents F.calls F.misses F.faults F.losses files.old)
         (outside N.trace N.listening F.contents F.calls F.misses F.faults F.losses S.written T.written net.old files.old out.old notes.old)
         (outside N.trace N.listening F.contents F.calls F.misses F.faults F.losses S.written T.written net.new files.new out.new notes.new) result }
@@ -223,7 +228,7 @@ fn serve_options<N: Net, F: Files, S: Sink, T: Sink>(
     let chain = Chain::new(rules, addons);
     let saving = saving_of(save_stream_file, save_stream_filter);
     let ending = serve(
-        alloc, &listen, mode, chain, saving, net, files, out, notes, events,
+        alloc, &listen, mode, mask_key, chain, saving, net, files, out, notes, events,
     );
     end(out, ending).code()
 }

@@ -1,5 +1,6 @@
 //! A proxy: each connection is a conversation whose requests go where the mode says.
 ghost use Rattle.std.specs.Prelude.{◌≡◌, ◌≢◌, ◌≤◌, ◌⊎◌, [], Some, Err, IfErr, OnOk, OnErr};
+ghost use Rattle.rand_chacha.specs.ChaCha.{key_of};
 ghost use Rattle.px_outside.specs.Count.{Rose};
 ghost use Rattle.px_outside.specs.Net.{failed, idle};
 ghost use Rattle.px_outside.specs.Sink.{Writes, WritesPart};
@@ -37,13 +38,14 @@ pub(crate) struct Ending {
     pub(crate) printing: Printing,
 }
 
-/// Listens for clients at `proxy`, tells a note of that, and serves each connection in this mode, with hooks answered so, until the
-/// net ends or so many things were heard. Of each finished flow its line is printed, and then it is saved
+/// Listens for clients at `proxy`, tells a note of that, and serves each connection in this mode and with this key for the masks of
+/// frames, with hooks answered so, until the net ends or so many things were heard. Of each finished flow its line is printed, and then it is saved
 /// where that is asked for.
 pub(crate) fn serve<A: Answerer + Drop, N: Net, F: Files, S: Sink, T: Sink>(
     alloc: Global,
     proxy: &Address,
     mode: Mode,
+    mask_key: [u8; 32],
     answerer: A,
     saving: Option<Saving>,
     net: &mut N,
@@ -54,7 +56,7 @@ pub(crate) fn serve<A: Answerer + Drop, N: Net, F: Files, S: Sink, T: Sink>(
 ) -> Ending
     requires idle { N.listening net.old ≡ idle }
     requires losses { KeepsLosses A.answers A.fails }
-    ensures run { N.trace net.old ≡ Some [] → Told (IsRun A.answers A.fails (mode_due mode) (record { own = A.state answerer; files = files_meaning F.contents F.calls F.misses F.faults F.losses files.old }) (saves_to_of saving) budget result.status result.printing (files_meaning F.contents F.calls F.misses F.faults F.losses files.new) (S.written out.old) (S.written out.new)) (N.trace net.new) }
+    ensures run { N.trace net.old ≡ Some [] → Told (IsRun A.answers A.fails (mode_due mode (key_of mask_key)) (record { own = A.state answerer; files = files_meaning F.contents F.calls F.misses F.faults F.losses files.old }) (saves_to_of saving) budget result.status result.printing (files_meaning F.contents F.calls F.misses F.faults F.losses files.new) (S.written out.old) (S.written out.new)) (N.trace net.new) }
     ensures failed { result.printing ≡ Printing.Failed → Rose (S.faults out.old) (S.faults out.new) ⊎ Rose (F.losses files.old) (F.losses files.new) }
     ensures later { S.faults out.old ≤ S.faults out.new }
     ensures files { LeavesBehind A.answers A.fails (saves_to_of saving) (record { own = A.state answerer; files = files_meaning F.contents F.calls F.misses F.faults F.losses files.old }) (files_meaning F.contents F.calls F.misses F.faults F.losses files.new) }
@@ -70,7 +72,7 @@ pub(crate) fn serve<A: Answerer + Drop, N: Net, F: Files, S: Sink, T: Sink>(
         drop(saving);
         return Ending { status, printing };
     }
-    let maker = Gates::new(alloc, Placed::new(alloc, mode));
+    let maker = Gates::new(alloc, Placed::new(alloc, mode, mask_key));
     let mut serving = Serving::<Conv, A, Gates<Placed>>::new(alloc, answerer, maker, saving);
     let status = serve_all(alloc, &mut serving, net, files, out, budget);
     let printing = serving.printing;

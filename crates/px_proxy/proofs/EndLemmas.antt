@@ -50,9 +50,9 @@ causes_by net cause sink status h by = record {
   complete = λ still printed. h.complete (λ failed. still (by failed)) printed;
 }
 
-module _ {S : Type 0} (answers : Answering S) (fails : Failing S) (IsChain : Settings → S → Type 0) (same net cause out save notes : Type 0) (by : net → cause) where
+module _ {S : Type 0} (answers : Answering S) (fails : Failing S) (key : List ℕ) (IsChain : Settings → S → Type 0) (same net cause out save notes : Type 0) (by : net → cause) where
   serves_by : (settings : Settings) (chain : S) (read : FilesMeaning) (before after : Outside) (status : ℕ) →
-      Serves answers fails net out save notes settings chain read before after status → Serves answers fails cause out save notes settings chain read before after status
+      Serves answers fails key net out save notes settings chain read before after status → Serves answers fails key cause out save notes settings chain read before after status
   serves_by settings chain read before after status h = record {
     promises = h.promises;
     files = h.files;
@@ -64,7 +64,7 @@ module _ {S : Type 0} (answers : Answering S) (fails : Failing S) (IsChain : Set
   }
 
   runs_by : (path : List ℕ) (opened : Opened) (read : FilesMeaning) (before after : Outside) (status : ℕ) →
-      RunsOn answers fails IsChain same net out save notes path opened read before after status → RunsOn answers fails IsChain same cause out save notes path opened read before after status
+      RunsOn answers fails key IsChain same net out save notes path opened read before after status → RunsOn answers fails key IsChain same cause out save notes path opened read before after status
   runs_by path nothing_read read before after status h = h
   runs_by path absent read before after status h = h
   runs_by path not_read read before after status h = h
@@ -74,7 +74,7 @@ module _ {S : Type 0} (answers : Answering S) (fails : Failing S) (IsChain : Set
 
   -- the same of a run
   pub file_by : (path : List ℕ) (opened : Opened) (before after : Outside) (status : ℕ) →
-      ServesFile answers fails IsChain same net out save notes path opened before after status → ServesFile answers fails IsChain same cause out save notes path opened before after status
+      ServesFile answers fails key IsChain same net out save notes path opened before after status → ServesFile answers fails key IsChain same cause out save notes path opened before after status
   file_by path opened before after status h = record { read = h.read; reads = h.reads; runs = runs_by path opened h.read before after status h.runs }
 
 -- ---- the end

@@ -32,11 +32,11 @@ stopped code status (inl is) (inr seven) not_zero not_seven = not_seven (sym is 
 stopped code status (inr is) (inl zero) not_zero not_seven = omega arith
 stopped code status (inr is) (inr seven) not_zero not_seven = omega arith
 
-module _ {S : Type 0} (answers : Answering S) (fails : Failing S) where
+module _ {S : Type 0} (answers : Answering S) (fails : Failing S) (key : List ℕ) where
   -- what the wire took is what is due by the options
   pub taken_by : ConnectsNone answers → (IsChain : Settings → S → Type 0) (same net out save notes : Type 0) (path : List ℕ) (opened : Opened) (before after : Outside) (status : ℕ) {told : Option Calls} →
       ((list : Calls) → told ≡ Some list → after.trace ≡ Some (steps_of list)) → ((list : Calls) → told ≡ Some list → Obeys list) →
-      ServesFile answers fails IsChain same net out save notes path opened before after status → IsTakenBy opened before.trace told
+      ServesFile answers fails key IsChain same net out save notes path opened before after status → IsTakenBy key opened before.trace told
   taken_by none IsChain same net out save notes path nothing_read before after status steps obeys h = tt
   taken_by none IsChain same net out save notes path absent before after status steps obeys h = tt
   taken_by none IsChain same net out save notes path not_read before after status steps obeys h = tt
@@ -44,12 +44,12 @@ module _ {S : Type 0} (answers : Answering S) (fails : Failing S) where
   taken_by none IsChain same net out save notes path (refused bytes why) before after status steps obeys h = tt
   taken_by none IsChain same net out save notes path (says bytes settings) before after status steps obeys h = λ mode list wants fresh told.
       let served = (h.runs.1.2.promises mode (steps_of list) wants fresh (steps list told)).1.served in
-      always_taken answers none (mode_due mode) (mode_silent mode) list (obeys list told)
-      (always_counts (mode_due mode) (mode_counts mode) (steps_of list) served.within) served.met served.within
+      always_taken answers none (mode_due mode key) (mode_silent mode key) list (obeys list told)
+      (always_counts (mode_due mode key) (mode_counts mode key) (steps_of list) served.within) served.met served.within
 
   -- the statuses of an end come only where the end was heard
   pub ends_by_end : (IsChain : Settings → S → Type 0) (same net out save notes : Type 0) (path : List ℕ) (opened : Opened) (before after : Outside) (status : ℕ) →
-      ServesFile answers fails IsChain same net out save notes path opened before after status → (trace : Trace) → before.trace ≡ Some [] → after.trace ≡ Some trace → (status ≡ 0) ⊎ (status ≡ 7) → ends_heard trace ≡ true
+      ServesFile answers fails key IsChain same net out save notes path opened before after status → (trace : Trace) → before.trace ≡ Some [] → after.trace ≡ Some trace → (status ≡ 0) ⊎ (status ≡ 7) → ends_heard trace ≡ true
   ends_by_end IsChain same net out save notes path nothing_read before after status h trace fresh tells either = absurd (stopped 8 status h.runs.is either (λ e. omega arith) (λ e. omega arith))
   ends_by_end IsChain same net out save notes path absent before after status h trace fresh tells either = absurd (stopped 3 status h.runs.is either (λ e. omega arith) (λ e. omega arith))
   ends_by_end IsChain same net out save notes path not_read before after status h trace fresh tells either = absurd (stopped 3 status h.runs.is either (λ e. omega arith) (λ e. omega arith))

@@ -1,5 +1,5 @@
 -- What a wire took, against what is due.
-use Rattle.std.specs.Prelude.{◌≡◌, ℕ, [], ◌++◌, Option, Some}
+use Rattle.std.specs.Prelude.{◌≡◌, ℕ, List, [], ◌++◌, Option, Some}
 use Rattle.px_text.specs.Prefix.{IsPrefixOf}
 use Rattle.px_event.specs.Trace.{Trace}
 use Rattle.px_event.specs.View.{bytes_in, line}
@@ -21,12 +21,12 @@ abbrev pub AlwaysTakesWhatIsDue : Due → Calls → Type 0
 AlwaysTakesWhatIsDue due list = (prefix : Calls) (rest : Calls) → list ≡ prefix ++ rest → TakesWhatIsDue due prefix
 
 -- Where the options file was opened so, and the wire, which had told no step before, made these calls: what it took is what is due by the
--- options.
-abbrev pub IsTakenBy : Opened → Option Trace → Option Calls → Type 0
-IsTakenBy nothing_read steps told = Unit {0}
-IsTakenBy absent steps told = Unit {0}
-IsTakenBy not_read steps told = Unit {0}
-IsTakenBy (unjudged bytes) steps told = Unit {0}
-IsTakenBy (refused bytes why) steps told = Unit {0}
-IsTakenBy (says bytes settings) steps told =
-    (mode : Mode) (list : Calls) → settings.mode ≡ mode_view mode → steps ≡ Some [] → told ≡ Some list → AlwaysTakesWhatIsDue (mode_due mode) list
+-- options, with this key of masks.
+abbrev pub IsTakenBy : List ℕ → Opened → Option Trace → Option Calls → Type 0
+IsTakenBy key nothing_read steps told = Unit {0}
+IsTakenBy key absent steps told = Unit {0}
+IsTakenBy key not_read steps told = Unit {0}
+IsTakenBy key (unjudged bytes) steps told = Unit {0}
+IsTakenBy key (refused bytes why) steps told = Unit {0}
+IsTakenBy key (says bytes settings) steps told =
+    (mode : Mode) (list : Calls) → settings.mode ≡ mode_view mode → steps ≡ Some [] → told ≡ Some list → AlwaysTakesWhatIsDue (mode_due mode key) list

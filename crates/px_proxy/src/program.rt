@@ -1,6 +1,7 @@
 //! The program with lines over a wire as its network.
 ghost use Rattle.std.specs.Prelude.{◌≡◌, ◌≢◌, ℕ, List, [], Some, map};
 ghost use Rattle.std.specs.String.{string_bytes};
+ghost use Rattle.rand_chacha.specs.ChaCha.{key_of};
 ghost use Rattle.px_outside.specs.Count.{Rose};
 ghost use Rattle.px_outside.specs.Net.{idle};
 ghost use Rattle.px_core.specs.Answers.{files_meaning};
@@ -32,16 +33,17 @@ pub fn run<W: Wire, F: Files, S: Sink, T: Sink>(
     out: &mut S,
     notes: &mut T,
     addons: Vec<Box<dyn Addon>>,
+    mask_key: [u8; 32],
 ) -> u8
     requires idle { W.listening lines.old.wire ≡ idle }
 
     // With the words `serve OPTIONS`: the file is read, and the run is as what came of that says. What the wire took for each side begins
     // what is due to it, after each of its calls.
-    ensures serves { (path : List ℕ) → IsServe (map string_bytes words.now) path → (opened : Opened) × ServesFile ⟦<Chain as Answerer>⟧.answers ⟦<Chain as Answerer>⟧.fails
+    ensures serves { (path : List ℕ) → IsServe (map string_bytes words.now) path → (opened : Opened) × ServesFile ⟦<Chain as Answerer>⟧.answers ⟦<Chain as Answerer>⟧.fails (key_of mask_key)
         (λ settings chain. AreRulesOf settings chain.rules × (chain.addons ≡ addons)) (lines.new ≡ lines.old) (LinesFailed (W.faults lines.old.wire) lines.old.faults (W.faults lines.new.wire) lines.new.faults (W.calls lines.new.wire)) (Rose (S.faults out.old) (S.faults out.new)) (Rose (F.losses files.old) (F.losses files.new)) (Rose (T.faults notes.old) (T.faults notes.new)) path opened
         (outside W.steps W.listening F.contents F.calls F.misses F.faults F.losses S.written T.written lines.old.wire files.old out.old notes.old)
         (outside W.steps W.listening F.contents F.calls F.misses F.faults F.losses S.written T.written lines.new.wire files.new out.new notes.new) result
-        × IsTakenBy opened (W.steps lines.old.wire) (W.calls lines.new.wire) }
+        × IsTakenBy (key_of mask_key) opened (W.steps lines.old.wire) (W.calls lines.new.wire) }
 
     // With the words `flows FILE FILTER`: the lines of the file's flows.
     ensures lists { (path text : List ℕ) → IsFlows (map string_bytes words.now) path text → (what : Fetched) × ListsFile (lines.new ≡ lines.old) (Rose (S.faults out.old) (S.faults out.new)) (Rose (T.faults notes.old) (T.faults notes.new)) path text what
@@ -49,7 +51,7 @@ pub fn run<W: Wire, F: Files, S: Sink, T: Sink>(
         (outside W.steps W.listening F.contents F.calls F.misses F.faults F.losses S.written T.written lines.new.wire files.new out.new notes.new) result }
 
     // With the words `gen N`: the run of so many generated flows.
-    ensures generates { (count : ℕ) → IsGen (map string_bytes words.now) count → Generates ⟦<Chain as Answerer>⟧.answers ⟦<Chain as Answerer>⟧.fails
+    ensures generates { (count : ℕ) → IsGen (map string_bytes words.now) count → Generates ⟦<Chain as Answerer>⟧.answers ⟦<Chain as Answerer>⟧.fails (key_of mask_key)
         (λ settings chain. AreRulesOf settings chain.rules × (chain.addons.items ≡ [])) (Rose (S.faults out.old) (S.faults out.new)) count
         (outside W.steps W.listening F.contents F.calls F.misses F.faults F.losses S.written T.written lines.old.wire files.old out.old notes.old)
         (outside W.steps W.listening F.contents F.calls F.misses F.faults F.losses S.written T.written lines.new.wire files.new out.new notes.new) result }
@@ -67,7 +69,7 @@ pub fn run<W: Wire, F: Files, S: Sink, T: Sink>(
     // Where the calls are told the end is never heard, so the statuses of an end do not come of serving.
     ensures endless { (path : List ℕ) (list : Calls) → IsServe (map string_bytes words.now) path → W.steps lines.old.wire ≡ Some [] → W.calls lines.new.wire ≡ Some list → (result ≢ 0) × (result ≢ 7) }
 {
-    let status = px_app::run(alloc, words, lines, files, out, notes, addons);
+    let status = px_app::run(alloc, words, lines, files, out, notes, addons, mask_key);
     let _kept = lines.wire();
     status
 }

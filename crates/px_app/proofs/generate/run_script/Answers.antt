@@ -1,4 +1,5 @@
 use Rattle.std.proofs.Common.{◌≡◌, Some, refl, sym, ap, subst}
+use Rattle.rand_chacha.specs.ChaCha.{key_of}
 use Rattle.px_event.specs.Trace.{Trace}
 use Rattle.px_stack.specs.Modes.{mode_due}
 use Rattle.px_core.proofs.AnswerLemmas.{kept_after}
@@ -25,7 +26,7 @@ pub returns-in-Ok-serve_generated : goal.returns-in-Ok-serve_generated
 returns-in-Ok-serve_generated g c =
     let steps : Trace = c.trace.result.now in
     let begun = c.in-Ok-serve_generated.ensures.ok (ap (λ (s : GeneratedState). Some s.trace) c.new-generated.ensures.new) in
-    let run = told_trace _ _ steps (in_mode c.in-Ok.mode generator_mode c.in-Ok.ensures.mode begun.1) (ap Some (sym c.trace.ensures.trace)) in
+    let run = told_trace _ _ steps (in_mode c.in-Ok.mode generator_mode (key_of c.args.mask_key) c.in-Ok.ensures.mode begun.1) (ap Some (sym c.trace.ensures.trace)) in
     record {
       run = steps;
       hears =
@@ -40,9 +41,9 @@ returns-in-Ok-serve_generated g c =
           served = run.served;
           follows = run.follows;
           leaves = leaves_part _ _ _ _ _ steps _ _ run.leaves (λ other (e : Ended ≡ NoMemory). absurd (cc));
-          hooks = none_waits_within (mode_due generator_mode) steps run.served (λ hook flow old old_files new new_files draft is. chain_never_waits _ _ _ hook flow _ _ old_files _ _ new_files draft is);
+          hooks = none_waits_within (mode_due generator_mode (key_of c.args.mask_key)) steps run.served (λ hook flow old old_files new new_files draft is. chain_never_waits _ _ _ hook flow _ _ old_files _ _ new_files draft is);
           whole = λ other. run.whole (λ (e : Ended ≡ NoMemory). absurd (cc));
-          hooks_whole = λ other. none_waits (mode_due generator_mode) steps (run.waits (λ (e : Ended ≡ NoMemory). absurd (cc)))
+          hooks_whole = λ other. none_waits (mode_due generator_mode (key_of c.args.mask_key)) steps (run.waits (λ (e : Ended ≡ NoMemory). absurd (cc)))
               (λ hook flow old old_files new new_files draft is. chain_never_waits _ _ _ hook flow _ _ old_files _ _ new_files draft is);
           own = run.own;
         },

@@ -5,11 +5,11 @@ use Rattle.px_app.proofs.TouchedLemmas.{reads_leaving, touches_leaving}
 use Rattle.px_app.proofs.laws.a_run_touches_only_what_options_name.Goals as goal
 
 pub returns-clause-touches : goal.returns-clause-touches
-returns-clause-touches g c = λ mode files last to changes made reached status trace promised saved.
-    touches_leaving _ _ _ _ (keeps_reads _ _ _ (λ chain. chain.rules) (λ chain. chain.addons.items) c.args.chain.now.rules) to (mode_due mode) _ changes reached made _ last trace refl saved
+returns-clause-touches g c = λ mode key files last to changes made reached status trace promised saved.
+    touches_leaving _ _ _ _ (keeps_reads _ _ _ (λ chain. chain.rules) (λ chain. chain.addons.items) c.args.chain.now.rules) to (mode_due mode key) _ changes reached made _ last trace refl saved
     promised.leaves
 
 pub returns-clause-unsaved : goal.returns-clause-unsaved
-returns-clause-unsaved g c = λ mode files last changes made reached status trace promised saved.
-    reads_leaving _ _ _ _ (keeps_reads _ _ _ (λ chain. chain.rules) (λ chain. chain.addons.items) c.args.chain.now.rules) (mode_due mode) _ changes reached made _ last trace refl saved
+returns-clause-unsaved g c = λ mode key files last changes made reached status trace promised saved.
+    reads_leaving _ _ _ _ (keeps_reads _ _ _ (λ chain. chain.rules) (λ chain. chain.addons.items) c.args.chain.now.rules) (mode_due mode key) _ changes reached made _ last trace refl saved
     promised.leaves

@@ -7,8 +7,8 @@ use Rattle.px_app.proofs.SaveLaws.{own_stays}
 use Rattle.px_app.proofs.laws.addons_that_leave_drafts_change_nothing.Goals as goal
 
 pub returns : goal.returns
-returns g c = λ mode files last to changes made reached status trace so promised saved.
-    (kept_in _ (mode_due mode) _ goes_on_unchanged (record {
+returns g c = λ mode key files last to changes made reached status trace so promised saved.
+    (kept_in _ (mode_due mode key) _ goes_on_unchanged (record {
       stays = λ hook flow old old_files new new_files given quiet by. stays_quiet _ _ _ hook flow old.rules old.addons.items old_files new.rules new.addons.items new_files given quiet by;
       gives_so = λ hook flow old old_files new new_files given quiet by. answers_unchanged _ _ _ hook flow old.rules old.addons.items old_files new.rules new.addons.items new_files given quiet by;
     }) (course_from (record { own = c.args.chain.now; files = files }) changes) promised.follows.made promised.follows.front_of so (own_stays to _ reached changes made saved) trace

@@ -6,4 +6,4 @@ use Rattle.px_core.proofs.OrderedLemmas.{in_order}
 use Rattle.px_app.proofs.laws.no_hook_is_asked_behind_its_end.Goals as goal
 
 pub returns : goal.returns
-returns c = λ mode trace within. in_order (mode_due mode) (λ conv peer moves. ordered_from conv (Some peer) (begins mode) refl moves) trace within
+returns c = λ mode key trace within. in_order (mode_due mode key) (λ conv peer moves. ordered_from conv (record { address = Some peer; key = key }) (begins mode) refl moves) trace within

@@ -8,17 +8,17 @@ use Rattle.px_app.proofs.GrownLemmas.{grown_in_part, grown_leaving, grown_whole}
 use Rattle.px_app.proofs.laws.what_is_saved_stands_behind_what_stood_there.Goals as goal
 
 pub returns-clause-part : goal.returns-clause-part
-returns-clause-part g c = λ mode files last to changes made reached status trace promised saved.
-    grown_in_part _ _ _ _ (keeps_reads _ _ _ (λ chain. chain.rules) (λ chain. chain.addons.items) c.args.chain.now.rules) (λ old new reads. reads.reads.contents) to (mode_due mode) _ changes
+returns-clause-part g c = λ mode key files last to changes made reached status trace promised saved.
+    grown_in_part _ _ _ _ (keeps_reads _ _ _ (λ chain. chain.rules) (λ chain. chain.addons.items) c.args.chain.now.rules) (λ old new reads. reads.reads.contents) to (mode_due mode key) _ changes
     reached made _ last trace refl saved promised.leaves
 
 pub returns-clause-whole : goal.returns-clause-whole
-returns-clause-whole g c = λ mode files last to changes made reached status trace promised saved said.
-    grown_leaving _ _ _ _ (keeps_reads _ _ _ (λ chain. chain.rules) (λ chain. chain.addons.items) c.args.chain.now.rules) (λ old new reads. reads.reads.contents) to (mode_due mode) _ changes
+returns-clause-whole g c = λ mode key files last to changes made reached status trace promised saved said.
+    grown_leaving _ _ _ _ (keeps_reads _ _ _ (λ chain. chain.rules) (λ chain. chain.addons.items) c.args.chain.now.rules) (λ old new reads. reads.reads.contents) to (mode_due mode key) _ changes
     reached made _ last trace refl saved promised.leaves said
 
 pub returns-clause-all : goal.returns-clause-all
-returns-clause-all g c = λ mode files last to changes made status trace start now promised reaches said.
+returns-clause-all g c = λ mode key files last to changes made status trace start now promised reaches said.
     grown_whole to (saved (Some to) (finished_in trace)) made files.contents last.contents reaches.came.1
-    (grown_leaving _ _ _ _ (keeps_reads _ _ _ (λ chain. chain.rules) (λ chain. chain.addons.items) c.args.chain.now.rules) (λ old new reads. reads.reads.contents) to (mode_due mode) _ changes
+    (grown_leaving _ _ _ _ (keeps_reads _ _ _ (λ chain. chain.rules) (λ chain. chain.addons.items) c.args.chain.now.rules) (λ old new reads. reads.reads.contents) to (mode_due mode key) _ changes
     Whole made _ last trace refl reaches.saved_so promised.leaves said)

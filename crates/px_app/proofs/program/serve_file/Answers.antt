@@ -10,4 +10,4 @@ returns-in-Ok g c =
     opened_so c.args.path.now read.0 (settings c.in-Ok.options) read.1 read.2 served.0 served.1 (serves_since _ _ _ read.1.losses served.2)
 
 pub returns-in-Err : goal.returns-in-Err
-returns-in-Err g c = not_opened _ _ _ _ _ _ _ _ _ _ _ _ c.in-Err.error c.in-Err.ensures.err refl c.refuse.ensures.status c.refuse.ensures.prints c.refuse.ensures.notes
+returns-in-Err g c = not_opened _ _ _ _ _ _ _ _ _ _ _ _ _ c.in-Err.error c.in-Err.ensures.err refl c.refuse.ensures.status c.refuse.ensures.prints c.refuse.ensures.notes

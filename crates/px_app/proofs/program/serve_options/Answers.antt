@@ -1,4 +1,5 @@
 use Rattle.std.proofs.Common.{◌≡◌, ◌⊎◌, inl, inr, ℕ, ◌++◌, refl, sym, subst}
+use Rattle.rand_chacha.specs.ChaCha.{key_of}
 use Rattle.px_outside.specs.Sink.{Writes, WritesPart}
 use Rattle.px_stack.specs.Modes.{mode_due}
 use Rattle.px_addons.specs.declared.rules.Rules.{Rules}
@@ -43,15 +44,15 @@ returns g c = (
   record {
     promises = λ mode trace wants empty tells.
         let is = code_by c.serve-ending.result.printing c.serve-ending.result.status c.end.result c.code.result c.end.ensures.status c.code.ensures.code in
-        let run = told_trace _ _ trace (in_mode c.args.options.mode mode (same_mode c.args.options.mode mode wants) (c.serve-ending.ensures.run empty)) tells in (
+        let run = told_trace _ _ trace (in_mode c.args.options.mode mode (key_of c.args.mask_key) (same_mode c.args.options.mode mode wants) (c.serve-ending.ensures.run empty)) tells in (
           run.changes,
           record {
             served = run.served;
             follows = run.follows;
             leaves = leaves_part _ _ _ _ _ trace _ _ run.leaves (λ other. other_says c.serve-ending.result.printing c.serve-ending.result.status c.code.result is other);
-            hooks = none_waits_within (mode_due mode) trace run.served (λ hook flow old old_files new new_files draft is. chain_never_waits _ _ _ hook flow _ _ old_files _ _ new_files draft is);
+            hooks = none_waits_within (mode_due mode (key_of c.args.mask_key)) trace run.served (λ hook flow old old_files new new_files draft is. chain_never_waits _ _ _ hook flow _ _ old_files _ _ new_files draft is);
             whole = λ other. run.whole (other_says c.serve-ending.result.printing c.serve-ending.result.status c.code.result is other);
-            hooks_whole = λ other. none_waits (mode_due mode) trace (run.waits (other_says c.serve-ending.result.printing c.serve-ending.result.status c.code.result is other))
+            hooks_whole = λ other. none_waits (mode_due mode (key_of c.args.mask_key)) trace (run.waits (other_says c.serve-ending.result.printing c.serve-ending.result.status c.code.result is other))
                 (λ hook flow old old_files new new_files draft is. chain_never_waits _ _ _ hook flow _ _ old_files _ _ new_files draft is);
             own = run.own;
           },
