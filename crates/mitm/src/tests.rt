@@ -136,6 +136,7 @@ fn status_of<N: Net, R: Print + Alloc<A = Global> + Copy + Drop>(
         &mut out,
         &mut notes,
         Vec::new(rt.alloc()),
+        [0; 32],
     )
 }
 

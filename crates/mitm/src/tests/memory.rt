@@ -58,6 +58,7 @@ fn a_socket_takes_an_answer_in_parts(rt: HostRuntime) -> Result<(), Fail> {
         &mut out,
         &mut notes,
         Vec::new(alloc),
+        [0; 32],
     );
     assert!(rt; status == 5);
     assert!(rt; notes.written() == LISTENING);
