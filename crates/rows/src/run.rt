@@ -43,6 +43,7 @@ pub(crate) fn play_run(alloc: Global, diagram: &Diagram, cut: Cut) -> Result<Str
         &mut out,
         &mut notes,
         Vec::new(alloc),
+        [0; 32],
     );
     let came = Came {
         trace: net.trace(),
