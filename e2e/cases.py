@@ -22,6 +22,7 @@ from tools import (
 )
 from tunnel_cases import TUNNEL_CASES
 from upstream_cases import UPSTREAM_CASES
+from websocket_cases import WEBSOCKET_CASES
 
 BIG = 10 * 1024 * 1024
 SOME = 600_000
@@ -280,7 +281,7 @@ def main():
     tally = Tally(sys.argv[1:])
     with Origin() as origin:
         try_with_one_run(tally, origin)
-        for case in BUSY_CASES + OPTION_CASES + MODE_CASES + TUNNEL_CASES + UPSTREAM_CASES + PAGE_CASES + SAVING_CASES:
+        for case in BUSY_CASES + OPTION_CASES + MODE_CASES + TUNNEL_CASES + UPSTREAM_CASES + WEBSOCKET_CASES + PAGE_CASES + SAVING_CASES:
             tally.try_case(name_of(case), case)
     for name, case in examples():
         tally.try_case(name, case)
