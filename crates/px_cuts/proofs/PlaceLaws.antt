@@ -34,7 +34,8 @@ use Rattle.px_chain.specs.Chain.{IsOnward, begin, begin_with, behind_flow, dial_
 use Rattle.px_chain.specs.Sights.{Sight, Spare, Standing, Unused, answers_in, is_taken, request_in, server_behind, server_in, server_taken, server_with, shut_behind, shut_taken, shut_with, sight_behind, sight_over, sight_with, took_spare, unless_taken, unused_over, unused_with}
 use Rattle.px_chain.specs.Silent.{SpareBelow}
 use Rattle.px_chain.specs.Stages.{At, Doing, ServerSide, Stage, busy, connection, given_body, given_head, idle, next, over, place_of, request_body, response_body, response_head, side_in, side_of, Sent, upgraded}
-use Rattle.px_chain.specs.Streams.{client_closed, piece_of}
+use Rattle.px_event.specs.Sides.{piece_of}
+use Rattle.px_chain.specs.Streams.{client_closed}
 use Rattle.px_chain.proofs.SightLaws.{IsSideFrom, is_new, is_spare, no_side, same_server, sight_behind_as, sight_behind_by, sight_more, takes, takes_none, takes_same, within_more, within_passed, within_stood}
 use Rattle.px_cuts.specs.Cuts.{DialledBefore, IsDialled, MayBeHeard, MayStand, SpareDialled}
 use Rattle.px_cuts.specs.Shown.{hears, moment_at, passed_over, retimed_stage, shown_over, shown_sight}

@@ -31,7 +31,7 @@ use Rattle.px_exchange.specs.Requests.{is_head, judged}
 use Rattle.px_chain.specs.Chain.{goes_on_by, look, pass, pass_body, so_far, spare_for, turn, turn_answer, turn_answer_head, turn_body, turn_head, turn_judged, turn_returned, turn_taken_body, used_more}
 use Rattle.px_chain.specs.Sights.{Sight, Unused, unused_with}
 use Rattle.px_chain.specs.Stages.{At, ServerSide, Stage, busy, connection, given_body, given_head, idle, next, over, request_body, response_body, response_head, side_of, upgraded}
-use Rattle.px_chain.specs.Streams.{piece_of}
+use Rattle.px_event.specs.Sides.{piece_of}
 use Rattle.px_exchange.specs.Flows.{with_body}
 use Rattle.px_exchange.specs.Replies.{taken_at_request_body}
 use Rattle.px_exchange.specs.Texts.{interim_commands}

@@ -2,6 +2,7 @@ pub mod Alike
 pub mod Chain
 pub mod Laws
 pub mod Layer
+pub mod Sides
 pub mod Stamps
 pub mod Stands
 pub mod Trace

@@ -7,7 +7,8 @@ use Rattle.px_event.specs.declared.command.Command.{Command}
 use Rattle.px_event.specs.declared.command.Command.TheVariants as commands
 use Rattle.px_event.specs.declared.side.Side.TheVariants.{Client}
 use Rattle.px_read.specs.declared.head.ResponseHead.{ResponseHead}
-use Rattle.px_write.specs.Text.{crlf, interim_text, request_text, response_text}
+use Rattle.px_text.specs.Blank.{crlf}
+use Rattle.px_write.specs.Text.{interim_text, request_text, response_text}
 use Rattle.px_write.specs.declared.form.Form.{Form}
 use Rattle.px_exchange.specs.Requests.{is_head, is_http11}
 

@@ -4,7 +4,8 @@ use Rattle.std.specs.List.{flat_map, range_with_len}
 use Rattle.std.proofs.lemmas.List.{append-nil, map-append, length-drop, take_all, take_min}
 use Rattle.std.proofs.lemmas.List.Concat.{flat_map-append}
 use Rattle.std.proofs.lemmas.List.FromFn.{map-range_with_len_more}
-use Rattle.px_gen.specs.Script.{crlf, numbers_below}
+use Rattle.px_text.specs.Blank.{crlf}
+use Rattle.px_gen.specs.Script.{numbers_below}
 
 range_more : (a n j : ℕ) → a + n ≡ j → range_with_len a (suc n) ≡ range_with_len a n ++ j ∷ []
 range_more a zero j is = let same : a ≡ j = omega arith in ap (λ m. m ∷ []) same

@@ -3,6 +3,7 @@
 use Rattle.std.specs.Prelude.{◌≡◌, ℕ, ◌+◌, ◌*◌, ◌%◌, ◌<◌, ◌≤◌, true, List, [], ◌∷◌, ◌++◌, length, slice_index_or, take, drop, map, codes, decimal}
 use Rattle.std.specs.Int.{div_ceil}
 use Rattle.std.specs.List.{concat, flat_map, range_with_len}
+use Rattle.px_text.specs.Blank.{crlf}
 use Rattle.px_event.specs.declared.heard.Heard.{Heard}
 use Rattle.px_event.specs.declared.heard.Heard.TheVariants.{Accepted, Piece, Closed, Dialled}
 use Rattle.px_event.specs.declared.side.Door.TheVariants.{Proxy}
@@ -17,10 +18,6 @@ numbers_below n = range_with_len 0 n
 -- the number of bytes in the body of flow i
 unfoldable pub size_of : ℕ → ℕ
 size_of i = (7919 * i + 13) % 1000
-
--- the end of a line
-abbrev pub crlf : List ℕ
-crlf = 13 ∷ 10 ∷ []
 
 -- the request of flow i, whose body has so many bytes
 unfoldable pub request_text : ℕ → ℕ → List ℕ

@@ -18,7 +18,8 @@ use Rattle.px_head.proofs.FoundLemmas.{trailers_found}
 use Rattle.px_head.proofs.FrontLemmas.{standing, used-within}
 use Rattle.px_read.specs.ChunkLine.{IsLine, size_in}
 use Rattle.px_read.specs.Marks.{Mark, begins, byte, ends}
-use Rattle.px_read.specs.Chunked.{IsChunked, last, chunk, crlf, chunk_told, chunks_told}
+use Rattle.px_text.specs.Blank.{crlf}
+use Rattle.px_read.specs.Chunked.{IsChunked, last, chunk, chunk_told, chunks_told}
 use Rattle.px_read.specs.Chunks.{ChunkPlace, in_line, in_content, at_cr, at_lf, in_trailers, broken, ChunkHearing, silent, behind_size, behind_content, hear, hear_all, Finish, goes_on, whole, fails, trailers_finish, place_finish, GoesOn, Reading, chunks_from, chunked_reading}
 use Rattle.px_read.specs.Readings.{behind_bytes}
 use Rattle.px_read.proofs.HearLemmas.{behind, hear_all-append, hear_all-broken, hear_all-trailers, reading_behind, resumes_as, shift_from, waits_on, finish_stays}

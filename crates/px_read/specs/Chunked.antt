@@ -3,13 +3,10 @@
 use Rattle.std.specs.Prelude.{◌≡◌, ℕ, ◌<◌, ◌≤◌, List, [], ◌∷◌, ◌++◌, length, map}
 use Rattle.std.specs.List.{flat_map}
 use Rattle.httparse.specs.Grammar.{ChunkLine, Field, LineEnd, chunk_size}
+use Rattle.px_text.specs.Blank.{crlf}
 use Rattle.px_head.specs.Heads.{IsTrailers, raw_trailers}
 use Rattle.px_read.specs.ChunkLine.{IsLine}
 use Rattle.px_read.specs.Marks.{Mark, begins, byte, ends}
-
--- the end of a chunk's content
-abbrev pub crlf : List ℕ
-crlf = 13 ∷ 10 ∷ []
 
 pub data IsChunked : List ℕ → List (List ℕ) → List (List ℕ × List ℕ) → Type 0 where
   last : (line trailers : List ℕ) (states : ChunkLine) (section : List Field × LineEnd) → IsLine line states → chunk_size states ≡ 0 →

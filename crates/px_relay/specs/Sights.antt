@@ -6,7 +6,7 @@ use Rattle.px_event.specs.declared.event.Rests.{Rests}
 use Rattle.px_event.specs.declared.side.Side.{Side}
 use Rattle.px_event.specs.declared.side.Side.TheVariants as sides
 use Rattle.px_event.specs.Chain.{Timed}
-use Rattle.px_event.specs.Trace.{is_same_side}
+use Rattle.px_event.specs.Sides.{closes, piece_of}
 use Rattle.px_relay.specs.declared.peer.Peer.{Peer}
 use Rattle.px_relay.specs.declared.peer.Peer.TheVariants.{Client, Server}
 
@@ -23,14 +23,6 @@ bytes_of Client seen = seen.client
 bytes_of Server seen = seen.server
 
 -- ---- one event more
-
-abbrev pub piece_of : Side → Event → List ℕ
-piece_of side (events.Piece from bytes) = if is_same_side from side then bytes else []
-piece_of side _ = []
-
-abbrev pub closes : Side → Event → Bool
-closes side (events.Closed from) = is_same_side from side
-closes side _ = false
 
 -- the sight with one event more, where the server has this number
 abbrev pub sight_with : ℕ → Sight → Event → Sight

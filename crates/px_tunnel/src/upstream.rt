@@ -25,7 +25,6 @@ pub enum ProxyAnswer {
 }
 
 /// The request for a tunnel to this address, as a proxy is sent it (RFC 9110 section 9.3.6).
-#[tactic(auto, unfolding(crate::specs::Upstream::line_end))]
 pub fn connect_text(alloc: Global, address: &Address) -> Result<Bytes, NoMemory>
     ensures text { IfOk result (λ text. text ≡ connect_text address.now) }
 {

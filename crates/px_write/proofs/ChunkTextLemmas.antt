@@ -26,7 +26,8 @@ use Rattle.px_read.specs.Items.{Body, body_of}
 use Rattle.px_read.specs.Marks.{Mark, begins, byte, ends}
 use Rattle.px_read.proofs.ChunkedLemmas.{chunked_read}
 use Rattle.px_write.specs.ReadBack.{one_chunk, trailer_parts}
-use Rattle.px_write.specs.Text.{chunk_text, crlf, fields_text, last_chunk_text}
+use Rattle.px_text.specs.Blank.{crlf}
+use Rattle.px_write.specs.Text.{chunk_text, fields_text, last_chunk_text}
 
 -- ---- hexadecimal digits
 

@@ -21,7 +21,8 @@ use Rattle.px_message.specs.declared.version.Version.{Version}
 use Rattle.px_message.specs.declared.version.Version.TheVariants.{Http10, Http11}
 use Rattle.px_message.proofs.DecimalLemmas.{decimal_is_value}
 use Rattle.px_write.specs.Framing.{HeadEnds}
-use Rattle.px_write.specs.Text.{crlf, field_line, fields_text, interim_text, request_line, target_text, version_text}
+use Rattle.px_text.specs.Blank.{crlf}
+use Rattle.px_write.specs.Text.{field_line, fields_text, interim_text, request_line, target_text, version_text}
 use Rattle.px_write.specs.declared.form.Form.{Form}
 use Rattle.px_write.specs.declared.form.Form.TheVariants.{Origin, Absolute}
 

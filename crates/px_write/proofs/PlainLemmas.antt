@@ -22,7 +22,8 @@ use Rattle.px_message.specs.Valid.{is_field}
 use Rattle.px_message.specs.declared.version.Version.{Version}
 use Rattle.px_message.specs.declared.version.Version.TheVariants.{Http10, Http11}
 use Rattle.px_write.specs.ReadBack.{ArePlain, IsPlainField, trailer_parts}
-use Rattle.px_write.specs.Text.{crlf, field_line, fields_text, request_line, status_line, version_text}
+use Rattle.px_text.specs.Blank.{crlf}
+use Rattle.px_write.specs.Text.{field_line, fields_text, request_line, status_line, version_text}
 
 -- ---- fields
 

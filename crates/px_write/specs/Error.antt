@@ -2,7 +2,7 @@
 use Rattle.std.specs.Prelude.{ℕ, ◌+◌, Bool, if◌then◌else◌, List, [], ◌∷◌, ◌++◌, length, codes, decimal}
 use Rattle.px_message.specs.declared.fault.Fault.{Fault}
 use Rattle.px_message.specs.declared.fault.Fault.TheVariants.{BadHead, TooLong, BadTarget, BothLengths, BadLength, BadCoding, BadChunk, NoConnection, ServerClosed, BadResponse, UpstreamRefused}
-use Rattle.px_write.specs.Text.{crlf}
+use Rattle.px_text.specs.Blank.{crlf}
 
 -- code and reason of the answer to a fault (RFC 9110 section 15, RFC 6585 section 5)
 unfoldable pub fault_status : Fault → List ℕ

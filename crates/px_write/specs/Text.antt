@@ -3,6 +3,7 @@
 use Rattle.std.specs.Prelude.{ℕ, Bool, ◌==◌, if◌then◌else◌, List, [], ◌∷◌, ◌++◌, length, codes, decimal}
 use Rattle.std.specs.List.{flat_map}
 use Rattle.std.specs.Borrow.{Bor}
+use Rattle.px_text.specs.Blank.{crlf}
 use Rattle.px_text.specs.Number.{hexadecimal}
 use Rattle.px_message.specs.Length.{is_framed_in_chunks, has_no_body}
 use Rattle.px_message.specs.Url.{url_text}
@@ -16,10 +17,6 @@ use Rattle.px_write.specs.declared.form.Form.TheVariants.{Origin, Absolute}
 -- the pieces of a text, one behind the other
 abbrev pub joined : List (Bor (List ℕ)) → List ℕ
 joined pieces = flat_map (λ piece. piece.now) pieces
-
--- the end of a line
-abbrev pub crlf : List ℕ
-crlf = 13 ∷ 10 ∷ []
 
 -- the name of a version (RFC 9112 section 2.3)
 unfoldable pub version_text : Version → List ℕ

@@ -6,7 +6,8 @@
 ghost use Rattle.std.specs.Prelude.{◌≡◌, ◌++◌, OnOk, OnErr};
 ghost use Rattle.px_text.specs.Number.{hexadecimal};
 ghost use Rattle.px_text.specs.Prefix.{AddsPrefixOf};
-ghost use Rattle.px_write.specs.Text.{body_text, chunk_text, crlf, last_chunk_text};
+ghost use Rattle.px_text.specs.Blank.{crlf};
+ghost use Rattle.px_write.specs.Text.{body_text, chunk_text, last_chunk_text};
 
 use crate::append::{CRLF, append};
 use crate::fields::write_fields;

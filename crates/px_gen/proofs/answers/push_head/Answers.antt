@@ -1,5 +1,6 @@
 use Rattle.std.specs.Prelude.{codes, decimal, ◌++◌}
-use Rattle.px_gen.specs.Script.{crlf, head_text}
+use Rattle.px_text.specs.Blank.{crlf}
+use Rattle.px_gen.specs.Script.{head_text}
 use Rattle.px_gen.proofs.ScriptLemmas.{head_is}
 use Rattle.px_gen.proofs.answers.push_head.Goals as goal
 

@@ -1,7 +1,8 @@
 use Rattle.std.proofs.Common.{◌≡◌, ◌∙◌, ◌==◌, ◌++◌, ℕ, List, length, false, append_assoc, sym}
 use Rattle.std.proofs.lemmas.Bool.{cond-false}
 use Rattle.px_text.specs.Number.{hexadecimal}
-use Rattle.px_write.specs.Text.{chunk_text, crlf}
+use Rattle.px_text.specs.Blank.{crlf}
+use Rattle.px_write.specs.Text.{chunk_text}
 use Rattle.px_write.proofs.PrefixLemmas.{err_adds, adds_first, adds_same}
 use Rattle.px_write.proofs.body.write_chunk.Goals as goal
 

@@ -1,5 +1,5 @@
 use Rattle.px_text.specs.Number.{hexadecimal}
-use Rattle.px_write.specs.Text.{crlf}
+use Rattle.px_text.specs.Blank.{crlf}
 use Rattle.px_write.proofs.PrefixLemmas.{err_behind, err_first, ok_behind}
 use Rattle.px_write.proofs.body.write_chunk_start.Goals as goal
 

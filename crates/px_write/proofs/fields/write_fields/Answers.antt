@@ -1,5 +1,6 @@
 use Rattle.std.specs.List.{flat_map}
-use Rattle.px_write.specs.Text.{crlf, field_line}
+use Rattle.px_text.specs.Blank.{crlf}
+use Rattle.px_write.specs.Text.{field_line}
 use Rattle.px_write.proofs.PrefixLemmas.{err_behind, err_first, ok_behind}
 use Rattle.px_write.proofs.fields.write_fields.Goals as goal
 
