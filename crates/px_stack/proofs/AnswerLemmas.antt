@@ -13,7 +13,8 @@ use Rattle.px_event.specs.Layer.{Move}
 use Rattle.px_read.specs.Items.{Answers, Item, answer_list, answers_behind, answers_within, bad_head, missing, response_item, response_told}
 use Rattle.px_read.specs.Readings.{as_response, response_behind}
 use Rattle.px_read.specs.declared.head.ResponseHead.{ResponseHead}
-use Rattle.px_chain.specs.Streams.{bytes_of, closes, piece_of}
+use Rattle.px_event.specs.Sides.{closes, piece_of}
+use Rattle.px_chain.specs.Streams.{bytes_of}
 use Rattle.px_tunnel.specs.Upstream.{awaited, granted, granting, granting_by, grants, is_success, refused}
 use Rattle.px_tunnel.proofs.UpstreamLemmas.{awaited_before, granted_stays}
 use Rattle.px_stack.specs.Chain.{text_of}

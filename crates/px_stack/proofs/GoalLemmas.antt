@@ -11,7 +11,8 @@ use Rattle.px_event.specs.declared.side.Side.TheVariants.{Client, Server}
 use Rattle.px_event.specs.Chain.{Timed}
 use Rattle.px_exchange.specs.Places.{terms_of}
 use Rattle.px_chain.specs.Sights.{Spare}
-use Rattle.px_chain.specs.Streams.{bytes_of, closes, piece_of}
+use Rattle.px_event.specs.Sides.{closes, piece_of}
+use Rattle.px_chain.specs.Streams.{bytes_of}
 use Rattle.px_chain.proofs.FrontLaws.{bytes_more, closed_more}
 use Rattle.px_http.specs.declared.conversation.HttpConv.{HttpConv}
 use Rattle.px_stream.specs.declared.phase.Phase.{Phase}

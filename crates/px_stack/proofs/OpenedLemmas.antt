@@ -15,7 +15,8 @@ use Rattle.px_event.specs.Layer.{AsksOnly}
 use Rattle.px_event.specs.View.{View, seen_of}
 use Rattle.px_event.proofs.Steps.{Takes, onward}
 use Rattle.px_chain.specs.Sights.{Spare, request_in, sight_over}
-use Rattle.px_chain.specs.Streams.{Since, bytes_of, client_closed, closes, is_closed, piece_of}
+use Rattle.px_event.specs.Sides.{closes, piece_of}
+use Rattle.px_chain.specs.Streams.{Since, bytes_of, client_closed, is_closed}
 use Rattle.px_chain.proofs.FrontLaws.{now_more}
 use Rattle.px_stack.specs.declared.child.Child.{Child}
 use Rattle.px_stack.specs.declared.child.Child.TheVariants as children

@@ -34,7 +34,8 @@ use Rattle.px_chain.specs.Chain.{Connect, connect_in, dial_leads, new_side, pass
 use Rattle.px_chain.specs.Sights.{Sight, Spare, Standing, bytes_over, request_in, sight_over, took_spare, unless_taken, unused_over}
 use Rattle.px_chain.specs.Stages.{At, ServerSide, all_sent, busy, connection, given_body, given_head, idle, next, request_body, response_body, response_head, side_of, upgraded}
 use Rattle.px_chain.specs.Stages as flows
-use Rattle.px_chain.specs.Streams.{Since, bytes_of, client_closed, from_here, is_closed, now_over, piece_of}
+use Rattle.px_event.specs.Sides.{piece_of}
+use Rattle.px_chain.specs.Streams.{Since, bytes_of, client_closed, from_here, is_closed, now_over}
 use Rattle.px_chain.proofs.CountedLemmas.{IsSilent, silent_both}
 use Rattle.px_chain.proofs.SilentLemmas.{AreBelow, fault_silent, looks_silent, so_far_silent}
 use Rattle.px_tunnel.specs.Upstream.{Granting, awaited, connect_text, granted, refused}

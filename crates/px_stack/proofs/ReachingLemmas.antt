@@ -12,7 +12,8 @@ use Rattle.px_event.proofs.Steps.{Takes, onward}
 use Rattle.px_exchange.specs.declared.ending.Used.TheVariants.{ByServer}
 use Rattle.px_exchange.specs.Endings.{shut_server}
 use Rattle.px_chain.specs.Sights.{Spare}
-use Rattle.px_chain.specs.Streams.{Since, client_closed, closes, piece_of}
+use Rattle.px_event.specs.Sides.{closes, piece_of}
+use Rattle.px_chain.specs.Streams.{Since, client_closed}
 use Rattle.px_chain.proofs.FrontLaws.{closed_more as client_more, now_more}
 use Rattle.px_tunnel.specs.declared.upstream.UpstreamTunnel.{UpstreamTunnel}
 use Rattle.px_tunnel.specs.Reaching.{HasHeard, rest_of}

@@ -17,7 +17,8 @@ use Rattle.px_exchange.specs.declared.ending.Used.TheVariants.{ByServer}
 use Rattle.px_exchange.specs.Endings.{shut_server}
 use Rattle.px_chain.specs.Sights.{IsWithin, SpareIsWithin, Standing, Unused, unused_over, unused_with}
 use Rattle.px_chain.specs.Stages.{idle}
-use Rattle.px_chain.specs.Streams.{bytes_of, client_closed, closes, is_closed, piece_of}
+use Rattle.px_event.specs.Sides.{closes, piece_of}
+use Rattle.px_chain.specs.Streams.{bytes_of, client_closed, is_closed}
 use Rattle.px_chain.proofs.FrontLaws.{bytes_more, closed_more, open_behind as still_behind}
 use Rattle.px_chain.proofs.SightLaws.{sight_more, within_more}
 use Rattle.px_tunnel.specs.declared.tunnel.RawTunnel.{RawTunnel}

@@ -9,7 +9,8 @@ use Rattle.px_event.specs.declared.side.Side.TheVariants.{Client, Server}
 use Rattle.px_event.specs.Chain.{Timed}
 use Rattle.px_event.specs.Trace.{is_same_side}
 use Rattle.px_chain.specs.Sights.{Spare}
-use Rattle.px_chain.specs.Streams.{bytes_of, client_closed, closes, is_closed, piece_of}
+use Rattle.px_event.specs.Sides.{closes, piece_of}
+use Rattle.px_chain.specs.Streams.{bytes_of, client_closed, is_closed}
 use Rattle.px_tunnel.specs.declared.upstream.ProxyAnswer.{ProxyAnswer}
 use Rattle.px_tunnel.specs.declared.upstream.ProxyAnswer.TheVariants as answer
 use Rattle.px_tunnel.specs.declared.upstream.UpstreamTunnel.{UpstreamTunnel}

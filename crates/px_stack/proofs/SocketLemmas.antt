@@ -17,7 +17,8 @@ use Rattle.px_event.specs.Layer.{AsksOnly, asks_in}
 use Rattle.px_event.specs.View.{seen_of}
 use Rattle.px_event.proofs.Steps.{Takes, Resumes, onward}
 use Rattle.px_chain.specs.Sights.{unused_over}
-use Rattle.px_chain.specs.Streams.{bytes_of, client_closed, closes, piece_of}
+use Rattle.px_event.specs.Sides.{closes, piece_of}
+use Rattle.px_chain.specs.Streams.{bytes_of, client_closed}
 use Rattle.px_chain.proofs.SightLaws.{within_more}
 use Rattle.px_relay.specs.declared.layer.WsLayer.{WsLayer}
 use Rattle.px_relay.specs.declared.peer.Peer.{Peer}

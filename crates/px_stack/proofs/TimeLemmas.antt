@@ -6,7 +6,8 @@ use Rattle.px_event.specs.declared.event.Event.{Event}
 use Rattle.px_event.specs.declared.side.Side.TheVariants.{Client}
 use Rattle.px_event.specs.Chain.{Timed}
 use Rattle.px_chain.specs.Sights.{Spare, SpareIsWithin, unless_taken}
-use Rattle.px_chain.specs.Streams.{client_closed, closes}
+use Rattle.px_event.specs.Sides.{closes}
+use Rattle.px_chain.specs.Streams.{client_closed}
 use Rattle.px_chain.proofs.FrontLaws.{closed_more, closed_stays, open_behind}
 use Rattle.px_stream.specs.Anywhere.{OpensInTime}
 

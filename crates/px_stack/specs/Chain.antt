@@ -23,7 +23,8 @@ use Rattle.px_chain.specs.Chain.{Connect, begin, connect_in, http_chain, new_sid
 use Rattle.px_chain.specs.Sights.{Sight, Spare, Standing, Unused, request_in, sight_over, unused_over}
 use Rattle.px_chain.specs.Stages.{At, ServerSide, all_sent, busy, connection, idle, response_head, upgraded}
 use Rattle.px_chain.specs.Stages as flows
-use Rattle.px_chain.specs.Streams.{Since, bytes_of, client_closed, closes, from_here, is_closed, now_over, piece_of}
+use Rattle.px_event.specs.Sides.{closes, piece_of}
+use Rattle.px_chain.specs.Streams.{Since, bytes_of, client_closed, from_here, is_closed, now_over}
 use Rattle.px_stack.specs.Decides.{Decision, decided, is_http, is_raw, still}
 use Rattle.px_tunnel.specs.Upstream.{Granting, awaited, connect_text, granted, granting, refused}
 use Rattle.px_relay.specs.Chain as relay

@@ -8,7 +8,7 @@ use Rattle.px_event.specs.declared.command.Command.TheVariants as commands
 use Rattle.px_event.specs.declared.side.Side.TheVariants.{Client, Server}
 use Rattle.px_exchange.specs.declared.place.Place.{Place}
 use Rattle.px_exchange.specs.declared.place.Place.TheVariants as places
-use Rattle.px_chain.specs.Streams.{closes}
+use Rattle.px_event.specs.Sides.{closes}
 use Rattle.px_http.specs.Stands.{awaits}
 use Rattle.px_relay.specs.declared.layer.WsLayer.{WsLayer}
 use Rattle.px_relay.specs.Chain.{most_whole}

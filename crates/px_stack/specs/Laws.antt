@@ -32,7 +32,8 @@ use Rattle.px_chain.specs.Chain.{Connect, connect_by, connect_in, look as look_o
 use Rattle.px_chain.specs.Sights.{Sight, Spare, Standing, Unused, request_in, sight_over, unused_over}
 use Rattle.px_chain.specs.Stages.{At, busy, connection, given_body, given_head, idle, next, request_body, response_body, response_head, upgraded}
 use Rattle.px_chain.specs.Stages as flows
-use Rattle.px_chain.specs.Streams.{Since, bytes_of, client_closed, from_here, now_over, piece_of}
+use Rattle.px_event.specs.Sides.{piece_of}
+use Rattle.px_chain.specs.Streams.{Since, bytes_of, client_closed, from_here, now_over}
 use Rattle.px_chain.proofs.ChainLaws.{settles as flows_settle, so_far_grows as flows_grow}
 use Rattle.px_chain.proofs.FrontLaws.{DropMore, behind, none, bytes_more, drop_more, open_behind}
 use Rattle.px_tunnel.specs.Tunnel.{both_ways}

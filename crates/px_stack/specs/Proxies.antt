@@ -6,7 +6,7 @@ use Rattle.px_event.specs.declared.side.Side.TheVariants.{Server}
 use Rattle.px_event.specs.Layer.{Move, Took, Replied}
 use Rattle.px_write.specs.declared.form.Form.TheVariants.{Absolute}
 use Rattle.px_exchange.specs.Texts.{onward_text}
-use Rattle.px_chain.specs.Streams.{piece_of}
+use Rattle.px_event.specs.Sides.{piece_of}
 use Rattle.px_tunnel.specs.Upstream.{awaited, connect_text, granting}
 
 -- the bytes that these calls bring of a server

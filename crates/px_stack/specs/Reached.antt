@@ -2,7 +2,7 @@
 use Rattle.std.specs.Prelude.{◌≡◌, ℕ, Bool, true, false, List, ◌++◌, drop}
 use Rattle.px_event.specs.declared.event.Event.{Event}
 use Rattle.px_event.specs.declared.side.Side.TheVariants.{Server}
-use Rattle.px_chain.specs.Streams.{closes, piece_of}
+use Rattle.px_event.specs.Sides.{closes, piece_of}
 use Rattle.px_tunnel.specs.declared.upstream.ProxyAnswer.{ProxyAnswer}
 use Rattle.px_tunnel.specs.declared.upstream.ProxyAnswer.TheVariants as answer
 use Rattle.px_tunnel.specs.declared.upstream.UpstreamTunnel.{UpstreamTunnel}

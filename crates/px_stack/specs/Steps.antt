@@ -21,7 +21,8 @@ use Rattle.px_exchange.specs.Dials.{connected_owes}
 use Rattle.px_exchange.specs.Endings.{shut_server}
 use Rattle.px_exchange.specs.Texts.{connected_text}
 use Rattle.px_chain.specs.Sights.{Spare, SpareIsWithin, Standing, unused_over}
-use Rattle.px_chain.specs.Streams.{Since, bytes_of, client_closed, closes, from_here, is_closed, now_over}
+use Rattle.px_event.specs.Sides.{closes}
+use Rattle.px_chain.specs.Streams.{Since, bytes_of, client_closed, from_here, is_closed, now_over}
 use Rattle.px_http.specs.declared.conversation.HttpConv.{HttpConv}
 use Rattle.px_http.specs.Stands.{awaits}
 use Rattle.px_relay.specs.Chain.{first_at}

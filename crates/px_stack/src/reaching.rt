@@ -5,14 +5,13 @@ ghost use Rattle.px_event.specs.Trace.{is_same_side};
 ghost use Rattle.px_event.specs.declared.side.Side.TheVariants.{Client as TheClient, Server as TheServer};
 ghost use Rattle.px_exchange.specs.Endings.{shut_server};
 ghost use Rattle.px_exchange.specs.declared.ending.Used.TheVariants.{ByServer};
-ghost use Rattle.px_chain.specs.Streams.{closes, piece_of};
+ghost use Rattle.px_event.specs.Sides.{closes, piece_of};
 ghost use Rattle.px_message.specs.declared.address.Address.{Address};
 ghost use Rattle.px_tunnel.specs.Reaching.{HasHeard};
 ghost use Rattle.px_stack.specs.Kept.{goal_left, is_left};
 ghost use Rattle.px_stack.specs.Reached.{HearsProxy, says_answer, says_close};
 ghost use Rattle.px_stack.specs.Stages.{Visitor};
 ghost use Rattle.px_stack.specs.Steps.{HearsGoal, IsGoalSomewhere};
-ghost use Rattle.px_stack.specs.Stages.{Visitor};
 
 use crate::child::{Child, Goal, Opening, Reaching};
 use crate::closing::close_server;

@@ -21,7 +21,7 @@ use Rattle.px_exchange.specs.declared.terms.Terms.{Terms}
 use Rattle.px_chain.specs.Chain.{look}
 use Rattle.px_chain.specs.Sights.{Sight, Unused, sight_with, unused_with}
 use Rattle.px_chain.specs.Stages.{At, ServerSide, Stage, busy, connection, given_body, given_head, idle, next, over, request_body, response_body, response_head, side_in, side_of, upgraded}
-use Rattle.px_chain.specs.Streams.{closes, piece_of}
+use Rattle.px_event.specs.Sides.{closes, piece_of}
 use Rattle.px_stream.specs.Stands.{Passes, Keeps, IsLink, IsSpare, IsUnused, KeepsBehind, IsReady, IsPlaced, HasPlace}
 use Rattle.px_stream.proofs.ReadLemmas.{fed_on, shut_on}
 

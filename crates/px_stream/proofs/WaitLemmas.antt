@@ -13,7 +13,8 @@ use Rattle.px_exchange.specs.declared.terms.Terms.{Terms}
 use Rattle.px_chain.specs.Chain.{look}
 use Rattle.px_chain.specs.Sights.{Sight, Spare, SpareIsWithin, Standing, Unused, sight_of, sight_over, sight_with, unused_over}
 use Rattle.px_chain.specs.Stages.{At, ServerSide, Stage, busy, connection, given_body, given_head, idle, next, over, request_body, response_body, response_head, side_of, upgraded}
-use Rattle.px_chain.specs.Streams.{Since, bytes_of, client_closed, closes, is_closed, piece_of}
+use Rattle.px_event.specs.Sides.{closes, piece_of}
+use Rattle.px_chain.specs.Streams.{Since, bytes_of, client_closed, is_closed}
 use Rattle.px_chain.proofs.FrontLaws.{now_more}
 use Rattle.px_chain.proofs.SightLaws.{sight_more, within_more}
 use Rattle.px_stream.specs.declared.link.Link.{Link as KeptLink}

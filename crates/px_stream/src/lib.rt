@@ -30,13 +30,17 @@
 //! `laws` says that the machine follows the chain, step by step.
 #![tactic(auto)]
 
+mod hearing;
 pub mod laws;
 mod layer;
+mod leaving;
 mod link;
 mod looking;
 mod numbers;
 mod phase;
 mod reading;
+mod rests;
+mod sizes;
 mod stream;
 mod turning;
 

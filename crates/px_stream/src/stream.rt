@@ -9,28 +9,31 @@ ghost use Rattle.px_event.specs.Layer.{Move, Took, Replied, IsSound, Goes, AsksO
 ghost use Rattle.px_event.specs.declared.command.Command.{Command as GivenCommand};
 ghost use Rattle.px_read.specs.Reader.{before_all, request};
 ghost use Rattle.px_stream.specs.Anywhere.{Begins, HearsWaiting, IsNew, Reaches, ResumesAnywhere, Somewhere, TakesAnywhere};
-ghost use Rattle.px_stream.specs.Calls.{Answers, Hears, IsSome, LooksOnce, MayHear, TakesEvent, TurnsTo};
+ghost use Rattle.px_stream.specs.Calls.{Answers, Hears, LooksOnce, MayHear, TakesEvent, TurnsTo};
 ghost use Rattle.px_chain.specs.Chain.{alone, look as look_at};
-ghost use Rattle.px_stream.specs.Heard.{LinkAgrees, SpareAgrees, closes_client, ready_closes, ready_hears, ready_takes, requests_take, spare_takes};
-ghost use Rattle.px_stream.specs.Kept.{asked_keeps, phase_keeps, ready_keeps, spare_keeps, stream_keeps};
+ghost use Rattle.px_stream.specs.Kept.{stream_keeps};
 ghost use Rattle.px_stream.specs.Left.{flow_left, sequence_left};
 ghost use Rattle.px_stream.specs.Looking.{MayLook};
 ghost use Rattle.px_exchange.specs.Places.{terms_of};
 ghost use Rattle.px_stream.specs.Phases.{spare_at};
-ghost use Rattle.px_stream.specs.Rests.{LeavesRests, asked_rest, phase_flow, phase_rest, ready_rest};
+ghost use Rattle.px_stream.specs.Rests.{LeavesRests, phase_flow, phase_rest};
 ghost use Rattle.px_stream.specs.Sequence.{IsSideBelow, Stands, StandsInSequence, asked_tunnel, is_end, open_spare, outcome_at, outcome_in, ready_onward, requests_onward, seen_at, stage_at, upgraded_side};
 ghost use Rattle.px_chain.specs.Stages.{Stage};
-ghost use Rattle.px_stream.specs.Stands.{awaited_in, awaits, is_last};
+ghost use Rattle.px_stream.specs.Stands.{awaits, is_last};
 ghost use Rattle.px_stream.specs.Through.{IsDialling, led_by, led_to, server_dialled};
 ghost use Rattle.px_stream.specs.Turns.{asked_leads, behind_asked, behind_ready};
 ghost use Rattle.px_stream.specs.declared.phase.Wanted.{Wanted as Looked};
 
-use crate::link::{Link, close_spare, hear_spare, open_number, spare_side};
+use crate::hearing::{hear, hear_server};
+use crate::leaving::{enter, leave_ready, take_asked, take_looked};
+use crate::link::{Link, open_number, spare_side};
 use crate::looking::look;
 use crate::numbers::Numbers;
 use crate::phase::{Asked, Phase, Wanted};
+use crate::rests::rest_of_phase;
+use crate::sizes::{size_of_phase, size_of_spare};
 use crate::turning::turn;
-use px_event::{Ask, Command, Event, Reply, Rests, Side};
+use px_event::{Ask, Command, Event, Reply, Rests};
 use px_exchange::ending::Used;
 use px_exchange::flows::address_of;
 use px_exchange::terms::{Now, Terms};
@@ -587,170 +590,6 @@ fn server_dialled(phase: &Phase) -> Result<Option<Address>, NoMemory>
     }
 }
 
-// What was not used of the server's side, and the flow that another protocol follows.
-fn rest_of_phase(phase: Phase) -> Result<(Bytes, Option<Flow>), NoMemory>
-    ensures server { IfOk result (λ left. left.0 ≡ phase_rest phase) }
-    ensures flow { IfOk result (λ left. left.1 ≡ phase_flow phase) }
-{
-    match phase {
-        Phase::Ready(Wanted::Upgraded { flow, link }) => Ok((link.into_rest()?, Some(flow))),
-        Phase::Ready(ready) => Ok((rest_of_ready(ready)?, None)),
-        Phase::Asked(asked) => Ok((rest_of_asked(asked)?, None)),
-    }
-}
-
-fn rest_of_ready(ready: Wanted) -> Result<Bytes, NoMemory>
-    ensures { IfOk result (λ rest. rest ≡ ready_rest ready) }
-{
-    match ready {
-        Wanted::Answering { flow, link } => rest_of_link(flow, link),
-        Wanted::Returning { flow, link, .. } => rest_of_link(flow, link),
-        Wanted::Upgraded { flow, link } => rest_of_link(flow, link),
-        other => {
-            leave_ready(other);
-            Ok(Bytes::empty())
-        }
-    }
-}
-
-fn rest_of_asked(asked: Asked) -> Result<Bytes, NoMemory>
-    ensures { IfOk result (λ rest. rest ≡ asked_rest asked) }
-{
-    match asked {
-        Asked::Answer { flow, link } => rest_of_link(flow, link),
-        Asked::Returned { flow, link } => rest_of_link(flow, link),
-        other => {
-            leave_asked(other);
-            Ok(Bytes::empty())
-        }
-    }
-}
-
-fn rest_of_link(flow: Flow, link: Link) -> Result<Bytes, NoMemory>
-    ensures { IfOk result (λ rest. rest ≡ link.responses.rest) }
-{
-    leave_flow(flow);
-    link.into_rest()
-}
-
-// How much a spare side keeps.
-fn size_of_spare(spare: &Option<Link>) -> usize
-    ensures { result ≡ min (spare_keeps spare.now) (2 ^ 64 - 1) }
-{
-    match spare {
-        Some(link) => link.responses.kept(),
-        None => 0,
-    }
-}
-
-// How much a phase keeps.
-fn size_of_phase(phase: &Phase) -> usize
-    ensures { result ≡ min (phase_keeps phase.now) (2 ^ 64 - 1) }
-{
-    match phase {
-        Phase::Ready(ready) => size_of_ready(ready),
-        Phase::Asked(asked) => size_of_asked(asked),
-    }
-}
-
-fn size_of_ready(ready: &Wanted) -> usize
-    ensures { result ≡ min (ready_keeps ready.now) (2 ^ 64 - 1) }
-{
-    match ready {
-        Wanted::Receiving { body, .. } => body.len(),
-        Wanted::Answering { link, .. } => link.responses.kept(),
-        Wanted::Returning { link, body, .. } => body.len().saturating_add(link.responses.kept()),
-        Wanted::Idle => 0,
-        Wanted::Dialling { .. } => 0,
-        Wanted::GivenHead { .. } => 0,
-        Wanted::GivenBody { .. } => 0,
-        Wanted::Finished => 0,
-        Wanted::Connects { .. } => 0,
-        Wanted::Upgraded { link, .. } => link.responses.kept(),
-        Wanted::Over => 0,
-    }
-}
-
-fn size_of_asked(asked: &Asked) -> usize
-    ensures { result ≡ min (asked_keeps asked.now) (2 ^ 64 - 1) }
-{
-    match asked {
-        Asked::Answer { link, .. } => link.responses.kept(),
-        Asked::Returned { link, .. } => link.responses.kept(),
-        Asked::Head { .. } => 0,
-        Asked::Body { .. } => 0,
-        Asked::Dial { .. } => 0,
-        Asked::GivenHead { .. } => 0,
-        Asked::GivenBody { .. } => 0,
-    }
-}
-
-// What is looked for, where no answer is awaited.
-fn take_looked(phase: &mut Phase) -> Wanted
-    requires { awaited_in phase.old ≡ None }
-    ensures { phase.old ≡ Phase.Ready result }
-{
-    match mem::replace(phase, Phase::Ready(Wanted::Over)) {
-        Phase::Ready(ready) => ready,
-        Phase::Asked(_) => unreachable!(),
-    }
-}
-
-// What was asked, where an answer is awaited.
-fn take_asked(phase: &mut Phase) -> Asked
-    requires { IsSome (awaited_in phase.old) }
-    ensures { phase.old ≡ Phase.Asked result }
-{
-    match mem::replace(phase, Phase::Ready(Wanted::Over)) {
-        Phase::Asked(asked) => asked,
-        Phase::Ready(_) => unreachable!(),
-    }
-}
-
-// The phase that a flow enters.
-fn enter(phase: &mut Phase, next: Phase)
-    ensures { phase.new ≡ next }
-{
-    leave(mem::replace(phase, next));
-}
-
-fn leave(phase: Phase) {
-    match phase {
-        Phase::Ready(ready) => leave_ready(ready),
-        Phase::Asked(asked) => leave_asked(asked),
-    }
-}
-
-fn leave_ready(ready: Wanted) {
-    match ready {
-        Wanted::Receiving { flow, .. } => leave_flow(flow),
-        Wanted::Dialling { flow } => leave_flow(flow),
-        Wanted::Answering { flow, .. } => leave_flow(flow),
-        Wanted::Returning { flow, .. } => leave_flow(flow),
-        Wanted::GivenHead { flow } => leave_flow(flow),
-        Wanted::GivenBody { flow } => leave_flow(flow),
-        Wanted::Idle => {}
-        Wanted::Upgraded { flow, .. } => leave_flow(flow),
-        Wanted::Finished => {}
-        Wanted::Connects { .. } => {}
-        Wanted::Over => {}
-    }
-}
-
-fn leave_asked(asked: Asked) {
-    match asked {
-        Asked::Head { flow, .. } => leave_flow(flow),
-        Asked::Body { flow } => leave_flow(flow),
-        Asked::Dial { flow, .. } => leave_flow(flow),
-        Asked::Answer { flow, .. } => leave_flow(flow),
-        Asked::Returned { flow, .. } => leave_flow(flow),
-        Asked::GivenHead { flow } => leave_flow(flow),
-        Asked::GivenBody { flow } => leave_flow(flow),
-    }
-}
-
-fn leave_flow(_flow: Flow) {}
-
 // A server's number is used by its dial.
 fn count_server(numbers: Numbers, asked: &Asked) -> Numbers
     ensures { result ≡ behind_asked numbers asked.now }
@@ -798,68 +637,4 @@ fn begin_again(alloc: Global, requests: &mut MessageReader) -> Result<(), NoMemo
     let next = MessageReader::request(alloc);
     let rest = mem::replace(requests, next).into_rest()?;
     requests.feed(&rest)
-}
-
-// The event goes to the reader of its side.
-fn hear(
-    requests: &mut MessageReader,
-    client_closed: &mut bool,
-    spare: &mut Option<Link>,
-    ready: &mut Wanted,
-    event: &Event,
-) -> Result<(), NoMemory>
-    requires open_still { requests.old.closed ≡ false }
-    requires agrees { LinkAgrees ready.old }
-    requires spare { SpareAgrees spare.old }
-    ensures requests { OnOk result (requests.new ≡ requests_take event.now requests.old) }
-    ensures client { OnOk result (client_closed.new ≡ closes_client event.now client_closed.old) }
-    ensures ready { OnOk result (ready.new ≡ ready_takes event.now ready.old) }
-    ensures spare { OnOk result (spare.new ≡ spare_takes event.now spare.old) }
-{
-    match event {
-        Event::Piece {
-            side: Side::Client,
-            bytes,
-        } => requests.feed(bytes),
-        Event::Piece {
-            side: Side::Server(server),
-            bytes,
-        } => {
-            hear_spare(spare, *server, bytes)?;
-            hear_server(ready, *server, bytes)
-        }
-        Event::Closed { side: Side::Client } => {
-            *client_closed = true;
-            Ok(())
-        }
-        Event::Closed {
-            side: Side::Server(server),
-        } => {
-            close_spare(spare, *server);
-            close_server(ready, *server);
-            Ok(())
-        }
-        _ => Ok(()),
-    }
-}
-
-fn hear_server(ready: &mut Wanted, server: u32, bytes: &Bytes) -> Result<(), NoMemory>
-    requires { LinkAgrees ready.old }
-    ensures { OnOk result (ready.new ≡ ready_hears server bytes.now ready.old) }
-{
-    match ready {
-        Wanted::Answering { link, .. } => link.hear(server, bytes),
-        Wanted::Returning { link, .. } => link.hear(server, bytes),
-        _ => Ok(()),
-    }
-}
-
-fn close_server(ready: &mut Wanted, server: u32)
-    ensures { ready.new ≡ ready_closes server ready.old }
-{
-    match ready {
-        Wanted::Answering { link, .. } => link.close(server),
-        Wanted::Returning { link, .. } => link.close(server),
-        _ => {}
-    }
 }

@@ -1,7 +1,7 @@
 use Rattle.std.proofs.Common.{ap, refl, sym, ◌∙◌}
 use Rattle.px_event.specs.declared.event.Event.TheVariants.{Piece}
 use Rattle.px_event.specs.declared.side.Side.TheVariants.{Client, Server}
-use Rattle.px_chain.specs.Streams.{piece_of}
+use Rattle.px_event.specs.Sides.{piece_of}
 use Rattle.px_stack.proofs.OpenedLemmas.{client_taken, none_of_empty, none_of_other, nothing_taken, server_taken}
 use Rattle.px_stack.proofs.stack.Stack.opened_hears.Goals.{then-number-server+else-not-is_empty, else-number-server}
 use Rattle.px_stack.proofs.stack.Stack.opened_hears.Goals as goal

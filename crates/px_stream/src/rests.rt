@@ -1,0 +1,55 @@
+//! What a flow leaves of its server's side.
+ghost use Rattle.std.specs.Prelude.{◌≡◌, IfOk};
+ghost use Rattle.px_stream.specs.Rests.{asked_rest, phase_flow, phase_rest, ready_rest};
+
+use crate::leaving::{leave_asked, leave_flow, leave_ready};
+use crate::link::Link;
+use crate::phase::{Asked, Phase, Wanted};
+use px_message::Flow;
+use px_text::{Bytes, NoMemory};
+
+/// What was not used of the server's side, and the flow that another protocol follows.
+pub(crate) fn rest_of_phase(phase: Phase) -> Result<(Bytes, Option<Flow>), NoMemory>
+    ensures server { IfOk result (λ left. left.0 ≡ phase_rest phase) }
+    ensures flow { IfOk result (λ left. left.1 ≡ phase_flow phase) }
+{
+    match phase {
+        Phase::Ready(Wanted::Upgraded { flow, link }) => Ok((link.into_rest()?, Some(flow))),
+        Phase::Ready(ready) => Ok((rest_of_ready(ready)?, None)),
+        Phase::Asked(asked) => Ok((rest_of_asked(asked)?, None)),
+    }
+}
+
+fn rest_of_ready(ready: Wanted) -> Result<Bytes, NoMemory>
+    ensures { IfOk result (λ rest. rest ≡ ready_rest ready) }
+{
+    match ready {
+        Wanted::Answering { flow, link } => rest_of_link(flow, link),
+        Wanted::Returning { flow, link, .. } => rest_of_link(flow, link),
+        Wanted::Upgraded { flow, link } => rest_of_link(flow, link),
+        other => {
+            leave_ready(other);
+            Ok(Bytes::empty())
+        }
+    }
+}
+
+fn rest_of_asked(asked: Asked) -> Result<Bytes, NoMemory>
+    ensures { IfOk result (λ rest. rest ≡ asked_rest asked) }
+{
+    match asked {
+        Asked::Answer { flow, link } => rest_of_link(flow, link),
+        Asked::Returned { flow, link } => rest_of_link(flow, link),
+        other => {
+            leave_asked(other);
+            Ok(Bytes::empty())
+        }
+    }
+}
+
+fn rest_of_link(flow: Flow, link: Link) -> Result<Bytes, NoMemory>
+    ensures { IfOk result (λ rest. rest ≡ link.responses.rest) }
+{
+    leave_flow(flow);
+    link.into_rest()
+}
