@@ -15,7 +15,8 @@ use Rattle.px_read.proofs.AnswerLemmas.{AnswersCarry, answers_carry}
 use Rattle.px_read.proofs.LawLemmas.{chunk_laws}
 use Rattle.px_chain.specs.ClosedForm.{answers_at}
 use Rattle.px_chain.specs.Stages.{ServerSide}
-use Rattle.px_chain.specs.Streams.{bytes_of, closes, is_closed, piece_of}
+use Rattle.px_event.specs.Sides.{closes, piece_of}
+use Rattle.px_chain.specs.Streams.{bytes_of, is_closed}
 
 -- the events begin with the prefix, but for their moments
 abbrev pub IsFront : List (Timed Event) → List (Timed Event) → Type 0

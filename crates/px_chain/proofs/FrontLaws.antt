@@ -8,7 +8,8 @@ use Rattle.px_event.specs.declared.event.Event.TheVariants as events
 use Rattle.px_event.specs.declared.side.Side.{Side}
 use Rattle.px_event.specs.declared.side.Side.TheVariants.{Client}
 use Rattle.px_event.specs.Chain.{Timed}
-use Rattle.px_chain.specs.Streams.{Since, piece_of, closes, bytes_of, is_closed, last_moment, now_over, from_here}
+use Rattle.px_event.specs.Sides.{piece_of, closes}
+use Rattle.px_chain.specs.Streams.{Since, bytes_of, is_closed, last_moment, now_over, from_here}
 
 -- ---- one event more
 

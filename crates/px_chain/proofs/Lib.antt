@@ -19,3 +19,12 @@ pub mod ClosedReturns
 pub mod ClosedWalk
 pub mod ClosedExact
 pub mod ClosedExamples
+pub mod PlainTexts
+pub mod ReadAgain
+pub mod TargetsRead
+pub mod KeptFields
+pub mod PartsRead
+pub mod SaysRequests
+pub mod SaysResponses
+pub mod SaysAll
+pub mod SaysOne

@@ -31,7 +31,8 @@ use Rattle.px_exchange.specs.Requests.{expects, flow_of, judged}
 use Rattle.px_chain.specs.Chain.{IsOnward, behind_flow, dial_leads, finish_by, goes_on_by, is_alone, is_sequence, new_side, opened_by, opened_spare, pass, pass_body, sequence, side_behind, spare_for, stands, turn, turn_answer, turn_answer_head, turn_body, turn_given_head, turn_head, turn_judged, turn_response, turn_returned, turn_taken_answer, turn_taken_body, turn_taken_given, turn_taken_head, turn_taken_returned, turn_taken_whole, turn_whole_answer, used_more}
 use Rattle.px_chain.specs.Sights.{IsWithin, Sight, Spare, SpareIsWithin, Standing, Unused, answers_in, bytes_over, is_taken, request_in, server_behind, server_in, server_taken, server_with, shut_behind, shut_over, shut_taken, shut_with, sight_behind, sight_of, sight_over, sight_with, took_spare, unless_taken, unused_over, unused_with}
 use Rattle.px_chain.specs.Stages.{At, ServerSide, Stage, busy, connection, given_body, given_head, idle, next, over, request_body, response_body, response_head, side_of, upgraded}
-use Rattle.px_chain.specs.Streams.{bytes_of, client_closed, from_here, is_closed, piece_of}
+use Rattle.px_event.specs.Sides.{piece_of}
+use Rattle.px_chain.specs.Streams.{bytes_of, client_closed, from_here, is_closed}
 use Rattle.px_chain.proofs.FrontLaws.{bytes_more, bytes_shut, closed_more, now_here, now_more, open_behind}
 
 abbrev make : List ℕ → Bool → List ℕ → Bool → Option Unused → ℕ → Sight

@@ -6,3 +6,4 @@ pub mod Sights
 pub mod Silent
 pub mod Stages
 pub mod Streams
+pub mod WhatWasRead

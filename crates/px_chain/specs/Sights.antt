@@ -11,7 +11,8 @@ use Rattle.px_exchange.specs.declared.ending.Used.{Used}
 use Rattle.px_exchange.specs.declared.ending.Used.TheVariants.{ByServer}
 use Rattle.px_exchange.specs.Requests.{is_head}
 use Rattle.px_chain.specs.Stages.{At, Doing, ServerSide, Stage, busy, request_body, side_of}
-use Rattle.px_chain.specs.Streams.{Since, bytes_of, client_closed, closes, is_closed, now_over, piece_of}
+use Rattle.px_event.specs.Sides.{closes, piece_of}
+use Rattle.px_chain.specs.Streams.{Since, bytes_of, client_closed, is_closed, now_over}
 
 -- a server's side that is connected and that no flow has used: its number, its bytes, and whether it closed
 pub record Unused : Type 0 where

@@ -5,17 +5,7 @@ use Rattle.px_event.specs.declared.event.Event.TheVariants as events
 use Rattle.px_event.specs.declared.side.Side.{Side}
 use Rattle.px_event.specs.declared.side.Side.TheVariants.{Client}
 use Rattle.px_event.specs.Chain.{Timed}
-use Rattle.px_event.specs.Trace.{is_same_side}
-
--- the bytes that an event brings of a side
-abbrev pub piece_of : Side → Event → List ℕ
-piece_of side (events.Piece other bytes) = if is_same_side other side then bytes else []
-piece_of side _ = []
-
--- an event is the side's close
-abbrev pub closes : Side → Event → Bool
-closes side (events.Closed other) = is_same_side other side
-closes side _ = false
+use Rattle.px_event.specs.Sides.{closes, piece_of}
 
 -- The joined bytes of a side: what comes behind its own close, or behind the client's, is not heard.
 abbrev pub bytes_of : Side → List (Timed Event) → List ℕ

@@ -17,6 +17,7 @@ ghost use Rattle.px_chain.specs.Sights.{Sight, Spare, request_in};
 ghost use Rattle.px_chain.specs.Silent.{NoAnswer, SpareBelow, connections};
 ghost use Rattle.px_chain.specs.Stages.{At, Stage, idle};
 ghost use Rattle.px_chain.specs.Streams.{client_closed};
+ghost use Rattle.px_chain.specs.WhatWasRead.{OneRequestIsSaid, OneResponseIsSaid, SayWhatWasRead, messages_read};
 
 /// In one sight passing settles at once.
 pub fn passing_settles()
@@ -73,4 +74,19 @@ pub fn what_goes_on_is_sent_on()
         GoesOn false (due_by (http_chain sequence made) (begin (idle at)) moves) (answered moves) →
         client_closed (heard moves) ≡ false →
         said (due_by (http_chain sequence made) (begin (idle at)) moves) ≡ said_for made at moves }
+{}
+
+/// Where every reply goes on with the flow as it was asked, and the dials are answered by the connection or refused: the texts that are sent, but for the proxy's
+/// own, say the requests of the client's stream and what their servers answered, in order and without a gap. Whoever gets a request reads its method, path,
+/// version, fields, body and trailers as they were read, and whoever gets a response its version, status, reason, fields, body and trailers.
+pub fn what_is_sent_says_what_was_read()
+    ensures in_order { (made : Made) (at : At) (moves : List Move) →
+        GoesOn true (due_by (http_chain sequence made) (begin (idle at)) moves) (answered moves) →
+        SayWhatWasRead made.place (said (due_by (http_chain sequence made) (begin (idle at)) moves)) (messages_read at moves) }
+{}
+
+/// A text says one message alone: what differs from it in a name, a value, the order of its fields or a byte of its body is not what the text says.
+pub fn a_text_says_one_message()
+    ensures requests { OneRequestIsSaid }
+    ensures responses { OneResponseIsSaid }
 {}
