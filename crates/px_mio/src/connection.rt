@@ -5,6 +5,7 @@ ghost use Rattle.px_wire.specs.Calls.{GotWithin, PutWithin};
 use crate::notice::Way;
 use crate::share::Share;
 use mio::net::TcpStream;
+use px_event::Door;
 use px_wire::{Got, Put, Ready};
 use std::io::{ErrorKind, Read, Write};
 use std::net::Shutdown;
@@ -20,8 +21,8 @@ const TURNS: usize = 16;
 /// Who began a connection.
 #[derive(Clone, Copy, Debug, PartialEq, Eq)]
 pub(crate) enum Begun {
-    /// The peer, which was accepted.
-    ByPeer,
+    /// The peer, which was accepted at this door.
+    ByPeer(Door),
     /// This wire, which dialled.
     Here,
 }
@@ -97,7 +98,7 @@ impl Connection {
         if self.is_blocked {
             return Put::Blocked;
         }
-        let put = put_to(&self.stream, bytes);
+        let put = put_to(&self.stream, self.begun, bytes);
         match put {
             Put::Took(count) => {
                 self.is_put_last = true;
@@ -204,20 +205,29 @@ impl Connection {
     }
 }
 
-// Hands bytes to a socket. Where its peer takes no more, what the peer sent before may still be read, and the socket's end
-// is told by reading it.
-fn put_to(mut stream: &TcpStream, bytes: &[u8]) -> Put
+// Hands bytes to a socket. Where a peer that is heard out takes no more, the socket's end is told by reading it.
+fn put_to(mut stream: &TcpStream, begun: Begun, bytes: &[u8]) -> Put
     ensures within { PutWithin (length bytes.now) result }
 {
     match stream.write(bytes) {
         Ok(0) => Put::Broken,
         Ok(count) => Put::Took(count),
         Err(error) => match error.kind() {
-            ErrorKind::WouldBlock | ErrorKind::BrokenPipe | ErrorKind::ConnectionReset => {
+            ErrorKind::WouldBlock => Put::Blocked,
+            ErrorKind::BrokenPipe | ErrorKind::ConnectionReset if is_heard_out(begun) => {
                 Put::Blocked
             }
             _ => Put::Broken,
         },
+    }
+}
+
+// Whether what the peer sent is still read where it takes no more. Not so at the control door: what waits for a connection there
+// may hold it back, and were that never taken, its end would never be read.
+fn is_heard_out(begun: Begun) -> bool {
+    match begun {
+        Begun::ByPeer(Door::Control) => false,
+        Begun::ByPeer(Door::Proxy) | Begun::Here => true,
     }
 }
 

@@ -278,12 +278,12 @@ impl<R: Net + Clock + Alloc<A = Global> + Drop> Sockets<R> {
         let Some(peer) = peer_address(self.alloc, peer)? else {
             return Ok(None);
         };
-        let slot = self.hold(stream)?;
+        let slot = self.hold(door, stream)?;
         Ok(slot.map(|slot| Ready::Accepted { slot, door, peer }))
     }
 
-    // Gives a connected socket a slot; none where the system doesn't register it, which drops it.
-    fn hold(&mut self, mut stream: TcpStream) -> Result<Option<u32>, NoMemory> {
+    // Gives a socket that was accepted at the door a slot; none where the system doesn't register it, which drops it.
+    fn hold(&mut self, door: Door, mut stream: TcpStream) -> Result<Option<u32>, NoMemory> {
         let Some(slot) = self.new_slot()? else {
             return Ok(None);
         };
@@ -292,7 +292,7 @@ impl<R: Net + Clock + Alloc<A = Global> + Drop> Sockets<R> {
             self.free(slot);
             return Ok(None);
         }
-        let connection = Connection::new(stream, Begun::ByPeer, false);
+        let connection = Connection::new(stream, Begun::ByPeer(door), false);
         self.put_back(slot, Socket::Connected(connection));
         Ok(Some(slot))
     }

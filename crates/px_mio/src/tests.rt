@@ -206,3 +206,32 @@ fn tells_why_it_cannot_listen(rt: HostRuntime) -> Result<(), Fail> {
     assert!(rt; wire.refused_at() == Some(&taken));
     Ok(())
 }
+
+// What a put is to a peer that has connected and then goes away, with what was put before unread.
+fn put_behind<R: Net + Wait + Clock + Alloc<A = Global> + Drop>(
+    wire: &mut MioWire<R>,
+    peer: TcpStream,
+) -> Result<Put, Fail> {
+    let slot = accepted(wire)?;
+    let first = wire.put(slot, b"world");
+    drop(peer);
+    let (_, told) = wire.ready()?;
+    if first != Put::Took(5) || !is_readable(&told, slot) {
+        return Err("something else was told".into());
+    }
+    Ok(wire.put(slot, b"more"))
+}
+
+#[test]
+fn at_the_control_door_a_peer_that_went_is_a_failure(rt: HostRuntime) -> Result<(), Fail> {
+    let proxy = free_port(&rt)?;
+    let control = free_port(&rt)?;
+    let mut wire = MioWire::new(rt)?;
+    let doors = (address(rt.alloc(), proxy)?, address(rt.alloc(), control)?);
+    wire.listen(&doors.0, Some(&doors.1))?;
+    let client = TcpStream::connect(&rt, local(proxy))?;
+    assert_eq!(rt; put_behind(&mut wire, client)?, Put::Blocked);
+    let operator = TcpStream::connect(&rt, local(control))?;
+    assert_eq!(rt; put_behind(&mut wire, operator)?, Put::Broken);
+    Ok(())
+}

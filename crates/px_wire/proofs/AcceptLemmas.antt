@@ -65,11 +65,12 @@ new_server slot conv side slots accepted free (other ∷ endpoints) used none =
         rw (eq-eqb other.conv conv (sym c), same) refl
 
 -- a slot that was just given
-pub new_fits : (owed : Option Heard) (slot : ℕ) (conv number : ℕ) (side : Side) → conv ≡ number → unheard owed (new_life slot number side) ≡ [] → Fits idle owed (new_endpoint slot conv side) (new_life slot number side)
-new_fits owed slot conv number side same nothing = record {
+pub new_fits : (owed : Option Heard) (slot : ℕ) (conv number : ℕ) (side : Side) (door : Option Door) → conv ≡ number → unheard owed (new_life slot number side door) ≡ [] → Fits idle owed (new_endpoint slot conv side door) (new_life slot number side door)
+new_fits owed slot conv number side door same nothing = record {
   slot = refl;
   conv = same;
   side = refl;
+  door = refl;
   closing = refl;
   over = refl;
   readable = refl;
@@ -106,16 +107,16 @@ module _ (endpoints : List Endpoint) (accepted moment : ℕ) (list : Calls) (sta
 
   -- it has the next number
   pub accepted_as : accepted < number_end
-      → Stands idle (Some (heard.Accepted accepted door peer)) (endpoints ++ new_endpoint slot accepted Client ∷ []) (accepted + 1) now (list ++ calls.Told now (ready.Accepted slot door peer) ∷ [])
+      → Stands idle (Some (heard.Accepted accepted door peer)) (endpoints ++ new_endpoint slot accepted Client (Some door) ∷ []) (accepted + 1) now (list ++ calls.Told now (ready.Accepted slot door peer) ∷ [])
   accepted_as below =
       let l : Ledger = ledger list in
       let number : accepted ≡ l.accepted = stands.accepted_is in
       let test : nat_lt l.accepted number_end ≡ true = (let P : ℕ → Type 0 = λ n. nat_lt n number_end ≡ true in subst P number (lt-ltb accepted number_end below)) in
       let owed : Option Heard = Some (heard.Accepted accepted door peer) in
       added idle None endpoints accepted moment list stands (calls.Told now (ready.Accepted slot door peer)) idle owed now asks
-      (new_endpoint slot accepted Client) (new_life slot l.accepted Client) (accepted + 1) (rw test refl)
+      (new_endpoint slot accepted Client (Some door)) (new_life slot l.accepted Client (Some door)) (accepted + 1) (rw test refl)
       (λ other life fits. reowed idle None owed other life fits refl)
-      (new_fits owed slot accepted l.accepted Client number refl) (new_client slot (slots_of list) accepted free (map name_of endpoints) stands.used)
+      (new_fits owed slot accepted l.accepted Client (Some door) number refl) (new_client slot (slots_of list) accepted free (map name_of endpoints) stands.used)
       (omega arith) (omega arith) (λ _. omega arith)
       (record { accepted_is = rw test (ap (λ (n : ℕ). n + 1) number); moment_is = refl; owed_is = rw test (ap (λ (n : ℕ). Some (heard.Accepted n door peer)) (sym number)); refused_is = rw test stands.refused_is }) refl
 
@@ -153,14 +154,14 @@ dial_call conv server address slot = calls.Dialled address (steps.Said conv (sai
 module _ (endpoints : List Endpoint) (accepted moment : ℕ) (list : Calls) (stands : Stands idle None endpoints accepted moment list) (slot conv server : ℕ) (address : Address) (free : IsFree slot list) where
   -- the side had no slot
   pub dialled_as : list_any (is_endpoint_of conv (Server server)) endpoints ≡ false
-      → Stands idle None (endpoints ++ new_endpoint slot conv (Server server) ∷ []) accepted moment (list ++ dial_call conv server address slot ∷ [])
+      → Stands idle None (endpoints ++ new_endpoint slot conv (Server server) None ∷ []) accepted moment (list ++ dial_call conv server address slot ∷ [])
   dialled_as none =
       let change : Life → Life = λ life. record life { is_finished = true } in
       added idle None endpoints accepted moment list stands (dial_call conv server address slot) idle None moment (conv, server, refl)
-      (new_endpoint slot conv (Server server)) (new_life slot conv (Server server)) accepted
-      (ap (λ (ls : List Life). ls ++ new_life slot conv (Server server) ∷ [])
+      (new_endpoint slot conv (Server server) None) (new_life slot conv (Server server) None) accepted
+      (ap (λ (ls : List Life). ls ++ new_life slot conv (Server server) None ∷ [])
       (change_none (is_life_of conv (Server server)) change (ledger list).lives (missing_side idle None conv (Server server) endpoints (ledger list).lives stands.fits none)))
       (λ other life fits. fits)
-      (new_fits None slot conv conv (Server server) refl refl) (new_server slot conv (Server server) (slots_of list) accepted free endpoints stands.used none)
+      (new_fits None slot conv conv (Server server) None refl refl) (new_server slot conv (Server server) (slots_of list) accepted free endpoints stands.used none)
       (omega arith) stands.most (λ is. (let e : Server server ≡ Client = is in cc))
       (record { accepted_is = stands.accepted_is; moment_is = stands.moment_is; owed_is = stands.owed_is; refused_is = stands.refused_is }) refl

@@ -31,7 +31,7 @@ waiting_same busy owed endpoint life fits = by life.is_over refl
 holds_same : (busy : Busy) (owed : Option Heard) (other endpoint : Endpoint) (o life : Life) → Fits busy owed other o → Fits busy owed endpoint life → holds_life o life ≡ holds other endpoint
 holds_same busy owed other endpoint o life a b =
     let e : waiting o ≡ length other.queue = waiting_same busy owed other o a in
-    rw (sym a.conv, sym a.side, sym b.conv, sym b.side, e) refl
+    rw (sym a.conv, sym a.side, sym b.conv, sym b.side, sym b.door, e) refl
 
 -- whether a side is held back, by the calls and as it is kept
 pub held_same : (busy : Busy) (owed : Option Heard) (endpoint : Endpoint) (life : Life) → Fits busy owed endpoint life → (endpoints : List Endpoint) (lives : List Life) → AllFit (Fits busy owed) endpoints lives
@@ -124,6 +124,7 @@ module _ (front back : List Endpoint) (endpoint : Endpoint) (accepted moment : �
         slot = fits.slot;
         conv = fits.conv;
         side = fits.side;
+        door = fits.door;
         closing = fits.closing;
         over = fits.over;
         readable = fits.readable;
@@ -142,6 +143,7 @@ module _ (front back : List Endpoint) (endpoint : Endpoint) (accepted moment : �
         slot = fits.slot;
         conv = fits.conv;
         side = fits.side;
+        door = fits.door;
         closing = fits.closing;
         over = fits.over;
         readable = fits.readable;
@@ -166,6 +168,7 @@ module _ (front back : List Endpoint) (endpoint : Endpoint) (accepted moment : �
         slot = fits.slot;
         conv = fits.conv;
         side = fits.side;
+        door = fits.door;
         closing = fits.closing;
         over = fits.over;
         readable = refl;
@@ -182,6 +185,7 @@ module _ (front back : List Endpoint) (endpoint : Endpoint) (accepted moment : �
     slot = fits.slot;
     conv = fits.conv;
     side = fits.side;
+    door = fits.door;
     closing = fits.closing;
     over = refl;
     readable = fits.readable;

@@ -24,6 +24,7 @@ reowed busy owed owed' endpoint life fits same = record {
   slot = fits.slot;
   conv = fits.conv;
   side = fits.side;
+  door = fits.door;
   closing = fits.closing;
   over = fits.over;
   readable = fits.readable;
@@ -73,6 +74,7 @@ module _ (front back : List Endpoint) (endpoint : Endpoint) (accepted moment : â
         slot = fits.slot;
         conv = fits.conv;
         side = fits.side;
+        door = fits.door;
         closing = fits.closing;
         over = fits.over;
         readable = fits.readable;
@@ -95,6 +97,7 @@ module _ (front back : List Endpoint) (endpoint : Endpoint) (accepted moment : â
     slot = fits.slot;
     conv = fits.conv;
     side = fits.side;
+    door = fits.door;
     closing = fits.closing;
     over = fits.over;
     readable = fits.readable;

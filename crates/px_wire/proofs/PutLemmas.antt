@@ -49,6 +49,7 @@ refits busy busy' owed endpoint life fits blocked still unfinished = record {
   slot = fits.slot;
   conv = fits.conv;
   side = fits.side;
+  door = fits.door;
   closing = fits.closing;
   over = fits.over;
   readable = fits.readable;
@@ -151,6 +152,7 @@ module _ (owed : Option Heard) (front back : List Endpoint) (endpoint : Endpoint
         slot = fits.slot;
         conv = fits.conv;
         side = fits.side;
+        door = fits.door;
         closing = fits.closing;
         over = fits.over;
         readable = fits.readable;
@@ -177,6 +179,7 @@ module _ (owed : Option Heard) (front back : List Endpoint) (endpoint : Endpoint
         slot = fits.slot;
         conv = fits.conv;
         side = fits.side;
+        door = fits.door;
         closing = fits.closing;
         over = fits.over;
         readable = fits.readable;
@@ -203,6 +206,7 @@ module _ (owed : Option Heard) (front back : List Endpoint) (endpoint : Endpoint
         slot = fits.slot;
         conv = fits.conv;
         side = fits.side;
+        door = fits.door;
         closing = fits.closing;
         over = refl;
         readable = fits.readable;

@@ -117,6 +117,7 @@ module _ (front back : List Endpoint) (endpoint : Endpoint) (accepted moment : â
         slot = fits.slot;
         conv = fits.conv;
         side = fits.side;
+        door = fits.door;
         closing = fits.closing;
         over = fits.over;
         readable = refl;
@@ -141,6 +142,7 @@ module _ (front back : List Endpoint) (endpoint : Endpoint) (accepted moment : â
         slot = fits.slot;
         conv = fits.conv;
         side = fits.side;
+        door = fits.door;
         closing = fits.closing;
         over = fits.over;
         readable = fits.readable;

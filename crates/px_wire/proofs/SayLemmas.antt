@@ -89,6 +89,7 @@ module _ (owed : Option Heard) (front back : List Endpoint) (endpoint : Endpoint
         slot = fits.slot;
         conv = fits.conv;
         side = fits.side;
+        door = fits.door;
         closing = fits.closing;
         over = fits.over;
         readable = fits.readable;
@@ -113,6 +114,7 @@ module _ (owed : Option Heard) (front back : List Endpoint) (endpoint : Endpoint
         slot = fits.slot;
         conv = fits.conv;
         side = fits.side;
+        door = fits.door;
         closing = fits.closing;
         over = fits.over;
         readable = fits.readable;
@@ -137,6 +139,7 @@ module _ (owed : Option Heard) (front back : List Endpoint) (endpoint : Endpoint
         slot = fits.slot;
         conv = fits.conv;
         side = fits.side;
+        door = fits.door;
         closing = refl;
         over = fits.over;
         readable = fits.readable;
@@ -167,7 +170,7 @@ used_beside old slots accepted (name ∷ names) last away differs used =
 module _ (front back : List Endpoint) (endpoint : Endpoint) (accepted moment : ℕ) (list : Calls) (stands : Stands idle None (front ++ endpoint ∷ back) accepted moment list)
     (slot server : ℕ) (address : Address) (free : IsFree slot list) (is : endpoint.side ≡ Server server) where
   -- an address is dialled for a side that had a slot, which is then shut
-  pub redialled : Stands idle None ((front ++ back) ++ new_endpoint slot endpoint.conv (Server server) ∷ []) accepted moment
+  pub redialled : Stands idle None ((front ++ back) ++ new_endpoint slot endpoint.conv (Server server) None ∷ []) accepted moment
       ((list ++ dial_call endpoint.conv server address slot ∷ []) ++ calls.Shut endpoint.slot ∷ [])
   redialled =
       let h = here idle None front back endpoint accepted moment list stands in
@@ -175,7 +178,7 @@ module _ (front back : List Endpoint) (endpoint : Endpoint) (accepted moment : �
       let a = apart idle None front back endpoint accepted moment list stands in
       let l : Ledger = ledger list in
       let call = dial_call endpoint.conv server address slot in
-      let new = new_life slot endpoint.conv (Server server) in
+      let new = new_life slot endpoint.conv (Server server) None in
       let change : Life → Life = λ life. record life { is_finished = true } in
       let more : Calls = list ++ call ∷ [] in
       let test : Life → Bool = is_life_of endpoint.conv (Server server) in
@@ -203,16 +206,16 @@ module _ (front back : List Endpoint) (endpoint : Endpoint) (accepted moment : �
       let slots : slots_of (more ++ calls.Shut endpoint.slot ∷ []) ≡ without_slot endpoint.slot (slots_of list ++ slot ∷ []) =
       slots_more more (calls.Shut endpoint.slot) ∙ ap (without_slot endpoint.slot) (slots_more list call) in
       let R : Endpoint → Life → Type 0 = Fits idle None in
-      let new_names : map name_of ((front ++ back) ++ new_endpoint slot endpoint.conv (Server server) ∷ []) ≡ names ++ name ∷ [] =
-      names_around (front ++ back) [] (new_endpoint slot endpoint.conv (Server server)) ∙ ap (λ (ns : List Name). ns ++ name ∷ []) (names_joined front back) in
-      let P : List Life → Type 0 = λ ls. AllFit R ((front ++ back) ++ new_endpoint slot endpoint.conv (Server server) ∷ []) ls in
+      let new_names : map name_of ((front ++ back) ++ new_endpoint slot endpoint.conv (Server server) None ∷ []) ≡ names ++ name ∷ [] =
+      names_around (front ++ back) [] (new_endpoint slot endpoint.conv (Server server) None) ∙ ap (λ (ns : List Name). ns ++ name ∷ []) (names_joined front back) in
+      let P : List Life → Type 0 = λ ls. AllFit R ((front ++ back) ++ new_endpoint slot endpoint.conv (Server server) None ∷ []) ls in
       let D : List Name → Type 0 = Distinct in
-      let U : List ℕ → Type 0 = λ ss. AllUsed ss accepted (map name_of ((front ++ back) ++ new_endpoint slot endpoint.conv (Server server) ∷ [])) in
+      let U : List ℕ → Type 0 = λ ss. AllUsed ss accepted (map name_of ((front ++ back) ++ new_endpoint slot endpoint.conv (Server server) None ∷ [])) in
       let W : List Name → Type 0 = λ ns. AllUsed (without_slot endpoint.slot (slots_of list ++ slot ∷ [])) accepted ns in
       let Q : List Life → Type 0 = λ ls. FirstIs (is_life_at endpoint.slot) MayEnd ls in
       record {
-        fits = subst P (sym lives) (joined R (front ++ back) (new_endpoint slot endpoint.conv (Server server) ∷ []) (h.before ++ h.behind) (new ∷ [])
-            (joined R front back h.before h.behind h.front_fits h.back_fits) (new_fits None slot endpoint.conv endpoint.conv (Server server) refl refl, tt));
+        fits = subst P (sym lives) (joined R (front ++ back) (new_endpoint slot endpoint.conv (Server server) None ∷ []) (h.before ++ h.behind) (new ∷ [])
+            (joined R front back h.before h.behind h.front_fits h.back_fits) (new_fits None slot endpoint.conv endpoint.conv (Server server) None refl refl, tt));
         distinct = subst D (sym new_names) (distinct_more name names a.rest new_away);
         used = subst U (sym slots) (subst W (sym new_names) both_used);
         accepted_is = stands.accepted_is ∙ ap (λ (x : Ledger). x.accepted) (sym (ledger_more more (calls.Shut endpoint.slot) ∙ ap (λ (x : Ledger). after x (calls.Shut endpoint.slot)) (ledger_more list call)));

@@ -151,6 +151,7 @@ turn_fits owed turn [] back endpoint (life ∷ lives) fits = (
     slot = fits.0.slot;
     conv = fits.0.conv;
     side = fits.0.side;
+    door = fits.0.door;
     closing = fits.0.closing;
     over = fits.0.over;
     readable = fits.0.readable;
@@ -268,10 +269,10 @@ module _ (endpoints : List Endpoint) (accepted moment now slot : ℕ) (door : Do
   both : IfTold (λ list. Stands idle None endpoints accepted moment list × IsFree slot list) before
   both = told_both (Stands idle None endpoints accepted moment) (IsFree slot) before stands free
 
-  pub tells_accepted : accepted < number_end → StandsFor idle (Some (heard.Accepted accepted door peer)) (endpoints ++ new_endpoint slot accepted Client ∷ []) (accepted + 1) now after
+  pub tells_accepted : accepted < number_end → StandsFor idle (Some (heard.Accepted accepted door peer)) (endpoints ++ new_endpoint slot accepted Client (Some door) ∷ []) (accepted + 1) now after
   tells_accepted below =
       told_more (λ list. Stands idle None endpoints accepted moment list × IsFree slot list)
-      (Stands idle (Some (heard.Accepted accepted door peer)) (endpoints ++ new_endpoint slot accepted Client ∷ []) (accepted + 1) now) (calls.Told now (ready.Accepted slot door peer)) before after tells both
+      (Stands idle (Some (heard.Accepted accepted door peer)) (endpoints ++ new_endpoint slot accepted Client (Some door) ∷ []) (accepted + 1) now) (calls.Told now (ready.Accepted slot door peer)) before after tells both
       (λ list s. accepted_as endpoints accepted moment list s.0 calm now slot door peer s.1 below)
 
   pub tells_refused : (last : Option Calls) → number_end ≤ accepted → Tells (calls.Shut slot) after last → StandsFor idle None endpoints accepted now last
@@ -289,9 +290,9 @@ module _ (endpoints : List Endpoint) (accepted moment slot conv server : ℕ) (a
   dial_tells : Tells (dial_call conv server address slot) before after
   dial_tells = let T : Step → Type 0 = λ s. Tells (calls.Dialled address s slot) before after in subst T is tells
 
-  pub dials_new : Missing (is_endpoint_of conv (Server server)) endpoints → StandsFor idle None (endpoints ++ new_endpoint slot conv (Server server) ∷ []) accepted moment after
+  pub dials_new : Missing (is_endpoint_of conv (Server server)) endpoints → StandsFor idle None (endpoints ++ new_endpoint slot conv (Server server) None ∷ []) accepted moment after
   dials_new none =
-      told_more (λ list. Stands idle None endpoints accepted moment list × IsFree slot list) (Stands idle None (endpoints ++ new_endpoint slot conv (Server server) ∷ []) accepted moment)
+      told_more (λ list. Stands idle None endpoints accepted moment list × IsFree slot list) (Stands idle None (endpoints ++ new_endpoint slot conv (Server server) None ∷ []) accepted moment)
       (dial_call conv server address slot) before after dial_tells dials_both
       (λ list s. dialled_as endpoints accepted moment list s.0 slot conv server address s.1 none)
 
@@ -299,14 +300,14 @@ module _ (endpoints : List Endpoint) (accepted moment slot conv server : ℕ) (a
 pub dials_again : (front : List Endpoint) (endpoint : Endpoint) (back : List Endpoint) (accepted moment slot conv server : ℕ) (address : Address) (step : Step) (before after last : Option Calls)
     → step ≡ steps.Said conv (said.Dial server address) → IfTold (IsFree slot) before → Tells (calls.Dialled address step slot) before after → Tells (calls.Shut endpoint.slot) after last
     → is_endpoint_of conv (Server server) endpoint ≡ true → StandsFor idle None (front ++ endpoint ∷ back) accepted moment before
-    → StandsFor idle None ((front ++ back) ++ new_endpoint slot conv (Server server) ∷ []) accepted moment last
+    → StandsFor idle None ((front ++ back) ++ new_endpoint slot conv (Server server) None ∷ []) accepted moment last
 dials_again front endpoint back accepted moment slot conv server address step before after last is free tells shuts here stands =
     let whose = side_is conv (Server server) endpoint here in
     let T : Step → Type 0 = λ s. Tells (calls.Dialled address s slot) before after in
     let C : ℕ → Type 0 = λ n. Tells (dial_call n server address slot) before after in
-    let N : ℕ → Type 0 = λ n. StandsFor idle None ((front ++ back) ++ new_endpoint slot n (Server server) ∷ []) accepted moment last in
+    let N : ℕ → Type 0 = λ n. StandsFor idle None ((front ++ back) ++ new_endpoint slot n (Server server) None ∷ []) accepted moment last in
     subst N whose.0
-    (told_twice (λ list. Stands idle None (front ++ endpoint ∷ back) accepted moment list × IsFree slot list) (Stands idle None ((front ++ back) ++ new_endpoint slot endpoint.conv (Server server) ∷ []) accepted moment)
+    (told_twice (λ list. Stands idle None (front ++ endpoint ∷ back) accepted moment list × IsFree slot list) (Stands idle None ((front ++ back) ++ new_endpoint slot endpoint.conv (Server server) None ∷ []) accepted moment)
     (dial_call endpoint.conv server address slot) (calls.Shut endpoint.slot) before after last (subst C (sym whose.0) (subst T is tells)) shuts
     (told_both (Stands idle None (front ++ endpoint ∷ back) accepted moment) (IsFree slot) before stands free)
     (λ list s. redialled front back endpoint accepted moment list s.0 slot server address s.1 whose.1))
@@ -331,17 +332,17 @@ rests_same owed table old now same rests = let P : Option Calls → Type 0 = λ 
 
 -- the side had a slot, which is shut once the new one is kept
 pub redials : (old new : Endpoints) (front : List Endpoint) (endpoint : Endpoint) (back : List Endpoint) (gone : ℕ) (at : IsAt old gone front endpoint back) (accepted moment slot conv server turn : ℕ) (address : Address) (step : Step)
-    (before after last : Option Calls) → Holds new (without slot (front ++ endpoint ∷ back) ++ record (new_endpoint slot conv (Server server)) { turn = turn } ∷ []) → step ≡ steps.Said conv (said.Dial server address)
+    (before after last : Option Calls) → Holds new (without slot (front ++ endpoint ∷ back) ++ record (new_endpoint slot conv (Server server) None) { turn = turn } ∷ []) → step ≡ steps.Said conv (said.Dial server address)
     → IfTold (IsFree slot) before → Tells (calls.Dialled address step slot) before after → Tells (calls.Shut gone) after last → is_endpoint_of conv (Server server) endpoint ≡ true
     → StandsFor idle None (front ++ endpoint ∷ back) accepted moment before
-    → StandsFor idle None (without gone (without slot (front ++ endpoint ∷ back) ++ record (new_endpoint slot conv (Server server)) { turn = turn } ∷ [])) accepted moment last
+    → StandsFor idle None (without gone (without slot (front ++ endpoint ∷ back) ++ record (new_endpoint slot conv (Server server) None) { turn = turn } ∷ [])) accepted moment last
 redials old new front endpoint back gone at accepted moment slot conv server turn address step None after last held is free tells shuts here stands =
     let T : Option Calls → Type 0 = λ told. Tells (calls.Shut gone) told last in
     let none : last ≡ None = subst T tells shuts in
-    let P : Option Calls → Type 0 = λ told. StandsFor idle None (without gone (without slot (front ++ endpoint ∷ back) ++ record (new_endpoint slot conv (Server server)) { turn = turn } ∷ [])) accepted moment told in
+    let P : Option Calls → Type 0 = λ told. StandsFor idle None (without gone (without slot (front ++ endpoint ∷ back) ++ record (new_endpoint slot conv (Server server) None) { turn = turn } ∷ [])) accepted moment told in
     subst P (sym none) tt
 redials old new front endpoint back gone at accepted moment slot conv server turn address step (Some list) after last held is free tells shuts here stands =
-    let made : Endpoint = record (new_endpoint slot conv (Server server)) { turn = turn } in
+    let made : Endpoint = record (new_endpoint slot conv (Server server) None) { turn = turn } in
     let endpoints = front ++ endpoint ∷ back in
     let kept : without slot endpoints ≡ endpoints = without_missing slot endpoints (free_none slot (slots_of list) accepted endpoints free stands.used) in
     let tail : endpoints ++ made ∷ [] ≡ front ++ endpoint ∷ (back ++ made ∷ []) = append_assoc front (endpoint ∷ back) (made ∷ []) in
@@ -354,5 +355,5 @@ redials old new front endpoint back gone at accepted moment slot conv server tur
     ap (λ (ls : List Endpoint). without gone (ls ++ made ∷ [])) kept ∙ (ap (without gone) tail ∙ (out ∙ sym (append_assoc front back (made ∷ [])))) in
     let S : ℕ → Type 0 = λ n. Tells (calls.Shut n) after last in
     let P : List Endpoint → Type 0 = λ ls. StandsFor idle None ls accepted moment last in
-    subst P (sym whole) (turned None turn (front ++ back) [] (new_endpoint slot conv (Server server)) accepted moment last
+    subst P (sym whole) (turned None turn (front ++ back) [] (new_endpoint slot conv (Server server) None) accepted moment last
     (dials_again front endpoint back accepted moment slot conv server address step (Some list) after last is free tells (subst S (sym at.slot_is) shuts) here stands))

@@ -404,8 +404,8 @@ life_begins own ended text begun begun' lives new nothing_said nothing_taken lat
     by false other = stage_so own ended text text begun begun' (lives ++ new ∷ []) refl later (stage_other own ended text begun lives new other stage)
 
 -- what holds of the side of a new life holds of this one, where it is the side's
-of_new : (P : ℕ → Side → Type 0) (conv number : ℕ) (side other : Side) (slot : ℕ) → is_life_of conv side (new_life slot number other) ≡ true → P number other → P conv side
-of_new P conv number side other slot mine p =
+of_new : (P : ℕ → Side → Type 0) (conv number : ℕ) (side other : Side) (slot : ℕ) (door : Option Door) → is_life_of conv side (new_life slot number other door) ≡ true → P number other → P conv side
+of_new P conv number side other slot door mine p =
     let a : number ≡ conv = eqb-true number conv (left_holds (number == conv) (is_same_side other side) mine) in
     let b : other ≡ side = side_same other side (right_holds (number == conv) (is_same_side other side) mine) in
     let Q : ℕ → Type 0 = λ n. P n other in
@@ -423,7 +423,7 @@ dials_step conv side ended trace l number server address slot sends_so never h =
     let finish : Life → Life = λ life. record life { is_finished = true } in
     let test = is_life_of number (Server server) in
     let between = changed conv side ended trace l l.moment l.owed l.refused test finish (λ life. refl) (λ life text mine its kept. kept) h.owed h in
-    let new = new_life slot number (Server server) in
+    let new = new_life slot number (Server server) None in
     let text : sent trace conv side ≡ sent (trace ++ step ∷ []) conv side =
     sym (sent_joined trace (step ∷ []) conv side
     ∙ (ap (λ (l : List ℕ). sent trace conv side ++ l) (nothing_said conv side number (said.Dial server address) refl) ∙ append-nil (sent trace conv side))) in
@@ -435,7 +435,7 @@ dials_step conv side ended trace l number server address slot sends_so never h =
     record {
       stage = stage_so (is_life_of conv side) ended (sent trace conv side) (sent (trace ++ step ∷ []) conv side) behind behind (change_first test finish l.lives ++ new ∷ []) text (λ b. b)
           (life_begins (is_life_of conv side) ended (sent trace conv side) (Begun conv side trace l.accepted) behind (change_first test finish l.lives) new refl refl
-          (begun_more conv side trace (step ∷ []) l.accepted l.accepted (omega arith)) (λ mine. of_new P conv number side (Server server) slot mine opening) between.stage);
+          (begun_more conv side trace (step ∷ []) l.accepted l.accepted (omega arith)) (λ mine. of_new P conv number side (Server server) slot None mine opening) between.stage);
       numbers = λ n last. (elim (opened_joined n Client trace step last) as (λ _. n < l.accepted) [ inl older ↦ h.numbers n older | inr newer ↦ absurd (let e : false ≡ true = newer in cc) ]);
       owed = h.owed;
     }
@@ -457,9 +457,9 @@ accepted_step conv side ended trace l moment slot door peer sends_so h = by (nat
         let P : ℕ → Side → Type 0 = λ c s. (sent trace c s ≡ []) × ¬ (Begun c s trace l.accepted) × Begun c s trace (l.accepted + 1) in
         let opening : P l.accepted Client =
         (sends_so l.accepted Client (not_yet trace l.accepted h.numbers), λ (before : l.accepted < l.accepted). (let no : ⊥ = omega arith in no), let now : l.accepted < l.accepted + 1 = omega arith in now) in
-        let stage : Stage (is_life_of conv side) ended (sent trace conv side) (Begun conv side trace (l.accepted + 1)) (l.lives ++ new_life slot l.accepted Client ∷ []) =
-        life_begins (is_life_of conv side) ended (sent trace conv side) (Begun conv side trace l.accepted) (Begun conv side trace (l.accepted + 1)) l.lives (new_life slot l.accepted Client) refl refl
-        (begun_later conv side trace l.accepted (l.accepted + 1) (omega arith)) (λ mine. of_new P conv l.accepted side Client slot mine opening) h.stage in
+        let stage : Stage (is_life_of conv side) ended (sent trace conv side) (Begun conv side trace (l.accepted + 1)) (l.lives ++ new_life slot l.accepted Client (Some door) ∷ []) =
+        life_begins (is_life_of conv side) ended (sent trace conv side) (Begun conv side trace l.accepted) (Begun conv side trace (l.accepted + 1)) l.lives (new_life slot l.accepted Client (Some door)) refl refl
+        (begun_later conv side trace l.accepted (l.accepted + 1) (omega arith)) (λ mine. of_new P conv l.accepted side Client slot (Some door) mine opening) h.stage in
         rw below (record {
           stage = stage;
           numbers = λ n is. (let less : n < l.accepted = h.numbers n is in omega arith);

@@ -27,6 +27,8 @@ pub record Life : Type 0 where
   -- the side whose socket it is
   pub conv : ℕ
   pub side : Side
+  -- the door at which it was accepted; none where it was dialled
+  pub door : Option Door
   -- the joined bytes that the wire took
   pub taken : List ℕ
   -- the joined bytes that were said to the side
@@ -47,11 +49,12 @@ pub record Life : Type 0 where
   pub is_finished : Bool
 
 -- a slot that was just given
-abbrev pub new_life : ℕ → ℕ → Side → Life
-new_life slot conv side = record {
+abbrev pub new_life : ℕ → ℕ → Side → Option Door → Life
+new_life slot conv side door = record {
   slot = slot;
   conv = conv;
   side = side;
+  door = door;
   taken = [];
   said = [];
   given = [];
@@ -133,7 +136,7 @@ dial_of ok (Some life) = dial_heard life.conv ok life.side
 abbrev pub accepts : ℕ → Door → Address → Ledger → Ledger
 accepts slot door peer l =
     if nat_lt l.accepted number_end then record l {
-      lives = l.lives ++ new_life slot l.accepted Client ∷ [];
+      lives = l.lives ++ new_life slot l.accepted Client (Some door) ∷ [];
       accepted = l.accepted + 1;
       owed = Some (heard.Accepted l.accepted door peer);
     } else record l { refused = Some slot }
@@ -167,7 +170,7 @@ notes _ l = l
 -- An address was dialled: the side's life begins, and one that it had before is finished.
 abbrev pub dials : Step → ℕ → Ledger → Ledger
 dials (steps.Said conv (said.Dial server address)) slot l = record l {
-  lives = change_first (is_life_of conv (Server server)) (λ life. record life { is_finished = true }) l.lives ++ new_life slot conv (Server server) ∷ [];
+  lives = change_first (is_life_of conv (Server server)) (λ life. record life { is_finished = true }) l.lives ++ new_life slot conv (Server server) None ∷ [];
 }
 dials _ slot l = l
 

@@ -34,9 +34,9 @@ Each P (life ∷ lives) = P life × Each P lives
 abbrev pub waiting : Life → ℕ
 waiting life = if life.is_over then 0 else length life.said - length life.taken
 
--- too many bytes wait for this side to read that one, which it faces
+-- too many bytes wait for this side to read that one, which it faces; at the control door the two are one
 abbrev pub holds_life : Life → Life → Bool
-holds_life other life = (other.conv == life.conv) && (faces other.side life.side && nat_lt read_mark (waiting other))
+holds_life other life = (other.conv == life.conv) && (faces other.side life.side life.door && nat_lt read_mark (waiting other))
 
 -- a side is not to be read: more bytes than the mark wait for one that faces it
 abbrev pub is_life_held : List Life → Life → Bool

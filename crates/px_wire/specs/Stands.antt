@@ -52,6 +52,7 @@ pub record Fits (busy : Busy) (owed : Option Heard) (endpoint : Endpoint) (life 
   pub slot : endpoint.slot ≡ life.slot
   pub conv : endpoint.conv ≡ life.conv
   pub side : endpoint.side ≡ life.side
+  pub door : endpoint.door ≡ life.door
   pub closing : endpoint.is_closing ≡ life.is_closing
   pub over : endpoint.is_over ≡ life.is_over
   pub readable : endpoint.is_readable ≡ life.is_readable

@@ -3,7 +3,7 @@ ghost use Rattle.std.specs.Prelude.{◌≡◌};
 ghost use Rattle.px_wire.specs.Endpoints.{new_endpoint};
 
 use crate::queue::Queue;
-use px_event::Side;
+use px_event::{Door, Side};
 use std::alloc::Global;
 
 /// How the bytes that wait for a slot stand after a flush.
@@ -26,6 +26,8 @@ pub struct Endpoint {
     pub slot: u32,
     pub conv: u32,
     pub side: Side,
+    /// Where it was accepted; none where it was dialled.
+    pub door: Option<Door>,
     /// What was said to the side and the wire has not taken.
     pub queue: Queue,
     /// A Close was said to the side.
@@ -40,13 +42,14 @@ pub struct Endpoint {
 
 impl Endpoint {
     /// A slot that was just given; its turn is still to be set.
-    pub fn new(alloc: Global, slot: u32, conv: u32, side: Side) -> Endpoint
-        ensures { result ≡ new_endpoint slot conv side }
+    pub fn new(alloc: Global, slot: u32, conv: u32, side: Side, door: Option<Door>) -> Endpoint
+        ensures { result ≡ new_endpoint slot conv side door }
     {
         Endpoint {
             slot,
             conv,
             side,
+            door,
             queue: Queue::new(alloc),
             is_closing: false,
             is_over: false,

@@ -7,7 +7,7 @@ ghost use Rattle.std.specs.Prelude.{◌≡◌, ◌≢◌, ◌⊎◌, ◌<◌, �
 ghost use Rattle.std.specs.List.{list_any, position};
 ghost use Rattle.px_text.specs.Prefix.{IsPrefixOf};
 ghost use Rattle.px_wire.specs.declared.endpoint.Endpoint.{Endpoint as EndpointState};
-ghost use Rattle.px_wire.specs.Endpoints.{is_endpoint_of, holds, faces};
+ghost use Rattle.px_wire.specs.Endpoints.{is_endpoint_of, holds, faces, are_opposite};
 ghost use Rattle.std.specs.HashMap.{get, spare};
 ghost use Rattle.std.specs.BTreeMap as tree;
 ghost use Rattle.std.specs.Ordering.{nat_cmp};
@@ -15,7 +15,7 @@ ghost use Rattle.px_wire.specs.declared.endpoints.Due.TheVariants as due;
 ghost use Rattle.px_wire.specs.Holds.{Alike, IsSideAt, IsIn, Once, Holds, HasRoom, RoomIn, IsSpare, IsTakenOut, AllTurns, IsOf, IsMarked, MarksOnly, LosesOnlyFull, IsOverBy, StillReady, IsLookedAt, IsFirst, IsSettled, is_empty_list, endpoint_at, slots_at, passes, is_held_in, is_open_in, is_candidate, without, last_turn};
 
 use crate::endpoint::{Endpoint, READ_MARK};
-use px_event::Side;
+use px_event::{Door, Side};
 use px_text::NoMemory;
 use std::alloc::Global;
 use std::collections::{BTreeMap, HashMap};
@@ -525,12 +525,24 @@ fn is_side(endpoint: &Endpoint, conv: u32, side: Side) -> bool
 fn holds(other: &Endpoint, endpoint: &Endpoint) -> bool
     ensures is { result ≡ holds other.now endpoint.now }
 {
-    other.conv == endpoint.conv && faces(other.side, endpoint.side) && other.queue.len() > READ_MARK
+    other.conv == endpoint.conv
+        && faces(other.side, endpoint.side, endpoint.door)
+        && other.queue.len() > READ_MARK
+}
+
+// The first side faces the second, which was accepted at this door, or dialled: a connection at the control door faces itself.
+fn faces(other: Side, side: Side, door: Option<Door>) -> bool
+    ensures is { result ≡ faces other side door }
+{
+    match door {
+        Some(Door::Control) => other == side,
+        Some(Door::Proxy) | None => are_opposite(other, side),
+    }
 }
 
 // One of them is the client, and the other a server.
-fn faces(a: Side, b: Side) -> bool
-    ensures is { result ≡ faces a b }
+fn are_opposite(a: Side, b: Side) -> bool
+    ensures is { result ≡ are_opposite a b }
 {
     match (a, b) {
         (Side::Client, Side::Server(_)) => true,

@@ -119,9 +119,10 @@ fn accept<W: Wire>(
     }
     let conv = table.accepted;
     table.accepted += 1;
-    table
-        .endpoints
-        .push(alloc, Endpoint::new(alloc, slot, conv, Side::Client));
+    table.endpoints.push(
+        alloc,
+        Endpoint::new(alloc, slot, conv, Side::Client, Some(door)),
+    );
     hear(wire, moment, Heard::Accepted { conv, door, peer })
 }
 

@@ -101,7 +101,7 @@ fn say_dial<W: Wire>(
     let slot = wire.dial(address, step)?;
     table
         .endpoints
-        .push(alloc, Endpoint::new(alloc, slot, conv, side));
+        .push(alloc, Endpoint::new(alloc, slot, conv, side, None));
     if let Some(old) = old {
         wire.shut(old);
         table.endpoints.remove(old);

@@ -23,7 +23,7 @@ returns-then-table-ge-NUMBER_END-clause-stands g c = λ before calm rests free t
 pub returns-clause-stands : goal.returns-clause-stands
 returns-clause-stands g c = λ before calm rests free tells.
     let old = c.args.table.now in
-    let made = new_endpoint c.args.slot old.accepted Client in
+    let made = new_endpoint c.args.slot old.accepted Client (Some c.args.door) in
     let turn = old.endpoints.next_turn in
     let endpoints = without c.args.slot rests.endpoints ++ record made { turn = turn } ∷ [] in
     let what = heard.Accepted old.accepted c.args.door c.args.peer in
@@ -37,7 +37,7 @@ returns-clause-stands g c = λ before calm rests free tells.
 pub returns-clause-err : goal.returns-clause-err
 returns-clause-err g c = λ before calm rests free tells.
     let old = c.args.table.now in
-    let made = new_endpoint c.args.slot old.accepted Client in
+    let made = new_endpoint c.args.slot old.accepted Client (Some c.args.door) in
     let turn = old.endpoints.next_turn in
     let endpoints = without c.args.slot rests.endpoints ++ record made { turn = turn } ∷ [] in
     let what = heard.Accepted old.accepted c.args.door c.args.peer in

@@ -14,7 +14,7 @@ pub returns-in_default-clause-stands : goal.returns-in_default-clause-stands
 returns-in_default-clause-stands g c = λ is rests.
     let old = c.args.table.now in
     let held = alike_held old.endpoints c.reserve.new.self rests.endpoints c.reserve.ensures.same rests.held in
-    let made = new_endpoint c.in_ok-slot.slot c.args.conv (Server c.args.server) in
+    let made = new_endpoint c.in_ok-slot.slot c.args.conv (Server c.args.server) None in
     let turn = c.reserve.new.self.next_turn in
     let P : Endpoint → Type 0 = λ l. Holds c.push.new.self (without l.slot rests.endpoints ++ record l { turn = turn } ∷ []) in
     record {
@@ -31,7 +31,7 @@ returns-in-Some-clause-stands g c = λ is rests.
     let f = c.in-Some.ensures.found in
     let reserved = rests_alike None old (record old { endpoints = c.reserve.new.self }) _ c.reserve.ensures.same refl refl rests in
     let h = here None (record old { endpoints = c.reserve.new.self }) c.in-Some.old f.endpoint _ reserved f.at in
-    let made = new_endpoint c.in_ok-slot.slot c.args.conv (Server c.args.server) in
+    let made = new_endpoint c.in_ok-slot.slot c.args.conv (Server c.args.server) None in
     let turn = c.reserve.new.self.next_turn in
     let endpoints = h.front ++ f.endpoint ∷ h.back in
     let P : Endpoint → Type 0 = λ l. Holds c.push.new.self (without l.slot endpoints ++ record l { turn = turn } ∷ []) in
