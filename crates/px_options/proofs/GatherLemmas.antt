@@ -5,20 +5,15 @@ use Rattle.std.specs.List.{AllByRecursion}
 use Rattle.std.specs.List.Sorted.{IsStrictlySortedBy}
 use Rattle.std.specs.Map.{keys_of}
 use Rattle.std.specs.String.{string_cmp}
-use Rattle.px_filter.specs.Expression.{Expression}
-use Rattle.px_map.specs.Block.{BlockRule}
-use Rattle.px_rule.specs.Rule.{Rule}
 use Rattle.toml.specs.Data.{Data, Members, member, get_member}
 use Rattle.toml.specs.View.{view, members_view}
 use Rattle.toml.proofs.Views.{Entry}
 use Rattle.px_options.specs.Gathered.{and_then, gathered}
-use Rattle.px_options.specs.Keys.{key_of, name_of}
+use Rattle.px_options.specs.Keys.{key_of, name_of, replay_key_of}
 use Rattle.px_options.specs.Lines as lines
 use Rattle.px_options.specs.Lines.{Line}
-use Rattle.px_options.specs.Mode.{ModeIs}
 use Rattle.px_options.specs.Options.{Settings, defaults, first_refusal, options_by, options_of, or_others, refusal_of_key, value_or, why}
 use Rattle.px_options.specs.Steps.{put_at, put_by, put_named}
-use Rattle.px_options.specs.Values.{Place}
 use Rattle.px_options.specs.declared.error.OptionsError.{OptionsError}
 use Rattle.px_options.specs.declared.key.Key.{Key}
 use Rattle.px_options.specs.declared.key.Key.TheVariants as key
@@ -38,6 +33,14 @@ settings_from s table = record {
   modify_headers = value_or lines.modify_headers s.modify_headers (get_member (name_of key.ModifyHeaders) table);
   save_stream_file = value_or lines.save_stream_file s.save_stream_file (get_member (name_of key.SaveStreamFile) table);
   save_stream_filter = value_or lines.save_stream_filter s.save_stream_filter (get_member (name_of key.SaveStreamFilter) table);
+  server_replay = value_or lines.server_replay s.server_replay (get_member (name_of key.ServerReplay) table);
+  server_replay_extra = value_or lines.server_replay_extra s.server_replay_extra (get_member (name_of key.ServerReplayExtra) table);
+  server_replay_ignore_content = value_or lines.server_replay_ignore_content s.server_replay_ignore_content (get_member (name_of key.ServerReplayIgnoreContent) table);
+  server_replay_ignore_host = value_or lines.server_replay_ignore_host s.server_replay_ignore_host (get_member (name_of key.ServerReplayIgnoreHost) table);
+  server_replay_ignore_params = value_or lines.server_replay_ignore_params s.server_replay_ignore_params (get_member (name_of key.ServerReplayIgnoreParams) table);
+  server_replay_ignore_port = value_or lines.server_replay_ignore_port s.server_replay_ignore_port (get_member (name_of key.ServerReplayIgnorePort) table);
+  server_replay_reuse = value_or lines.server_replay_reuse s.server_replay_reuse (get_member (name_of key.ServerReplayReuse) table);
+  server_replay_use_headers = value_or lines.server_replay_use_headers s.server_replay_use_headers (get_member (name_of key.ServerReplayUseHeaders) table);
 }
 
 -- what is gathered from these members is what they say
@@ -47,89 +50,16 @@ IsGathered ms = (t : Settings) → gathered ms t ≡ options_by (first_refusal m
 line_more : {A : Type 0} (l : Line A) (a before : A) (o : Option Data) (d : Data) → o ≡ None → Ok a ≡ l.reads d → value_or l a o ≡ value_or l before (Some d)
 line_more l a before o d none is = rw (none, ← is) refl
 
-anticache_more : (d : Data) (ms : Members) (s : Settings) (r : Result Bool OptionsError) → r ≡ lines.anticache.reads d → get_member (name_of key.Anticache) ms ≡ None → IsGathered ms
-    → and_then (gathered ms) (put_by (λ a. record s { anticache = a }) r) ≡ options_by (or_others (why r) (first_refusal ms)) (settings_from s (member (name_of key.Anticache) d ms))
-anticache_more d ms s (Err e) is none ih = refl
-anticache_more d ms s (Ok a) is none ih =
-    ih (record s { anticache = a })
-    ∙ ap (λ v. options_by (first_refusal ms) (record (settings_from s ms) { anticache = v })) (line_more lines.anticache a s.anticache (get_member (name_of key.Anticache) ms) d none is)
-
-anticomp_more : (d : Data) (ms : Members) (s : Settings) (r : Result Bool OptionsError) → r ≡ lines.anticomp.reads d → get_member (name_of key.Anticomp) ms ≡ None → IsGathered ms
-    → and_then (gathered ms) (put_by (λ a. record s { anticomp = a }) r) ≡ options_by (or_others (why r) (first_refusal ms)) (settings_from s (member (name_of key.Anticomp) d ms))
-anticomp_more d ms s (Err e) is none ih = refl
-anticomp_more d ms s (Ok a) is none ih =
-    ih (record s { anticomp = a })
-    ∙ ap (λ v. options_by (first_refusal ms) (record (settings_from s ms) { anticomp = v })) (line_more lines.anticomp a s.anticomp (get_member (name_of key.Anticomp) ms) d none is)
-
-block_list_more : (d : Data) (ms : Members) (s : Settings) (r : Result (List BlockRule) OptionsError) → r ≡ lines.block_list.reads d → get_member (name_of key.BlockList) ms ≡ None → IsGathered ms
-    → and_then (gathered ms) (put_by (λ a. record s { block_list = a }) r) ≡ options_by (or_others (why r) (first_refusal ms)) (settings_from s (member (name_of key.BlockList) d ms))
-block_list_more d ms s (Err e) is none ih = refl
-block_list_more d ms s (Ok a) is none ih =
-    ih (record s { block_list = a })
-    ∙ ap (λ v. options_by (first_refusal ms) (record (settings_from s ms) { block_list = v })) (line_more lines.block_list a s.block_list (get_member (name_of key.BlockList) ms) d none is)
-
-events_more : (d : Data) (ms : Members) (s : Settings) (r : Result ℕ OptionsError) → r ≡ lines.events.reads d → get_member (name_of key.Events) ms ≡ None → IsGathered ms
-    → and_then (gathered ms) (put_by (λ a. record s { events = a }) r) ≡ options_by (or_others (why r) (first_refusal ms)) (settings_from s (member (name_of key.Events) d ms))
-events_more d ms s (Err e) is none ih = refl
-events_more d ms s (Ok a) is none ih =
-    ih (record s { events = a })
-    ∙ ap (λ v. options_by (first_refusal ms) (record (settings_from s ms) { events = v })) (line_more lines.events a s.events (get_member (name_of key.Events) ms) d none is)
-
-listen_more : (d : Data) (ms : Members) (s : Settings) (r : Result Place OptionsError) → r ≡ lines.listen.reads d → get_member (name_of key.Listen) ms ≡ None → IsGathered ms
-    → and_then (gathered ms) (put_by (λ a. record s { listen = a }) r) ≡ options_by (or_others (why r) (first_refusal ms)) (settings_from s (member (name_of key.Listen) d ms))
-listen_more d ms s (Err e) is none ih = refl
-listen_more d ms s (Ok a) is none ih =
-    ih (record s { listen = a })
-    ∙ ap (λ v. options_by (first_refusal ms) (record (settings_from s ms) { listen = v })) (line_more lines.listen a s.listen (get_member (name_of key.Listen) ms) d none is)
-
-map_local_more : (d : Data) (ms : Members) (s : Settings) (r : Result (List Rule) OptionsError) → r ≡ lines.map_local.reads d → get_member (name_of key.MapLocal) ms ≡ None → IsGathered ms
-    → and_then (gathered ms) (put_by (λ a. record s { map_local = a }) r) ≡ options_by (or_others (why r) (first_refusal ms)) (settings_from s (member (name_of key.MapLocal) d ms))
-map_local_more d ms s (Err e) is none ih = refl
-map_local_more d ms s (Ok a) is none ih =
-    ih (record s { map_local = a })
-    ∙ ap (λ v. options_by (first_refusal ms) (record (settings_from s ms) { map_local = v })) (line_more lines.map_local a s.map_local (get_member (name_of key.MapLocal) ms) d none is)
-
-map_remote_more : (d : Data) (ms : Members) (s : Settings) (r : Result (List Rule) OptionsError) → r ≡ lines.map_remote.reads d → get_member (name_of key.MapRemote) ms ≡ None → IsGathered ms
-    → and_then (gathered ms) (put_by (λ a. record s { map_remote = a }) r) ≡ options_by (or_others (why r) (first_refusal ms)) (settings_from s (member (name_of key.MapRemote) d ms))
-map_remote_more d ms s (Err e) is none ih = refl
-map_remote_more d ms s (Ok a) is none ih =
-    ih (record s { map_remote = a })
-    ∙ ap (λ v. options_by (first_refusal ms) (record (settings_from s ms) { map_remote = v })) (line_more lines.map_remote a s.map_remote (get_member (name_of key.MapRemote) ms) d none is)
-
-mode_more : (d : Data) (ms : Members) (s : Settings) (r : Result ModeIs OptionsError) → r ≡ lines.mode.reads d → get_member (name_of key.Mode) ms ≡ None → IsGathered ms
-    → and_then (gathered ms) (put_by (λ a. record s { mode = a }) r) ≡ options_by (or_others (why r) (first_refusal ms)) (settings_from s (member (name_of key.Mode) d ms))
-mode_more d ms s (Err e) is none ih = refl
-mode_more d ms s (Ok a) is none ih =
-    ih (record s { mode = a })
-    ∙ ap (λ v. options_by (first_refusal ms) (record (settings_from s ms) { mode = v })) (line_more lines.mode a s.mode (get_member (name_of key.Mode) ms) d none is)
-
-modify_body_more : (d : Data) (ms : Members) (s : Settings) (r : Result (List Rule) OptionsError) → r ≡ lines.modify_body.reads d → get_member (name_of key.ModifyBody) ms ≡ None → IsGathered ms
-    → and_then (gathered ms) (put_by (λ a. record s { modify_body = a }) r) ≡ options_by (or_others (why r) (first_refusal ms)) (settings_from s (member (name_of key.ModifyBody) d ms))
-modify_body_more d ms s (Err e) is none ih = refl
-modify_body_more d ms s (Ok a) is none ih =
-    ih (record s { modify_body = a })
-    ∙ ap (λ v. options_by (first_refusal ms) (record (settings_from s ms) { modify_body = v })) (line_more lines.modify_body a s.modify_body (get_member (name_of key.ModifyBody) ms) d none is)
-
-modify_headers_more : (d : Data) (ms : Members) (s : Settings) (r : Result (List Rule) OptionsError) → r ≡ lines.modify_headers.reads d → get_member (name_of key.ModifyHeaders) ms ≡ None → IsGathered ms
-    → and_then (gathered ms) (put_by (λ a. record s { modify_headers = a }) r) ≡ options_by (or_others (why r) (first_refusal ms)) (settings_from s (member (name_of key.ModifyHeaders) d ms))
-modify_headers_more d ms s (Err e) is none ih = refl
-modify_headers_more d ms s (Ok a) is none ih =
-    ih (record s { modify_headers = a })
-    ∙ ap (λ v. options_by (first_refusal ms) (record (settings_from s ms) { modify_headers = v })) (line_more lines.modify_headers a s.modify_headers (get_member (name_of key.ModifyHeaders) ms) d none is)
-
-save_stream_file_more : (d : Data) (ms : Members) (s : Settings) (r : Result (Option (List ℕ)) OptionsError) → r ≡ lines.save_stream_file.reads d → get_member (name_of key.SaveStreamFile) ms ≡ None → IsGathered ms
-    → and_then (gathered ms) (put_by (λ a. record s { save_stream_file = a }) r) ≡ options_by (or_others (why r) (first_refusal ms)) (settings_from s (member (name_of key.SaveStreamFile) d ms))
-save_stream_file_more d ms s (Err e) is none ih = refl
-save_stream_file_more d ms s (Ok a) is none ih =
-    ih (record s { save_stream_file = a })
-    ∙ ap (λ v. options_by (first_refusal ms) (record (settings_from s ms) { save_stream_file = v })) (line_more lines.save_stream_file a s.save_stream_file (get_member (name_of key.SaveStreamFile) ms) d none is)
-
-save_stream_filter_more : (d : Data) (ms : Members) (s : Settings) (r : Result (Option Expression) OptionsError) → r ≡ lines.save_stream_filter.reads d → get_member (name_of key.SaveStreamFilter) ms ≡ None → IsGathered ms
-    → and_then (gathered ms) (put_by (λ a. record s { save_stream_filter = a }) r) ≡ options_by (or_others (why r) (first_refusal ms)) (settings_from s (member (name_of key.SaveStreamFilter) d ms))
-save_stream_filter_more d ms s (Err e) is none ih = refl
-save_stream_filter_more d ms s (Ok a) is none ih =
-    ih (record s { save_stream_filter = a })
-    ∙ ap (λ v. options_by (first_refusal ms) (record (settings_from s ms) { save_stream_filter = v })) (line_more lines.save_stream_filter a s.save_stream_filter (get_member (name_of key.SaveStreamFilter) ms) d none is)
+-- One key more, of a line: its option is put, and the others are gathered from then on. Where the option stands is said by `set`.
+line_gathered : {A : Type 0} (l : Line A) (set : A → Settings → Settings) (before : A) (name : List ℕ) (d : Data) (ms : Members) (s : Settings)
+    (r : Result A OptionsError) → r ≡ l.reads d → get_member name ms ≡ None → IsGathered ms
+    → ((a : A) → settings_from (set a s) ms ≡ set (value_or l a (get_member name ms)) (settings_from s ms))
+    → settings_from s (member name d ms) ≡ set (value_or l before (Some d)) (settings_from s ms)
+    → and_then (gathered ms) (put_by (λ a. set a s) r) ≡ options_by (or_others (why r) (first_refusal ms)) (settings_from s (member name d ms))
+line_gathered l set before name d ms s (Err e) is none ih behind front = refl
+line_gathered l set before name d ms s (Ok a) is none ih behind front =
+    ih (set a s)
+    ∙ ap (options_by (first_refusal ms)) (behind a ∙ ap (λ v. set v (settings_from s ms)) (line_more l a before (get_member name ms) d none is) ∙ sym front)
 
 or_named : (b : Bool) (k found : Key) (name : List ℕ) (others : Option Key) → (b ≡ true → name ≡ name_of k) → (if b then Some k else others) ≡ Some found
     → (others ≡ Some found → name ≡ name_of found) → name ≡ name_of found
@@ -138,6 +68,19 @@ or_named false k found name others same e next = next e
 
 nothing : {A : Type 0} (a : A) → ¬ (None ≡ Some a)
 nothing a e = absurd (cc)
+
+-- a key of server replay has its name
+named_replay : (name : List ℕ) (found : Key) → replay_key_of name ≡ Some found → name ≡ name_of found
+named_replay name found is =
+    or_named (bytes_eq name (name_of key.ServerReplay)) key.ServerReplay found name _ (λ same. (bytes_eq-Decides _ _).0 same) is (λ e.
+    or_named (bytes_eq name (name_of key.ServerReplayExtra)) key.ServerReplayExtra found name _ (λ same. (bytes_eq-Decides _ _).0 same) e (λ e.
+    or_named (bytes_eq name (name_of key.ServerReplayIgnoreContent)) key.ServerReplayIgnoreContent found name _ (λ same. (bytes_eq-Decides _ _).0 same) e (λ e.
+    or_named (bytes_eq name (name_of key.ServerReplayIgnoreHost)) key.ServerReplayIgnoreHost found name _ (λ same. (bytes_eq-Decides _ _).0 same) e (λ e.
+    or_named (bytes_eq name (name_of key.ServerReplayIgnoreParams)) key.ServerReplayIgnoreParams found name _ (λ same. (bytes_eq-Decides _ _).0 same) e (λ e.
+    or_named (bytes_eq name (name_of key.ServerReplayIgnorePort)) key.ServerReplayIgnorePort found name _ (λ same. (bytes_eq-Decides _ _).0 same) e (λ e.
+    or_named (bytes_eq name (name_of key.ServerReplayReuse)) key.ServerReplayReuse found name _ (λ same. (bytes_eq-Decides _ _).0 same) e (λ e.
+    or_named (bytes_eq name (name_of key.ServerReplayUseHeaders)) key.ServerReplayUseHeaders found name _ (λ same. (bytes_eq-Decides _ _).0 same) e (λ e.
+    absurd (nothing found e)))))))))
 
 -- a key has its name
 named : (name : List ℕ) (found : Key) → key_of name ≡ Some found → name ≡ name_of found
@@ -154,7 +97,7 @@ named name found is =
     or_named (bytes_eq name (name_of key.ModifyHeaders)) key.ModifyHeaders found name _ (λ same. (bytes_eq-Decides _ _).0 same) e (λ e.
     or_named (bytes_eq name (name_of key.SaveStreamFile)) key.SaveStreamFile found name _ (λ same. (bytes_eq-Decides _ _).0 same) e (λ e.
     or_named (bytes_eq name (name_of key.SaveStreamFilter)) key.SaveStreamFilter found name _ (λ same. (bytes_eq-Decides _ _).0 same) e (λ e.
-    absurd (nothing found e)))))))))))))
+    named_replay name found e))))))))))))
 
 -- one member more, by its key
 abbrev More : Option Key → Members → Data → Settings → List ℕ → Type 0
@@ -165,29 +108,65 @@ More k ms d s name =
 by_key : (k : Option Key) (name : List ℕ) (d : Data) (ms : Members) (s : Settings) → key_of name ≡ k → IsGathered ms → More k ms d s name
 by_key None name d ms s is ih = λ none. refl
 by_key (Some key.Anticache) name d ms s is ih =
-    subst (More (Some key.Anticache) ms d s) (sym (named name key.Anticache is)) (λ none. anticache_more d ms s (lines.anticache.reads d) refl none ih)
+    subst (More (Some key.Anticache) ms d s) (sym (named name key.Anticache is)) (λ none.
+    line_gathered lines.anticache (λ a s. record s { anticache = a }) s.anticache (name_of key.Anticache) d ms s (lines.anticache.reads d) refl none ih (λ a. refl) refl)
 by_key (Some key.Anticomp) name d ms s is ih =
-    subst (More (Some key.Anticomp) ms d s) (sym (named name key.Anticomp is)) (λ none. anticomp_more d ms s (lines.anticomp.reads d) refl none ih)
+    subst (More (Some key.Anticomp) ms d s) (sym (named name key.Anticomp is)) (λ none.
+    line_gathered lines.anticomp (λ a s. record s { anticomp = a }) s.anticomp (name_of key.Anticomp) d ms s (lines.anticomp.reads d) refl none ih (λ a. refl) refl)
 by_key (Some key.BlockList) name d ms s is ih =
-    subst (More (Some key.BlockList) ms d s) (sym (named name key.BlockList is)) (λ none. block_list_more d ms s (lines.block_list.reads d) refl none ih)
+    subst (More (Some key.BlockList) ms d s) (sym (named name key.BlockList is)) (λ none.
+    line_gathered lines.block_list (λ a s. record s { block_list = a }) s.block_list (name_of key.BlockList) d ms s (lines.block_list.reads d) refl none ih (λ a. refl) refl)
 by_key (Some key.Events) name d ms s is ih =
-    subst (More (Some key.Events) ms d s) (sym (named name key.Events is)) (λ none. events_more d ms s (lines.events.reads d) refl none ih)
+    subst (More (Some key.Events) ms d s) (sym (named name key.Events is)) (λ none.
+    line_gathered lines.events (λ a s. record s { events = a }) s.events (name_of key.Events) d ms s (lines.events.reads d) refl none ih (λ a. refl) refl)
 by_key (Some key.Listen) name d ms s is ih =
-    subst (More (Some key.Listen) ms d s) (sym (named name key.Listen is)) (λ none. listen_more d ms s (lines.listen.reads d) refl none ih)
+    subst (More (Some key.Listen) ms d s) (sym (named name key.Listen is)) (λ none.
+    line_gathered lines.listen (λ a s. record s { listen = a }) s.listen (name_of key.Listen) d ms s (lines.listen.reads d) refl none ih (λ a. refl) refl)
 by_key (Some key.MapLocal) name d ms s is ih =
-    subst (More (Some key.MapLocal) ms d s) (sym (named name key.MapLocal is)) (λ none. map_local_more d ms s (lines.map_local.reads d) refl none ih)
+    subst (More (Some key.MapLocal) ms d s) (sym (named name key.MapLocal is)) (λ none.
+    line_gathered lines.map_local (λ a s. record s { map_local = a }) s.map_local (name_of key.MapLocal) d ms s (lines.map_local.reads d) refl none ih (λ a. refl) refl)
 by_key (Some key.MapRemote) name d ms s is ih =
-    subst (More (Some key.MapRemote) ms d s) (sym (named name key.MapRemote is)) (λ none. map_remote_more d ms s (lines.map_remote.reads d) refl none ih)
+    subst (More (Some key.MapRemote) ms d s) (sym (named name key.MapRemote is)) (λ none.
+    line_gathered lines.map_remote (λ a s. record s { map_remote = a }) s.map_remote (name_of key.MapRemote) d ms s (lines.map_remote.reads d) refl none ih (λ a. refl) refl)
 by_key (Some key.Mode) name d ms s is ih =
-    subst (More (Some key.Mode) ms d s) (sym (named name key.Mode is)) (λ none. mode_more d ms s (lines.mode.reads d) refl none ih)
+    subst (More (Some key.Mode) ms d s) (sym (named name key.Mode is)) (λ none.
+    line_gathered lines.mode (λ a s. record s { mode = a }) s.mode (name_of key.Mode) d ms s (lines.mode.reads d) refl none ih (λ a. refl) refl)
 by_key (Some key.ModifyBody) name d ms s is ih =
-    subst (More (Some key.ModifyBody) ms d s) (sym (named name key.ModifyBody is)) (λ none. modify_body_more d ms s (lines.modify_body.reads d) refl none ih)
+    subst (More (Some key.ModifyBody) ms d s) (sym (named name key.ModifyBody is)) (λ none.
+    line_gathered lines.modify_body (λ a s. record s { modify_body = a }) s.modify_body (name_of key.ModifyBody) d ms s (lines.modify_body.reads d) refl none ih (λ a. refl) refl)
 by_key (Some key.ModifyHeaders) name d ms s is ih =
-    subst (More (Some key.ModifyHeaders) ms d s) (sym (named name key.ModifyHeaders is)) (λ none. modify_headers_more d ms s (lines.modify_headers.reads d) refl none ih)
+    subst (More (Some key.ModifyHeaders) ms d s) (sym (named name key.ModifyHeaders is)) (λ none.
+    line_gathered lines.modify_headers (λ a s. record s { modify_headers = a }) s.modify_headers (name_of key.ModifyHeaders) d ms s (lines.modify_headers.reads d) refl none ih (λ a. refl) refl)
 by_key (Some key.SaveStreamFile) name d ms s is ih =
-    subst (More (Some key.SaveStreamFile) ms d s) (sym (named name key.SaveStreamFile is)) (λ none. save_stream_file_more d ms s (lines.save_stream_file.reads d) refl none ih)
+    subst (More (Some key.SaveStreamFile) ms d s) (sym (named name key.SaveStreamFile is)) (λ none.
+    line_gathered lines.save_stream_file (λ a s. record s { save_stream_file = a }) s.save_stream_file (name_of key.SaveStreamFile) d ms s (lines.save_stream_file.reads d) refl none ih (λ a. refl) refl)
 by_key (Some key.SaveStreamFilter) name d ms s is ih =
-    subst (More (Some key.SaveStreamFilter) ms d s) (sym (named name key.SaveStreamFilter is)) (λ none. save_stream_filter_more d ms s (lines.save_stream_filter.reads d) refl none ih)
+    subst (More (Some key.SaveStreamFilter) ms d s) (sym (named name key.SaveStreamFilter is)) (λ none.
+    line_gathered lines.save_stream_filter (λ a s. record s { save_stream_filter = a }) s.save_stream_filter (name_of key.SaveStreamFilter) d ms s (lines.save_stream_filter.reads d) refl none ih (λ a. refl) refl)
+by_key (Some key.ServerReplay) name d ms s is ih =
+    subst (More (Some key.ServerReplay) ms d s) (sym (named name key.ServerReplay is)) (λ none.
+    line_gathered lines.server_replay (λ a s. record s { server_replay = a }) s.server_replay (name_of key.ServerReplay) d ms s (lines.server_replay.reads d) refl none ih (λ a. refl) refl)
+by_key (Some key.ServerReplayExtra) name d ms s is ih =
+    subst (More (Some key.ServerReplayExtra) ms d s) (sym (named name key.ServerReplayExtra is)) (λ none.
+    line_gathered lines.server_replay_extra (λ a s. record s { server_replay_extra = a }) s.server_replay_extra (name_of key.ServerReplayExtra) d ms s (lines.server_replay_extra.reads d) refl none ih (λ a. refl) refl)
+by_key (Some key.ServerReplayIgnoreContent) name d ms s is ih =
+    subst (More (Some key.ServerReplayIgnoreContent) ms d s) (sym (named name key.ServerReplayIgnoreContent is)) (λ none.
+    line_gathered lines.server_replay_ignore_content (λ a s. record s { server_replay_ignore_content = a }) s.server_replay_ignore_content (name_of key.ServerReplayIgnoreContent) d ms s (lines.server_replay_ignore_content.reads d) refl none ih (λ a. refl) refl)
+by_key (Some key.ServerReplayIgnoreHost) name d ms s is ih =
+    subst (More (Some key.ServerReplayIgnoreHost) ms d s) (sym (named name key.ServerReplayIgnoreHost is)) (λ none.
+    line_gathered lines.server_replay_ignore_host (λ a s. record s { server_replay_ignore_host = a }) s.server_replay_ignore_host (name_of key.ServerReplayIgnoreHost) d ms s (lines.server_replay_ignore_host.reads d) refl none ih (λ a. refl) refl)
+by_key (Some key.ServerReplayIgnoreParams) name d ms s is ih =
+    subst (More (Some key.ServerReplayIgnoreParams) ms d s) (sym (named name key.ServerReplayIgnoreParams is)) (λ none.
+    line_gathered lines.server_replay_ignore_params (λ a s. record s { server_replay_ignore_params = a }) s.server_replay_ignore_params (name_of key.ServerReplayIgnoreParams) d ms s (lines.server_replay_ignore_params.reads d) refl none ih (λ a. refl) refl)
+by_key (Some key.ServerReplayIgnorePort) name d ms s is ih =
+    subst (More (Some key.ServerReplayIgnorePort) ms d s) (sym (named name key.ServerReplayIgnorePort is)) (λ none.
+    line_gathered lines.server_replay_ignore_port (λ a s. record s { server_replay_ignore_port = a }) s.server_replay_ignore_port (name_of key.ServerReplayIgnorePort) d ms s (lines.server_replay_ignore_port.reads d) refl none ih (λ a. refl) refl)
+by_key (Some key.ServerReplayReuse) name d ms s is ih =
+    subst (More (Some key.ServerReplayReuse) ms d s) (sym (named name key.ServerReplayReuse is)) (λ none.
+    line_gathered lines.server_replay_reuse (λ a s. record s { server_replay_reuse = a }) s.server_replay_reuse (name_of key.ServerReplayReuse) d ms s (lines.server_replay_reuse.reads d) refl none ih (λ a. refl) refl)
+by_key (Some key.ServerReplayUseHeaders) name d ms s is ih =
+    subst (More (Some key.ServerReplayUseHeaders) ms d s) (sym (named name key.ServerReplayUseHeaders is)) (λ none.
+    line_gathered lines.server_replay_use_headers (λ a s. record s { server_replay_use_headers = a }) s.server_replay_use_headers (name_of key.ServerReplayUseHeaders) d ms s (lines.server_replay_use_headers.reads d) refl none ih (λ a. refl) refl)
 
 -- a key that is below others is none of them
 no_key : (k : String Global) (es : List Entry) → AllByRecursion (λ y. string_cmp k y ≡ Less) (keys_of es) → get_member (string_bytes k) (members_view es) ≡ None

@@ -13,6 +13,7 @@ use Rattle.px_options.specs.Laws.{followed}
 use Rattle.px_options.specs.Lines as lines
 use Rattle.px_options.specs.Mode.{ModeIs, mode_in, mode_of, or_bad_mode}
 use Rattle.px_options.specs.Options.{IsNoTable, Says, Settings, first_refusal, options_by, options_of, or_others, refusal_at, refusal_of, refusal_of_key, settings_of, why}
+use Rattle.px_options.specs.Replay.{extra_in, paths_in}
 use Rattle.px_options.specs.Rules.{rule_and, rules_from, rules_of, texts_of, with_rule}
 use Rattle.px_options.specs.Save.{filter_in, or_bad_filter, path_in, path_of}
 use Rattle.px_options.specs.Values.{address_in, from_one, or_wrong}
@@ -160,6 +161,14 @@ at_of_table key.ModifyBody d = why_of_table (lines.modify_body.reads d) (rules_o
 at_of_table key.ModifyHeaders d = why_of_table (lines.modify_headers.reads d) (rules_of_table key.ModifyHeaders header_rule (texts_of (as_array d)))
 at_of_table key.SaveStreamFile d = why_of_table (lines.save_stream_file.reads d) (path_in_of_table key.SaveStreamFile (as_str d))
 at_of_table key.SaveStreamFilter d = why_of_table (lines.save_stream_filter.reads d) (filter_in_of_table key.SaveStreamFilter (as_str d))
+at_of_table key.ServerReplay d = why_of_table (lines.server_replay.reads d) (wrong_of_table key.ServerReplay (paths_in (texts_of (as_array d))))
+at_of_table key.ServerReplayExtra d = why_of_table (lines.server_replay_extra.reads d) (wrong_of_table key.ServerReplayExtra (extra_in (as_str d)))
+at_of_table key.ServerReplayIgnoreContent d = why_of_table (lines.server_replay_ignore_content.reads d) (wrong_of_table key.ServerReplayIgnoreContent (as_bool d))
+at_of_table key.ServerReplayIgnoreHost d = why_of_table (lines.server_replay_ignore_host.reads d) (wrong_of_table key.ServerReplayIgnoreHost (as_bool d))
+at_of_table key.ServerReplayIgnoreParams d = why_of_table (lines.server_replay_ignore_params.reads d) (wrong_of_table key.ServerReplayIgnoreParams (texts_of (as_array d)))
+at_of_table key.ServerReplayIgnorePort d = why_of_table (lines.server_replay_ignore_port.reads d) (wrong_of_table key.ServerReplayIgnorePort (as_bool d))
+at_of_table key.ServerReplayReuse d = why_of_table (lines.server_replay_reuse.reads d) (wrong_of_table key.ServerReplayReuse (as_bool d))
+at_of_table key.ServerReplayUseHeaders d = why_of_table (lines.server_replay_use_headers.reads d) (wrong_of_table key.ServerReplayUseHeaders (texts_of (as_array d)))
 
 key_of_table : (k : Option Key) (name : List ℕ) (d : Data) → IfSome (refusal_of_key k name d) OfTable
 key_of_table None name d = refl

@@ -1,5 +1,6 @@
 pub mod AddressLemmas
 pub mod TextLemmas
+pub mod PathLemmas
 pub mod RuleLemmas
 pub mod GatherLemmas
 pub mod LawLemmas

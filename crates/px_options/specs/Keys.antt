@@ -16,10 +16,31 @@ name_of key.ModifyBody = codes "modify_body"
 name_of key.ModifyHeaders = codes "modify_headers"
 name_of key.SaveStreamFile = codes "save_stream_file"
 name_of key.SaveStreamFilter = codes "save_stream_filter"
+name_of key.ServerReplay = codes "server_replay"
+name_of key.ServerReplayExtra = codes "server_replay_extra"
+name_of key.ServerReplayIgnoreContent = codes "server_replay_ignore_content"
+name_of key.ServerReplayIgnoreHost = codes "server_replay_ignore_host"
+name_of key.ServerReplayIgnoreParams = codes "server_replay_ignore_params"
+name_of key.ServerReplayIgnorePort = codes "server_replay_ignore_port"
+name_of key.ServerReplayReuse = codes "server_replay_reuse"
+name_of key.ServerReplayUseHeaders = codes "server_replay_use_headers"
 
 -- the key, if it has that name, else what others say
 abbrev pub or_key : Key → List ℕ → Option Key → Option Key
 or_key key name others = if bytes_eq name (name_of key) then Some key else others
+
+-- the key of server replay of that name
+abbrev pub replay_key_of : List ℕ → Option Key
+replay_key_of name =
+    or_key key.ServerReplay name
+    (or_key key.ServerReplayExtra name
+    (or_key key.ServerReplayIgnoreContent name
+    (or_key key.ServerReplayIgnoreHost name
+    (or_key key.ServerReplayIgnoreParams name
+    (or_key key.ServerReplayIgnorePort name
+    (or_key key.ServerReplayReuse name
+    (or_key key.ServerReplayUseHeaders name
+    None)))))))
 
 -- the key of that name
 abbrev pub key_of : List ℕ → Option Key
@@ -36,4 +57,4 @@ key_of name =
     (or_key key.ModifyHeaders name
     (or_key key.SaveStreamFile name
     (or_key key.SaveStreamFilter name
-    None)))))))))))
+    (replay_key_of name))))))))))))

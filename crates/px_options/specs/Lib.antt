@@ -3,6 +3,7 @@ pub mod Values
 pub mod Mode
 pub mod Rules
 pub mod Save
+pub mod Replay
 pub mod Lines
 pub mod Options
 pub mod View

@@ -2,9 +2,12 @@
 use Rattle.std.specs.Prelude.{ℕ, Bool, false, List, [], codes, Option, None, Result}
 use Rattle.px_filter.specs.Expression.{Expression}
 use Rattle.px_map.specs.Block.{BlockRule, block_rule}
+use Rattle.px_replay.specs.declared.replay.Extra.{Extra}
+use Rattle.px_replay.specs.declared.replay.Extra.TheVariants as extras
 use Rattle.px_rule.specs.Rule.{Rule, body_rule, header_rule}
 use Rattle.toml.specs.Data.{Data}
 use Rattle.px_options.specs.Mode.{ModeIs, regular, mode as mode_text}
+use Rattle.px_options.specs.Replay.{extra, file_paths, texts}
 use Rattle.px_options.specs.Rules.{rules}
 use Rattle.px_options.specs.Save.{file_path, flow_filter}
 use Rattle.px_options.specs.Values.{Place, address, count, truth}
@@ -61,3 +64,28 @@ save_stream_file = line key.SaveStreamFile file_path None
 -- without its key every flow is taken
 abbrev pub save_stream_filter : Line (Option Expression)
 save_stream_filter = line key.SaveStreamFilter flow_filter None
+
+-- without its key no request is answered so
+abbrev pub server_replay : Line (List (List ℕ))
+server_replay = line key.ServerReplay file_paths []
+
+abbrev pub server_replay_extra : Line Extra
+server_replay_extra = line key.ServerReplayExtra extra extras.Forward
+
+abbrev pub server_replay_ignore_content : Line Bool
+server_replay_ignore_content = line key.ServerReplayIgnoreContent truth false
+
+abbrev pub server_replay_ignore_host : Line Bool
+server_replay_ignore_host = line key.ServerReplayIgnoreHost truth false
+
+abbrev pub server_replay_ignore_params : Line (List (List ℕ))
+server_replay_ignore_params = line key.ServerReplayIgnoreParams texts []
+
+abbrev pub server_replay_ignore_port : Line Bool
+server_replay_ignore_port = line key.ServerReplayIgnorePort truth false
+
+abbrev pub server_replay_reuse : Line Bool
+server_replay_reuse = line key.ServerReplayReuse truth false
+
+abbrev pub server_replay_use_headers : Line (List (List ℕ))
+server_replay_use_headers = line key.ServerReplayUseHeaders texts []

@@ -3,6 +3,7 @@ use Rattle.std.specs.Prelude.{◌≡◌, ◌⊎◌, ℕ, Bool, List, Option, Som
 use Rattle.std.specs.Str.{IsUtf8}
 use Rattle.px_filter.specs.Expression.{Expression}
 use Rattle.px_map.specs.Block.{BlockRule}
+use Rattle.px_replay.specs.declared.replay.Extra.{Extra}
 use Rattle.px_rule.specs.Rule.{Rule}
 use Rattle.toml.specs.Data.{Data, Members, no_members, member, get_member}
 use Rattle.toml.specs.Parse.{parse_document}
@@ -30,6 +31,14 @@ pub record Settings : Type 0 where
   pub modify_headers : List Rule
   pub save_stream_file : Option (List ℕ)
   pub save_stream_filter : Option Expression
+  pub server_replay : List (List ℕ)
+  pub server_replay_extra : Extra
+  pub server_replay_ignore_content : Bool
+  pub server_replay_ignore_host : Bool
+  pub server_replay_ignore_params : List (List ℕ)
+  pub server_replay_ignore_port : Bool
+  pub server_replay_reuse : Bool
+  pub server_replay_use_headers : List (List ℕ)
 
 -- every option is its default
 abbrev pub defaults : Settings
@@ -46,6 +55,14 @@ defaults = record {
   modify_headers = lines.modify_headers.default;
   save_stream_file = lines.save_stream_file.default;
   save_stream_filter = lines.save_stream_filter.default;
+  server_replay = lines.server_replay.default;
+  server_replay_extra = lines.server_replay_extra.default;
+  server_replay_ignore_content = lines.server_replay_ignore_content.default;
+  server_replay_ignore_host = lines.server_replay_ignore_host.default;
+  server_replay_ignore_params = lines.server_replay_ignore_params.default;
+  server_replay_ignore_port = lines.server_replay_ignore_port.default;
+  server_replay_reuse = lines.server_replay_reuse.default;
+  server_replay_use_headers = lines.server_replay_use_headers.default;
 }
 
 -- why a line refuses a value
@@ -66,6 +83,14 @@ refusal_at key.ModifyBody d = why (lines.modify_body.reads d)
 refusal_at key.ModifyHeaders d = why (lines.modify_headers.reads d)
 refusal_at key.SaveStreamFile d = why (lines.save_stream_file.reads d)
 refusal_at key.SaveStreamFilter d = why (lines.save_stream_filter.reads d)
+refusal_at key.ServerReplay d = why (lines.server_replay.reads d)
+refusal_at key.ServerReplayExtra d = why (lines.server_replay_extra.reads d)
+refusal_at key.ServerReplayIgnoreContent d = why (lines.server_replay_ignore_content.reads d)
+refusal_at key.ServerReplayIgnoreHost d = why (lines.server_replay_ignore_host.reads d)
+refusal_at key.ServerReplayIgnoreParams d = why (lines.server_replay_ignore_params.reads d)
+refusal_at key.ServerReplayIgnorePort d = why (lines.server_replay_ignore_port.reads d)
+refusal_at key.ServerReplayReuse d = why (lines.server_replay_reuse.reads d)
+refusal_at key.ServerReplayUseHeaders d = why (lines.server_replay_use_headers.reads d)
 
 abbrev pub refusal_of_key : Option Key → List ℕ → Data → Option OptionsError
 refusal_of_key None name d = Some (error.UnknownOption name)
@@ -112,6 +137,14 @@ settings_of table = record {
   modify_headers = option_at lines.modify_headers table;
   save_stream_file = option_at lines.save_stream_file table;
   save_stream_filter = option_at lines.save_stream_filter table;
+  server_replay = option_at lines.server_replay table;
+  server_replay_extra = option_at lines.server_replay_extra table;
+  server_replay_ignore_content = option_at lines.server_replay_ignore_content table;
+  server_replay_ignore_host = option_at lines.server_replay_ignore_host table;
+  server_replay_ignore_params = option_at lines.server_replay_ignore_params table;
+  server_replay_ignore_port = option_at lines.server_replay_ignore_port table;
+  server_replay_reuse = option_at lines.server_replay_reuse table;
+  server_replay_use_headers = option_at lines.server_replay_use_headers table;
 }
 
 abbrev pub options_by : Option OptionsError → Settings → Result Settings OptionsError

@@ -27,6 +27,14 @@ put key.ModifyBody d s = put_by (λ a. record s { modify_body = a }) (lines.modi
 put key.ModifyHeaders d s = put_by (λ a. record s { modify_headers = a }) (lines.modify_headers.reads d)
 put key.SaveStreamFile d s = put_by (λ a. record s { save_stream_file = a }) (lines.save_stream_file.reads d)
 put key.SaveStreamFilter d s = put_by (λ a. record s { save_stream_filter = a }) (lines.save_stream_filter.reads d)
+put key.ServerReplay d s = put_by (λ a. record s { server_replay = a }) (lines.server_replay.reads d)
+put key.ServerReplayExtra d s = put_by (λ a. record s { server_replay_extra = a }) (lines.server_replay_extra.reads d)
+put key.ServerReplayIgnoreContent d s = put_by (λ a. record s { server_replay_ignore_content = a }) (lines.server_replay_ignore_content.reads d)
+put key.ServerReplayIgnoreHost d s = put_by (λ a. record s { server_replay_ignore_host = a }) (lines.server_replay_ignore_host.reads d)
+put key.ServerReplayIgnoreParams d s = put_by (λ a. record s { server_replay_ignore_params = a }) (lines.server_replay_ignore_params.reads d)
+put key.ServerReplayIgnorePort d s = put_by (λ a. record s { server_replay_ignore_port = a }) (lines.server_replay_ignore_port.reads d)
+put key.ServerReplayReuse d s = put_by (λ a. record s { server_replay_reuse = a }) (lines.server_replay_reuse.reads d)
+put key.ServerReplayUseHeaders d s = put_by (λ a. record s { server_replay_use_headers = a }) (lines.server_replay_use_headers.reads d)
 
 abbrev pub put_at : Option Key → List ℕ → Data → Settings → Result Settings OptionsError
 put_at None name d s = Err (error.UnknownOption name)

@@ -1,5 +1,5 @@
 -- What the code holds.
-use Rattle.std.specs.Prelude.{ℕ, List, option_map, string_bytes}
+use Rattle.std.specs.Prelude.{ℕ, List, map, option_map, string_bytes}
 use Rattle.px_exchange.specs.declared.mode.Mode.{Mode}
 use Rattle.px_exchange.specs.declared.mode.Mode.TheVariants as modes
 use Rattle.px_filter.specs.View.{expression}
@@ -10,6 +10,7 @@ use Rattle.px_options.specs.Mode.{ModeIs, regular, reverse, upstream}
 use Rattle.px_options.specs.Options.{Settings}
 use Rattle.px_options.specs.Values.{Place}
 use Rattle.px_options.specs.declared.file_path.FilePath.{FilePath}
+use Rattle.px_options.specs.declared.file_path.FilePaths.{FilePaths}
 use Rattle.px_options.specs.declared.options.Options.{Options}
 
 abbrev pub place : Address → Place
@@ -22,6 +23,9 @@ mode_view (modes.Upstream a) = upstream (place a)
 
 abbrev pub path_view : FilePath → List ℕ
 path_view p = string_bytes p.text
+
+abbrev pub paths_view : FilePaths → List (List ℕ)
+paths_view ps = map path_view ps.items.items
 
 abbrev pub settings : Options → Settings
 settings o = record {
@@ -37,4 +41,12 @@ settings o = record {
   modify_headers = header_views o.modify_headers;
   save_stream_file = option_map path_view o.save_stream_file;
   save_stream_filter = option_map expression o.save_stream_filter;
+  server_replay = paths_view o.server_replay;
+  server_replay_extra = o.server_replay_extra;
+  server_replay_ignore_content = o.server_replay_ignore_content;
+  server_replay_ignore_host = o.server_replay_ignore_host;
+  server_replay_ignore_params = o.server_replay_ignore_params;
+  server_replay_ignore_port = o.server_replay_ignore_port;
+  server_replay_reuse = o.server_replay_reuse;
+  server_replay_use_headers = o.server_replay_use_headers;
 }

@@ -5,9 +5,10 @@ ghost use Rattle.px_options.specs.View.{settings};
 ghost use Rattle.px_options.specs.declared.error.OptionsError.TheVariants as error;
 
 use crate::address::default_address;
-use crate::{Options, OptionsError};
+use crate::{FilePaths, Options, OptionsError};
 use px_exchange::Mode;
 use px_map::{BlockRules, LocalRules, RemoteRules};
+use px_replay::{Extra, Names};
 use px_rule::{BodyRules, HeaderRules};
 use std::alloc::Global;
 
@@ -30,5 +31,13 @@ pub(crate) fn defaults(alloc: Global) -> Result<Options, OptionsError>
         modify_headers: HeaderRules::none(alloc),
         save_stream_file: None,
         save_stream_filter: None,
+        server_replay: FilePaths::none(alloc),
+        server_replay_extra: Extra::Forward,
+        server_replay_ignore_content: false,
+        server_replay_ignore_host: false,
+        server_replay_ignore_params: Names::new(Vec::new(alloc)),
+        server_replay_ignore_port: false,
+        server_replay_reuse: false,
+        server_replay_use_headers: Names::new(Vec::new(alloc)),
     })
 }

@@ -16,8 +16,8 @@ pub enum OptionsError {
     BadToml,
     /// No option has this name.
     UnknownOption(Bytes),
-    /// The option of this name has a value of another kind, a number out of its range, a text that is no address, or an empty text for a
-    /// path.
+    /// The option of this name has a value of another kind, a number out of its range, a text that is no address, an empty text for a
+    /// path, or a text that is none of those that it takes.
     WrongKind(Bytes),
     /// The mode is a text that is no mode.
     BadMode,

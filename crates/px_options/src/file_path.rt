@@ -7,3 +7,9 @@ pub struct FilePath {
     pub(crate) text: String,
     ghost not_empty: { string_bytes text ≢ [] },
 }
+
+/// Paths of files, in their order.
+#[derive(Debug, Drop)]
+pub struct FilePaths {
+    pub(crate) items: Vec<FilePath>,
+}

@@ -1,6 +1,6 @@
 //! The keys of an options file.
 ghost use Rattle.std.specs.Prelude.{◌≡◌};
-ghost use Rattle.px_options.specs.Keys.{key_of, name_of};
+ghost use Rattle.px_options.specs.Keys.{key_of, name_of, replay_key_of};
 
 /// A key of an options file.
 #[derive(Clone, Copy, Debug, PartialEq, Eq)]
@@ -17,6 +17,14 @@ pub(crate) enum Key {
     ModifyHeaders,
     SaveStreamFile,
     SaveStreamFilter,
+    ServerReplay,
+    ServerReplayExtra,
+    ServerReplayIgnoreContent,
+    ServerReplayIgnoreHost,
+    ServerReplayIgnoreParams,
+    ServerReplayIgnorePort,
+    ServerReplayReuse,
+    ServerReplayUseHeaders,
 }
 
 /// The key's name in a file.
@@ -36,6 +44,14 @@ pub(crate) fn name_of(key: Key) -> &'static [u8]
         Key::ModifyHeaders => b"modify_headers",
         Key::SaveStreamFile => b"save_stream_file",
         Key::SaveStreamFilter => b"save_stream_filter",
+        Key::ServerReplay => b"server_replay",
+        Key::ServerReplayExtra => b"server_replay_extra",
+        Key::ServerReplayIgnoreContent => b"server_replay_ignore_content",
+        Key::ServerReplayIgnoreHost => b"server_replay_ignore_host",
+        Key::ServerReplayIgnoreParams => b"server_replay_ignore_params",
+        Key::ServerReplayIgnorePort => b"server_replay_ignore_port",
+        Key::ServerReplayReuse => b"server_replay_reuse",
+        Key::ServerReplayUseHeaders => b"server_replay_use_headers",
     }
 }
 
@@ -78,6 +94,37 @@ pub(crate) fn key_of(name: &[u8]) -> Option<Key>
     }
     if name == b"save_stream_filter".as_slice() {
         return Some(Key::SaveStreamFilter);
+    }
+    replay_key_of(name)
+}
+
+// The key of server replay of that name.
+fn replay_key_of(name: &[u8]) -> Option<Key>
+    ensures { result ≡ replay_key_of name.now }
+{
+    if name == b"server_replay".as_slice() {
+        return Some(Key::ServerReplay);
+    }
+    if name == b"server_replay_extra".as_slice() {
+        return Some(Key::ServerReplayExtra);
+    }
+    if name == b"server_replay_ignore_content".as_slice() {
+        return Some(Key::ServerReplayIgnoreContent);
+    }
+    if name == b"server_replay_ignore_host".as_slice() {
+        return Some(Key::ServerReplayIgnoreHost);
+    }
+    if name == b"server_replay_ignore_params".as_slice() {
+        return Some(Key::ServerReplayIgnoreParams);
+    }
+    if name == b"server_replay_ignore_port".as_slice() {
+        return Some(Key::ServerReplayIgnorePort);
+    }
+    if name == b"server_replay_reuse".as_slice() {
+        return Some(Key::ServerReplayReuse);
+    }
+    if name == b"server_replay_use_headers".as_slice() {
+        return Some(Key::ServerReplayUseHeaders);
     }
     None
 }

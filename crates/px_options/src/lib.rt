@@ -7,7 +7,7 @@
 //!
 //! Which table a text is, is `toml`'s own definition, and so is what a value in it is; two lines of one key are no table. What an
 //! address and a URL are is px_message's (RFC 9112 section 3.2), which texts are rules is px_rule's and px_map's, and which are filters
-//! px_filter's.
+//! px_filter's. What the options of server replay mean is px_replay's.
 //!
 //! Of a refusal a person is shown a line, and of a rule or a filter its text with a mark under the place that is meant
 //! (`specs/Shown.antt`).
@@ -17,12 +17,14 @@ mod address;
 mod count;
 mod defaults;
 mod error;
+mod extra;
 mod file_path;
 mod flow_filter;
 mod key;
 mod laws;
 mod lists;
 mod mode;
+mod names;
 mod options;
 mod path;
 mod put;
@@ -31,10 +33,11 @@ mod shown;
 mod table;
 #[cfg(test)]
 mod tests;
+mod texts;
 mod truth;
 
 pub use error::OptionsError;
-pub use file_path::FilePath;
+pub use file_path::{FilePath, FilePaths};
 pub use laws::{
     a_bad_key_is_refused, a_part_stands_behind_those_in_front, a_table_is_a_table,
     an_empty_table_is_the_defaults, an_unknown_key_is_bad, bytes_say_one_thing,

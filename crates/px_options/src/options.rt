@@ -5,12 +5,13 @@ ghost use Rattle.px_options.specs.View.{settings};
 ghost use Rattle.px_options.specs.declared.error.OptionsError.TheVariants as error;
 
 use crate::OptionsError;
-use crate::file_path::FilePath;
+use crate::file_path::{FilePath, FilePaths};
 use crate::table::{options_of, read_table};
 use px_exchange::Mode;
 use px_filter::Filter;
 use px_map::{BlockRules, LocalRules, RemoteRules};
 use px_message::Address;
+use px_replay::{Extra, Names};
 use px_rule::{BodyRules, HeaderRules};
 use std::alloc::Global;
 
@@ -41,6 +42,22 @@ pub struct Options {
     pub save_stream_file: Option<FilePath>,
     /// Which flows are put there; none says every flow (mitmproxy's option `save_stream_filter`).
     pub save_stream_filter: Option<Filter>,
+    /// The files whose flows answer requests in the place of a server (mitmproxy's option `server_replay`).
+    pub server_replay: FilePaths,
+    /// What becomes of a request that no recorded one answers (mitmproxy's option `server_replay_extra`).
+    pub server_replay_extra: Extra,
+    /// Whether a recorded request is the same whatever its content (mitmproxy's option `server_replay_ignore_content`).
+    pub server_replay_ignore_content: bool,
+    /// Whether it is the same whatever its host (mitmproxy's option `server_replay_ignore_host`).
+    pub server_replay_ignore_host: bool,
+    /// The parameters of the query that do not count (mitmproxy's option `server_replay_ignore_params`).
+    pub server_replay_ignore_params: Names,
+    /// Whether a recorded request is the same whatever its port (mitmproxy's option `server_replay_ignore_port`).
+    pub server_replay_ignore_port: bool,
+    /// Whether a recorded response may answer again and again (mitmproxy's option `server_replay_reuse`).
+    pub server_replay_reuse: bool,
+    /// The fields that count (mitmproxy's option `server_replay_use_headers`).
+    pub server_replay_use_headers: Names,
 }
 
 /// The options that the bytes of a file are: one TOML table, an option a key. A key that is not there has its default, so no bytes at
@@ -48,8 +65,9 @@ pub struct Options {
 ///
 /// `BadToml` exactly where the bytes are no UTF-8 or no TOML, in which a key that stands there twice is none. Else the first bad key
 /// in rising order of bytes decides: `UnknownOption` where no option has its name; `WrongKind` where the value is of another kind, a
-/// number out of range, a text that is no address or an empty path; `BadMode` where the mode is a text that is no mode; `BadRule` where
-/// a text of the list is no rule, for the first of them; `BadFilter` where a text is no filter. `NoMemory` may come in the place of any answer.
+/// number out of range, a text that is no address, an empty path, or none of the texts that `server_replay_extra` takes; `BadMode` where
+/// the mode is a text that is no mode; `BadRule` where a text of the list is no rule, for the first of them; `BadFilter` where a text is
+/// no filter. `NoMemory` may come in the place of any answer.
 pub fn read_options(alloc: Global, bytes: &[u8]) -> Result<Options, OptionsError>
     ensures ok { IfOk result (λ o. Says bytes.now (Ok (settings o))) }
     ensures err { IfErr result (λ e. (e ≡ error.NoMemory) ⊎ IsRefused bytes.now e) }

@@ -9,10 +9,12 @@ ghost use Rattle.px_options.specs.declared.key.Key.TheVariants as keys;
 use crate::address::read_address;
 use crate::count::read_count;
 use crate::error::unknown_option;
+use crate::extra::read_extra;
 use crate::flow_filter::read_filter;
 use crate::key::{Key, key_of};
 use crate::mode::read_mode;
-use crate::path::read_path;
+use crate::names::read_names;
+use crate::path::{read_path, read_paths};
 use crate::rules::read_rules;
 use crate::truth::read_truth;
 use crate::{Options, OptionsError};
@@ -52,6 +54,14 @@ fn put(alloc: Global, options: &mut Options, key: Key, value: &Value) -> Result<
         Key::ModifyHeaders => put_modify_headers(alloc, options, value),
         Key::SaveStreamFile => put_save_stream_file(alloc, options, value),
         Key::SaveStreamFilter => put_save_stream_filter(alloc, options, value),
+        Key::ServerReplay => put_server_replay(alloc, options, value),
+        Key::ServerReplayExtra => put_server_replay_extra(alloc, options, value),
+        Key::ServerReplayIgnoreContent => put_server_replay_ignore_content(alloc, options, value),
+        Key::ServerReplayIgnoreHost => put_server_replay_ignore_host(alloc, options, value),
+        Key::ServerReplayIgnoreParams => put_server_replay_ignore_params(alloc, options, value),
+        Key::ServerReplayIgnorePort => put_server_replay_ignore_port(alloc, options, value),
+        Key::ServerReplayReuse => put_server_replay_reuse(alloc, options, value),
+        Key::ServerReplayUseHeaders => put_server_replay_use_headers(alloc, options, value),
     }
 }
 
@@ -160,5 +170,105 @@ fn put_save_stream_filter(
     ensures err { IfErr result (λ e. (e ≡ error.NoMemory) ⊎ (put keys.SaveStreamFilter (view value.now) (settings options.old) ≡ Err e)) }
 {
     options.save_stream_filter = Some(read_filter(alloc, Key::SaveStreamFilter, value)?);
+    Ok(())
+}
+
+fn put_server_replay(
+    alloc: Global,
+    options: &mut Options,
+    value: &Value,
+) -> Result<(), OptionsError>
+    ensures ok { OnOk result (put keys.ServerReplay (view value.now) (settings options.old) ≡ Ok (settings options.new)) }
+    ensures err { IfErr result (λ e. (e ≡ error.NoMemory) ⊎ (put keys.ServerReplay (view value.now) (settings options.old) ≡ Err e)) }
+{
+    options.server_replay = read_paths(alloc, Key::ServerReplay, value)?;
+    Ok(())
+}
+
+fn put_server_replay_extra(
+    alloc: Global,
+    options: &mut Options,
+    value: &Value,
+) -> Result<(), OptionsError>
+    ensures ok { OnOk result (put keys.ServerReplayExtra (view value.now) (settings options.old) ≡ Ok (settings options.new)) }
+    ensures err { IfErr result (λ e. (e ≡ error.NoMemory) ⊎ (put keys.ServerReplayExtra (view value.now) (settings options.old) ≡ Err e)) }
+{
+    options.server_replay_extra = read_extra(alloc, Key::ServerReplayExtra, value)?;
+    Ok(())
+}
+
+fn put_server_replay_ignore_content(
+    alloc: Global,
+    options: &mut Options,
+    value: &Value,
+) -> Result<(), OptionsError>
+    ensures ok { OnOk result (put keys.ServerReplayIgnoreContent (view value.now) (settings options.old) ≡ Ok (settings options.new)) }
+    ensures err { IfErr result (λ e. (e ≡ error.NoMemory) ⊎ (put keys.ServerReplayIgnoreContent (view value.now) (settings options.old) ≡ Err e)) }
+{
+    options.server_replay_ignore_content = read_truth(
+        alloc,
+        Key::ServerReplayIgnoreContent,
+        value,
+    )?;
+    Ok(())
+}
+
+fn put_server_replay_ignore_host(
+    alloc: Global,
+    options: &mut Options,
+    value: &Value,
+) -> Result<(), OptionsError>
+    ensures ok { OnOk result (put keys.ServerReplayIgnoreHost (view value.now) (settings options.old) ≡ Ok (settings options.new)) }
+    ensures err { IfErr result (λ e. (e ≡ error.NoMemory) ⊎ (put keys.ServerReplayIgnoreHost (view value.now) (settings options.old) ≡ Err e)) }
+{
+    options.server_replay_ignore_host = read_truth(alloc, Key::ServerReplayIgnoreHost, value)?;
+    Ok(())
+}
+
+fn put_server_replay_ignore_params(
+    alloc: Global,
+    options: &mut Options,
+    value: &Value,
+) -> Result<(), OptionsError>
+    ensures ok { OnOk result (put keys.ServerReplayIgnoreParams (view value.now) (settings options.old) ≡ Ok (settings options.new)) }
+    ensures err { IfErr result (λ e. (e ≡ error.NoMemory) ⊎ (put keys.ServerReplayIgnoreParams (view value.now) (settings options.old) ≡ Err e)) }
+{
+    options.server_replay_ignore_params = read_names(alloc, Key::ServerReplayIgnoreParams, value)?;
+    Ok(())
+}
+
+fn put_server_replay_ignore_port(
+    alloc: Global,
+    options: &mut Options,
+    value: &Value,
+) -> Result<(), OptionsError>
+    ensures ok { OnOk result (put keys.ServerReplayIgnorePort (view value.now) (settings options.old) ≡ Ok (settings options.new)) }
+    ensures err { IfErr result (λ e. (e ≡ error.NoMemory) ⊎ (put keys.ServerReplayIgnorePort (view value.now) (settings options.old) ≡ Err e)) }
+{
+    options.server_replay_ignore_port = read_truth(alloc, Key::ServerReplayIgnorePort, value)?;
+    Ok(())
+}
+
+fn put_server_replay_reuse(
+    alloc: Global,
+    options: &mut Options,
+    value: &Value,
+) -> Result<(), OptionsError>
+    ensures ok { OnOk result (put keys.ServerReplayReuse (view value.now) (settings options.old) ≡ Ok (settings options.new)) }
+    ensures err { IfErr result (λ e. (e ≡ error.NoMemory) ⊎ (put keys.ServerReplayReuse (view value.now) (settings options.old) ≡ Err e)) }
+{
+    options.server_replay_reuse = read_truth(alloc, Key::ServerReplayReuse, value)?;
+    Ok(())
+}
+
+fn put_server_replay_use_headers(
+    alloc: Global,
+    options: &mut Options,
+    value: &Value,
+) -> Result<(), OptionsError>
+    ensures ok { OnOk result (put keys.ServerReplayUseHeaders (view value.now) (settings options.old) ≡ Ok (settings options.new)) }
+    ensures err { IfErr result (λ e. (e ≡ error.NoMemory) ⊎ (put keys.ServerReplayUseHeaders (view value.now) (settings options.old) ≡ Err e)) }
+{
+    options.server_replay_use_headers = read_names(alloc, Key::ServerReplayUseHeaders, value)?;
     Ok(())
 }

@@ -36,7 +36,7 @@ fn why(cause: &RuleCause) -> &'static str {
 
 #[test]
 fn texts_are_options_or_refused(rt: HostRuntime) {
-    let rows: [(&[u8], &str); 26] = [
+    let rows: [(&[u8], &str); 30] = [
         (b"mode = \"reverse:http://h:81/\"", "options"),
         (b"mode = \"reverse:HTTP://[::1]\"", "options"),
         (b"mode = \"regular\"", "options"),
@@ -63,6 +63,10 @@ fn texts_are_options_or_refused(rt: HostRuntime) {
         (b"save_stream_filter = \"~m GET\"", "options"),
         (b"save_stream_filter = \"~zz\"", "bad filter"),
         (b"save_stream_filter = true", "wrong"),
+        (b"server_replay = [\"a\", \"b\"]", "options"),
+        (b"server_replay = [\"a\", \"\"]", "wrong"),
+        (b"server_replay_extra = \"404\"", "options"),
+        (b"server_replay_extra = 404", "wrong"),
     ];
     for (text, want) in rows {
         assert_eq!(rt; word(rt.alloc(), text), want, "at {text:?}");

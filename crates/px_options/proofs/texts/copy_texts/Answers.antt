@@ -1,6 +1,6 @@
 use Rattle.std.proofs.Common.{map, string_bytes, inl, inr}
 use Rattle.px_options.proofs.TextLemmas.{no_text, one_text}
-use Rattle.px_options.proofs.rules.copy_texts.Goals as goal
+use Rattle.px_options.proofs.texts.copy_texts.Goals as goal
 
 pub returns-in-Err-clause-err : goal.returns-in-Err-clause-err
 returns-in-Err-clause-err c =

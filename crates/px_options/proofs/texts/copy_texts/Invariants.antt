@@ -1,7 +1,7 @@
 use Rattle.std.proofs.Common.{◌≡◌, Some, map, string_bytes, take}
 use Rattle.toml.specs.View.{items_view}
 use Rattle.px_options.specs.Rules.{texts_in}
-use Rattle.px_options.proofs.rules.copy_texts.Given as goal
+use Rattle.px_options.proofs.texts.copy_texts.Given as goal
 
 -- the texts so far are those of the values so far
 abbrev pub invariant-loop-value : goal.invariant-loop-value
