@@ -13,7 +13,7 @@ use Rattle.px_map.specs.View.{local_views}
 use Rattle.px_map.specs.Within.{IsOfRule, ReadsOnly}
 use Rattle.px_addons.specs.Mapped.{LocalFails, MapsLocal, ReadsOfRules, names_for, seen_of}
 use Rattle.px_addons.specs.Moving.{Moves}
-use Rattle.px_addons.specs.Chain.{PartMoves, PartInTurn, by_part, past_part, PartsMove, no_part, next_part, PartFails, PartsFail, fails_here, fails_later}
+use Rattle.px_addons.specs.Chain.{Movers, PartMoves, PartInTurn, by_part, past_part, PartsMove, no_part, next_part, PartFails, PartsFail, fails_here, fails_later}
 use Rattle.px_addons.specs.declared.parts.Part.{Part}
 use Rattle.px_addons.specs.declared.parts.Part.TheVariants as part
 use Rattle.px_addons.specs.declared.rules.Rules.{Rules}
@@ -61,11 +61,12 @@ part_failed rules part.MapRemote draft files new_files failed = reads_none (loca
 part_failed rules part.ModifyHeaders draft files new_files failed = reads_none (local_views rules.local) files new_files failed
 part_failed rules part.Anticache draft files new_files failed = reads_none (local_views rules.local) files new_files failed
 part_failed rules part.Anticomp draft files new_files failed = reads_none (local_views rules.local) files new_files failed
+part_failed rules part.ServerReplay draft files new_files failed = reads_none (local_views rules.local) files new_files failed
 part_failed rules part.ModifyBody draft files new_files failed = reads_none (local_views rules.local) files new_files failed
 part_failed rules part.Addons draft files new_files failed = reads_none (local_views rules.local) files new_files failed
 
 module _ {B : Type 0} (title state : B → List ℕ) (moves : B → Moves) where
-  asked_reads : (rules : Rules) (hook : Hook) (one : Part) (draft after : Draft) (old new : List B) (files new_files : FilesMeaning) →
+  asked_reads : (rules : Rules) (hook : Hook) (one : Part) (draft after : Draft) (old new : Movers B) (files new_files : FilesMeaning) →
       PartMoves title state moves rules hook one draft old files after new new_files → ReadsOfRules (local_views rules.local) files new_files
   asked_reads rules hook part.Block draft after old new files new_files moved = reads_none (local_views rules.local) files new_files moved.2
   asked_reads rules hook part.MapLocal draft after old new files new_files moved = reads_local rules draft after files new_files moved.0
@@ -73,22 +74,23 @@ module _ {B : Type 0} (title state : B → List ℕ) (moves : B → Moves) where
   asked_reads rules hook part.ModifyHeaders draft after old new files new_files moved = reads_none (local_views rules.local) files new_files moved.2
   asked_reads rules hook part.Anticache draft after old new files new_files moved = reads_none (local_views rules.local) files new_files moved.2
   asked_reads rules hook part.Anticomp draft after old new files new_files moved = reads_none (local_views rules.local) files new_files moved.2
+  asked_reads rules hook part.ServerReplay draft after old new files new_files moved = reads_none (local_views rules.local) files new_files moved.2
   asked_reads rules hook part.ModifyBody draft after old new files new_files moved = reads_none (local_views rules.local) files new_files moved.2
-  asked_reads rules hook part.Addons draft after old new files new_files moved = reads_none (local_views rules.local) files new_files moved.1
+  asked_reads rules hook part.Addons draft after old new files new_files moved = reads_none (local_views rules.local) files new_files moved.2
 
-  part_reads : (rules : Rules) (hook : Hook) (one : Part) (draft after : Draft) (old new : List B) (files new_files : FilesMeaning) →
+  part_reads : (rules : Rules) (hook : Hook) (one : Part) (draft after : Draft) (old new : Movers B) (files new_files : FilesMeaning) →
       PartInTurn title state moves rules hook one draft old files after new new_files → ReadsOfRules (local_views rules.local) files new_files
   part_reads rules hook one draft after old new files new_files (by_part _ _ _ _ _ _ going moved) = asked_reads rules hook one draft after old new files new_files moved
   part_reads rules hook one draft after old new files new_files (past_part _ _ _ ended) = reads_none (local_views rules.local) files files refl
 
-  pub parts_read : (rules : Rules) (hook : Hook) (list : List Part) (draft end : Draft) (old new : List B) (files new_files : FilesMeaning) →
+  pub parts_read : (rules : Rules) (hook : Hook) (list : List Part) (draft end : Draft) (old new : Movers B) (files new_files : FilesMeaning) →
       PartsMove title state moves rules hook list draft old files end new new_files → ReadsOfRules (local_views rules.local) files new_files
   parts_read rules hook list draft end old new files new_files (no_part _ _ _) = reads_none (local_views rules.local) files files refl
   parts_read rules hook list draft end old new files new_files (next_part one others _ after _ _ mid _ _ mid_files _ moved behind) =
       reads_both (local_views rules.local) files mid_files new_files (part_reads rules hook one draft after old mid files mid_files moved)
       (parts_read rules hook others after end mid new mid_files new_files behind)
 
-  pub failure_reads : (rules : Rules) (hook : Hook) (list : List Part) (draft : Draft) (old : List B) (files new_files : FilesMeaning) →
+  pub failure_reads : (rules : Rules) (hook : Hook) (list : List Part) (draft : Draft) (old : Movers B) (files new_files : FilesMeaning) →
       PartsFail title state moves rules hook list draft old files new_files → ReadsOfRules (local_views rules.local) files new_files
   failure_reads rules hook list draft old files new_files (fails_here one others _ _ _ _ going failed) = part_failed rules one draft files new_files failed
   failure_reads rules hook list draft old files new_files (fails_later one others _ after _ mid _ mid_files _ moved behind) =

@@ -3,4 +3,5 @@ pub mod NameLemmas
 pub mod SameLemmas
 pub mod FilesLemmas
 pub mod BlockLemmas
+pub mod ReplayLemmas
 pub mod RunLemmas

@@ -4,7 +4,7 @@ use Rattle.px_event.specs.declared.ask.Hook.{Hook}
 use Rattle.px_core.specs.Answers.{FilesMeaning}
 use Rattle.px_core.specs.declared.answerer.Draft.{Draft}
 use Rattle.px_addons.specs.Moving.{Moves}
-use Rattle.px_addons.specs.Chain.{TwoInTurn, SameAddon, SameAddons, AddonMoves, by_addon, past_addon, AddonsMove, no_addon, next_addon, PartMoves, PartInTurn, by_part, past_part, PartsMove, no_part, next_part}
+use Rattle.px_addons.specs.Chain.{TwoInTurn, SameAddon, SameAddons, Movers, AddonMoves, by_addon, past_addon, AddonsMove, no_addon, next_addon, PartMoves, PartInTurn, by_part, past_part, PartsMove, no_part, next_part}
 use Rattle.px_addons.specs.declared.parts.Part.{Part}
 use Rattle.px_addons.specs.declared.parts.Part.TheVariants as part
 use Rattle.px_addons.specs.declared.rules.Rules.{Rules}
@@ -40,30 +40,31 @@ module _ {B : Type 0} (title state : B → List ℕ) (moves : B → Moves) where
   addons_same hook draft end olds news (next_addon _ after _ old new others rest moved behind) =
       (one_same hook draft after old new moved, addons_same hook after end others rest behind)
 
-  still_same : (old new : List B) → new ≡ old → SameAddons title state moves old new
-  still_same old new same = subst (λ l. SameAddons title state moves old l) (sym same) (all_themselves old)
+  still_same : (old new : Movers B) → new ≡ old → SameAddons title state moves old.addons new.addons
+  still_same old new same = subst (λ (l : Movers B). SameAddons title state moves old.addons l.addons) (sym same) (all_themselves old.addons)
 
-  asked_same : (rules : Rules) (hook : Hook) (one : Part) (draft after : Draft) (old new : List B) (files new_files : FilesMeaning) →
-      PartMoves title state moves rules hook one draft old files after new new_files → SameAddons title state moves old new
+  asked_same : (rules : Rules) (hook : Hook) (one : Part) (draft after : Draft) (old new : Movers B) (files new_files : FilesMeaning) →
+      PartMoves title state moves rules hook one draft old files after new new_files → SameAddons title state moves old.addons new.addons
   asked_same rules hook part.Block draft after old new files new_files moved = still_same old new moved.1
   asked_same rules hook part.MapLocal draft after old new files new_files moved = still_same old new moved.1
   asked_same rules hook part.MapRemote draft after old new files new_files moved = still_same old new moved.1
   asked_same rules hook part.ModifyHeaders draft after old new files new_files moved = still_same old new moved.1
   asked_same rules hook part.Anticache draft after old new files new_files moved = still_same old new moved.1
   asked_same rules hook part.Anticomp draft after old new files new_files moved = still_same old new moved.1
+  asked_same rules hook part.ServerReplay draft after old new files new_files moved = subst (λ l. SameAddons title state moves old.addons l) (sym moved.1) (all_themselves old.addons)
   asked_same rules hook part.ModifyBody draft after old new files new_files moved = still_same old new moved.1
-  asked_same rules hook part.Addons draft after old new files new_files moved = addons_same hook draft after old new moved.0
+  asked_same rules hook part.Addons draft after old new files new_files moved = addons_same hook draft after old.addons new.addons moved.0
 
-  part_same : (rules : Rules) (hook : Hook) (one : Part) (draft after : Draft) (old new : List B) (files new_files : FilesMeaning) →
-      PartInTurn title state moves rules hook one draft old files after new new_files → SameAddons title state moves old new
+  part_same : (rules : Rules) (hook : Hook) (one : Part) (draft after : Draft) (old new : Movers B) (files new_files : FilesMeaning) →
+      PartInTurn title state moves rules hook one draft old files after new new_files → SameAddons title state moves old.addons new.addons
   part_same rules hook one draft after old new files new_files (by_part _ _ _ _ _ _ going moved) = asked_same rules hook one draft after old new files new_files moved
-  part_same rules hook one draft after old new files new_files (past_part _ _ _ ended) = all_themselves old
+  part_same rules hook one draft after old new files new_files (past_part _ _ _ ended) = all_themselves old.addons
 
-  pub parts_same : (rules : Rules) (hook : Hook) (list : List Part) (draft end : Draft) (old new : List B) (files new_files : FilesMeaning) →
-      PartsMove title state moves rules hook list draft old files end new new_files → SameAddons title state moves old new
-  parts_same rules hook list draft end old new files new_files (no_part _ _ _) = all_themselves old
+  pub parts_same : (rules : Rules) (hook : Hook) (list : List Part) (draft end : Draft) (old new : Movers B) (files new_files : FilesMeaning) →
+      PartsMove title state moves rules hook list draft old files end new new_files → SameAddons title state moves old.addons new.addons
+  parts_same rules hook list draft end old new files new_files (no_part _ _ _) = all_themselves old.addons
   parts_same rules hook list draft end old new files new_files (next_part one others _ after _ _ mid _ _ mid_files _ moved behind) =
-      all_on old mid new (part_same rules hook one draft after old mid files mid_files moved) (parts_same rules hook others after end mid new mid_files new_files behind)
+      all_on old.addons mid.addons new.addons (part_same rules hook one draft after old mid files mid_files moved) (parts_same rules hook others after end mid new mid_files new_files behind)
 
   pub same_titles : (olds news : List B) → SameAddons title state moves olds news → map title news ≡ map title olds
   same_titles [] [] same = refl

@@ -1,11 +1,13 @@
 -- Addons and parts that were asked in turn, up to one of them.
-use Rattle.std.proofs.Common.{◌≡◌, true, ℕ, zero, suc, ◌+◌, ◌<◌, ◌≤◌, List, [], ◌∷◌, ◌++◌, length, take, drop, slice_index_or, slice_set, refl, sym, ap, subst, arith}
+use Rattle.std.proofs.Common.{◌≡◌, true, ℕ, zero, suc, ◌+◌, ◌<◌, ◌≤◌, List, [], ◌∷◌, ◌++◌, Option, length, take, drop, slice_index_or, slice_set, refl, sym, ap, subst, arith}
 use Rattle.std.proofs.Math.Seq.{drop-cons}
 use Rattle.px_event.specs.declared.ask.Hook.{Hook}
 use Rattle.px_core.specs.declared.answerer.Draft.{Draft}
 use Rattle.px_addons.specs.Moving.{Moves}
-use Rattle.px_addons.specs.Chain.{AddonMoves, AddonsMove, no_addon, next_addon, PartMoves, PartInTurn, by_part, PartsMove, no_part, next_part, PartFails, PartsFail, fails_here, fails_later, is_going, begun, reply_of, ChainAnswers, ChainFails}
+use Rattle.px_addons.specs.Chain.{Movers, movers_of, AddonMoves, AddonsMove, no_addon, next_addon, PartMoves, PartInTurn, by_part, PartsMove, no_part, next_part, PartFails, PartsFail, fails_here, fails_later, is_going, begun, reply_of, ChainAnswers, ChainFails}
+use Rattle.px_replay.specs.Replaying.{Replaying}
 use Rattle.px_addons.specs.Mapped.{MapsLocal}
+use Rattle.px_addons.specs.Replays.{Replays}
 use Rattle.px_addons.specs.Parts.{made_by, parts}
 use Rattle.px_event.specs.declared.reply.Reply.{Reply}
 use Rattle.px_core.specs.Answers.{FilesMeaning}
@@ -83,18 +85,18 @@ module _ {B : Type 0} (title state : B → List ℕ) (moves : B → Moves) where
       (before draft [] (subst (λ l. AddonsMove title state moves hook draft l draft []) (sym (drop_all addons i all)) (no_addon draft)))
 
   -- the first of the parts were asked: whatever the others make, follows, and so does what is left where one of them runs out of memory
-  pub record AskedParts (rules : Rules) (hook : Hook) (parts : List Part) (first : Draft) (olds : List B) (before : FilesMeaning)
-      (i : ℕ) (draft : Draft) (addons : List B) (files : FilesMeaning) : Type 0 where
-    pub going_on : (end : Draft) (news : List B) (after : FilesMeaning) → PartsMove title state moves rules hook (drop i parts) draft addons files end news after →
+  pub record AskedParts (rules : Rules) (hook : Hook) (parts : List Part) (first : Draft) (olds : Movers B) (before : FilesMeaning)
+      (i : ℕ) (draft : Draft) (movers : Movers B) (files : FilesMeaning) : Type 0 where
+    pub going_on : (end : Draft) (news : Movers B) (after : FilesMeaning) → PartsMove title state moves rules hook (drop i parts) draft movers files end news after →
         PartsMove title state moves rules hook parts first olds before end news after
-    pub failing : (after : FilesMeaning) → PartsFail title state moves rules hook (drop i parts) draft addons files after →
+    pub failing : (after : FilesMeaning) → PartsFail title state moves rules hook (drop i parts) draft movers files after →
         PartsFail title state moves rules hook parts first olds before after
 
-  pub none_asked : (rules : Rules) (hook : Hook) (parts : List Part) (draft : Draft) (addons : List B) (files : FilesMeaning) →
-      AskedParts rules hook parts draft addons files 0 draft addons files
-  none_asked rules hook parts draft addons files = record { going_on = λ end news after moved. moved; failing = λ after failed. failed }
+  pub none_asked : (rules : Rules) (hook : Hook) (parts : List Part) (draft : Draft) (movers : Movers B) (files : FilesMeaning) →
+      AskedParts rules hook parts draft movers files 0 draft movers files
+  none_asked rules hook parts draft movers files = record { going_on = λ end news after moved. moved; failing = λ after failed. failed }
 
-  next_part_by : (rules : Rules) (hook : Hook) (parts : List Part) (first : Draft) (olds : List B) (before : FilesMeaning) (i : ℕ) (draft after : Draft) (old mid : List B)
+  next_part_by : (rules : Rules) (hook : Hook) (parts : List Part) (first : Draft) (olds : Movers B) (before : FilesMeaning) (i : ℕ) (draft after : Draft) (old mid : Movers B)
       (files mid_files : FilesMeaning) (d : Part) → AskedParts rules hook parts first olds before i draft old files → i < length parts →
       PartInTurn title state moves rules hook (slice_index_or parts i d) draft old files after mid mid_files → AskedParts rules hook parts first olds before (suc i) after mid mid_files
   next_part_by rules hook parts first olds before i draft after old mid files mid_files d asked within moved =
@@ -108,14 +110,14 @@ module _ {B : Type 0} (title state : B → List ℕ) (moves : B → Moves) where
             (fails_later one (drop (suc i) parts) draft after old mid files mid_files last moved behind));
       }
 
-  pub next_part_asked : (rules : Rules) (hook : Hook) (parts : List Part) (first : Draft) (olds : List B) (before : FilesMeaning) (i : ℕ) (draft after : Draft) (old mid : List B)
+  pub next_part_asked : (rules : Rules) (hook : Hook) (parts : List Part) (first : Draft) (olds : Movers B) (before : FilesMeaning) (i : ℕ) (draft after : Draft) (old mid : Movers B)
       (files mid_files : FilesMeaning) (d : Part) → AskedParts rules hook parts first olds before i draft old files → i < length parts →
       PartInTurn title state moves rules hook (slice_index_or parts i d) draft old files after mid mid_files → AskedParts rules hook parts first olds before (i + 1) after mid mid_files
   next_part_asked rules hook parts first olds before i draft after old mid files mid_files d asked within moved =
       subst (λ n. AskedParts rules hook parts first olds before n after mid mid_files) (the_next i)
       (next_part_by rules hook parts first olds before i draft after old mid files mid_files d asked within moved)
 
-  pub next_part_failed : (rules : Rules) (hook : Hook) (parts : List Part) (first : Draft) (olds : List B) (before : FilesMeaning) (i : ℕ) (draft : Draft) (old : List B)
+  pub next_part_failed : (rules : Rules) (hook : Hook) (parts : List Part) (first : Draft) (olds : Movers B) (before : FilesMeaning) (i : ℕ) (draft : Draft) (old : Movers B)
       (files after : FilesMeaning) (d : Part) → AskedParts rules hook parts first olds before i draft old files → i < length parts →
       (is_going draft.verdict ≡ true) × PartFails rules (slice_index_or parts i d) draft files after → PartsFail title state moves rules hook parts first olds before after
   next_part_failed rules hook parts first olds before i draft old files after d asked within failed =
@@ -124,12 +126,12 @@ module _ {B : Type 0} (title state : B → List ℕ) (moves : B → Moves) where
       asked.failing after (subst (λ l. PartsFail title state moves rules hook l draft old files after) (sym here)
       (fails_here one (drop (suc i) parts) draft old files after failed.0 failed.1))
 
-  pub all_parts_asked : (rules : Rules) (hook : Hook) (parts : List Part) (first : Draft) (olds : List B) (before : FilesMeaning) (i : ℕ) (draft : Draft) (addons : List B)
-      (files : FilesMeaning) → AskedParts rules hook parts first olds before i draft addons files → length parts ≤ i →
-      PartsMove title state moves rules hook parts first olds before draft addons files
-  all_parts_asked rules hook parts first olds before i draft addons files asked all =
-      asked.going_on draft addons files
-      (subst (λ l. PartsMove title state moves rules hook l draft addons files draft addons files) (sym (drop_all parts i all)) (no_part draft addons files))
+  pub all_parts_asked : (rules : Rules) (hook : Hook) (parts : List Part) (first : Draft) (olds : Movers B) (before : FilesMeaning) (i : ℕ) (draft : Draft) (movers : Movers B)
+      (files : FilesMeaning) → AskedParts rules hook parts first olds before i draft movers files → length parts ≤ i →
+      PartsMove title state moves rules hook parts first olds before draft movers files
+  all_parts_asked rules hook parts first olds before i draft movers files asked all =
+      asked.going_on draft movers files
+      (subst (λ l. PartsMove title state moves rules hook l draft movers files draft movers files) (sym (drop_all parts i all)) (no_part draft movers files))
 
   -- the parts whose meaning is a function of the draft
   abbrev pub IsFunction : Part → Type 0
@@ -139,55 +141,74 @@ module _ {B : Type 0} (title state : B → List ℕ) (moves : B → Moves) where
   IsFunction part.ModifyHeaders = Unit {0}
   IsFunction part.Anticache = Unit {0}
   IsFunction part.Anticomp = Unit {0}
+  IsFunction part.ServerReplay = ⊥
   IsFunction part.ModifyBody = Unit {0}
   IsFunction part.Addons = ⊥
 
-  by_function : (rules : Rules) (hook : Hook) (one : Part) (draft after : Draft) (addons : List B) (files : FilesMeaning) → IsFunction one →
-      after ≡ made_by rules hook one draft → PartMoves title state moves rules hook one draft addons files after addons files
-  by_function rules hook part.Block draft after addons files is made = (made, refl, refl)
-  by_function rules hook part.MapLocal draft after addons files is made = absurd is
-  by_function rules hook part.MapRemote draft after addons files is made = (made, refl, refl)
-  by_function rules hook part.ModifyHeaders draft after addons files is made = (made, refl, refl)
-  by_function rules hook part.Anticache draft after addons files is made = (made, refl, refl)
-  by_function rules hook part.Anticomp draft after addons files is made = (made, refl, refl)
-  by_function rules hook part.ModifyBody draft after addons files is made = (made, refl, refl)
-  by_function rules hook part.Addons draft after addons files is made = absurd is
+  by_function : (rules : Rules) (hook : Hook) (one : Part) (draft after : Draft) (movers : Movers B) (files : FilesMeaning) → IsFunction one →
+      after ≡ made_by rules hook one draft → PartMoves title state moves rules hook one draft movers files after movers files
+  by_function rules hook part.Block draft after movers files is made = (made, refl, refl)
+  by_function rules hook part.MapLocal draft after movers files is made = absurd is
+  by_function rules hook part.MapRemote draft after movers files is made = (made, refl, refl)
+  by_function rules hook part.ModifyHeaders draft after movers files is made = (made, refl, refl)
+  by_function rules hook part.Anticache draft after movers files is made = (made, refl, refl)
+  by_function rules hook part.Anticomp draft after movers files is made = (made, refl, refl)
+  by_function rules hook part.ServerReplay draft after movers files is made = absurd is
+  by_function rules hook part.ModifyBody draft after movers files is made = (made, refl, refl)
+  by_function rules hook part.Addons draft after movers files is made = absurd is
 
-  pub by_rules : (rules : Rules) (hook : Hook) (one named : Part) (draft after : Draft) (addons : List B) (files : FilesMeaning) → IsFunction named → one ≡ named →
-      is_going draft.verdict ≡ true → after ≡ made_by rules hook named draft → PartInTurn title state moves rules hook one draft addons files after addons files
-  by_rules rules hook one named draft after addons files is same going made =
-      subst (λ p. PartInTurn title state moves rules hook p draft addons files after addons files) (sym same)
-      (by_part draft after addons addons files files going (by_function rules hook named draft after addons files is made))
+  pub by_rules : (rules : Rules) (hook : Hook) (one named : Part) (draft after : Draft) (movers : Movers B) (files : FilesMeaning) → IsFunction named → one ≡ named →
+      is_going draft.verdict ≡ true → after ≡ made_by rules hook named draft → PartInTurn title state moves rules hook one draft movers files after movers files
+  by_rules rules hook one named draft after movers files is same going made =
+      subst (λ p. PartInTurn title state moves rules hook p draft movers files after movers files) (sym same)
+      (by_part draft after movers movers files files going (by_function rules hook named draft after movers files is made))
 
-  pub by_local : (rules : Rules) (hook : Hook) (one : Part) (draft after : Draft) (addons : List B) (files new_files : FilesMeaning) → one ≡ part.MapLocal →
-      is_going draft.verdict ≡ true → MapsLocal rules draft files after new_files → PartInTurn title state moves rules hook one draft addons files after addons new_files
-  by_local rules hook one draft after addons files new_files same going maps =
-      subst (λ p. PartInTurn title state moves rules hook p draft addons files after addons new_files) (sym same)
-      (by_part draft after addons addons files new_files going (maps, refl))
+  pub by_local : (rules : Rules) (hook : Hook) (one : Part) (draft after : Draft) (movers : Movers B) (files new_files : FilesMeaning) → one ≡ part.MapLocal →
+      is_going draft.verdict ≡ true → MapsLocal rules draft files after new_files → PartInTurn title state moves rules hook one draft movers files after movers new_files
+  by_local rules hook one draft after movers files new_files same going maps =
+      subst (λ p. PartInTurn title state moves rules hook p draft movers files after movers new_files) (sym same)
+      (by_part draft after movers movers files new_files going (maps, refl))
 
-  pub by_addons : (rules : Rules) (hook : Hook) (one : Part) (draft after : Draft) (old new : List B) (files : FilesMeaning) → one ≡ part.Addons → is_going draft.verdict ≡ true →
-      AddonsMove title state moves hook draft old after new → PartInTurn title state moves rules hook one draft old files after new files
-  by_addons rules hook one draft after old new files same going moved =
-      subst (λ p. PartInTurn title state moves rules hook p draft old files after new files) (sym same) (by_part draft after old new files files going (moved, refl))
+  pub by_replay : (rules : Rules) (hook : Hook) (one : Part) (draft after : Draft) (old new : Option Replaying) (addons : List B) (files : FilesMeaning) → one ≡ part.ServerReplay →
+      is_going draft.verdict ≡ true → Replays draft old after new →
+      PartInTurn title state moves rules hook one draft (movers_of old addons) files after (movers_of new addons) files
+  by_replay rules hook one draft after old new addons files same going replays =
+      let before : Movers B = movers_of old addons in
+      let behind : Movers B = movers_of new addons in
+      subst (λ p. PartInTurn title state moves rules hook p draft before files after behind files) (sym same)
+      (by_part draft after before behind files files going (replays, refl, refl))
+
+  pub by_addons : (rules : Rules) (hook : Hook) (one : Part) (draft after : Draft) (replay : Option Replaying) (old new : List B) (files : FilesMeaning) → one ≡ part.Addons →
+      is_going draft.verdict ≡ true → AddonsMove title state moves hook draft old after new →
+      PartInTurn title state moves rules hook one draft (movers_of replay old) files after (movers_of replay new) files
+  by_addons rules hook one draft after replay old new files same going moved =
+      let before : Movers B = movers_of replay old in
+      let behind : Movers B = movers_of replay new in
+      subst (λ p. PartInTurn title state moves rules hook p draft before files after behind files) (sym same)
+      (by_part draft after before behind files files going (moved, refl, refl))
 
   -- what a chain answers, from what its parts made of a lent list
-  pub answered : (rules : Rules) (hook : Hook) (flow : Flow) (files new_files : FilesMeaning) (addons lent : List B) (asked : List Part) (end : Draft) (new : List B) (len : ℕ)
-      (reply : Reply) → PartsMove title state moves rules hook asked (begun flow rules.stream) lent files end new new_files → asked ≡ parts hook → lent ≡ addons → length new ≡ len →
-      reply ≡ reply_of end →
-      ChainAnswers title state moves hook flow rules addons files rules (take len (new ++ drop (length new) addons)) new_files (answers.Reply reply)
-  answered rules hook flow files new_files addons lent asked end new len reply moved table same counted replied = record {
-    end = end;
-    moved = subst (λ l. PartsMove title state moves rules hook (parts hook) (begun flow rules.stream) addons files end l new_files) (sym (written_back new addons len counted))
-        (subst (λ l. PartsMove title state moves rules hook (parts hook) (begun flow rules.stream) l files end new new_files) same
-        (subst (λ l. PartsMove title state moves rules hook l (begun flow rules.stream) lent files end new new_files) table moved));
-    answered = ap (λ r. answers.Reply r) replied;
-    rules = refl;
-  }
+  pub answered : (rules : Rules) (hook : Hook) (flow : Flow) (files new_files : FilesMeaning) (replay new_replay : Option Replaying) (addons lent : List B) (asked : List Part)
+      (end : Draft) (new : List B) (len : ℕ) (reply : Reply) →
+      PartsMove title state moves rules hook asked (begun flow rules.stream) (movers_of replay lent) files end (movers_of new_replay new) new_files →
+      asked ≡ parts hook → lent ≡ addons → length new ≡ len → reply ≡ reply_of end →
+      ChainAnswers title state moves hook flow rules (movers_of replay addons) files rules
+      (movers_of new_replay (take len (new ++ drop (length new) addons))) new_files (answers.Reply reply)
+  answered rules hook flow files new_files replay new_replay addons lent asked end new len reply moved table same counted replied =
+      record {
+        end = end;
+        moved = subst (λ l. PartsMove title state moves rules hook (parts hook) (begun flow rules.stream) (movers_of replay addons) files end (movers_of new_replay l) new_files)
+            (sym (written_back new addons len counted))
+            (subst (λ l. PartsMove title state moves rules hook (parts hook) (begun flow rules.stream) (movers_of replay l) files end (movers_of new_replay new) new_files) same
+            (subst (λ l. PartsMove title state moves rules hook l (begun flow rules.stream) (movers_of replay lent) files end (movers_of new_replay new) new_files) table moved));
+        answered = ap (λ r. answers.Reply r) replied;
+        rules = refl;
+      }
 
   -- and what it did to files where one of them ran out of memory
-  pub failed : (rules : Rules) (hook : Hook) (flow : Flow) (files new_files : FilesMeaning) (addons lent : List B) (asked : List Part) →
-      PartsFail title state moves rules hook asked (begun flow rules.stream) lent files new_files → asked ≡ parts hook → lent ≡ addons →
-      ChainFails title state moves hook flow rules addons files new_files
-  failed rules hook flow files new_files addons lent asked ran_out table same =
-      subst (λ l. PartsFail title state moves rules hook (parts hook) (begun flow rules.stream) l files new_files) same
-      (subst (λ l. PartsFail title state moves rules hook l (begun flow rules.stream) lent files new_files) table ran_out)
+  pub failed : (rules : Rules) (hook : Hook) (flow : Flow) (files new_files : FilesMeaning) (replay : Option Replaying) (addons lent : List B) (asked : List Part) →
+      PartsFail title state moves rules hook asked (begun flow rules.stream) (movers_of replay lent) files new_files → asked ≡ parts hook → lent ≡ addons →
+      ChainFails title state moves hook flow rules (movers_of replay addons) files new_files
+  failed rules hook flow files new_files replay addons lent asked ran_out table same =
+      subst (λ l. PartsFail title state moves rules hook (parts hook) (begun flow rules.stream) (movers_of replay l) files new_files) same
+      (subst (λ l. PartsFail title state moves rules hook l (begun flow rules.stream) (movers_of replay lent) files new_files) table ran_out)

@@ -13,9 +13,11 @@ use Rattle.px_core.specs.declared.answerer.Answer.TheVariants as answers
 use Rattle.px_core.specs.declared.answerer.Draft.{Draft}
 use Rattle.px_core.specs.declared.answerer.Verdict.{Verdict}
 use Rattle.px_core.specs.declared.answerer.Verdict.TheVariants as verdicts
+use Rattle.px_replay.specs.Replaying.{Replaying}
 use Rattle.px_addons.specs.Mapped.{LocalFails, MapsLocal}
 use Rattle.px_addons.specs.Moving.{Moves, SameMoves}
 use Rattle.px_addons.specs.Parts.{made_by, parts}
+use Rattle.px_addons.specs.Replays.{Replays}
 use Rattle.px_addons.specs.declared.parts.Part.{Part}
 use Rattle.px_addons.specs.declared.parts.Part.TheVariants as part
 use Rattle.px_addons.specs.declared.rules.Rules.{Rules}
@@ -49,8 +51,17 @@ PartFails rules part.MapRemote draft files new_files = new_files ≡ files
 PartFails rules part.ModifyHeaders draft files new_files = new_files ≡ files
 PartFails rules part.Anticache draft files new_files = new_files ≡ files
 PartFails rules part.Anticomp draft files new_files = new_files ≡ files
+PartFails rules part.ServerReplay draft files new_files = new_files ≡ files
 PartFails rules part.ModifyBody draft files new_files = new_files ≡ files
 PartFails rules part.Addons draft files new_files = new_files ≡ files
+
+-- who moves at a hook beside the draft and files: the recorded list of server replay, if there is one, and the addons
+pub record Movers (B : Type 0) : Type 0 where
+  pub replay : Option Replaying
+  pub addons : List B
+
+abbrev pub movers_of : {B : Type 0} → Option Replaying → List B → Movers B
+movers_of replay addons = record { replay = replay; addons = addons }
 
 module _ {B : Type 0} (title state : B → List ℕ) (moves : B → Moves) where
   -- the same addon, with a state of its own
@@ -87,60 +98,62 @@ module _ {B : Type 0} (title state : B → List ℕ) (moves : B → Moves) where
     pub second : AddonMoves hook left other end new_other
     pub news : addons ≡ new_one ∷ new_other ∷ []
 
-  -- a part whose meaning is a function of the draft leaves addons and files as they are
-  abbrev pub ByRules : Rules → Hook → Part → Draft → List B → FilesMeaning → Draft → List B → FilesMeaning → Type 0
+  -- a part whose meaning is a function of the draft leaves recorded list, addons and files as they are
+  abbrev pub ByRules : Rules → Hook → Part → Draft → Movers B → FilesMeaning → Draft → Movers B → FilesMeaning → Type 0
   ByRules rules hook one draft old files after new new_files = (after ≡ made_by rules hook one draft) × (new ≡ old) × (new_files ≡ files)
 
-  -- what a part that is asked makes of the draft, of the addons and of files
-  abbrev pub PartMoves : Rules → Hook → Part → Draft → List B → FilesMeaning → Draft → List B → FilesMeaning → Type 0
+  -- what a part that is asked makes of the draft, of recorded list and addons, and of files
+  abbrev pub PartMoves : Rules → Hook → Part → Draft → Movers B → FilesMeaning → Draft → Movers B → FilesMeaning → Type 0
   PartMoves rules hook part.Block draft old files after new new_files = ByRules rules hook part.Block draft old files after new new_files
   PartMoves rules hook part.MapLocal draft old files after new new_files = MapsLocal rules draft files after new_files × (new ≡ old)
   PartMoves rules hook part.MapRemote draft old files after new new_files = ByRules rules hook part.MapRemote draft old files after new new_files
   PartMoves rules hook part.ModifyHeaders draft old files after new new_files = ByRules rules hook part.ModifyHeaders draft old files after new new_files
   PartMoves rules hook part.Anticache draft old files after new new_files = ByRules rules hook part.Anticache draft old files after new new_files
   PartMoves rules hook part.Anticomp draft old files after new new_files = ByRules rules hook part.Anticomp draft old files after new new_files
+  PartMoves rules hook part.ServerReplay draft old files after new new_files = Replays draft old.replay after new.replay × (new.addons ≡ old.addons) × (new_files ≡ files)
   PartMoves rules hook part.ModifyBody draft old files after new new_files = ByRules rules hook part.ModifyBody draft old files after new new_files
-  PartMoves rules hook part.Addons draft old files after new new_files = AddonsMove hook draft old after new × (new_files ≡ files)
+  PartMoves rules hook part.Addons draft old files after new new_files = AddonsMove hook draft old.addons after new.addons × (new.replay ≡ old.replay) × (new_files ≡ files)
 
   -- one part in its turn; behind a verdict that is not Go it is passed over
-  pub data PartInTurn (rules : Rules) (hook : Hook) (one : Part) : Draft → List B → FilesMeaning → Draft → List B → FilesMeaning → Type 0 where
-    by_part : (draft after : Draft) (old new : List B) (files new_files : FilesMeaning) → is_going draft.verdict ≡ true →
+  pub data PartInTurn (rules : Rules) (hook : Hook) (one : Part) : Draft → Movers B → FilesMeaning → Draft → Movers B → FilesMeaning → Type 0 where
+    by_part : (draft after : Draft) (old new : Movers B) (files new_files : FilesMeaning) → is_going draft.verdict ≡ true →
         PartMoves rules hook one draft old files after new new_files → PartInTurn rules hook one draft old files after new new_files
-    past_part : (draft : Draft) (addons : List B) (files : FilesMeaning) → is_going draft.verdict ≡ false → PartInTurn rules hook one draft addons files draft addons files
+    past_part : (draft : Draft) (movers : Movers B) (files : FilesMeaning) → is_going draft.verdict ≡ false → PartInTurn rules hook one draft movers files draft movers files
 
   -- parts in their order
-  pub data PartsMove (rules : Rules) (hook : Hook) : List Part → Draft → List B → FilesMeaning → Draft → List B → FilesMeaning → Type 0 where
-    no_part : (draft : Draft) (addons : List B) (files : FilesMeaning) → PartsMove rules hook [] draft addons files draft addons files
-    next_part : (one : Part) (others : List Part) (draft after end : Draft) (old mid new : List B) (files mid_files new_files : FilesMeaning) →
+  pub data PartsMove (rules : Rules) (hook : Hook) : List Part → Draft → Movers B → FilesMeaning → Draft → Movers B → FilesMeaning → Type 0 where
+    no_part : (draft : Draft) (movers : Movers B) (files : FilesMeaning) → PartsMove rules hook [] draft movers files draft movers files
+    next_part : (one : Part) (others : List Part) (draft after end : Draft) (old mid new : Movers B) (files mid_files new_files : FilesMeaning) →
         PartInTurn rules hook one draft old files after mid mid_files → PartsMove rules hook others after mid mid_files end new new_files →
         PartsMove rules hook (one ∷ others) draft old files end new new_files
 
-  -- The answer to a hook about a flow, by rules, addons and files before and after: what the draft is when all parts of the hook
-  -- were asked, or one ended the order.
-  pub record ChainAnswers (hook : Hook) (flow : Flow) (old_rules : Rules) (old : List B) (old_files : FilesMeaning)
-      (new_rules : Rules) (new : List B) (new_files : FilesMeaning) (answer : Answer) : Type 0 where
+  -- The answer to a hook about a flow, by rules, recorded list, addons and files before and after: what the draft is when all parts of the
+  -- hook were asked, or one ended the order.
+  pub record ChainAnswers (hook : Hook) (flow : Flow) (old_rules : Rules) (old : Movers B) (old_files : FilesMeaning)
+      (new_rules : Rules) (new : Movers B) (new_files : FilesMeaning) (answer : Answer) : Type 0 where
     pub end : Draft
     pub moved : PartsMove old_rules hook (parts hook) (begun flow old_rules.stream) old old_files end new new_files
     pub answered : answer ≡ answers.Reply (reply_of end)
     pub rules : new_rules ≡ old_rules
 
   -- Parts in their order, of which one that was asked ran out of memory: what those before it, and it, did to files.
-  pub data PartsFail (rules : Rules) (hook : Hook) : List Part → Draft → List B → FilesMeaning → FilesMeaning → Type 0 where
-    fails_here : (one : Part) (others : List Part) (draft : Draft) (addons : List B) (files new_files : FilesMeaning) → is_going draft.verdict ≡ true →
-        PartFails rules one draft files new_files → PartsFail rules hook (one ∷ others) draft addons files new_files
-    fails_later : (one : Part) (others : List Part) (draft after : Draft) (old mid : List B) (files mid_files new_files : FilesMeaning) →
+  pub data PartsFail (rules : Rules) (hook : Hook) : List Part → Draft → Movers B → FilesMeaning → FilesMeaning → Type 0 where
+    fails_here : (one : Part) (others : List Part) (draft : Draft) (movers : Movers B) (files new_files : FilesMeaning) → is_going draft.verdict ≡ true →
+        PartFails rules one draft files new_files → PartsFail rules hook (one ∷ others) draft movers files new_files
+    fails_later : (one : Part) (others : List Part) (draft after : Draft) (old mid : Movers B) (files mid_files new_files : FilesMeaning) →
         PartInTurn rules hook one draft old files after mid mid_files → PartsFail rules hook others after mid mid_files new_files →
         PartsFail rules hook (one ∷ others) draft old files new_files
 
   -- What an answer to a hook about a flow that ran out of memory did to files.
-  abbrev pub ChainFails : Hook → Flow → Rules → List B → FilesMeaning → FilesMeaning → Type 0
-  ChainFails hook flow rules addons files new_files = PartsFail rules hook (parts hook) (begun flow rules.stream) addons files new_files
+  abbrev pub ChainFails : Hook → Flow → Rules → Movers B → FilesMeaning → FilesMeaning → Type 0
+  ChainFails hook flow rules movers files new_files = PartsFail rules hook (parts hook) (begun flow rules.stream) movers files new_files
 
 module _ {B : Type 0} (title : B → List ℕ) where
   -- What taking the first addon of a name away makes of a chain.
-  pub record ChainDrops (name : List ℕ) (old_rules : Rules) (old : List B) (new_rules : Rules) (new : List B) : Type 0 where
-    pub named : has_name_by title name old ≡ true
-    pub dropped : new ≡ without_first_by title name old
+  pub record ChainDrops (name : List ℕ) (old_rules : Rules) (old : Movers B) (new_rules : Rules) (new : Movers B) : Type 0 where
+    pub named : has_name_by title name old.addons ≡ true
+    pub dropped : new.addons ≡ without_first_by title name old.addons
+    pub replay : new.replay ≡ old.replay
     pub rules : new_rules ≡ old_rules
 
   -- at that place is the first addon of the name

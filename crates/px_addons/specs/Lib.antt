@@ -2,7 +2,9 @@ pub mod Moving
 pub mod Blocked
 pub mod Mapped
 pub mod Parts
+pub mod Replays
 pub mod Chain
+pub mod ReplayRuns
 pub mod Counter
 pub mod Quiet
 pub mod QuietLaws

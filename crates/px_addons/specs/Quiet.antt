@@ -1,4 +1,4 @@
--- Chains that change nothing: no rule, and each addon's relation leaves every draft as it is.
+-- Chains that change nothing: no rule, no recorded flow, and each addon's relation leaves every draft as it is.
 use Rattle.std.specs.Prelude.{◌≡◌, false, List, [], ◌∷◌, None}
 use Rattle.px_message.specs.declared.flow.Flow.{Flow}
 use Rattle.px_event.specs.declared.ask.Hook.{Hook}
@@ -7,10 +7,11 @@ use Rattle.px_core.specs.declared.answerer.Answer.{Answer}
 use Rattle.px_core.specs.declared.answerer.Answer.TheVariants as answers
 use Rattle.px_map.specs.View.{block_views, local_views, remote_views}
 use Rattle.px_rule.specs.View.{body_views, header_views}
+use Rattle.px_addons.specs.Chain.{Movers}
 use Rattle.px_addons.specs.Moving.{KeepsDrafts, Moves}
 use Rattle.px_addons.specs.declared.rules.Rules.{Rules}
 
--- no rule, no wish, and nothing is streamed
+-- no rule, no wish, no recorded flow, and nothing is streamed
 pub record NoRules (rules : Rules) : Type 0 where
   pub block : block_views rules.block ≡ []
   pub local : local_views rules.local ≡ []
@@ -19,6 +20,7 @@ pub record NoRules (rules : Rules) : Type 0 where
   pub bodies : body_views rules.bodies ≡ []
   pub anticache : rules.anticache ≡ false
   pub anticomp : rules.anticomp ≡ false
+  pub replay : rules.replay ≡ None
   pub stream : rules.stream ≡ None
 
 -- each of the addons leaves every draft as it is
@@ -26,10 +28,15 @@ abbrev pub AllKeepDrafts : {B : Type 0} → (B → Moves) → List B → Type 0
 AllKeepDrafts moves [] = Unit {0}
 AllKeepDrafts moves (addon ∷ others) = KeepsDrafts (moves addon) × AllKeepDrafts moves others
 
--- a chain of these rules and addons changes nothing
-pub record ChangesNothing {B : Type 0} (moves : B → Moves) (rules : Rules) (addons : List B) : Type 0 where
+-- there is no recorded list, and each addon leaves every draft as it is
+pub record AreQuiet {B : Type 0} (moves : B → Moves) (movers : Movers B) : Type 0 where
+  pub unrecorded : movers.replay ≡ None
+  pub keep : AllKeepDrafts moves movers.addons
+
+-- a chain of these rules, and of this recorded list and these addons, changes nothing
+pub record ChangesNothing {B : Type 0} (moves : B → Moves) (rules : Rules) (movers : Movers B) : Type 0 where
   pub no_rules : NoRules rules
-  pub keep : AllKeepDrafts moves addons
+  pub quiet : AreQuiet moves movers
 
 -- the flow goes on as it was asked about, and nothing is streamed
 abbrev pub goes_on_unchanged : Hook → Flow → Answer → Type 0

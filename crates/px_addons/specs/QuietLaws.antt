@@ -1,5 +1,5 @@
 -- A chain that changes nothing answers so, leaves files as they are, and stays such a chain. One without map local rules reads nothing.
-use Rattle.std.proofs.Common.{◌≡◌, ℕ, List, [], Option, refl, sym, ap, subst, ◌∙◌}
+use Rattle.std.proofs.Common.{◌≡◌, ℕ, List, [], Option, Some, None, refl, sym, ap, subst, ◌∙◌}
 use Rattle.std.proofs.lemmas.List.Elements.{All-nil}
 use Rattle.px_message.specs.declared.flow.Flow.{Flow}
 use Rattle.px_message.specs.declared.response.Response.{Response}
@@ -17,12 +17,14 @@ use Rattle.px_map.specs.Reads.{IsAnswer}
 use Rattle.px_map.specs.Remote.{remote_rules}
 use Rattle.px_map.specs.Served.{local_names}
 use Rattle.px_map.specs.View.{local_views}
+use Rattle.px_replay.specs.Replaying.{Replaying}
 use Rattle.px_addons.specs.Blocked.{blocked}
 use Rattle.px_addons.specs.Mapped.{MapsLocal, answered_by, moved, names_for}
 use Rattle.px_addons.specs.Moving.{KeepsDrafts, Moves}
 use Rattle.px_addons.specs.Parts.{content_of, is_of_response, made_by, parts}
-use Rattle.px_addons.specs.Chain.{AddonMoves, by_addon, past_addon, AddonsMove, no_addon, next_addon, ByRules, PartMoves, PartInTurn, by_part, past_part, PartsMove, no_part, next_part, PartFails, PartsFail, fails_here, fails_later, ChainFails, begun, reply_of, ChainAnswers}
-use Rattle.px_addons.specs.Quiet.{AllKeepDrafts, ChangesNothing, NoRules, goes_on_unchanged}
+use Rattle.px_addons.specs.Chain.{Movers, AddonMoves, by_addon, past_addon, AddonsMove, no_addon, next_addon, ByRules, PartMoves, PartInTurn, by_part, past_part, PartsMove, no_part, next_part, PartFails, PartsFail, fails_here, fails_later, ChainFails, begun, reply_of, ChainAnswers}
+use Rattle.px_addons.specs.Quiet.{AllKeepDrafts, AreQuiet, ChangesNothing, NoRules, goes_on_unchanged}
+use Rattle.px_addons.specs.Replays.{Replays}
 use Rattle.px_addons.specs.declared.parts.Part.{Part}
 use Rattle.px_addons.specs.declared.parts.Part.TheVariants as part
 use Rattle.px_addons.specs.declared.rules.Rules.{Rules}
@@ -40,6 +42,7 @@ no_rule_changes rules hook part.ModifyHeaders draft none =
     ∙ ap (λ flow. with_flow draft flow) (headers_hold_nowhere (is_of_response hook) [] draft.flow (All-nil _))
 no_rule_changes rules hook part.Anticache draft none = rw none.anticache refl
 no_rule_changes rules hook part.Anticomp draft none = rw none.anticomp refl
+no_rule_changes rules hook part.ServerReplay draft none = refl
 no_rule_changes rules hook part.ModifyBody draft none = ap (λ list. with_flow draft (body_rules (content_of hook) list draft.flow)) none.bodies
 no_rule_changes rules hook part.Addons draft none = refl
 
@@ -59,6 +62,11 @@ pub no_local_changes : (rules : Rules) (draft after : Draft) (files new_files : 
     after ≡ draft
 no_local_changes rules draft after files new_files none maps = answers_nothing rules draft after maps.made maps.answer none maps.answers maps.drafted
 
+-- without a recorded list server replay leaves the draft as it is
+no_replay_changes : (draft after : Draft) (old new : Option Replaying) → old ≡ None → Replays draft old after new → (after ≡ draft) × (new ≡ None)
+no_replay_changes draft after None new none replays = replays
+no_replay_changes draft after (Some recorded) new none replays = absurd cc
+
 module _ {B : Type 0} (title state : B → List ℕ) (moves : B → Moves) where
   one_keeps : (hook : Hook) (draft after : Draft) (old new : B) → AddonMoves title state moves hook draft old after new → KeepsDrafts (moves old) →
       (after ≡ draft) × KeepsDrafts (moves new)
@@ -74,31 +82,36 @@ module _ {B : Type 0} (title state : B → List ℕ) (moves : B → Moves) where
       let rest_keep = all_keep hook after end others rest behind keep.1 in
       (rest_keep.0 ∙ first.0, (first.1, rest_keep.1))
 
-  made_keeps : (rules : Rules) (hook : Hook) (one : Part) (draft after : Draft) (old new : List B) (files new_files : FilesMeaning) →
-      ByRules title state moves rules hook one draft old files after new new_files → NoRules rules → AllKeepDrafts moves old → (after ≡ draft) × AllKeepDrafts moves new
+  made_keeps : (rules : Rules) (hook : Hook) (one : Part) (draft after : Draft) (old new : Movers B) (files new_files : FilesMeaning) →
+      ByRules title state moves rules hook one draft old files after new new_files → NoRules rules → AreQuiet moves old → (after ≡ draft) × AreQuiet moves new
   made_keeps rules hook one draft after old new files new_files made none keep =
-      (made.0 ∙ no_rule_changes rules hook one draft none, subst (λ l. AllKeepDrafts moves l) (sym made.1) keep)
+      (made.0 ∙ no_rule_changes rules hook one draft none, subst (λ l. AreQuiet moves l) (sym made.1) keep)
 
-  asked_keeps : (rules : Rules) (hook : Hook) (one : Part) (draft after : Draft) (old new : List B) (files new_files : FilesMeaning) →
-      PartMoves title state moves rules hook one draft old files after new new_files → NoRules rules → AllKeepDrafts moves old → (after ≡ draft) × AllKeepDrafts moves new
+  asked_keeps : (rules : Rules) (hook : Hook) (one : Part) (draft after : Draft) (old new : Movers B) (files new_files : FilesMeaning) →
+      PartMoves title state moves rules hook one draft old files after new new_files → NoRules rules → AreQuiet moves old → (after ≡ draft) × AreQuiet moves new
   asked_keeps rules hook part.Block draft after old new files new_files moved none keep = made_keeps rules hook part.Block draft after old new files new_files moved none keep
   asked_keeps rules hook part.MapLocal draft after old new files new_files moved none keep =
-      (no_local_changes rules draft after files new_files none.local moved.0, subst (λ l. AllKeepDrafts moves l) (sym moved.1) keep)
+      (no_local_changes rules draft after files new_files none.local moved.0, subst (λ l. AreQuiet moves l) (sym moved.1) keep)
   asked_keeps rules hook part.MapRemote draft after old new files new_files moved none keep = made_keeps rules hook part.MapRemote draft after old new files new_files moved none keep
   asked_keeps rules hook part.ModifyHeaders draft after old new files new_files moved none keep = made_keeps rules hook part.ModifyHeaders draft after old new files new_files moved none keep
   asked_keeps rules hook part.Anticache draft after old new files new_files moved none keep = made_keeps rules hook part.Anticache draft after old new files new_files moved none keep
   asked_keeps rules hook part.Anticomp draft after old new files new_files moved none keep = made_keeps rules hook part.Anticomp draft after old new files new_files moved none keep
+  asked_keeps rules hook part.ServerReplay draft after old new files new_files moved none keep =
+      let still = no_replay_changes draft after old.replay new.replay keep.unrecorded moved.0 in
+      (still.0, record { unrecorded = still.1; keep = subst (λ l. AllKeepDrafts moves l) (sym moved.1) keep.keep })
   asked_keeps rules hook part.ModifyBody draft after old new files new_files moved none keep = made_keeps rules hook part.ModifyBody draft after old new files new_files moved none keep
-  asked_keeps rules hook part.Addons draft after old new files new_files moved none keep = all_keep hook draft after old new moved.0 keep
+  asked_keeps rules hook part.Addons draft after old new files new_files moved none keep =
+      let all = all_keep hook draft after old.addons new.addons moved.0 keep.keep in
+      (all.0, record { unrecorded = moved.1 ∙ keep.unrecorded; keep = all.1 })
 
-  part_keeps : (rules : Rules) (hook : Hook) (one : Part) (draft after : Draft) (old new : List B) (files new_files : FilesMeaning) →
-      PartInTurn title state moves rules hook one draft old files after new new_files → NoRules rules → AllKeepDrafts moves old → (after ≡ draft) × AllKeepDrafts moves new
+  part_keeps : (rules : Rules) (hook : Hook) (one : Part) (draft after : Draft) (old new : Movers B) (files new_files : FilesMeaning) →
+      PartInTurn title state moves rules hook one draft old files after new new_files → NoRules rules → AreQuiet moves old → (after ≡ draft) × AreQuiet moves new
   part_keeps rules hook one draft after old new files new_files (by_part _ _ _ _ _ _ going moved) none keep =
       asked_keeps rules hook one draft after old new files new_files moved none keep
   part_keeps rules hook one draft after old new files new_files (past_part _ _ _ ended) none keep = (refl, keep)
 
-  parts_keep : (rules : Rules) (hook : Hook) (list : List Part) (draft end : Draft) (old new : List B) (files new_files : FilesMeaning) →
-      PartsMove title state moves rules hook list draft old files end new new_files → NoRules rules → AllKeepDrafts moves old → (end ≡ draft) × AllKeepDrafts moves new
+  parts_keep : (rules : Rules) (hook : Hook) (list : List Part) (draft end : Draft) (old new : Movers B) (files new_files : FilesMeaning) →
+      PartsMove title state moves rules hook list draft old files end new new_files → NoRules rules → AreQuiet moves old → (end ≡ draft) × AreQuiet moves new
   parts_keep rules hook list draft end old new files new_files (no_part _ _ _) none keep = (refl, keep)
   parts_keep rules hook list draft end old new files new_files (next_part one others _ after _ _ mid _ _ mid_files _ moved behind) none keep =
       let first = part_keeps rules hook one draft after old mid files mid_files moved none keep in
@@ -107,7 +120,7 @@ module _ {B : Type 0} (title state : B → List ℕ) (moves : B → Moves) where
 
   -- ---- files, where no rule is one of map local
 
-  asked_leaves : (rules : Rules) (hook : Hook) (one : Part) (draft after : Draft) (old new : List B) (files new_files : FilesMeaning) →
+  asked_leaves : (rules : Rules) (hook : Hook) (one : Part) (draft after : Draft) (old new : Movers B) (files new_files : FilesMeaning) →
       PartMoves title state moves rules hook one draft old files after new new_files → local_views rules.local ≡ [] → new_files ≡ files
   asked_leaves rules hook part.Block draft after old new files new_files moved none = moved.2
   asked_leaves rules hook part.MapLocal draft after old new files new_files moved none = moved.0.unread (no_names rules draft.flow none)
@@ -115,15 +128,16 @@ module _ {B : Type 0} (title state : B → List ℕ) (moves : B → Moves) where
   asked_leaves rules hook part.ModifyHeaders draft after old new files new_files moved none = moved.2
   asked_leaves rules hook part.Anticache draft after old new files new_files moved none = moved.2
   asked_leaves rules hook part.Anticomp draft after old new files new_files moved none = moved.2
+  asked_leaves rules hook part.ServerReplay draft after old new files new_files moved none = moved.2
   asked_leaves rules hook part.ModifyBody draft after old new files new_files moved none = moved.2
-  asked_leaves rules hook part.Addons draft after old new files new_files moved none = moved.1
+  asked_leaves rules hook part.Addons draft after old new files new_files moved none = moved.2
 
-  part_leaves : (rules : Rules) (hook : Hook) (one : Part) (draft after : Draft) (old new : List B) (files new_files : FilesMeaning) →
+  part_leaves : (rules : Rules) (hook : Hook) (one : Part) (draft after : Draft) (old new : Movers B) (files new_files : FilesMeaning) →
       PartInTurn title state moves rules hook one draft old files after new new_files → local_views rules.local ≡ [] → new_files ≡ files
   part_leaves rules hook one draft after old new files new_files (by_part _ _ _ _ _ _ going moved) none = asked_leaves rules hook one draft after old new files new_files moved none
   part_leaves rules hook one draft after old new files new_files (past_part _ _ _ ended) none = refl
 
-  pub parts_leave : (rules : Rules) (hook : Hook) (list : List Part) (draft end : Draft) (old new : List B) (files new_files : FilesMeaning) →
+  pub parts_leave : (rules : Rules) (hook : Hook) (list : List Part) (draft end : Draft) (old new : Movers B) (files new_files : FilesMeaning) →
       PartsMove title state moves rules hook list draft old files end new new_files → local_views rules.local ≡ [] → new_files ≡ files
   parts_leave rules hook list draft end old new files new_files (no_part _ _ _) none = refl
   parts_leave rules hook list draft end old new files new_files (next_part one others _ after _ _ mid _ _ mid_files _ moved behind) none =
@@ -137,28 +151,29 @@ module _ {B : Type 0} (title state : B → List ℕ) (moves : B → Moves) where
   failed_leaves rules part.ModifyHeaders draft files new_files failed none = failed
   failed_leaves rules part.Anticache draft files new_files failed none = failed
   failed_leaves rules part.Anticomp draft files new_files failed none = failed
+  failed_leaves rules part.ServerReplay draft files new_files failed none = failed
   failed_leaves rules part.ModifyBody draft files new_files failed none = failed
   failed_leaves rules part.Addons draft files new_files failed none = failed
 
-  pub failure_leaves : (rules : Rules) (hook : Hook) (list : List Part) (draft : Draft) (old : List B) (files new_files : FilesMeaning) →
+  pub failure_leaves : (rules : Rules) (hook : Hook) (list : List Part) (draft : Draft) (old : Movers B) (files new_files : FilesMeaning) →
       PartsFail title state moves rules hook list draft old files new_files → local_views rules.local ≡ [] → new_files ≡ files
   failure_leaves rules hook list draft old files new_files (fails_here one others _ _ _ _ going failed) none = failed_leaves rules one draft files new_files failed none
   failure_leaves rules hook list draft old files new_files (fails_later one others _ after _ mid _ mid_files _ moved behind) none =
       failure_leaves rules hook others after mid mid_files new_files behind none ∙ part_leaves rules hook one draft after old mid files mid_files moved none
 
-  module _ (hook : Hook) (flow : Flow) (rules : Rules) (old : List B) (files : FilesMeaning) (new_rules : Rules) (new : List B) (new_files : FilesMeaning) (answer : Answer) where
+  module _ (hook : Hook) (flow : Flow) (rules : Rules) (old : Movers B) (files : FilesMeaning) (new_rules : Rules) (new : Movers B) (new_files : FilesMeaning) (answer : Answer) where
     pub stays_quiet : ChangesNothing moves rules old → ChainAnswers title state moves hook flow rules old files new_rules new new_files answer →
         ChangesNothing moves new_rules new
     stays_quiet quiet given = record {
       no_rules = subst (λ r. NoRules r) (sym given.rules) quiet.no_rules;
-      keep = (parts_keep rules hook (parts hook) (begun flow rules.stream) given.end old new files new_files given.moved quiet.no_rules quiet.keep).1;
+      quiet = (parts_keep rules hook (parts hook) (begun flow rules.stream) given.end old new files new_files given.moved quiet.no_rules quiet.quiet).1;
     }
 
     pub answers_unchanged : ChangesNothing moves rules old → ChainAnswers title state moves hook flow rules old files new_rules new new_files answer →
         goes_on_unchanged hook flow answer
     answers_unchanged quiet given =
         given.answered
-        ∙ ap (λ d. answers.Reply (reply_of d)) (parts_keep rules hook (parts hook) (begun flow rules.stream) given.end old new files new_files given.moved quiet.no_rules quiet.keep).0
+        ∙ ap (λ d. answers.Reply (reply_of d)) (parts_keep rules hook (parts hook) (begun flow rules.stream) given.end old new files new_files given.moved quiet.no_rules quiet.quiet).0
         ∙ ap (λ s. answers.Reply (reply_of (begun flow s))) quiet.no_rules.stream
 
     -- an answer leaves files as they are
@@ -166,6 +181,6 @@ module _ {B : Type 0} (title state : B → List ℕ) (moves : B → Moves) where
     answers_leave none given = parts_leave rules hook (parts hook) (begun flow rules.stream) given.end old new files new_files given.moved none
 
   -- and so does one that ran out of memory
-  pub failures_leave : (hook : Hook) (flow : Flow) (rules : Rules) (old : List B) (files new_files : FilesMeaning) → local_views rules.local ≡ [] →
+  pub failures_leave : (hook : Hook) (flow : Flow) (rules : Rules) (old : Movers B) (files new_files : FilesMeaning) → local_views rules.local ≡ [] →
       ChainFails title state moves hook flow rules old files new_files → new_files ≡ files
   failures_leave hook flow rules old files new_files none failed = failure_leaves rules hook (parts hook) (begun flow rules.stream) old files new_files failed none

@@ -1,46 +1,58 @@
-//! The chain of rules and addons, which answers hooks.
+//! The chain of rules, recorded flows and addons, which answers hooks.
 //!
 //! Both loops ask all that they go over, and each turn begins with the verdict: behind one that is not Go the turn does nothing.
-ghost use Rattle.std.specs.Prelude.{◌≡◌, true, false, MatchOption, OnErr, OnOk};
-ghost use Rattle.px_addons.specs.Chain.{AddonMoves, AddonsMove, IsFirstOfName, PartFails, PartInTurn, PartsFail, PartsMove, is_going, reply_of};
+ghost use Rattle.std.specs.Prelude.{◌≡◌, true, false, None, MatchOption, OnErr, OnOk};
+ghost use Rattle.px_addons.specs.Chain.{AddonMoves, AddonsMove, IsFirstOfName, PartFails, PartInTurn, PartsFail, PartsMove, is_going, movers_of, reply_of};
 ghost use Rattle.px_addons.specs.Moving.{SameMoves};
 ghost use Rattle.px_addons.specs.Quiet.{AllKeepDrafts, NoRules};
 ghost use Rattle.px_core.specs.Addons.{has_name_by};
 ghost use Rattle.px_core.specs.Answers.{files_meaning};
 
 use crate::parts::parts;
+use crate::replaying::ask_replay;
 use crate::{Addon, Part, Rules};
 use px_core::{Answer, Answerer, Draft, Kind, NoSuchAddon, Verdict};
 use px_event::{Hook, Reply};
 use px_message::Flow;
 use px_outside::Files;
+use px_replay::Recorded;
 use px_text::NoMemory;
 use std::alloc::Global;
 
-/// Rules and addons, which answer hooks: at each hook its parts in their order, until a verdict that is not Go ends it
+/// Rules, recorded flows and addons, which answer hooks: at each hook its parts in their order, until a verdict that is not Go ends it
 /// (`specs/Chain.antt`, `ChainAnswers`). The draft begins with the flow as it is asked about, the verdict Go and the rules' `stream`. No
 /// answer waits. Files are read for map local rules that match the flow, and for nothing else.
+///
+/// The rules never change. The recorded list is none of them here, since each whole request is asked of it and may use a place.
 #[derive(Drop)]
 pub struct Chain {
     rules: Rules,
+    replay: Option<Recorded>,
     addons: Vec<Box<dyn Addon>>,
 }
 
 impl Chain {
-    /// A chain of these rules and addons, the addons in the order of their list. Two may have one name. Without rules, and where each
-    /// addon leaves every draft as it is, it changes nothing.
+    /// A chain of these rules and addons, the addons in the order of their list. Two may have one name. The recorded list of the rules is
+    /// taken out of them. Without rules and recorded list, and where each addon leaves every draft as it is, it changes nothing.
     pub fn new(rules: Rules, addons: Vec<Box<dyn Addon>>) -> Chain
-        ensures rules { result.rules ≡ rules }
+        ensures rules { result.rules ≡ record rules { replay = None } }
+        ensures replay { result.replay ≡ rules.replay }
         ensures addons { result.addons ≡ addons }
         ensures quiet { NoRules rules → AllKeepDrafts moves addons.items → ⟦<Chain as Kind>⟧.is_so result }
     {
-        Chain { rules, addons }
+        let mut rules = rules;
+        let replay = rules.replay.take();
+        Chain {
+            rules,
+            replay,
+            addons,
+        }
     }
 }
 
 impl Answerer for Chain {
     ghost use Rattle.std.specs.Prelude.{◌≡◌, map};
-    ghost use Rattle.px_addons.specs.Chain.{ChainAnswers, ChainDrops, ChainFails};
+    ghost use Rattle.px_addons.specs.Chain.{ChainAnswers, ChainDrops, ChainFails, movers_of};
 
     ghost State = { Self };
 
@@ -48,15 +60,16 @@ impl Answerer for Chain {
 
     ghost answers = { λ hook flow old old_files new new_files answer.
         ChainAnswers (λ b. (Addon-box b).title b.value) (λ b. (Addon-box b).state b.value) (λ b. (Addon-box b).moves b.value)
-        hook flow old.rules old.addons.items old_files new.rules new.addons.items new_files answer };
+        hook flow old.rules (movers_of old.replay old.addons.items) old_files new.rules (movers_of new.replay new.addons.items) new_files answer };
 
     ghost fails = { λ hook flow old old_files new_files.
         ChainFails (λ b. (Addon-box b).title b.value) (λ b. (Addon-box b).state b.value) (λ b. (Addon-box b).moves b.value)
-        hook flow old.rules old.addons.items old_files new_files };
+        hook flow old.rules (movers_of old.replay old.addons.items) old_files new_files };
 
     ghost names = { λ c. map (λ b. (Addon-box b).title b.value) c.addons.items };
 
-    ghost drops = { λ name old new. ChainDrops (λ b. (Addon-box b).title b.value) name old.rules old.addons.items new.rules new.addons.items };
+    ghost drops = { λ name old new. ChainDrops (λ b. (Addon-box b).title b.value) name
+        old.rules (movers_of old.replay old.addons.items) new.rules (movers_of new.replay new.addons.items) };
 
     fn answer<F: Files>(
         &mut self,
@@ -73,6 +86,7 @@ impl Answerer for Chain {
         match ask_parts(
             alloc,
             &self.rules,
+            &mut self.replay,
             &mut self.addons,
             parts(hook),
             hook,
@@ -100,7 +114,7 @@ impl Answerer for Chain {
 
 // A chain that changes nothing stays one, and each of its answers lets the flow go on unchanged.
 impl Kind for Chain {
-    ghost use Rattle.px_addons.specs.Chain.{ChainAnswers};
+    ghost use Rattle.px_addons.specs.Chain.{ChainAnswers, movers_of};
     ghost use Rattle.px_addons.specs.Quiet.{ChangesNothing, goes_on_unchanged};
     ghost use Rattle.px_addons.specs.QuietLaws.{answers_unchanged, stays_quiet};
 
@@ -108,19 +122,19 @@ impl Kind for Chain {
 
     ghost answers = { λ hook flow old old_files new new_files answer.
         ChainAnswers (λ b. (Addon-box b).title b.value) (λ b. (Addon-box b).state b.value) (λ b. (Addon-box b).moves b.value)
-        hook flow old.rules old.addons.items old_files new.rules new.addons.items new_files answer };
+        hook flow old.rules (movers_of old.replay old.addons.items) old_files new.rules (movers_of new.replay new.addons.items) new_files answer };
 
-    ghost is_so = { λ c. ChangesNothing (λ b. (Addon-box b).moves b.value) c.rules c.addons.items };
+    ghost is_so = { λ c. ChangesNothing (λ b. (Addon-box b).moves b.value) c.rules (movers_of c.replay c.addons.items) };
 
     ghost gives = { goes_on_unchanged };
 
     ghost keeps = { record {
       stays = λ hook flow old old_files new new_files given quiet by.
           stays_quiet (λ b. (Addon-box b).title b.value) (λ b. (Addon-box b).state b.value) (λ b. (Addon-box b).moves b.value)
-          hook flow old.rules old.addons.items old_files new.rules new.addons.items new_files given quiet by;
+          hook flow old.rules (movers_of old.replay old.addons.items) old_files new.rules (movers_of new.replay new.addons.items) new_files given quiet by;
       gives_so = λ hook flow old old_files new new_files given quiet by.
           answers_unchanged (λ b. (Addon-box b).title b.value) (λ b. (Addon-box b).state b.value) (λ b. (Addon-box b).moves b.value)
-          hook flow old.rules old.addons.items old_files new.rules new.addons.items new_files given quiet by;
+          hook flow old.rules (movers_of old.replay old.addons.items) old_files new.rules (movers_of new.replay new.addons.items) new_files given quiet by;
     } };
 }
 
@@ -128,6 +142,7 @@ impl Kind for Chain {
 fn ask_parts<F: Files>(
     alloc: Global,
     rules: &Rules,
+    replay: &mut Option<Recorded>,
     addons: &mut [Box<dyn Addon>],
     parts: &[Part],
     hook: Hook,
@@ -135,14 +150,14 @@ fn ask_parts<F: Files>(
     files: &mut F,
 ) -> Result<(), NoMemory>
     ensures moved { OnOk result (PartsMove title state moves rules.now hook parts.now
-        draft.old addons.old (files_meaning F.contents F.calls F.misses F.faults F.losses files.old)
-        draft.new addons.new (files_meaning F.contents F.calls F.misses F.faults F.losses files.new)) }
-    ensures failed { OnErr result (PartsFail title state moves rules.now hook parts.now draft.old addons.old
+        draft.old (movers_of replay.old addons.old) (files_meaning F.contents F.calls F.misses F.faults F.losses files.old)
+        draft.new (movers_of replay.new addons.new) (files_meaning F.contents F.calls F.misses F.faults F.losses files.new)) }
+    ensures failed { OnErr result (PartsFail title state moves rules.now hook parts.now draft.old (movers_of replay.old addons.old)
         (files_meaning F.contents F.calls F.misses F.faults F.losses files.old)
         (files_meaning F.contents F.calls F.misses F.faults F.losses files.new)) }
 {
     for i in 0..parts.len() {
-        ask_part(alloc, rules, addons, parts[i], hook, draft, files)?;
+        ask_part(alloc, rules, replay, addons, parts[i], hook, draft, files)?;
     }
     Ok(())
 }
@@ -151,6 +166,7 @@ fn ask_parts<F: Files>(
 fn ask_part<F: Files>(
     alloc: Global,
     rules: &Rules,
+    replay: &mut Option<Recorded>,
     addons: &mut [Box<dyn Addon>],
     part: Part,
     hook: Hook,
@@ -158,8 +174,8 @@ fn ask_part<F: Files>(
     files: &mut F,
 ) -> Result<(), NoMemory>
     ensures moved { OnOk result (PartInTurn title state moves rules.now hook part
-        draft.old addons.old (files_meaning F.contents F.calls F.misses F.faults F.losses files.old)
-        draft.new addons.new (files_meaning F.contents F.calls F.misses F.faults F.losses files.new)) }
+        draft.old (movers_of replay.old addons.old) (files_meaning F.contents F.calls F.misses F.faults F.losses files.old)
+        draft.new (movers_of replay.new addons.new) (files_meaning F.contents F.calls F.misses F.faults F.losses files.new)) }
     ensures failed { OnErr result ((is_going draft.old.verdict ≡ true) × PartFails rules.now part draft.old
         (files_meaning F.contents F.calls F.misses F.faults F.losses files.old)
         (files_meaning F.contents F.calls F.misses F.faults F.losses files.new)) }
@@ -174,6 +190,7 @@ fn ask_part<F: Files>(
         Part::ModifyHeaders => rules.modify_headers(hook, &mut draft.flow),
         Part::Anticache => rules.put_uncached(alloc, &mut draft.flow),
         Part::Anticomp => rules.put_uncoded(alloc, &mut draft.flow),
+        Part::ServerReplay => ask_replay(alloc, replay, draft),
         Part::ModifyBody => rules.modify_body(hook, &mut draft.flow),
         Part::Addons => ask_addons(addons, hook, draft),
     }

@@ -1,10 +1,11 @@
 //! Laws of chains and addons. Each function does nothing; what it ensures is the law.
-ghost use Rattle.std.specs.Prelude.{◌≡◌, ◌==◌, ℕ, List, [], ◌∷◌, map, None, Some, if◌then◌else◌};
-ghost use Rattle.px_addons.specs.Chain.{AddonsMove, ChainAnswers, ChainFails, SameAddons, TwoInTurn};
+ghost use Rattle.std.specs.Prelude.{◌≡◌, ◌≢◌, ◌==◌, ℕ, Bool, List, [], ◌∷◌, map, None, Some, Option, slice_get, if◌then◌else◌};
+ghost use Rattle.px_addons.specs.Chain.{AddonsMove, ChainAnswers, ChainFails, Movers, SameAddons, TwoInTurn, movers_of};
 ghost use Rattle.px_addons.specs.Counter.{counted, counts};
 ghost use Rattle.px_addons.specs.Mapped.{ReadsOfRules};
 ghost use Rattle.px_addons.specs.Moving.{KeepsDrafts};
 ghost use Rattle.px_addons.specs.Quiet.{NoRules};
+ghost use Rattle.px_addons.specs.ReplayRuns.{AreOfRecorded, Given, InTurn};
 ghost use Rattle.px_addons.specs.declared.rules.Rules.{Rules};
 ghost use Rattle.px_core.specs.Answers.{AnswererState, FilesAfter, FilesMeaning};
 ghost use Rattle.px_core.specs.declared.answerer.Answer.{Answer};
@@ -17,19 +18,24 @@ ghost use Rattle.px_map.specs.Block.{block_status};
 ghost use Rattle.px_map.specs.Responses.{internal_error, not_found};
 ghost use Rattle.px_map.specs.View.{block_views, local_views};
 ghost use Rattle.px_message.specs.declared.flow.Flow.{Flow};
+ghost use Rattle.px_message.specs.declared.response.Response.{Response};
+ghost use Rattle.px_replay.specs.Replaying as replaying;
+ghost use Rattle.px_replay.specs.Replaying.{Replaying, place_of, started};
+ghost use Rattle.px_replay.specs.declared.options.KeyOptions.{KeyOptions};
+ghost use Rattle.px_replay.specs.declared.replay.Extra.{Extra};
 ghost use Rattle.px_write.specs.Short.{short_response};
 
 use crate::{Addon, Chain};
 use px_core::Answerer;
 
-/// A chain without rules that has this addon alone, which leaves every draft as it is, answers every hook with the flow as it was
-/// asked about, streams nothing and leaves files as they are; and it is such a chain still, without rules and with the same addon
-/// alone. Of chains of many addons, or of none, px_core's law `answers_are_of_their_kind` says it, at `Chain`, and of files the next law.
+/// A chain without rules and recorded list that has this addon alone, which leaves every draft as it is, answers every hook with the flow
+/// as it was asked about, streams nothing and leaves files as they are; and it is such a chain still, without rules and recorded list and with
+/// the same addon alone. Of chains of many addons, or of none, px_core's law `answers_are_of_their_kind` says it, at `Chain`, and of files the next law.
 pub fn a_chain_that_changes_nothing(addon: &Box<dyn Addon>)
-    ensures { (hook : AskedHook) (flow : Flow) (rules new_rules : Rules) (files new_files : FilesMeaning) (new : _) (answer : Answer) →
+    ensures { (hook : AskedHook) (flow : Flow) (rules new_rules : Rules) (files new_files : FilesMeaning) (new : Movers _) (answer : Answer) →
         NoRules rules → KeepsDrafts (moves addon.now) →
-        ChainAnswers title state moves hook flow rules (addon.now ∷ []) files new_rules new new_files answer →
-        (answer ≡ answers.Reply (replies.Go flow None)) × NoRules new_rules × SameAddons title state moves (addon.now ∷ []) new × (new_files ≡ files) }
+        ChainAnswers title state moves hook flow rules (movers_of None (addon.now ∷ [])) files new_rules new new_files answer →
+        (answer ≡ answers.Reply (replies.Go flow None)) × NoRules new_rules × (new.replay ≡ None) × SameAddons title state moves (addon.now ∷ []) new.addons × (new_files ≡ files) }
 {}
 
 /// A chain without map local rules leaves files as they are, whatever its other rules and its addons: in each answer, where memory ran
@@ -76,10 +82,30 @@ pub fn map_local_answers_with_short_responses()
 
 /// An answer leaves the same addons in the same order, each with the name and the relation that it had.
 pub fn an_answer_keeps_its_addons(addon: &Box<dyn Addon>)
-    ensures same { (hook : AskedHook) (flow : Flow) (rules new_rules : Rules) (files new_files : FilesMeaning) (old new : _) (answer : Answer) →
-        ChainAnswers title state moves hook flow rules old files new_rules new new_files answer → SameAddons title state moves old new }
-    ensures names { (hook : AskedHook) (flow : Flow) (rules new_rules : Rules) (files new_files : FilesMeaning) (old new : _) (answer : Answer) →
-        ChainAnswers title state moves hook flow rules old files new_rules new new_files answer → map title new ≡ map title old }
+    ensures same { (hook : AskedHook) (flow : Flow) (rules new_rules : Rules) (files new_files : FilesMeaning) (old new : Movers _) (answer : Answer) →
+        ChainAnswers title state moves hook flow rules old files new_rules new new_files answer → SameAddons title state moves old.addons new.addons }
+    ensures names { (hook : AskedHook) (flow : Flow) (rules new_rules : Rules) (files new_files : FilesMeaning) (old new : Movers _) (answer : Answer) →
+        ChainAnswers title state moves hook flow rules old files new_rules new new_files answer → map title new.addons ≡ map title old.addons }
+{}
+
+/// Recorded flows are asked first about a whole request. Where one of them has the request's key and may answer, the answer is its response,
+/// the first such place is used from then on, no addon is asked and no file is read. At any other hook the recorded list stays as it is.
+pub fn recorded_flows_come_first_at_a_whole_request(addon: &Box<dyn Addon>)
+    ensures found { (flow : Flow) (rules new_rules : Rules) (files new_files : FilesMeaning) (old new : Movers _) (recorded : Replaying) (place : ℕ) (answer : Answer) →
+        old.replay ≡ Some recorded → place_of recorded flow.request ≡ Some place →
+        ChainAnswers title state moves hooks.RequestBody flow rules old files new_rules new new_files answer →
+        (response : Response) × (slice_get (map (λ r. r.response) recorded.recordings) place ≡ Some response) × (answer ≡ answers.Reply (replies.Respond response))
+        × (new.replay ≡ Some (replaying.after recorded (Some place))) × (new.addons ≡ old.addons) × (new_files ≡ files) }
+    ensures elsewhere { (hook : AskedHook) (flow : Flow) (rules new_rules : Rules) (files new_files : FilesMeaning) (old new : Movers _) (answer : Answer) →
+        hook ≢ hooks.RequestBody → ChainAnswers title state moves hook flow rules old files new_rules new new_files answer → new.replay ≡ old.replay }
+{}
+
+/// Over any number of answers one behind the other, each whole request gets the least recorded place with its key that no whole request
+/// before it got, with reuse the least with its key, and is answered by the response there. Where it gets none, it is answered by the
+/// extra answer; of a request that goes on, the parts behind decide.
+pub fn each_whole_request_gets_the_least_place(addon: &Box<dyn Addon>)
+    ensures { (how : KeyOptions) (reuse : Bool) (extra : Extra) (flows : List Flow) (made : List Given) (last : Option Replaying) →
+        InTurn title state moves (Some (started how reuse extra flows)) made last → AreOfRecorded (started how reuse extra flows) made }
 {}
 
 /// Of two addons the second is asked about the draft that the first left.

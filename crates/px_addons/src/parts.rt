@@ -19,6 +19,8 @@ pub enum Part {
     Anticache,
     /// The wish for an answer in no coding.
     Anticomp,
+    /// Server replay.
+    ServerReplay,
     /// The body rules.
     ModifyBody,
     /// The addons that were handed in.
@@ -39,7 +41,7 @@ pub(crate) fn parts(hook: Hook) -> &'static [Part]
             Part::Anticomp,
             Part::Addons,
         ],
-        Hook::RequestBody => &[Part::ModifyBody, Part::Addons],
+        Hook::RequestBody => &[Part::ServerReplay, Part::ModifyBody, Part::Addons],
         Hook::ResponseHead => &[Part::ModifyHeaders, Part::Addons],
         Hook::ResponseBody => &[Part::ModifyBody, Part::Addons],
         Hook::WsMessage(_) => &[Part::ModifyBody, Part::Addons],

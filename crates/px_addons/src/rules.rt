@@ -11,6 +11,7 @@ ghost use Rattle.px_rule.specs.View.{body_views, header_views};
 use px_event::Hook;
 use px_map::{BlockRules, LocalRules, RemoteRules};
 use px_message::{Fields, Flow, Request, Shared};
+use px_replay::Recorded;
 use px_rule::{BodyRules, HeaderRules, anticache, anticomp};
 use px_text::NoMemory;
 use std::alloc::Global;
@@ -32,12 +33,14 @@ pub struct Rules {
     pub anticache: bool,
     /// Whether requests wish for no coding (mitmproxy's option `anticomp`).
     pub anticomp: bool,
+    /// Recorded flows that answer whole requests in place of a server, if there are some (mitmproxy's option `server_replay`).
+    pub replay: Option<Recorded>,
     /// Above how many bytes a body may be streamed; an addon may change it for one flow (mitmproxy's option `stream_large_bodies`).
     pub stream: Option<u64>,
 }
 
 impl Rules {
-    /// No rule, and nothing is streamed. It takes no memory.
+    /// No rule, no recorded flow, and nothing is streamed. It takes no memory.
     pub fn none(alloc: Global) -> Rules
         ensures block { block_views result.block ≡ [] }
         ensures local { local_views result.local ≡ [] }
@@ -46,6 +49,7 @@ impl Rules {
         ensures bodies { body_views result.bodies ≡ [] }
         ensures anticache { result.anticache ≡ false }
         ensures anticomp { result.anticomp ≡ false }
+        ensures replay { result.replay ≡ None }
         ensures stream { result.stream ≡ None }
         ensures none { NoRules result }
     {
@@ -57,6 +61,7 @@ impl Rules {
             bodies: BodyRules::none(alloc),
             anticache: false,
             anticomp: false,
+            replay: None,
             stream: None,
         }
     }

@@ -1,5 +1,6 @@
 use Rattle.std.proofs.Common.{refl}
 use Rattle.px_core.proofs.AnswerLemmas.{kept_after}
+use Rattle.px_addons.specs.Chain.{movers_of}
 use Rattle.px_addons.specs.QuietLaws.{answers_leave, failures_leave}
 use Rattle.px_addons.proofs.RunLemmas.{keeps_files}
 use Rattle.px_addons.proofs.laws.a_chain_without_map_local_reads_nothing.Goals as goal
@@ -13,4 +14,4 @@ returns-clause-failed g c hook flow rules files new_files old none failed = fail
 
 pub returns-clause-run : goal.returns-clause-run
 returns-clause-run g c first files none after =
-    kept_after _ _ _ _ (keeps_files _ _ _ (λ chain. chain.rules) (λ chain. chain.addons.items) first.own.rules none) first files refl after
+    kept_after _ _ _ _ (keeps_files _ _ _ (λ chain. chain.rules) (λ chain. movers_of chain.replay chain.addons.items) first.own.rules none) first files refl after

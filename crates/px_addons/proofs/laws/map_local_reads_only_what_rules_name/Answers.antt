@@ -1,5 +1,6 @@
 use Rattle.std.proofs.Common.{refl}
 use Rattle.px_core.proofs.AnswerLemmas.{kept_after}
+use Rattle.px_addons.specs.Chain.{movers_of}
 use Rattle.px_addons.specs.Parts.{parts}
 use Rattle.px_addons.proofs.FilesLemmas.{failure_reads, parts_read}
 use Rattle.px_addons.proofs.RunLemmas.{keeps_reads}
@@ -14,4 +15,4 @@ returns-clause-failed g c hook flow rules files new_files old failed = failure_r
 
 pub returns-clause-run : goal.returns-clause-run
 returns-clause-run g c first files after =
-    kept_after _ _ _ _ (keeps_reads _ _ _ (λ chain. chain.rules) (λ chain. chain.addons.items) first.own.rules) first files refl after
+    kept_after _ _ _ _ (keeps_reads _ _ _ (λ chain. chain.rules) (λ chain. movers_of chain.replay chain.addons.items) first.own.rules) first files refl after
