@@ -1,14 +1,13 @@
 -- The flows of a file, one turn after the other.
-use Rattle.std.proofs.Common.{◌≡◌, ◌≢◌, ◌≤◌, ◌<◌, ◌-◌, ◌⊎◌, inl, inr, ℕ, Bool, true, false, List, [], ◌∷◌, ◌++◌, length, Option, Some, Ok, Err, refl, sym, ap, ◌∙◌, subst, arith, length-append, append-nil}
-use Rattle.std.specs.Prelude.{◌==◌, if◌then◌else◌, filter, decimal}
+use Rattle.std.proofs.Common.{◌≡◌, ◌≢◌, ◌≤◌, ◌-◌, ◌⊎◌, inl, inr, ℕ, Bool, true, false, List, [], ◌∷◌, ◌++◌, length, Option, Ok, Err, refl, sym, ap, ◌∙◌, subst, arith, append-nil}
+use Rattle.std.specs.Prelude.{◌==◌, if◌then◌else◌, filter}
 use Rattle.std.specs.List.{flat_map}
 use Rattle.std.proofs.lemmas.Grind.{flat_map-append}
 use Rattle.std.proofs.lemmas.List.Elements.{filter-append}
 use Rattle.px_message.specs.declared.flow.Flow.{Flow}
 use Rattle.px_outside.specs.Count.{Rose}
 use Rattle.px_outside.specs.Sink.{Writes, WritesPart}
-use Rattle.px_tnet.specs.Frame.{Framed, colon, framed}
-use Rattle.px_flowfile.specs.Reader.{BeginsWith, ComesNext}
+use Rattle.px_flowfile.specs.Reader.{BeginsWith}
 use Rattle.px_flowfile.specs.declared.entry.Entry.{Entry}
 use Rattle.px_filter.specs.Expression.{Expression}
 use Rattle.px_filter.specs.Holds.{holds}
@@ -23,24 +22,15 @@ use Rattle.px_map.proofs.ReadsLemmas.{made_none}
 use Rattle.px_addons.specs.Mapped.{seen_of}
 use Rattle.px_view.specs.Line.{flow_line}
 use Rattle.px_app.specs.FlowTurns.{PrintsSo, IsFaultTurn, Turns, line_where}
-use Rattle.px_app.specs.Flows.{Fetched, IsBadPlace, HasFlows, at_front, one_more, ListsFile, Shows, lines_of, no_filter, nothing_fetched, file_absent, file_unread, fetched}
+use Rattle.px_app.specs.FlowFile.{IsBadPlace, HasFlows, at_front}
+use Rattle.px_app.specs.Flows.{Fetched, ListsFile, Shows, lines_of, no_filter, nothing_fetched, file_absent, file_unread, fetched}
 use Rattle.px_app.specs.Lines.{bad_filter, bad_flow_file, cannot_read}
 use Rattle.px_app.specs.Outside.{IsTold, Outside}
 use Rattle.px_app.specs.declared.flows.FlowTurn.{FlowTurn}
 use Rattle.px_app.specs.declared.flows.FlowTurn.TheVariants as turns
+use Rattle.px_app.proofs.FlowFileLemmas.{has_more}
 use Rattle.px_app.proofs.PrintLemmas.{whole_part, writes_more, writes_none, writes_part}
 use Rattle.px_app.proofs.ToldLemmas.{told_none, told_nothing}
-
--- what stands behind a frame is less
-framed_less : (payload : List ℕ) (tag : ℕ) (rest text : List ℕ) → Framed payload tag rest text → length rest < length text
-framed_less payload tag rest text is =
-    let whole = ap length is.1 ∙ length-append (framed payload tag) rest in
-    let digits = length-append (decimal (length payload)) (colon ∷ (payload ++ (tag ∷ []))) in
-    omega arith
-
--- what stands behind an entry is less than the text
-pub entry_less : (entry : Entry) (text behind : List ℕ) → BeginsWith entry text behind → length behind < length text
-entry_less entry text behind begins = let item = begins.1 in framed_less item.1 _ behind text item.2
 
 -- ---- lines
 
@@ -70,9 +60,6 @@ gone_none bytes expression rest start all = record {
   printed = writes_none start start refl;
 }
 
-has_more : (bytes rest next : List ℕ) (flows : List Flow) (entry : Entry) → HasFlows bytes flows rest → BeginsWith entry rest next → HasFlows bytes (flows ++ entry.flow ∷ []) next
-has_more bytes rest next flows entry has begins = one_more rest next flows (flows ++ entry.flow ∷ []) entry has begins refl
-
 pub gone_on : (failed : Type 0) (bytes : List ℕ) (expression : Expression) (len : ℕ) (rest next : List ℕ) (start now after : Option (List ℕ)) → Gone bytes expression rest start now →
     Turns failed expression len rest next now after turns.Went → Gone bytes expression next start after
 gone_on failed bytes expression len rest next start now after gone (entry, begins, writes) = record {
@@ -82,10 +69,6 @@ gone_on failed bytes expression len rest next start now after gone (entry, begin
       let P : List ℕ → Type 0 = λ l. Writes l start after in
       subst P (sym (lines_more expression gone.flows entry.flow)) (writes_more (lines_of expression gone.flows) (line_where expression entry.flow) start now after gone.printed writes);
 }
-
--- what comes next is this entry
-pub comes_so : (rest next : List ℕ) (came : Option Entry) (entry : Entry) → came ≡ Some entry → ComesNext rest (Ok came) next → BeginsWith entry rest next
-comes_so rest next came entry is comes = let P : Option Entry → Type 0 = λ o. ComesNext rest (Ok o) next in subst P is comes
 
 -- what a turn came to, after an entry was read and printed so
 pub turned_by : (failed : Type 0) (expression : Expression) (len : ℕ) (rest next : List ℕ) (before after : Option (List ℕ)) (entry : Entry) (turn : FlowTurn) → BeginsWith entry rest next →

@@ -6,7 +6,9 @@ use Rattle.px_core.specs.Answers.{Answering, Failing}
 use Rattle.px_gen.specs.Heard.{Hears}
 use Rattle.px_gen.specs.Noted.{HasGrownByFront, noted, with_steps}
 use Rattle.px_options.specs.Options.{Settings}
+use Rattle.px_addons.specs.declared.rules.Rules.{Rules}
 use Rattle.px_app.specs.Generates.{Generates, generator_settings}
+use Rattle.px_app.specs.Opened.{AreRulesOf}
 use Rattle.px_app.specs.Outside.{Outside}
 use Rattle.px_app.proofs.ToldLemmas.{none_part}
 
@@ -53,6 +55,20 @@ module _ {S : Type 0} {answers : Answering S} {fails : Failing S} {key : List �
   -- the number is the one in the words
   pub generates_at : {count other : ℕ} {before after : Outside} {status : ℕ} → count ≡ other → Generates answers fails key IsChain out count before after status → Generates answers fails key IsChain out other before after status
   generates_at {before = before} {after = after} {status = status} same h = subst (λ n. Generates answers fails key IsChain out n before after status) same h
+
+-- the rules of a chain, whose recorded list stands beside them
+pub rules_alone : (settings : Settings) (rules : Rules) → AreRulesOf settings rules → AreRulesOf settings (record rules { replay = None })
+rules_alone settings rules are = record {
+  block = are.block;
+  local = are.local;
+  remote = are.remote;
+  headers = are.headers;
+  bodies = are.bodies;
+  anticache = are.anticache;
+  anticomp = are.anticomp;
+  replay = refl;
+  stream = are.stream;
+}
 
 -- all was printed, but for a sink that failed and out of memory
 pub complete_by : (failed : Type 0) (status : ℕ) → (status ≡ 0) ⊎ ((status ≡ 7) ⊎ (status ≡ 8)) → (status ≡ 7 → failed) → ¬ failed → (status ≡ 0) ⊎ (status ≡ 8)

@@ -3,6 +3,7 @@ pub mod WordLemmas
 pub mod NetLemmas
 pub mod ToldLemmas
 pub mod OpenLemmas
+pub mod SetupLemmas
 pub mod PrintLemmas
 pub mod SavedLemmas
 pub mod RestLemmas
@@ -25,4 +26,6 @@ pub mod ServerLemmas
 pub mod HttpServers
 pub mod StackServers
 pub mod GenerateLemmas
+pub mod FlowFileLemmas
 pub mod FlowsLemmas
+pub mod LoadLemmas

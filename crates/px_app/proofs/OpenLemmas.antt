@@ -1,16 +1,25 @@
--- What is read of the options file, and what is told of it.
-use Rattle.std.proofs.Common.{◌≡◌, ◌⊎◌, inl, inr, ℕ, List, [], ◌∷◌, Result, Ok, Err, IfOk, IfErr, refl, subst}
+-- What is read of the options file and of flow files, and what is told of it.
+use Rattle.std.proofs.Common.{◌≡◌, ◌⊎◌, inl, inr, ℕ, List, [], ◌∷◌, Result, Ok, Err, IfOk, IfErr, refl, sym, subst}
+use Rattle.px_message.specs.declared.flow.Flow.{Flow}
 use Rattle.px_outside.specs.Count.{Rose}
+use Rattle.px_outside.specs.declared.files.FileCall.{FileCall}
 use Rattle.px_outside.specs.declared.files.FileCall.TheVariants.{Read}
 use Rattle.px_map.specs.Reads.{Made, Seen}
+use Rattle.px_map.proofs.ReadsLemmas.{made_both}
 use Rattle.px_core.specs.Answers.{Answering, Failing, FilesMeaning}
 use Rattle.px_addons.specs.Mapped.{seen_of}
 use Rattle.px_options.specs.Options.{Says, Settings}
+use Rattle.px_app.specs.Lines.{bad_flow_file, cannot_read}
+use Rattle.px_app.specs.Loaded.{Loaded, LoadsFiles, loaded, one_absent, one_bad, one_unread, unloaded}
+use Rattle.px_app.specs.Loading.{load_code, load_line, stop_of}
 use Rattle.px_app.specs.Opened.{IsNoOptions, IsNotOpened, Opened, nothing_read, absent, not_read, unjudged, refused, says, error_code, error_line, error_note}
 use Rattle.px_app.specs.Outside.{IsTold, Outside}
-use Rattle.px_app.specs.Serves.{Serves, ServesFile}
+use Rattle.px_app.specs.Serves.{RunsBy, RunsWith, ServesFile, Stops}
+use Rattle.px_app.specs.declared.loading.LoadError.{LoadError}
+use Rattle.px_app.specs.declared.loading.LoadError.TheVariants as loads
 use Rattle.px_app.specs.declared.opening.OpenError.{OpenError}
 use Rattle.px_app.specs.declared.opening.OpenError.TheVariants as errors
+use Rattle.px_app.proofs.LoadLemmas.{breaks_behind}
 
 -- the bytes were read, and judged so
 pub judged_so : (path bytes : List ℕ) (error : OpenError) (before after : Seen) → Made (Read path bytes ∷ []) before after → IsNoOptions bytes error → IsNotOpened path error before after
@@ -26,7 +35,7 @@ pub err_judged : {T : Type 0} (result : Result T OpenError) (P Q : OpenError →
 err_judged (Ok t) P Q h f = tt
 err_judged (Err e) P Q h f = f e h
 
-module _ {S : Type 0} (answers : Answering S) (fails : Failing S) (key : List ℕ) (IsChain : Settings → S → Type 0) (same net out save notes : Type 0) (path : List ℕ) (before after : Outside) (status : ℕ) where
+module _ {S : Type 0} (answers : Answering S) (fails : Failing S) (key : List ℕ) (IsChain : Settings → List Flow → S → Type 0) (same net out save notes : Type 0) (path : List ℕ) (before after : Outside) (status : ℕ) where
   -- a run without options
   pub not_opened : (error : OpenError) → IsNotOpened path error (seen_of before.files) (seen_of after.files) → same → (status ≡ error_code error) ⊎ (status ≡ 8) →
       IsTold out status (error_line path error) before.written after.written → IsTold notes status (error_note error) before.noted after.noted →
@@ -42,29 +51,76 @@ module _ {S : Type 0} (answers : Answering S) (fails : Failing S) (key : List �
   not_opened errors.NoMemory (inr (bytes, made)) is_same is printed noted =
       (unjudged bytes, record { read = after.files; reads = made; runs = record { is = is; net = is_same; kept = refl; prints = printed; notes = noted } })
 
--- what files meant before is no part of what serving promises
-pub serves_from : {S : Type 0} {answers : Answering S} {fails : Failing S} {key : List ℕ} {net out save notes : Type 0} {settings : Settings} {chain : S} {read : FilesMeaning} (files : FilesMeaning) (before : Outside) {after : Outside} {status : ℕ} →
-    Serves answers fails key net out save notes settings chain read (record before { files = files }) after status → Serves answers fails key net out save notes settings chain read before after status
-serves_from files before h = record {
-  promises = h.promises;
-  files = h.files;
-  listening = h.listening;
-  causes = h.causes;
-  ends = h.ends;
-  prints = h.prints;
-  notes = h.notes;
-}
+-- ---- the run behind the files
 
--- a run that served
-pub opened_so : {S : Type 0} {answers : Answering S} {fails : Failing S} {key : List ℕ} {IsChain : Settings → S → Type 0} {same net out save notes : Type 0} {read : FilesMeaning} {before after : Outside} {status : ℕ} (path bytes : List ℕ) (settings : Settings) →
-    Made (Read path bytes ∷ []) (seen_of before.files) (seen_of read) → Says bytes (Ok settings) → (chain : S) → IsChain settings chain →
-    Serves answers fails key net out save notes settings chain read (record before { files = read }) after status →
-    (opened : Opened) × ServesFile answers fails key IsChain same net out save notes path opened before after status
-opened_so {read = read} {before = before} path bytes settings made said chain so served =
-    (says bytes settings, record { read = read; reads = made; runs = (said, (chain, so, serves_from read before served)) })
+module _ {S : Type 0} (answers : Answering S) (fails : Failing S) (key : List ℕ) (IsChain : Settings → List Flow → S → Type 0) (same net out save notes : Type 0) (settings : Settings) where
+  stops_from : (code : ℕ) (line : List ℕ) (files read : FilesMeaning) (before after : Outside) (status : ℕ) → Stops same out notes code line [] read (record before { files = files }) after status →
+      Stops same out notes code line [] read before after status
+  stops_from code line files read before after status h = record { is = h.is; net = h.net; kept = h.kept; prints = h.prints; notes = h.notes }
 
--- what failed since the options file was read failed in the run
-pub serves_since : {S : Type 0} {answers : Answering S} {fails : Failing S} {key : List ℕ} {net out notes : Type 0} {settings : Settings} {chain : S} {read : FilesMeaning} {before after : Outside} {status : ℕ} (mid old new : ℕ) → mid ≡ old →
-    Serves answers fails key net out (Rose mid new) notes settings chain read before after status → Serves answers fails key net out (Rose old new) notes settings chain read before after status
-serves_since {answers = answers} {fails = fails} {key = key} {net = net} {out = out} {notes = notes} {settings = settings} {chain = chain} {read = read} {before = before} {after = after} {status = status} mid old new same =
-    let P : ℕ → Type 0 = λ n. Serves answers fails key net out (Rose n new) notes settings chain read before after status in subst P same
+  -- what files meant before is no part of what a run promises
+  runs_so : (what : Loaded) (files read : FilesMeaning) (before after : Outside) (status : ℕ) → RunsBy answers fails key IsChain same net out save notes settings what read (record before { files = files }) after status →
+      RunsBy answers fails key IsChain same net out save notes settings what read before after status
+  runs_so (loaded flows) files read before after status (chain, so, h) = (
+    chain,
+    so,
+    record {
+      promises = h.promises;
+      files = h.files;
+      listening = h.listening;
+      causes = h.causes;
+      ends = h.ends;
+      prints = h.prints;
+      notes = h.notes;
+    },
+  )
+  runs_so (one_absent path) files read before after status h = stops_from 3 (cannot_read path) files read before after status h
+  runs_so (one_unread path) files read before after status h = stops_from 3 (cannot_read path) files read before after status h
+  runs_so (one_bad path offset) files read before after status h = stops_from 4 (bad_flow_file path offset) files read before after status h
+  runs_so unloaded files read before after status h = stops_from 8 [] files read before after status h
+
+  pub runs_from : (what : Loaded) (files read : FilesMeaning) (before after : Outside) (status : ℕ) → RunsWith answers fails key IsChain same net out save notes settings what read (record before { files = files }) after status →
+      RunsWith answers fails key IsChain same net out save notes settings what read before after status
+  runs_from what files read before after status h = record { so = runs_so what files read before after status h.so }
+
+  -- a flow file that ends the run
+  pub no_flows : (error : LoadError) (before after : Outside) (status : ℕ) → same → (status ≡ load_code error) ⊎ (status ≡ 8) →
+      IsTold out status (load_line error) before.written after.written → IsTold notes status [] before.noted after.noted →
+      RunsWith answers fails key IsChain same net out save notes settings (stop_of error) after.files before after status
+  no_flows (loads.Absent path) before after status is_same is printed noted = record { so = record { is = is; net = is_same; kept = refl; prints = printed; notes = noted } }
+  no_flows (loads.NotRead path) before after status is_same is printed noted = record { so = record { is = is; net = is_same; kept = refl; prints = printed; notes = noted } }
+  no_flows (loads.BadPlace path offset) before after status is_same is printed noted = record { so = record { is = is; net = is_same; kept = refl; prints = printed; notes = noted } }
+  no_flows loads.NoMemory before after status is_same is printed noted = record { so = record { is = is; net = is_same; kept = refl; prints = printed; notes = noted } }
+
+  -- the run of these options, behind the read of their file
+  pub opened_so : (path bytes : List ℕ) (calls : List FileCall) (what : Loaded) (mid read : FilesMeaning) (before after : Outside) (status : ℕ) →
+      Made (Read path bytes ∷ []) (seen_of before.files) (seen_of mid) → Says bytes (Ok settings) → LoadsFiles settings.server_replay calls what → Made calls (seen_of mid) (seen_of read) →
+      RunsWith answers fails key IsChain same net out save notes settings what read (record before { files = mid }) after status →
+      (opened : Opened) × ServesFile answers fails key IsChain same net out save notes path opened before after status
+  opened_so path bytes calls what mid read before after status made said loads more runs = (
+    says bytes settings calls what,
+    record {
+      read = read;
+      reads = made_both (Read path bytes ∷ []) calls (seen_of before.files) (seen_of mid) (seen_of read) made more;
+      runs = (said, loads, runs_from what mid read before after status runs);
+    },
+  )
+
+-- the flows are there, or memory ran out behind them
+pub with_flows : (settings : Settings) (calls : List FileCall) (flows : List Flow) (paths : List (List ℕ)) (what : Loaded) → paths ≡ settings.server_replay → LoadsFiles paths calls (loaded flows) →
+    (what ≡ loaded flows) ⊎ (what ≡ unloaded) → LoadsFiles settings.server_replay calls what
+with_flows settings calls flows paths what of_options loads (inl is) =
+    let P : List (List ℕ) → Type 0 = λ p. LoadsFiles p calls what in
+    let Q : Loaded → Type 0 = λ w. LoadsFiles paths calls w in
+    subst P of_options (subst Q (sym is) loads)
+with_flows settings calls flows paths what of_options loads (inr is) =
+    let P : List (List ℕ) → Type 0 = λ p. LoadsFiles p calls what in
+    let Q : Loaded → Type 0 = λ w. LoadsFiles paths calls w in
+    subst P of_options (subst Q (sym is) (breaks_behind paths calls (loaded flows) flows loads refl))
+
+-- what failed since files were read failed in the run
+pub runs_since : {S : Type 0} (answers : Answering S) (fails : Failing S) (key : List ℕ) (IsChain : Settings → List Flow → S → Type 0) (same net out notes : Type 0) (settings : Settings) (what : Loaded) (read : FilesMeaning)
+    (before after : Outside) (status mid old new : ℕ) → mid ≡ old → RunsWith answers fails key IsChain same net out (Rose mid new) notes settings what read before after status →
+    RunsWith answers fails key IsChain same net out (Rose old new) notes settings what read before after status
+runs_since answers fails key IsChain same net out notes settings what read before after status mid old new is =
+    let P : ℕ → Type 0 = λ n. RunsWith answers fails key IsChain same net out (Rose n new) notes settings what read before after status in subst P is

@@ -7,7 +7,7 @@ use Rattle.px_flowfile.specs.declared.entry.Entry.{Entry}
 use Rattle.px_filter.specs.Expression.{Expression}
 use Rattle.px_filter.specs.Holds.{holds}
 use Rattle.px_view.specs.Line.{flow_line}
-use Rattle.px_app.specs.Flows.{BeginsWithNone, IsBadPlace}
+use Rattle.px_app.specs.FlowFile.{BeginsWithNone, IsBadPlace}
 use Rattle.px_app.specs.declared.flows.FlowTurn.{FlowTurn}
 use Rattle.px_app.specs.declared.flows.FlowTurn.TheVariants as turns
 

@@ -1,18 +1,10 @@
 -- What a run promises with the words `flows FILE FILTER`.
-use Rattle.std.specs.Prelude.{◌≡◌, ◌≢◌, ◌⊎◌, ℕ, ◌-◌, ◌==◌, if◌then◌else◌, List, [], ◌∷◌, ◌++◌, length, filter, Option, Ok, Err}
+use Rattle.std.specs.Prelude.{◌≡◌, ◌⊎◌, ℕ, ◌-◌, ◌==◌, if◌then◌else◌, List, [], ◌∷◌, length, filter, Option, Ok, Err}
 use Rattle.std.specs.List.{flat_map}
 use Rattle.px_message.specs.declared.flow.Flow.{Flow}
 use Rattle.px_outside.specs.Sink.{Writes, WritesPart}
 use Rattle.px_outside.specs.declared.files.FileCall.{FileCall}
 use Rattle.px_outside.specs.declared.files.FileCall.TheVariants.{Read, Missed, ReadFailed}
-use Rattle.px_tnet.specs.Items.{IsItem, most_deep}
-use Rattle.px_tnet.specs.Items as items
-use Rattle.px_tnet.specs.Tree.{Tree}
-use Rattle.px_tnet.specs.declared.error.TnetError.{TnetError}
-use Rattle.px_flowfile.specs.FlowTable.{IsNoFlow}
-use Rattle.px_flowfile.specs.Reader.{BeginsWith}
-use Rattle.px_flowfile.specs.declared.entry.Entry.{Entry}
-use Rattle.px_flowfile.specs.declared.error.FlowFileError.{FlowFileError}
 use Rattle.px_filter.specs.Expression.{Expression}
 use Rattle.px_filter.specs.Holds.{holds}
 use Rattle.px_filter.specs.Parsing.{parse, place_of}
@@ -21,25 +13,10 @@ use Rattle.px_filter.specs.declared.filter.FilterError.{FilterError}
 use Rattle.px_map.specs.Reads.{Made}
 use Rattle.px_addons.specs.Mapped.{seen_of}
 use Rattle.px_view.specs.Line.{flow_line}
+use Rattle.px_app.specs.FlowFile.{HasFlows, IsBadPlace}
 use Rattle.px_app.specs.Lines.{bad_filter, bad_flow_file, cannot_read}
 use Rattle.px_app.specs.Outside.{Outside, IsTold}
 use Rattle.px_app.specs.Serves.{Stops}
-
--- these are the flows of the entries at the front of a file's text, one behind the other, with this text behind them
-pub data HasFlows (text : List ℕ) : List Flow → List ℕ → Type 0 where
-  at_front : HasFlows text [] text
-  one_more : (behind rest : List ℕ) (flows next : List Flow) (entry : Entry) →
-      HasFlows text flows behind → BeginsWith entry behind rest → next ≡ flows ++ entry.flow ∷ [] → HasFlows text next rest
-
--- a text begins with no entry: with no tree, or with one that is no flow
-abbrev pub BeginsWithNone : List ℕ → Type 0
-BeginsWithNone text =
-    ((cause : TnetError) × items.IsRefused most_deep text cause)
-    ⊎ ((tree : Tree) × (behind : List ℕ) × (cause : FlowFileError) × IsItem most_deep tree text behind × IsNoFlow tree cause)
-
--- a place of a file that is bad: something stands there, and it begins with no entry
-abbrev pub IsBadPlace : List ℕ → Type 0
-IsBadPlace text = (text ≢ []) × BeginsWithNone text
 
 -- the line of each of the flows on which the filter holds, in their order
 abbrev pub lines_of : Expression → List Flow → List ℕ

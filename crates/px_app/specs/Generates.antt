@@ -40,6 +40,14 @@ generator_settings = record {
   modify_headers = generator_headers;
   save_stream_file = lines.save_stream_file.default;
   save_stream_filter = lines.save_stream_filter.default;
+  server_replay = lines.server_replay.default;
+  server_replay_extra = lines.server_replay_extra.default;
+  server_replay_ignore_content = lines.server_replay_ignore_content.default;
+  server_replay_ignore_host = lines.server_replay_ignore_host.default;
+  server_replay_ignore_params = lines.server_replay_ignore_params.default;
+  server_replay_ignore_port = lines.server_replay_ignore_port.default;
+  server_replay_reuse = lines.server_replay_reuse.default;
+  server_replay_use_headers = lines.server_replay_use_headers.default;
 }
 
 -- no change appended anything, so each left all as it was

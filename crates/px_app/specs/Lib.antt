@@ -2,6 +2,9 @@ pub mod Words
 pub mod Lines
 pub mod Statuses
 pub mod Outside
+pub mod FlowFile
+pub mod Loaded
+pub mod Loading
 pub mod Opened
 pub mod Listed
 pub mod Printed
@@ -14,6 +17,7 @@ pub mod Servers
 pub mod Run
 pub mod Promises
 pub mod Serves
+pub mod Setup
 pub mod Generates
 pub mod Flows
 pub mod FlowTurns

@@ -1,15 +1,19 @@
--- What came of the options file of a run.
-use Rattle.std.specs.Prelude.{◌≡◌, ◌⊎◌, ℕ, List, [], ◌∷◌, None}
+-- What came of the start of a run: of its options file, and of the flow files that it names.
+use Rattle.std.specs.Prelude.{◌≡◌, ◌⊎◌, ℕ, List, [], ◌∷◌, Option, Some, None}
+use Rattle.px_message.specs.declared.flow.Flow.{Flow}
 use Rattle.px_outside.specs.declared.files.FileCall.{FileCall}
 use Rattle.px_outside.specs.declared.files.FileCall.TheVariants.{Read, Missed, ReadFailed}
 use Rattle.px_addons.specs.declared.rules.Rules.{Rules}
 use Rattle.px_map.specs.Reads.{Made, Seen}
 use Rattle.px_map.specs.View.{block_views, local_views, remote_views}
+use Rattle.px_replay.specs.Replaying.{Replaying, started}
+use Rattle.px_replay.specs.declared.options.KeyOptions.{KeyOptions}
 use Rattle.px_rule.specs.View.{body_views, header_views}
 use Rattle.px_options.specs.Options.{IsRefused, Settings}
 use Rattle.px_options.specs.declared.error.OptionsError.{OptionsError}
 use Rattle.px_options.specs.Shown.{refusal_line, refusal_note}
 use Rattle.px_app.specs.Lines.{cannot_read}
+use Rattle.px_app.specs.Loaded.{Loaded}
 use Rattle.px_app.specs.declared.opening.OpenError.{OpenError}
 use Rattle.px_app.specs.declared.opening.OpenError.TheVariants as errors
 
@@ -24,19 +28,19 @@ pub data Opened : Type 0 where
   unjudged : (bytes : List ℕ) → Opened
   -- these bytes were read, which are no options, for this cause
   refused : (bytes : List ℕ) (why : OptionsError) → Opened
-  -- these bytes were read, which are these options
-  says : (bytes : List ℕ) (settings : Settings) → Opened
+  -- these bytes were read, which are these options; then these reads were made of the flow files that they name, and this came of them
+  says : (bytes : List ℕ) (settings : Settings) (calls : List FileCall) (what : Loaded) → Opened
 
--- the reads that were made, of the file of this path
+-- the reads that were made, in their order: of the options file of this path, and then of flow files
 abbrev pub reads_of : List ℕ → Opened → List FileCall
 reads_of path nothing_read = []
 reads_of path absent = Missed path ∷ []
 reads_of path not_read = ReadFailed path ∷ []
 reads_of path (unjudged bytes) = Read path bytes ∷ []
 reads_of path (refused bytes why) = Read path bytes ∷ []
-reads_of path (says bytes settings) = Read path bytes ∷ []
+reads_of path (says bytes settings calls what) = Read path bytes ∷ calls
 
--- the rules of a chain are those of the options
+-- the rules of a chain are those of the options; its recorded list stands beside them
 pub record AreRulesOf (settings : Settings) (rules : Rules) : Type 0 where
   pub block : block_views rules.block ≡ settings.block_list
   pub local : local_views rules.local ≡ settings.map_local
@@ -45,7 +49,27 @@ pub record AreRulesOf (settings : Settings) (rules : Rules) : Type 0 where
   pub bodies : body_views rules.bodies ≡ settings.modify_body
   pub anticache : rules.anticache ≡ settings.anticache
   pub anticomp : rules.anticomp ≡ settings.anticomp
+  pub replay : rules.replay ≡ None
   pub stream : rules.stream ≡ None
+
+-- what counts of a request where a recorded one is looked for
+abbrev pub what_counts : Settings → KeyOptions
+what_counts settings = record {
+  ignore_content = settings.server_replay_ignore_content;
+  ignore_host = settings.server_replay_ignore_host;
+  ignore_port = settings.server_replay_ignore_port;
+  ignore_params = settings.server_replay_ignore_params;
+  use_headers = settings.server_replay_use_headers;
+}
+
+-- the recorded list, where a file is named
+abbrev pub recorded_at : List (List ℕ) → Replaying → Option Replaying
+recorded_at [] recorded = None
+recorded_at (path ∷ others) recorded = Some recorded
+
+-- the recorded list of a chain by the options, with these flows of the files that they name
+abbrev pub replay_of : Settings → List Flow → Option Replaying
+replay_of settings flows = recorded_at settings.server_replay (started (what_counts settings) settings.server_replay_reuse settings.server_replay_extra flows)
 
 -- why bytes are no options: they are refused so, or memory ran out
 abbrev pub IsNoOptions : List ℕ → OpenError → Type 0

@@ -1,5 +1,6 @@
--- What a run promises with the words `serve OPTIONS`, by what came of the options file.
+-- What a run promises with the words `serve OPTIONS`, by what came of its start.
 use Rattle.std.specs.Prelude.{◌≡◌, ◌≢◌, ◌⊎◌, ℕ, List, [], Option, Some, None, Ok}
+use Rattle.px_message.specs.declared.flow.Flow.{Flow}
 use Rattle.px_event.specs.Trace.{Trace}
 use Rattle.px_outside.specs.Net.{Listening, idle, failed, at}
 use Rattle.px_core.specs.Answers.{Answering, Failing, FilesMeaning}
@@ -11,7 +12,8 @@ use Rattle.px_options.specs.Options.{IsRefused, Says, Settings}
 use Rattle.px_options.specs.Shown.{refusal_line, refusal_note}
 use Rattle.px_options.specs.View.{mode_view}
 use Rattle.px_addons.specs.Mapped.{seen_of}
-use Rattle.px_app.specs.Lines.{cannot_read, start_note}
+use Rattle.px_app.specs.Lines.{bad_flow_file, cannot_read, start_note}
+use Rattle.px_app.specs.Loaded.{Loaded, LoadsFiles, loaded, one_absent, one_bad, one_unread, unloaded}
 use Rattle.px_app.specs.Opened.{Opened, nothing_read, absent, not_read, unjudged, refused, says, reads_of}
 use Rattle.px_app.specs.Outside.{Outside, IsTold}
 use Rattle.px_app.specs.Over.{LeavesBehind}
@@ -59,18 +61,30 @@ pub record Serves {S : Type 0} (answers : Answering S) (fails : Failing S) (key 
   pub prints : (trace : Trace) → before.trace ≡ Some [] → after.trace ≡ Some trace → Prints (out_failed ⊎ save_failed) status trace before.written after.written
   pub notes : IsTold notes_failed status (where_listening after.listening (start_note settings.listen settings.mode)) before.noted after.noted
 
-module _ {S : Type 0} (answers : Answering S) (fails : Failing S) (key : List ℕ) (IsChain : Settings → S → Type 0) (net_is_same net_failed out_failed save_failed notes_failed : Type 0) where
-  -- the run by what came of the options file of this path, with the files as its read left them
+module _ {S : Type 0} (answers : Answering S) (fails : Failing S) (key : List ℕ) (IsChain : Settings → List Flow → S → Type 0) (net_is_same net_failed out_failed save_failed notes_failed : Type 0) where
+  -- the run of these options by what came of the flow files that they name, with the files as the reads left them
+  abbrev pub RunsBy : Settings → Loaded → FilesMeaning → Outside → Outside → ℕ → Type 0
+  RunsBy settings (loaded flows) read before after status =
+      (chain : S) × IsChain settings flows chain × Serves answers fails key net_failed out_failed save_failed notes_failed settings chain read before after status
+  RunsBy settings (one_absent path) read before after status = Stops net_is_same out_failed notes_failed 3 (cannot_read path) [] read before after status
+  RunsBy settings (one_unread path) read before after status = Stops net_is_same out_failed notes_failed 3 (cannot_read path) [] read before after status
+  RunsBy settings (one_bad path offset) read before after status = Stops net_is_same out_failed notes_failed 4 (bad_flow_file path offset) [] read before after status
+  RunsBy settings unloaded read before after status = Stops net_is_same out_failed notes_failed 8 [] [] read before after status
+
+  pub record RunsWith (settings : Settings) (what : Loaded) (read : FilesMeaning) (before after : Outside) (status : ℕ) : Type 0 where
+    pub so : RunsBy settings what read before after status
+
+  -- the run by what came of the options file of this path and of those flow files, with the files as the reads left them
   abbrev pub RunsOn : List ℕ → Opened → FilesMeaning → Outside → Outside → ℕ → Type 0
   RunsOn path nothing_read read before after status = Stops net_is_same out_failed notes_failed 8 [] [] read before after status
   RunsOn path absent read before after status = Stops net_is_same out_failed notes_failed 3 (cannot_read path) [] read before after status
   RunsOn path not_read read before after status = Stops net_is_same out_failed notes_failed 3 (cannot_read path) [] read before after status
   RunsOn path (unjudged bytes) read before after status = Stops net_is_same out_failed notes_failed 8 [] [] read before after status
   RunsOn path (refused bytes why) read before after status = IsRefused bytes why × Stops net_is_same out_failed notes_failed 2 (refusal_line why) (refusal_note why) read before after status
-  RunsOn path (says bytes settings) read before after status =
-      Says bytes (Ok settings) × ((chain : S) × IsChain settings chain × Serves answers fails key net_failed out_failed save_failed notes_failed settings chain read before after status)
+  RunsOn path (says bytes settings calls what) read before after status =
+      Says bytes (Ok settings) × LoadsFiles settings.server_replay calls what × RunsWith settings what read before after status
 
-  -- The file of this path is read first, once, and this came of it.
+  -- The file of this path is read first, once, and then the flow files that it names, and this came of them.
   pub record ServesFile (path : List ℕ) (opened : Opened) (before after : Outside) (status : ℕ) : Type 0 where
     pub read : FilesMeaning
     pub reads : Made (reads_of path opened) (seen_of before.files) (seen_of read)

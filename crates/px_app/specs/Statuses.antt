@@ -26,6 +26,7 @@ abbrev pub stop_code : Stop → ℕ
 stop_code stops.Usage = 1
 stop_code stops.Refused = 2
 stop_code stops.NotRead = 3
+stop_code stops.BadPlace = 4
 
 -- the status of a net that failed
 abbrev pub status_of : NetError → Status

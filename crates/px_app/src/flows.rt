@@ -9,12 +9,13 @@ ghost use Rattle.px_filter.specs.Shown.{shown};
 ghost use Rattle.px_filter.specs.View.{expression};
 ghost use Rattle.px_flowfile.specs.Reader.{IsNoEntry};
 ghost use Rattle.px_view.specs.Line.{flow_line as line_of_flow};
-ghost use Rattle.px_app.specs.Flows.{BeginsWithNone, Fetched, ListsFile, Shows};
+ghost use Rattle.px_app.specs.FlowFile.{BeginsWithNone};
+ghost use Rattle.px_app.specs.Flows.{Fetched, ListsFile, Shows};
 ghost use Rattle.px_app.specs.FlowTurns.{PrintsSo, IsFaultTurn, Turns, line_where};
-ghost use Rattle.px_app.specs.Lines.{bad_filter as text_of_bad_filter, bad_flow_file as text_of_bad_flow_file, cannot_read as text_of_cannot_read};
+ghost use Rattle.px_app.specs.Lines.{bad_filter as text_of_bad_filter, bad_flow_file as text_of_bad_flow_file};
 ghost use Rattle.px_app.specs.Outside.{IsTold, outside};
 
-use crate::stop::{NO_MEMORY, Stop, cannot_read, stop_with, tell};
+use crate::stop::{NO_MEMORY, Stop, bad_flow_file, refuse_file, stop_with, tell};
 use px_filter::{Filter, FilterError, show_refusal};
 use px_flowfile::{Entry, FlowFileError, FlowReader, ReadCause, ReadFault};
 use px_message::Flow;
@@ -142,18 +143,6 @@ fn list_file<N: Net, F: Files, S: Sink, T: Sink>(
     }
 }
 
-// Prints that the file of this path was not read.
-fn refuse_file<S: Sink, T: Sink>(alloc: Global, path: &str, out: &mut S, notes: &mut T) -> u8
-    ensures status { (result ≡ 3) ⊎ (result ≡ 8) }
-    ensures prints { IsTold (Rose (S.faults out.old) (S.faults out.new)) result (text_of_cannot_read path.now) (S.written out.old) (S.written out.new) }
-    ensures notes { IsTold (Rose (T.faults notes.old) (T.faults notes.new)) result [] (T.written notes.old) (T.written notes.new) }
-{
-    match cannot_read(alloc, path) {
-        Ok(line) => stop_with(out, notes, Stop::NotRead, &line, b""),
-        Err(NoMemory) => NO_MEMORY,
-    }
-}
-
 // Prints the flows of a file of these bytes, which are not copied.
 fn list_bytes<S: Sink>(
     alloc: Global,
@@ -254,8 +243,8 @@ fn turn_of(fault: ReadFault) -> FlowTurn
     FlowTurn::AtBadPlace(fault.offset)
 }
 
-// Whether the cause of a fault is out of memory.
-fn wants_memory(cause: ReadCause) -> bool
+/// Whether the cause of a fault is out of memory.
+pub(crate) fn wants_memory(cause: ReadCause) -> bool
     ensures told { (rest : List ℕ) → IsNoEntry rest cause → result ≡ false → BeginsWithNone rest }
 {
     match cause {
@@ -277,17 +266,4 @@ fn refuse_place<S: Sink>(alloc: Global, path: &str, offset: usize, out: &mut S) 
         Ok(()) => BAD_FLOW_FILE,
         Err(NoMemory) => NO_MEMORY,
     }
-}
-
-// The line of a place of a file that has no flow.
-#[tactic(auto, unfolding(crate::specs::Lines::bad_flow_file))]
-fn bad_flow_file(alloc: Global, path: &str, offset: usize) -> Result<Vec<u8>, NoMemory>
-    ensures line { IfOk result (λ line. line.items ≡ text_of_bad_flow_file path.now offset) }
-{
-    let mut line = Vec::from_slice(alloc, b"bad flow file ")?;
-    line.extend_from_slice(path.as_bytes())?;
-    line.extend_from_slice(b" at ")?;
-    push_decimal(&mut line, offset as u64)?;
-    line.push(b'\n')?;
-    Ok(line)
 }

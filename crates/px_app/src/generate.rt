@@ -48,7 +48,7 @@ pub(crate) fn generate<N: Net, F: Files, S: Sink, T: Sink>(
     mask_key: [u8; 32],
 ) -> u8
     requires small { count ≤ 10000 }
-    ensures { Generates ⟦<Chain as Answerer>⟧.answers ⟦<Chain as Answerer>⟧.fails (key_of mask_key) (λ settings chain. AreRulesOf settings chain.rules × (chain.addons.items ≡ [])) (Rose (S.faults out.old) (S.faults out.new)) count
+    ensures { Generates ⟦<Chain as Answerer>⟧.answers ⟦<Chain as Answerer>⟧.fails (key_of mask_key) (λ settings chain. AreRulesOf settings chain.rules × (chain.replay ≡ None) × (chain.addons.items ≡ [])) (Rose (S.faults out.old) (S.faults out.new)) count
         (outside N.trace N.listening F.contents F.calls F.misses F.faults F.losses S.written T.written net.old files.old out.old notes.now)
         (outside N.trace N.listening F.contents F.calls F.misses F.faults F.losses S.written T.written net.new files.new out.new notes.now) result }
 {

@@ -1,10 +1,12 @@
 //! What follows of every run from the promises of its trace. Each is a function with nothing to do: its contract is the law.
 
 ghost use Rattle.px_exchange.specs.declared.mode.Mode.{Mode};
-ghost use Rattle.std.specs.Prelude.{◌≢◌, ℕ, List, None, Option, Some};
+ghost use Rattle.std.specs.Prelude.{◌≡◌, ◌≢◌, ℕ, List, map, None, Option, Some};
 ghost use Rattle.px_text.specs.Prefix.{IsPrefixOf};
+ghost use Rattle.px_message.specs.declared.flow.Flow.{Flow};
 ghost use Rattle.px_event.specs.Trace.{Trace, Always};
 ghost use Rattle.px_outside.specs.Files.{Told};
+ghost use Rattle.px_outside.specs.declared.files.FileCall.{FileCall};
 ghost use Rattle.px_core.specs.Answers.{FilesMeaning};
 ghost use Rattle.px_core.specs.Course.{Change};
 ghost use Rattle.px_core.specs.Due.{Due, IsWithinDue};
@@ -15,6 +17,7 @@ ghost use Rattle.px_map.specs.View.{local_views};
 ghost use Rattle.px_addons.specs.Mapped.{ReadsOfRules};
 ghost use Rattle.px_addons.specs.Quiet.{goes_on_unchanged};
 ghost use Rattle.px_app.specs.Grown.{Grown, GrowsUnder, texts};
+ghost use Rattle.px_app.specs.Loaded.{Loaded, LoadsFiles, loaded, path_read};
 ghost use Rattle.px_app.specs.Over.{Reaches, SavedOver, finished_in};
 ghost use Rattle.px_app.specs.Own.{IsOwn, IsIsolated};
 ghost use Rattle.px_app.specs.Promises.{Promises};
@@ -51,7 +54,8 @@ pub fn addons_that_leave_drafts_change_nothing(chain: &Chain)
         SavedOver to reached changes made → Always (EndsOfKind goes_on_unchanged (mode_due mode key)) trace }
 {}
 
-/// A run reads no file but those that the map local rules of its chain name, and changes none but the one where its flows are saved: each
+/// Behind its start, where the options file and then the flow files of `server_replay` are read
+/// ([`the_files_of_server_replay_are_read_in_order`]), a run reads no file but those that the map local rules of its chain name, and changes none but the one where its flows are saved: each
 /// call of the files is an append there, or a read of a rule's own file, or of a path that is the rule's directory followed by a name of which no
 /// segment is `..` and which does not begin with a slash. What stands under each path but that one is what stood there, and a read of it gave
 /// that. Where no flows are saved, each call is such a read, and no file is changed.
@@ -62,6 +66,13 @@ pub fn a_run_touches_only_what_options_name(chain: &Chain)
     ensures unsaved { (mode : Mode) (key : List ℕ) (files last : FilesMeaning) (changes : List (Change ⟦<Chain as Answerer>⟧.State)) (made : List Append) (reached : Printing) (status : ℕ) (trace : Trace) →
         Promises ⟦<Chain as Answerer>⟧.answers ⟦<Chain as Answerer>⟧.fails mode key (record { own = chain.now; files = files }) changes last status trace →
         SavedOver None reached changes made → ReadsOfRules (local_views chain.now.rules.local) files last }
+{}
+
+/// At the start of a run the flow files of `server_replay` are read in their order, each as often as it is named and no other file: the reads are of the first of the
+/// paths, and where all flows were loaded of all of them.
+pub fn the_files_of_server_replay_are_read_in_order()
+    ensures front { (paths : List (List ℕ)) (calls : List FileCall) (what : Loaded) → LoadsFiles paths calls what → IsPrefixOf (map path_read calls) paths }
+    ensures all { (paths : List (List ℕ)) (calls : List FileCall) (flows : List Flow) → LoadsFiles paths calls (loaded flows) → map path_read calls ≡ paths }
 {}
 
 /// Where a run's flows are saved, the file is what stood there, where an absent file counts as empty, with what was appended behind it: the text of

@@ -3,48 +3,54 @@
 //! `run` is the whole program over a network, files, two sinks, addons and a key for the masks of frames that are handed in. Each promise is in a
 //! clause of it.
 //!
-//! With the words `serve OPTIONS` the options file is read, once and first, and what came of that is told (`specs/Opened.antt`). Where it
-//! says options, what each peer of each conversation was sent is what is due to it in the options' mode and with that key by px_stack's `mode_due`, by where its client is and
-//! the calls that the trace has of the conversation; each hook was answered by the chain of the options' rules and the addons alone;
+//! With the words `serve OPTIONS` the options file is read, once and first, and then the flow files that it names for `server_replay`, in their order; what
+//! came of that is told (`specs/Opened.antt`, `specs/Loaded.antt`). Where it says options and the flows of all those files were loaded, what each peer of each conversation was sent is what is due to it in the options' mode and with that key by px_stack's `mode_due`, by where its client is and
+//! the calls that the trace has of the conversation; each hook was answered by the chain of the options' rules, those flows and the addons alone;
 //! what is printed is a line of each finished flow of the trace, and the status's line behind them; and each status has its cause in the
 //! trace or in a count of faults (`specs/Serves.antt`). With the words `flows FILE FILTER` the file is read, and the line of each of its flows on
 //! which the filter holds is printed (`specs/Flows.antt`). With the words `gen N` it is a run over what px_gen makes of that number
 //! (`specs/Generates.antt`). Out of memory alone has no cause; after it each peer has got a prefix of what is due, and a prefix of the
 //! lines is printed.
-ghost use Rattle.std.specs.Prelude.{◌≡◌, ◌≤◌, ◌⊎◌, ◌++◌, ℕ, List, [], Option, map, option_map};
+ghost use Rattle.std.specs.Prelude.{◌≡◌, ◌≤◌, ◌⊎◌, ◌++◌, ℕ, List, [], None, Option, map};
 ghost use Rattle.std.specs.String.{string_bytes};
 ghost use Rattle.rand_chacha.specs.ChaCha.{key_of};
+ghost use Rattle.px_message.specs.declared.flow.Flow.{Flow as RecordedFlow};
 ghost use Rattle.px_outside.specs.Count.{Rose};
 ghost use Rattle.px_outside.specs.Net.{idle};
-ghost use Rattle.px_core.specs.Answers.{files_meaning};
+ghost use Rattle.px_outside.specs.declared.files.FileCall.{FileCall};
+ghost use Rattle.px_core.specs.Answers.{FilesMeaning, files_meaning};
+ghost use Rattle.px_map.specs.Reads.{Made, seen};
+ghost use Rattle.px_addons.specs.Mapped.{seen_of};
+ghost use Rattle.px_options.specs.Options.{Settings};
 ghost use Rattle.px_options.specs.Shown.{refusal_line, refusal_note};
-ghost use Rattle.px_filter.specs.View.{expression};
-ghost use Rattle.px_options.specs.View.{path_view, settings};
+ghost use Rattle.px_options.specs.View.{settings};
 ghost use Rattle.px_app.specs.Flows.{Fetched, ListsFile};
 ghost use Rattle.px_app.specs.Generates.{Generates};
 ghost use Rattle.px_app.specs.Lines.{line_of, usage};
-ghost use Rattle.px_app.specs.Opened.{Opened, AreRulesOf};
+ghost use Rattle.px_app.specs.Loaded.{Loaded, LoadsFiles, loaded, unloaded};
+ghost use Rattle.px_app.specs.Opened.{Opened, AreRulesOf, replay_of};
 ghost use Rattle.px_app.specs.Outside.{IsTold, outside};
 ghost use Rattle.px_app.specs.Printed.{Has, Ends, at_end};
 ghost use Rattle.px_app.specs.Opened.{error_code, error_line, error_note};
-ghost use Rattle.px_app.specs.Saved.{saves_to_of};
-ghost use Rattle.px_app.specs.Serves.{Serves, ServesFile, Stops, saves_at};
+ghost use Rattle.px_app.specs.Serves.{RunsWith, Serves, ServesFile, Stops};
+ghost use Rattle.px_app.specs.Setup.{IsSetupOf};
 ghost use Rattle.px_app.specs.Statuses.{code_of};
 ghost use Rattle.px_app.specs.Words.{HasNoForm, IsFlows, IsGen, IsServe};
 
 use crate::flows::list_flows;
 use crate::generate::generate;
+use crate::loading::{load_flows, refuse_load};
 use crate::opening::{OpenError, read_file};
 use crate::printing::Printing;
-use crate::saving::Saving;
 use crate::serve::{Ending, serve};
+use crate::setup::{Setup, setup_of};
 use crate::status::Status;
 use crate::stop::{NO_MEMORY, Stop, cannot_read, stop_with};
 use crate::words::{flow_count, flow_words, options_path};
-use px_addons::{Addon, Chain, Rules};
+use px_addons::{Addon, Chain};
 use px_core::Answerer;
-use px_filter::Filter;
-use px_options::{FilePath, Options, OptionsError, refusal_line, refusal_note};
+use px_message::Flow;
+use px_options::{Options, OptionsError, refusal_line, refusal_note};
 use px_outside::{Files, Net, Sink};
 use px_text::NoMemory;
 use std::alloc::Global;
@@ -54,13 +60,13 @@ const USAGE: &str = "usage: mitm serve OPTIONS | flows FILE FILTER | gen N\n";
 
 /// Runs the program with these words, and answers the exit status.
 ///
-/// `serve OPTIONS` reads the options file of that path, listens where it says, tells a note of that, serves each connection in the
-/// mode that it names by its rules and these addons, with this key for the masks of frames, and prints a line of each finished flow. `flows FILE FILTER` reads that file of flows
+/// `serve OPTIONS` reads the options file of that path, loads the flows of the files of `server_replay`, listens where it says, tells a note of that, serves each connection in the
+/// mode that it names by its rules, these flows and these addons, with this key for the masks of frames, and prints a line of each finished flow. `flows FILE FILTER` reads that file of flows
 /// and prints the line of each on which the filter holds. `gen N` runs N generated flows over a network in memory, tells `net` what was
 /// asked, answered and finished, and prints three counts.
 ///
 /// The status is 0 at the net's end, or where the flows of a file or the counts are printed; 1 where the words have no form; 2 where the
-/// options file is none, or the filter; 3 where the file was not read; 4 at a place of a file of flows that has none; 5 where the net
+/// options file is none, or the filter; 3 where a file was not read; 4 at a place of a file of flows that has none; 5 where the net
 /// failed; 6 where as many things were heard as the options allow and the last was not the end; 7 where a line was not printed whole and
 /// else it were 0, or while the flows of a file were printed; 8 where memory ran out. The lines of 1 to 6 are printed behind those of the
 /// flows; where a rule or a filter is refused, a note shows its text with a mark under the place. After a write to `out` that failed nothing
@@ -77,9 +83,9 @@ pub fn run<N: Net, F: Files, S: Sink, T: Sink>(
 ) -> u8
     requires idle { N.listening net.old ≡ idle }
 
-    // With the words `serve OPTIONS`: the file is read, and the run is as what came of that says.
+    // With the words `serve OPTIONS`: the files are read, and the run is as what came of that says.
     ensures serves { (path : List ℕ) → IsServe (map string_bytes words.now) path → (opened : Opened) × ServesFile ⟦<Chain as Answerer>⟧.answers ⟦<Chain as Answerer>⟧.fails (key_of mask_key)
-        (λ settings chain. AreRulesOf settings chain.rules × (chain.addons ≡ addons)) (net.new ≡ net.old) (Rose (N.faults net.old) (N.faults net.new)) (Rose (S.faults out.old) (S.faults out.new)) (Rose (F.losses files.old) (F.losses files.new)) (Rose (T.faults notes.old) (T.faults notes.new)) path opened
+        (λ settings flows chain. AreRulesOf settings chain.rules × (chain.replay ≡ replay_of settings flows) × (chain.addons ≡ addons)) (net.new ≡ net.old) (Rose (N.faults net.old) (N.faults net.new)) (Rose (S.faults out.old) (S.faults out.new)) (Rose (F.losses files.old) (F.losses files.new)) (Rose (T.faults notes.old) (T.faults notes.new)) path opened
         (outside N.trace N.listening F.contents F.calls F.misses F.faults F.losses S.written T.written net.old files.old out.old notes.old)
         (outside N.trace N.listening F.contents F.calls F.misses F.faults F.losses S.written T.written net.new files.new out.new notes.new) result }
 
@@ -90,7 +96,7 @@ pub fn run<N: Net, F: Files, S: Sink, T: Sink>(
 
     // With the words `gen N`: the run of so many generated flows.
     ensures generates { (count : ℕ) → IsGen (map string_bytes words.now) count → Generates ⟦<Chain as Answerer>⟧.answers ⟦<Chain as Answerer>⟧.fails (key_of mask_key)
-        (λ settings chain. AreRulesOf settings chain.rules × (chain.addons.items ≡ [])) (Rose (S.faults out.old) (S.faults out.new)) count
+        (λ settings chain. AreRulesOf settings chain.rules × (chain.replay ≡ None) × (chain.addons.items ≡ [])) (Rose (S.faults out.old) (S.faults out.new)) count
         (outside N.trace N.listening F.contents F.calls F.misses F.faults F.losses S.written T.written net.old files.old out.old notes.old)
         (outside N.trace N.listening F.contents F.calls F.misses F.faults F.losses S.written T.written net.new files.new out.new notes.new) result }
 
@@ -127,7 +133,7 @@ fn serve_file<N: Net, F: Files, S: Sink, T: Sink>(
 ) -> u8
     requires idle { N.listening net.old ≡ idle }
     ensures { (opened : Opened) × ServesFile ⟦<Chain as Answerer>⟧.answers ⟦<Chain as Answerer>⟧.fails (key_of mask_key)
-        (λ settings chain. AreRulesOf settings chain.rules × (chain.addons ≡ addons)) (net.new ≡ net.old) (Rose (N.faults net.old) (N.faults net.new)) (Rose (S.faults out.old) (S.faults out.new)) (Rose (F.losses files.old) (F.losses files.new)) (Rose (T.faults notes.old) (T.faults notes.new)) path.now opened
+        (λ settings flows chain. AreRulesOf settings chain.rules × (chain.replay ≡ replay_of settings flows) × (chain.addons ≡ addons)) (net.new ≡ net.old) (Rose (N.faults net.old) (N.faults net.new)) (Rose (S.faults out.old) (S.faults out.new)) (Rose (F.losses files.old) (F.losses files.new)) (Rose (T.faults notes.old) (T.faults notes.new)) path.now opened
         (outside N.trace N.listening F.contents F.calls F.misses F.faults F.losses S.written T.written net.old files.old out.old notes.old)
         (outside N.trace N.listening F.contents F.calls F.misses F.faults F.losses S.written T.written net.new files.new out.new notes.new) result }
 {
@@ -184,7 +190,7 @@ fn refuse_options<S: Sink, T: Sink>(
     stop_with(out, notes, Stop::Refused, &line, &note)
 }
 
-// Serves as the options say.
+// Loads the flows of the files that the options name, and serves as they say.
 fn serve_options<N: Net, F: Files, S: Sink, T: Sink>(
     alloc: Global,
     options: Options,
@@ -196,54 +202,83 @@ fn serve_options<N: Net, F: Files, S: Sink, T: Sink>(
     mask_key: [u8; 32],
 ) -> u8
     requires idle { N.listening net.old ≡ idle }
-    ensures { (chain : ⟦<Chain as Answerer>⟧.State) × (AreRulesOf (settings options) chain.rules × (chain.addons ≡ addons)) × Serves ⟦<Chain as Answerer>⟧.answers ⟦<Chain as Answerer>⟧.fails (key_of mask_key)
-        (Rose (N.faults net.old) (N.faults net.new)) (Rose (S.faults out.old) (S.faults out.new)) (Rose (F.losses files.old) (F.losses files.new)) (Rose (T.faults notes.old) (T.faults notes.new)) (settings options) chain (files_meaning F.contents F.calls F.misses F.faults F.losses files.old)
+    ensures { (calls : List FileCall) × (what : Loaded) × (read : FilesMeaning) × LoadsFiles (settings options).server_replay calls what
+        × Made calls (seen F.contents F.calls F.misses F.faults F.losses files.old) (seen_of read)
+        × RunsWith ⟦<Chain as Answerer>⟧.answers ⟦<Chain as Answerer>⟧.fails (key_of mask_key)
+        (λ settings flows chain. AreRulesOf settings chain.rules × (chain.replay ≡ replay_of settings flows) × (chain.addons ≡ addons)) (net.new ≡ net.old) (Rose (N.faults net.old) (N.faults net.new)) (Rose (S.faults out.old) (S.faults out.new)) (Rose (F.losses files.old) (F.losses files.new)) (Rose (T.faults notes.old) (T.faults notes.new)) (settings options) what read
         (outside N.trace N.listening F.contents F.calls F.misses F.faults F.losses S.written T.written net.old files.old out.old notes.old)
         (outside N.trace N.listening F.contents F.calls F.misses F.faults F.losses S.written T.written net.new files.new out.new notes.new) result }
 {
-    let Options {
-        anticache,
-        anticomp,
-        block_list,
-        events,
+    match load_flows(alloc, options.server_replay.as_slice(), files) {
+        Ok(flows) => serve_flows(
+            alloc, options, flows, net, files, out, notes, addons, mask_key,
+        ),
+        Err(error) => {
+            drop(addons);
+            let status = refuse_load(alloc, &error, out, notes);
+            drop(options);
+            status
+        }
+    }
+}
+
+// Serves as the options say, with these flows of the files that they name.
+fn serve_flows<N: Net, F: Files, S: Sink, T: Sink>(
+    alloc: Global,
+    options: Options,
+    flows: Vec<Flow>,
+    net: &mut N,
+    files: &mut F,
+    out: &mut S,
+    notes: &mut T,
+    addons: Vec<Box<dyn Addon>>,
+    mask_key: [u8; 32],
+) -> u8
+    requires idle { N.listening net.old ≡ idle }
+    ensures { (what : Loaded) × ((what ≡ loaded flows.items) ⊎ (what ≡ unloaded)) × RunsWith ⟦<Chain as Answerer>⟧.answers ⟦<Chain as Answerer>⟧.fails (key_of mask_key)
+        (λ settings flows chain. AreRulesOf settings chain.rules × (chain.replay ≡ replay_of settings flows) × (chain.addons ≡ addons)) (net.new ≡ net.old) (Rose (N.faults net.old) (N.faults net.new)) (Rose (S.faults out.old) (S.faults out.new)) (Rose (F.losses files.old) (F.losses files.new)) (Rose (T.faults notes.old) (T.faults notes.new)) (settings options) what (files_meaning F.contents F.calls F.misses F.faults F.losses files.old)
+        (outside N.trace N.listening F.contents F.calls F.misses F.faults F.losses S.written T.written net.old files.old out.old notes.old)
+        (outside N.trace N.listening F.contents F.calls F.misses F.faults F.losses S.written T.written net.new files.new out.new notes.new) result }
+{
+    match setup_of(alloc, options, flows) {
+        Ok(setup) => serve_setup(alloc, setup, net, files, out, notes, addons, mask_key),
+        Err(NoMemory) => {
+            drop(addons);
+            NO_MEMORY
+        }
+    }
+}
+
+// Serves by this setup.
+fn serve_setup<N: Net, F: Files, S: Sink, T: Sink>(
+    alloc: Global,
+    setup: Setup,
+    net: &mut N,
+    files: &mut F,
+    out: &mut S,
+    notes: &mut T,
+    addons: Vec<Box<dyn Addon>>,
+    mask_key: [u8; 32],
+) -> u8
+    requires idle { N.listening net.old ≡ idle }
+    ensures { (settings : Settings) (flows : List RecordedFlow) → IsSetupOf settings flows setup → (chain : ⟦<Chain as Answerer>⟧.State)
+        × (AreRulesOf settings chain.rules × (chain.replay ≡ replay_of settings flows) × (chain.addons ≡ addons)) × Serves ⟦<Chain as Answerer>⟧.answers ⟦<Chain as Answerer>⟧.fails (key_of mask_key)
+        (Rose (N.faults net.old) (N.faults net.new)) (Rose (S.faults out.old) (S.faults out.new)) (Rose (F.losses files.old) (F.losses files.new)) (Rose (T.faults notes.old) (T.faults notes.new)) settings chain (files_meaning F.contents F.calls F.misses F.faults F.losses files.old)
+        (outside N.trace N.listening F.contents F.calls F.misses F.faults F.losses S.written T.written net.old files.old out.old notes.old)
+        (outside N.trace N.listening F.contents F.calls F.misses F.faults F.losses S.written T.written net.new files.new out.new notes.new) result }
+{
+    let Setup {
+        rules,
         listen,
-        map_local,
-        map_remote,
         mode,
-        modify_body,
-        modify_headers,
-        save_stream_file,
-        save_stream_filter,
-    } = options;
-    let rules = Rules {
-        block: block_list,
-        local: map_local,
-        remote: map_remote,
-        headers: modify_headers,
-        bodies: modify_body,
-        anticache,
-        anticomp,
-        stream: None,
-    };
+        saving,
+        events,
+    } = setup;
     let chain = Chain::new(rules, addons);
-    let saving = saving_of(save_stream_file, save_stream_filter);
     let ending = serve(
         alloc, &listen, mode, mask_key, chain, saving, net, files, out, notes, events,
     );
     end(out, ending).code()
-}
-
-// Where finished flows are saved, and which.
-fn saving_of(file: Option<FilePath>, filter: Option<Filter>) -> Option<Saving>
-    ensures { saves_to_of result ≡ saves_at (option_map path_view file) (option_map expression filter) }
-{
-    match file {
-        None => {
-            drop(filter);
-            None
-        }
-        Some(path) => Some(Saving { path, filter }),
-    }
 }
 
 // Prints the status's line. At the net's end a write that failed makes the status; else a failure changes none.

@@ -1,10 +1,10 @@
 //! A run that stops before it serves: its line is printed and its note told, and the network is asked nothing.
-ghost use Rattle.std.specs.Prelude.{◌≡◌, ◌≤◌, ◌⊎◌, ◌++◌, IfOk, OnOk, OnErr};
+ghost use Rattle.std.specs.Prelude.{◌≡◌, ◌≤◌, ◌⊎◌, ◌++◌, [], IfOk, OnOk, OnErr};
 ghost use Rattle.px_message.specs.Url.{port_suffix};
 ghost use Rattle.px_options.specs.View.{mode_view};
 ghost use Rattle.px_outside.specs.Count.{Rose};
 ghost use Rattle.px_outside.specs.Sink.{Writes, WritesPart};
-ghost use Rattle.px_app.specs.Lines.{cannot_read, mode_text, proxy_text, server_text, start_note, upstream_text};
+ghost use Rattle.px_app.specs.Lines.{bad_flow_file as text_of_bad_flow_file, cannot_read as text_of_cannot_read, mode_text, proxy_text, server_text, start_note, upstream_text};
 ghost use Rattle.px_app.specs.Outside.{IsTold};
 ghost use Rattle.px_app.specs.Statuses.{stop_code};
 
@@ -24,8 +24,10 @@ pub enum Stop {
     Usage,
     /// The options file is none.
     Refused,
-    /// The options file was not read.
+    /// A file was not read.
     NotRead,
+    /// A place of a flow file has no flow.
+    BadPlace,
 }
 
 impl Stop {
@@ -37,6 +39,7 @@ impl Stop {
             Stop::Usage => 1,
             Stop::Refused => 2,
             Stop::NotRead => 3,
+            Stop::BadPlace => 4,
         }
     }
 }
@@ -90,12 +93,60 @@ pub(crate) fn tell<S: Sink>(sink: &mut S, text: &[u8]) -> Result<(), NoMemory>
 /// The line of a file that was not read.
 #[tactic(auto, unfolding(crate::specs::Lines::cannot_read))]
 pub(crate) fn cannot_read(alloc: Global, path: &str) -> Result<Vec<u8>, NoMemory>
-    ensures { IfOk result (λ line. line.items ≡ cannot_read path.now) }
+    ensures { IfOk result (λ line. line.items ≡ text_of_cannot_read path.now) }
 {
     let mut line = Vec::from_slice(alloc, b"cannot read ")?;
     line.extend_from_slice(path.as_bytes())?;
     line.push(b'\n')?;
     Ok(line)
+}
+
+/// The line of a place of a flow file that has no flow, behind so many bytes.
+#[tactic(auto, unfolding(crate::specs::Lines::bad_flow_file))]
+pub(crate) fn bad_flow_file(alloc: Global, path: &str, offset: usize) -> Result<Vec<u8>, NoMemory>
+    ensures line { IfOk result (λ line. line.items ≡ text_of_bad_flow_file path.now offset) }
+{
+    let mut line = Vec::from_slice(alloc, b"bad flow file ")?;
+    line.extend_from_slice(path.as_bytes())?;
+    line.extend_from_slice(b" at ")?;
+    push_decimal(&mut line, offset as u64)?;
+    line.push(b'\n')?;
+    Ok(line)
+}
+
+/// Prints that the file of this path was not read, and answers the exit status.
+pub(crate) fn refuse_file<S: Sink, T: Sink>(
+    alloc: Global,
+    path: &str,
+    out: &mut S,
+    notes: &mut T,
+) -> u8
+    ensures status { (result ≡ 3) ⊎ (result ≡ 8) }
+    ensures prints { IsTold (Rose (S.faults out.old) (S.faults out.new)) result (text_of_cannot_read path.now) (S.written out.old) (S.written out.new) }
+    ensures notes { IsTold (Rose (T.faults notes.old) (T.faults notes.new)) result [] (T.written notes.old) (T.written notes.new) }
+{
+    match cannot_read(alloc, path) {
+        Ok(line) => stop_with(out, notes, Stop::NotRead, &line, b""),
+        Err(NoMemory) => NO_MEMORY,
+    }
+}
+
+/// Prints that no flow stands in the flow file of this path behind so many bytes, and answers the exit status.
+pub(crate) fn refuse_bad_place<S: Sink, T: Sink>(
+    alloc: Global,
+    path: &str,
+    offset: usize,
+    out: &mut S,
+    notes: &mut T,
+) -> u8
+    ensures status { (result ≡ 4) ⊎ (result ≡ 8) }
+    ensures prints { IsTold (Rose (S.faults out.old) (S.faults out.new)) result (text_of_bad_flow_file path.now offset) (S.written out.old) (S.written out.new) }
+    ensures notes { IsTold (Rose (T.faults notes.old) (T.faults notes.new)) result [] (T.written notes.old) (T.written notes.new) }
+{
+    match bad_flow_file(alloc, path, offset) {
+        Ok(line) => stop_with(out, notes, Stop::BadPlace, &line, b""),
+        Err(NoMemory) => NO_MEMORY,
+    }
 }
 
 /// The note at a run's start: where clients connect, and where their requests go in this mode.

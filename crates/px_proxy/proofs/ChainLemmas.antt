@@ -7,7 +7,7 @@ use Rattle.px_core.specs.declared.answerer.Answer.TheVariants as answer
 use Rattle.px_core.specs.declared.answerer.Verdict.{Verdict}
 use Rattle.px_core.specs.declared.answerer.Verdict.TheVariants as verdicts
 use Rattle.px_core.specs.Answers.{FilesMeaning}
-use Rattle.px_addons.specs.Chain.{ChainAnswers, reply_by, reply_of}
+use Rattle.px_addons.specs.Chain.{ChainAnswers, Movers, reply_by, reply_of}
 use Rattle.px_addons.specs.Moving.{Moves}
 use Rattle.px_addons.specs.declared.rules.Rules.{Rules}
 use Rattle.px_chain.specs.Silent.{connects}
@@ -21,8 +21,8 @@ no_verdict_connects (verdicts.Respond response) flow stream = refl
 no_verdict_connects verdicts.Kill flow stream = refl
 no_verdict_connects verdicts.Discard flow stream = refl
 
-pub chain_connects_none : {B : Type 0} (title state : B → List ℕ) (moves : B → Moves) (hook : Hook) (flow : Flow) (old_rules : Rules) (old : List B) (old_files : FilesMeaning)
-    (new_rules : Rules) (new : List B) (new_files : FilesMeaning) (reply : Reply) →
+pub chain_connects_none : {B : Type 0} (title state : B → List ℕ) (moves : B → Moves) (hook : Hook) (flow : Flow) (old_rules : Rules) (old : Movers B) (old_files : FilesMeaning)
+    (new_rules : Rules) (new : Movers B) (new_files : FilesMeaning) (reply : Reply) →
     ChainAnswers title state moves hook flow old_rules old old_files new_rules new new_files (answer.Reply reply) → connects reply ≡ 0
 chain_connects_none title state moves hook flow old_rules old old_files new_rules new new_files reply is =
     ap connects (same_reply reply (reply_of is.end) is.answered) ∙ no_verdict_connects is.end.verdict is.end.flow is.end.stream

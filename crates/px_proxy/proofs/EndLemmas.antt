@@ -10,12 +10,14 @@ use Rattle.px_event.specs.declared.step.Step.{Step}
 use Rattle.px_event.specs.declared.step.Step.TheVariants as steps
 use Rattle.px_core.specs.Answers.{Answering, Failing, FilesMeaning}
 use Rattle.px_options.specs.Options.{Settings}
+use Rattle.px_app.specs.Loaded.{Loaded, loaded, one_absent, one_bad, one_unread, unloaded}
 use Rattle.px_app.specs.Opened.{Opened, nothing_read, absent, not_read, unjudged, refused, says}
 use Rattle.px_app.specs.Outside.{Outside}
 use Rattle.px_app.specs.Promises.{HasCause}
-use Rattle.px_app.specs.Serves.{RunsOn, Serves, ServesFile}
+use Rattle.px_app.specs.Serves.{RunsOn, RunsWith, Serves, ServesFile}
 use Rattle.px_app.specs.Statuses.{is_end, ends_by, ends_from, ends_heard}
 use Rattle.px_message.specs.declared.address.Address.{Address}
+use Rattle.px_message.specs.declared.flow.Flow.{Flow}
 use Rattle.px_wire.specs.declared.call.WireCall.TheVariants as calls
 use Rattle.px_wire.specs.Asked.{AskedInVain, FailedSo, most_asks}
 use Rattle.px_wire.specs.Calls.{Calls, IfTold, steps_of}
@@ -50,7 +52,7 @@ causes_by net cause sink status h by = record {
   complete = λ still printed. h.complete (λ failed. still (by failed)) printed;
 }
 
-module _ {S : Type 0} (answers : Answering S) (fails : Failing S) (key : List ℕ) (IsChain : Settings → S → Type 0) (same net cause out save notes : Type 0) (by : net → cause) where
+module _ {S : Type 0} (answers : Answering S) (fails : Failing S) (key : List ℕ) (IsChain : Settings → List Flow → S → Type 0) (same net cause out save notes : Type 0) (by : net → cause) where
   serves_by : (settings : Settings) (chain : S) (read : FilesMeaning) (before after : Outside) (status : ℕ) →
       Serves answers fails key net out save notes settings chain read before after status → Serves answers fails key cause out save notes settings chain read before after status
   serves_by settings chain read before after status h = record {
@@ -63,6 +65,14 @@ module _ {S : Type 0} (answers : Answering S) (fails : Failing S) (key : List �
     notes = h.notes;
   }
 
+  with_by : (settings : Settings) (what : Loaded) (read : FilesMeaning) (before after : Outside) (status : ℕ) →
+      RunsWith answers fails key IsChain same net out save notes settings what read before after status → RunsWith answers fails key IsChain same cause out save notes settings what read before after status
+  with_by settings (loaded flows) read before after status h = record { so = (h.so.0, h.so.1, serves_by settings h.so.0 read before after status h.so.2) }
+  with_by settings (one_absent path) read before after status h = record { so = h.so }
+  with_by settings (one_unread path) read before after status h = record { so = h.so }
+  with_by settings (one_bad path offset) read before after status h = record { so = h.so }
+  with_by settings unloaded read before after status h = record { so = h.so }
+
   runs_by : (path : List ℕ) (opened : Opened) (read : FilesMeaning) (before after : Outside) (status : ℕ) →
       RunsOn answers fails key IsChain same net out save notes path opened read before after status → RunsOn answers fails key IsChain same cause out save notes path opened read before after status
   runs_by path nothing_read read before after status h = h
@@ -70,7 +80,7 @@ module _ {S : Type 0} (answers : Answering S) (fails : Failing S) (key : List �
   runs_by path not_read read before after status h = h
   runs_by path (unjudged bytes) read before after status h = h
   runs_by path (refused bytes why) read before after status h = h
-  runs_by path (says bytes settings) read before after status h = (h.0, (h.1.0, h.1.1, serves_by settings h.1.0 read before after status h.1.2))
+  runs_by path (says bytes settings reads what) read before after status h = (h.0, h.1, with_by settings what read before after status h.2)
 
   -- the same of a run
   pub file_by : (path : List ℕ) (opened : Opened) (before after : Outside) (status : ℕ) →

@@ -1,5 +1,5 @@
 //! The program with lines over a wire as its network.
-ghost use Rattle.std.specs.Prelude.{◌≡◌, ◌≢◌, ℕ, List, [], Some, map};
+ghost use Rattle.std.specs.Prelude.{◌≡◌, ◌≢◌, ℕ, List, [], None, Some, map};
 ghost use Rattle.std.specs.String.{string_bytes};
 ghost use Rattle.rand_chacha.specs.ChaCha.{key_of};
 ghost use Rattle.px_outside.specs.Count.{Rose};
@@ -8,7 +8,7 @@ ghost use Rattle.px_core.specs.Answers.{files_meaning};
 ghost use Rattle.px_app.specs.Flows.{Fetched, ListsFile};
 ghost use Rattle.px_app.specs.Generates.{Generates};
 ghost use Rattle.px_app.specs.Lines.{usage};
-ghost use Rattle.px_app.specs.Opened.{AreRulesOf, Opened};
+ghost use Rattle.px_app.specs.Opened.{AreRulesOf, Opened, replay_of};
 ghost use Rattle.px_app.specs.Outside.{outside};
 ghost use Rattle.px_app.specs.Serves.{ServesFile, Stops};
 ghost use Rattle.px_app.specs.Words.{HasNoForm, IsFlows, IsGen, IsServe};
@@ -37,10 +37,10 @@ pub fn run<W: Wire, F: Files, S: Sink, T: Sink>(
 ) -> u8
     requires idle { W.listening lines.old.wire ≡ idle }
 
-    // With the words `serve OPTIONS`: the file is read, and the run is as what came of that says. What the wire took for each side begins
+    // With the words `serve OPTIONS`: the files are read, and the run is as what came of that says. What the wire took for each side begins
     // what is due to it, after each of its calls.
     ensures serves { (path : List ℕ) → IsServe (map string_bytes words.now) path → (opened : Opened) × ServesFile ⟦<Chain as Answerer>⟧.answers ⟦<Chain as Answerer>⟧.fails (key_of mask_key)
-        (λ settings chain. AreRulesOf settings chain.rules × (chain.addons ≡ addons)) (lines.new ≡ lines.old) (LinesFailed (W.faults lines.old.wire) lines.old.faults (W.faults lines.new.wire) lines.new.faults (W.calls lines.new.wire)) (Rose (S.faults out.old) (S.faults out.new)) (Rose (F.losses files.old) (F.losses files.new)) (Rose (T.faults notes.old) (T.faults notes.new)) path opened
+        (λ settings flows chain. AreRulesOf settings chain.rules × (chain.replay ≡ replay_of settings flows) × (chain.addons ≡ addons)) (lines.new ≡ lines.old) (LinesFailed (W.faults lines.old.wire) lines.old.faults (W.faults lines.new.wire) lines.new.faults (W.calls lines.new.wire)) (Rose (S.faults out.old) (S.faults out.new)) (Rose (F.losses files.old) (F.losses files.new)) (Rose (T.faults notes.old) (T.faults notes.new)) path opened
         (outside W.steps W.listening F.contents F.calls F.misses F.faults F.losses S.written T.written lines.old.wire files.old out.old notes.old)
         (outside W.steps W.listening F.contents F.calls F.misses F.faults F.losses S.written T.written lines.new.wire files.new out.new notes.new) result
         × IsTakenBy (key_of mask_key) opened (W.steps lines.old.wire) (W.calls lines.new.wire) }
@@ -52,7 +52,7 @@ pub fn run<W: Wire, F: Files, S: Sink, T: Sink>(
 
     // With the words `gen N`: the run of so many generated flows.
     ensures generates { (count : ℕ) → IsGen (map string_bytes words.now) count → Generates ⟦<Chain as Answerer>⟧.answers ⟦<Chain as Answerer>⟧.fails (key_of mask_key)
-        (λ settings chain. AreRulesOf settings chain.rules × (chain.addons.items ≡ [])) (Rose (S.faults out.old) (S.faults out.new)) count
+        (λ settings chain. AreRulesOf settings chain.rules × (chain.replay ≡ None) × (chain.addons.items ≡ [])) (Rose (S.faults out.old) (S.faults out.new)) count
         (outside W.steps W.listening F.contents F.calls F.misses F.faults F.losses S.written T.written lines.old.wire files.old out.old notes.old)
         (outside W.steps W.listening F.contents F.calls F.misses F.faults F.losses S.written T.written lines.new.wire files.new out.new notes.new) result }
 

@@ -1,6 +1,7 @@
 use Rattle.px_outside.specs.Count.{Rose}
 use Rattle.px_filter.specs.View.{expression}
-use Rattle.px_app.proofs.FlowsLemmas.{comes_so, never_goes, turned_at, turned_by}
+use Rattle.px_app.proofs.FlowFileLemmas.{comes_so}
+use Rattle.px_app.proofs.FlowsLemmas.{never_goes, turned_at, turned_by}
 use Rattle.px_app.proofs.flows.show_next.Goals as goal
 
 pub returns-in-Ok-Some-clause-turns : goal.returns-in-Ok-Some-clause-turns

@@ -2,7 +2,7 @@ use Rattle.std.proofs.Common.{◌∙◌, ap, refl, sym, subst}
 use Rattle.px_addons.specs.declared.rules.Rules.{Rules}
 use Rattle.px_app.specs.Generates.{generator_settings}
 use Rattle.px_app.specs.Opened.{AreRulesOf}
-use Rattle.px_app.proofs.GenerateLemmas.{generates_by, nothing_told}
+use Rattle.px_app.proofs.GenerateLemmas.{generates_by, nothing_told, rules_alone}
 use Rattle.px_app.proofs.generate.generate.Goals as goal
 
 pub returns-in_default : goal.returns-in_default
@@ -12,11 +12,12 @@ pub run_script-requires : goal.run_script-requires
 run_script-requires g c = record {
   small = c.requires.small;
   count = refl;
-  local = (subst (λ (r : Rules). AreRulesOf generator_settings r) (sym c.new-chain.ensures.rules) c.in-Ok.ensures).local;
+  local = (subst (λ (r : Rules). AreRulesOf generator_settings r) (sym c.new-chain.ensures.rules) (rules_alone generator_settings c.in-Ok.rules c.in-Ok.ensures)).local;
 }
 
 pub returns : goal.returns
 returns g c =
-    let rules = subst (λ (r : Rules). AreRulesOf generator_settings r) (sym c.new-chain.ensures.rules) c.in-Ok.ensures in
+    let rules = subst (λ (r : Rules). AreRulesOf generator_settings r) (sym c.new-chain.ensures.rules) (rules_alone generator_settings c.in-Ok.rules c.in-Ok.ensures) in
+    let replay = c.new-chain.ensures.replay ∙ c.in-Ok.ensures.replay in
     let none = ap (λ v. v.items) c.new-chain.ensures.addons ∙ c.new.ensures.items in
-    generates_by c.new-chain.result (rules, none) c.run_script.ensures
+    generates_by c.new-chain.result (rules, replay, none) c.run_script.ensures

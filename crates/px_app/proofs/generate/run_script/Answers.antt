@@ -3,6 +3,7 @@ use Rattle.rand_chacha.specs.ChaCha.{key_of}
 use Rattle.px_event.specs.Trace.{Trace}
 use Rattle.px_stack.specs.Modes.{mode_due}
 use Rattle.px_core.proofs.AnswerLemmas.{kept_after}
+use Rattle.px_addons.specs.Chain.{movers_of}
 use Rattle.px_addons.proofs.RunLemmas.{keeps_files}
 use Rattle.px_gen.specs.Generated.{GeneratedState}
 use Rattle.px_gen.specs.Heard.{Hears}
@@ -20,7 +21,7 @@ returns-in_default g c = nothing_told c.args.count _ _ refl refl refl refl refl
 pub returns : goal.returns
 returns g c =
     nothing_told c.args.count _ _ refl refl refl refl
-    (kept_after _ _ _ _ (keeps_files _ _ _ (λ chain. chain.rules) (λ chain. chain.addons.items) c.args.chain.rules c.requires.local) _ _ refl c.in-Err.ensures.files)
+    (kept_after _ _ _ _ (keeps_files _ _ _ (λ chain. chain.rules) (λ chain. movers_of chain.replay chain.addons.items) c.args.chain.rules c.requires.local) _ _ refl c.in-Err.ensures.files)
 
 pub returns-in-Ok-serve_generated : goal.returns-in-Ok-serve_generated
 returns-in-Ok-serve_generated g c =
@@ -55,7 +56,7 @@ returns-in-Ok-serve_generated g c =
       begun = c.tell_run.ensures.begun;
       prints = c.tell_run.ensures.prints;
       notes = refl;
-      files = kept_after _ _ _ _ (keeps_files _ _ _ (λ chain. chain.rules) (λ chain. chain.addons.items) c.args.chain.rules c.requires.local) _ _ refl c.in-Ok-serve_generated.ensures.files;
+      files = kept_after _ _ _ _ (keeps_files _ _ _ (λ chain. chain.rules) (λ chain. movers_of chain.replay chain.addons.items) c.args.chain.rules c.requires.local) _ _ refl c.in-Ok-serve_generated.ensures.files;
       statuses = c.tell_run.ensures.statuses;
       lost = c.tell_run.ensures.lost;
       complete = λ quiet. complete_by _ _ c.tell_run.ensures.statuses c.tell_run.ensures.lost quiet;

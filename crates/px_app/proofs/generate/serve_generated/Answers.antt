@@ -4,6 +4,7 @@ use Rattle.px_stack.specs.declared.placed.Placed.{Placed}
 use Rattle.px_stack.specs.Modes.{mode_due}
 use Rattle.px_core.specs.Answers.{files_meaning}
 use Rattle.px_core.specs.declared.gates.Gates.{Gates}
+use Rattle.px_addons.specs.Chain.{movers_of}
 use Rattle.px_app.specs.Over.{course_from}
 use Rattle.px_app.proofs.ChainLemmas.{chain_keeps_losses}
 use Rattle.px_app.proofs.RunLemmas.{ended_told, placed_due}
@@ -18,7 +19,7 @@ serve_all-requires g c =
     let files = files_meaning g.F.Files.contents g.F.Files.calls g.F.Files.misses g.F.Files.faults g.F.Files.losses c.args.files.now in
     let rests = c.new-serving.ensures.rests due files None in
     record {
-      losses = chain_keeps_losses _ _ _ (λ chain. chain.rules) (λ chain. chain.addons.items);
+      losses = chain_keeps_losses _ _ _ (λ chain. chain.rules) (λ chain. movers_of chain.replay chain.addons.items);
       sound = (due, course_from _ rests.changes, [], (λ conv peer moves. refl), rests.stands);
     }
 

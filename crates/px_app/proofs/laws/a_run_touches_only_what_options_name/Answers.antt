@@ -1,15 +1,16 @@
 use Rattle.std.proofs.Common.{refl}
 use Rattle.px_stack.specs.Modes.{mode_due}
+use Rattle.px_addons.specs.Chain.{movers_of}
 use Rattle.px_addons.proofs.RunLemmas.{keeps_reads}
 use Rattle.px_app.proofs.TouchedLemmas.{reads_leaving, touches_leaving}
 use Rattle.px_app.proofs.laws.a_run_touches_only_what_options_name.Goals as goal
 
 pub returns-clause-touches : goal.returns-clause-touches
 returns-clause-touches g c = λ mode key files last to changes made reached status trace promised saved.
-    touches_leaving _ _ _ _ (keeps_reads _ _ _ (λ chain. chain.rules) (λ chain. chain.addons.items) c.args.chain.now.rules) to (mode_due mode key) _ changes reached made _ last trace refl saved
+    touches_leaving _ _ _ _ (keeps_reads _ _ _ (λ chain. chain.rules) (λ chain. movers_of chain.replay chain.addons.items) c.args.chain.now.rules) to (mode_due mode key) _ changes reached made _ last trace refl saved
     promised.leaves
 
 pub returns-clause-unsaved : goal.returns-clause-unsaved
 returns-clause-unsaved g c = λ mode key files last changes made reached status trace promised saved.
-    reads_leaving _ _ _ _ (keeps_reads _ _ _ (λ chain. chain.rules) (λ chain. chain.addons.items) c.args.chain.now.rules) (mode_due mode key) _ changes reached made _ last trace refl saved
+    reads_leaving _ _ _ _ (keeps_reads _ _ _ (λ chain. chain.rules) (λ chain. movers_of chain.replay chain.addons.items) c.args.chain.now.rules) (mode_due mode key) _ changes reached made _ last trace refl saved
     promised.leaves

@@ -1,5 +1,6 @@
 use Rattle.std.proofs.Common.{Some, refl}
 use Rattle.px_stack.specs.Modes.{mode_due}
+use Rattle.px_addons.specs.Chain.{movers_of}
 use Rattle.px_addons.proofs.RunLemmas.{keeps_reads}
 use Rattle.px_app.specs.Over.{finished_in}
 use Rattle.px_app.specs.Saved.{saved}
@@ -9,16 +10,16 @@ use Rattle.px_app.proofs.laws.what_is_saved_stands_behind_what_stood_there.Goals
 
 pub returns-clause-part : goal.returns-clause-part
 returns-clause-part g c = λ mode key files last to changes made reached status trace promised saved.
-    grown_in_part _ _ _ _ (keeps_reads _ _ _ (λ chain. chain.rules) (λ chain. chain.addons.items) c.args.chain.now.rules) (λ old new reads. reads.reads.contents) to (mode_due mode key) _ changes
+    grown_in_part _ _ _ _ (keeps_reads _ _ _ (λ chain. chain.rules) (λ chain. movers_of chain.replay chain.addons.items) c.args.chain.now.rules) (λ old new reads. reads.reads.contents) to (mode_due mode key) _ changes
     reached made _ last trace refl saved promised.leaves
 
 pub returns-clause-whole : goal.returns-clause-whole
 returns-clause-whole g c = λ mode key files last to changes made reached status trace promised saved said.
-    grown_leaving _ _ _ _ (keeps_reads _ _ _ (λ chain. chain.rules) (λ chain. chain.addons.items) c.args.chain.now.rules) (λ old new reads. reads.reads.contents) to (mode_due mode key) _ changes
+    grown_leaving _ _ _ _ (keeps_reads _ _ _ (λ chain. chain.rules) (λ chain. movers_of chain.replay chain.addons.items) c.args.chain.now.rules) (λ old new reads. reads.reads.contents) to (mode_due mode key) _ changes
     reached made _ last trace refl saved promised.leaves said
 
 pub returns-clause-all : goal.returns-clause-all
 returns-clause-all g c = λ mode key files last to changes made status trace start now promised reaches said.
     grown_whole to (saved (Some to) (finished_in trace)) made files.contents last.contents reaches.came.1
-    (grown_leaving _ _ _ _ (keeps_reads _ _ _ (λ chain. chain.rules) (λ chain. chain.addons.items) c.args.chain.now.rules) (λ old new reads. reads.reads.contents) to (mode_due mode key) _ changes
+    (grown_leaving _ _ _ _ (keeps_reads _ _ _ (λ chain. chain.rules) (λ chain. movers_of chain.replay chain.addons.items) c.args.chain.now.rules) (λ old new reads. reads.reads.contents) to (mode_due mode key) _ changes
     Whole made _ last trace refl reaches.saved_so promised.leaves said)
