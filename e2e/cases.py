@@ -16,6 +16,7 @@ from example_cases import examples
 from mode_cases import MODE_CASES
 from option_cases import OPTION_CASES
 from page_cases import PAGE_CASES
+from replay_cases import REPLAY_CASES
 from saving_cases import SAVING_CASES
 from tools import (
     ORIGIN, PROXY, TOP, Mitm, Origin, Tally, curl, get, line, raise_limit, raise_loopback, read_all, read_answers, same, talk, url, wait_for,
@@ -281,7 +282,7 @@ def main():
     tally = Tally(sys.argv[1:])
     with Origin() as origin:
         try_with_one_run(tally, origin)
-        for case in BUSY_CASES + OPTION_CASES + MODE_CASES + TUNNEL_CASES + UPSTREAM_CASES + WEBSOCKET_CASES + PAGE_CASES + SAVING_CASES:
+        for case in BUSY_CASES + OPTION_CASES + MODE_CASES + TUNNEL_CASES + UPSTREAM_CASES + WEBSOCKET_CASES + PAGE_CASES + SAVING_CASES + REPLAY_CASES:
             tally.try_case(name_of(case), case)
     for name, case in examples():
         tally.try_case(name, case)

@@ -1,5 +1,5 @@
 """Tries what the README and the comments of the options files in examples/ say: the commands behind `$`, each in a terminal of its
-own, and the lines that they show. Servers are started first, and what `mitm` shows is compared at the end."""
+own, and the lines that they show. Servers are started where they stand, and what `mitm` shows is compared when it is ended."""
 import glob
 import os
 import re
@@ -8,6 +8,7 @@ import shutil
 import subprocess
 import sys
 import tempfile
+import time
 
 from tools import MITM, PROXY, TOP, Skipped, Started, lines_of, listens, same, wait_for
 
@@ -53,25 +54,35 @@ def server_of(command):
 
 
 def try_commands(text, margin):
-    """Starts the servers, runs the other commands in turn, and compares what is shown."""
+    """Starts the servers, runs the other commands in turn, and compares what is shown. A `mitm` is ended where the next one is started."""
     if shutil.which("curl") is None:
         raise Skipped("curl is missing")
-    started = []
+    started, tried = [], 0
     try:
         for command, shown in commands(text, margin):
             server = server_of(command)
             if server is None:
                 same((command, run_command(command)), (command, shown))
-            else:
-                started.append((server, shown))
-                server.start()
-        assert any(server.words[0] == MITM for server, _ in started), "no command starts mitm"
-        for server, shown in started:
+                continue
             if server.words[0] == MITM:
-                wait_for(lambda server=server, shown=shown: has_all(server.lines(), shown), f"{shown} among {server.lines()}", 5)
+                tried += 1
+                end_mitm(started)
+            started.append((server, shown))
+            server.start()
+        assert tried > 0, "no command starts mitm"
+        end_mitm(started)
     finally:
         for server, _ in reversed(started):
             server.stop()
+
+
+def end_mitm(started):
+    """Ends each `mitm` that was started, once it has shown its lines, and takes it out."""
+    for server, shown in [one for one in started if one[0].words[0] == MITM]:
+        wait_for(lambda server=server, shown=shown: has_all(server.lines(), shown), f"{shown} among {server.lines()}", 5)
+        time.sleep(0.1)
+        server.stop()
+        started.remove((server, shown))
 
 
 def run_command(command):
