@@ -28,15 +28,15 @@ use Rattle.px_write.specs.Text.{field_line, fields_text, request_line, status_li
 -- ---- fields
 
 -- a written field in the grammar
-abbrev line_field : List ℕ × List ℕ → Field
+abbrev pub line_field : List ℕ × List ℕ → Field
 line_field field = record { name = field.0; raw = 32 ∷ field.1; end = end_crlf }
 
-lines_printed : (fields : List (List ℕ × List ℕ)) → flat_map field_line fields ≡ flat_map print_field (map line_field fields)
+pub lines_printed : (fields : List (List ℕ × List ℕ)) → flat_map field_line fields ≡ flat_map print_field (map line_field fields)
 lines_printed [] = refl
 lines_printed (field ∷ fields) =
     λ i. append_assoc field.0 (58 ∷ 32 ∷ []) field.1 i ++ crlf ++ lines_printed fields i
 
-pairs_back : (fields : List (List ℕ × List ℕ)) → All IsPlainField fields → map name_and_value (map line_field fields) ≡ fields
+pub pairs_back : (fields : List (List ℕ × List ℕ)) → All IsPlainField fields → map name_and_value (map line_field fields) ≡ fields
 unfolding trim_ows
 pairs_back [] all = refl
 pairs_back (field ∷ fields) all =
@@ -47,28 +47,28 @@ both_so : (a b : Bool) → (a && b) ≡ true → (a ≡ true) × (b ≡ true)
 both_so true b h = (refl, h)
 both_so false b h = absurd (let e = h in cc)
 
-token_so : (name : List ℕ) → is_token name ≡ true → IsToken name
+pub token_so : (name : List ℕ) → is_token name ≡ true → IsToken name
 token_so name is =
     let both = both_so _ (list_all is_token_byte name) is in
     (ltb-true 0 (length name) both.0, AllPass-from_list_all is_token_byte name both.1)
 
-field_so : (field : List ℕ × List ℕ) → is_field field ≡ true → IsPlainField field → IsField (line_field field)
+pub field_so : (field : List ℕ × List ℕ) → is_field field ≡ true → IsPlainField field → IsField (line_field field)
 field_so field valid plain = record {
   name = token_so field.0 (both_so (is_token field.0) _ valid).0;
   raw = All-cons (λ b. is_value_byte b ≡ true) 32 field.1 refl plain.0;
 }
 
-fields_so : (fields : List (List ℕ × List ℕ)) → All (λ f. is_field f ≡ true) fields → All IsPlainField fields → All IsField (map line_field fields)
+pub fields_so : (fields : List (List ℕ × List ℕ)) → All (λ f. is_field f ≡ true) fields → All IsPlainField fields → All IsField (map line_field fields)
 fields_so [] valid plain = All-nil IsField
 fields_so (field ∷ fields) valid plain =
     All-cons IsField (line_field field) (map line_field fields)
     (field_so field (All-head (λ f. is_field f ≡ true) field fields valid) (All-head IsPlainField field fields plain))
     (fields_so fields (All-tail (λ f. is_field f ≡ true) field fields valid) (All-tail IsPlainField field fields plain))
 
-few_lines : (fields : List (List ℕ × List ℕ)) → length fields ≤ 100 → length (map line_field fields) ≤ 100
+pub few_lines : (fields : List (List ℕ × List ℕ)) → length fields ≤ 100 → length (map line_field fields) ≤ 100
 few_lines fields few = rw length-map few
 
-section_printed : (fields : List (List ℕ × List ℕ)) → fields_text fields ≡ print_section (map line_field fields) end_crlf
+pub section_printed : (fields : List (List ℕ × List ℕ)) → fields_text fields ≡ print_section (map line_field fields) end_crlf
 section_printed fields = ap (λ (l : List ℕ). l ++ crlf) (lines_printed fields)
 
 pub trailers-plain : (trailers : List (List ℕ × List ℕ)) → All (λ f. is_field f ≡ true) trailers → ArePlain trailers
@@ -89,16 +89,16 @@ abbrev minor_of : Version → ℕ
 minor_of Http10 = 0
 minor_of Http11 = 1
 
-minor_low : (version : Version) → minor_of version ≤ 1
+pub minor_low : (version : Version) → minor_of version ≤ 1
 minor_low Http10 = omega arith
 minor_low Http11 = omega arith
 
-version_printed : (version : Version) → print_version (minor_of version) ≡ version_text version
+pub version_printed : (version : Version) → print_version (minor_of version) ≡ version_text version
 unfolding version_text
 version_printed Http10 = refl
 version_printed Http11 = refl
 
-regroup_line : (a b c ends section : List ℕ)
+pub regroup_line : (a b c ends section : List ℕ)
     → a ++ 32 ∷ [] ++ b ++ 32 ∷ [] ++ c ++ ends ++ section ≡ [] ++ a ++ 32 ∷ b ++ 32 ∷ c ++ ends ++ section ++ []
 regroup_line a b c ends section = simp (append_assoc, append-nil)
 
@@ -149,22 +149,22 @@ request-plain method target version fields token some uri text valid plain short
 
 -- ---- heads of responses
 
-decimal_byte : (b : ℕ) → digit_value b < 10 → is_ascii_digit b ≡ true
+pub decimal_byte : (b : ℕ) → digit_value b < 10 → is_ascii_digit b ≡ true
 decimal_byte b low = grind (arith, nat_tests)
 
-decimal_bytes : (text : List ℕ) → AllDigits 10 text → AllPass is_ascii_digit text
+pub decimal_bytes : (text : List ℕ) → AllDigits 10 text → AllPass is_ascii_digit text
 decimal_bytes [] all = All-nil (λ b. is_ascii_digit b ≡ true)
 decimal_bytes (b ∷ text) all = All-cons (λ b. is_ascii_digit b ≡ true) b text (decimal_byte b all.0) (decimal_bytes text all.1)
 
 status_range : (code : ℕ) → is_status code ≡ true → (100 ≤ code) × (code ≤ 999)
 status_range code valid = (grind (arith, nat_tests), grind (arith, nat_tests))
 
-record IsThreeDigits (code : ℕ) : Type 0 where
-  three : length (decimal code) ≡ 3
-  digits : AllPass is_ascii_digit (decimal code)
-  low : 100 ≤ digits_value 10 (decimal code)
+pub record IsThreeDigits (code : ℕ) : Type 0 where
+  pub three : length (decimal code) ≡ 3
+  pub digits : AllPass is_ascii_digit (decimal code)
+  pub low : 100 ≤ digits_value 10 (decimal code)
 
-three_digits : (code : ℕ) → is_status code ≡ true → IsThreeDigits code
+pub three_digits : (code : ℕ) → is_status code ≡ true → IsThreeDigits code
 three_digits code valid =
     let range = status_range code valid in
     let small : code < 2 ^ 64 = omega (arith, range.1) in

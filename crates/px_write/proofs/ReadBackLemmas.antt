@@ -295,7 +295,7 @@ response_back asked_head closed head content rest raw trailers code coded small 
 
 -- ---- messages
 
-version_back : (version : Version) → version_named (version_text version) ≡ version
+pub version_back : (version : Version) → version_named (version_text version) ≡ version
 unfolding version_text
 version_back Http10 = refl
 version_back Http11 = refl

@@ -114,7 +114,7 @@ star_ascii i = by_place i
 some_same : {A : Type 0} (a b : A) → Some a ≡ Some b → a ≡ b
 some_same a b e = cc
 
-authority_none : (address : Option (List ℕ × ℕ)) (path : List ℕ) → path_said (option_map (λ a. authority a.0 a.1) address) ≡ Some path → ⊥
+pub authority_none : (address : Option (List ℕ × ℕ)) (path : List ℕ) → path_said (option_map (λ a. authority a.0 a.1) address) ≡ Some path → ⊥
 authority_none None path is = let e = is in cc
 authority_none (Some address) path is = let e = is in cc
 

@@ -91,7 +91,7 @@ both_so : (a b : Bool) → (a && b) ≡ true → (a ≡ true) × (b ≡ true)
 both_so true b h = (refl, h)
 both_so false b h = absurd (let e = h in cc)
 
-path_byte : (b : ℕ) → is_path_byte b ≡ true → is_uri_byte b ≡ true
+pub path_byte : (b : ℕ) → is_path_byte b ≡ true → is_uri_byte b ≡ true
 path_byte b is = grind (arith, nat_tests)
 
 path_target : (path : List ℕ) → is_path path ≡ true → (0 < length path) × AllPass is_uri_byte path
