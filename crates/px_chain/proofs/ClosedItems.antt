@@ -1,6 +1,6 @@
 -- The requests of the client's stream, the first and those behind it.
 use Rattle.std.proofs.Common.{◌≡◌, ℕ, suc, Bool, true, false, Some, None, Option, List, [], ◌∷◌, ◌++◌, length, drop, refl, ap, sym, ◌∙◌, arith, length-drop}
-use Rattle.std.specs.Prelude.{bytes_eq, option_to_list}
+use Rattle.std.specs.Prelude.{bytes_eq, option_to_list, take}
 use Rattle.px_message.specs.declared.fault.Fault.TheVariants.{BadTarget}
 use Rattle.px_message.specs.Target.{target_form}
 use Rattle.px_message.specs.declared.address.Address.{Address}
@@ -97,11 +97,11 @@ after_on place bytes head body trailers used request is accepted =
     ap (drop 1) (items_on bytes head body trailers used is (no_tunnel place head request accepted))
 
 -- what is said of a request whose head is accepted
-pub opening_on : (terms : Terms) (events : List (Timed Event)) (point : Point) (bytes : List ℕ) (head : RequestHead) (request : Request) →
+pub opening_on : (terms : Terms) (events : List (Timed Event)) (point : Point) (flows : ℕ) (bytes : List ℕ) (head : RequestHead) (request : Request) →
     head_in (request_item bytes) ≡ Some head → judged terms.place head ≡ Accepted request →
-    said_from terms events point (request_items bytes)
-    ≡ meets_expectation (expects head) ++ said_whole terms events point request (request_item bytes) (λ next. said_from terms events next (items_after bytes))
-opening_on terms events point bytes head request is accepted =
-    let further : Point → List Command = λ next. said_from terms events next (items_after bytes) in
-    ap (said_from terms events point) (items_split bytes)
+    said_from terms events point (take (suc flows) (request_items bytes))
+    ≡ meets_expectation (expects head) ++ said_whole terms events point request (request_item bytes) (λ next. said_from terms events next (take flows (items_after bytes)))
+opening_on terms events point flows bytes head request is accepted =
+    let further : Point → List Command = λ next. said_from terms events next (take flows (items_after bytes)) in
+    ap (λ l. said_from terms events point (take (suc flows) l)) (items_split bytes)
     ∙ (ap (λ (o : Option RequestHead). said_asked terms events point o (request_item bytes) further) is ∙ rw accepted refl)

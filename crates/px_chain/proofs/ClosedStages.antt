@@ -1,5 +1,6 @@
 -- Where a conversation stands whose replies go on: what is left of all that is said in its closed form.
-use Rattle.std.proofs.Common.{◌≡◌, ℕ, ◌+◌, ◌≤◌, List, ◌++◌, drop, Option, Some, None, ap, sym, ◌∙◌, append_assoc}
+use Rattle.std.proofs.Common.{◌≡◌, ℕ, suc, ◌≤◌, List, ◌++◌, drop, Option, Some, None, ap, sym, ◌∙◌, append_assoc}
+use Rattle.std.specs.Prelude.{take}
 use Rattle.px_message.specs.declared.fault.Fault.{Fault}
 use Rattle.px_message.specs.declared.flow.Flow.{Flow}
 use Rattle.px_message.specs.declared.request.Request.{Request}
@@ -17,7 +18,8 @@ use Rattle.px_exchange.specs.declared.asked.Judged.TheVariants.{Accepted}
 use Rattle.px_exchange.specs.declared.terms.Terms.{Terms}
 use Rattle.px_exchange.specs.Flows.{response_of}
 use Rattle.px_exchange.specs.Requests.{is_head, judged}
-use Rattle.px_chain.specs.ClosedForm.{Point, answers_at, dial_answers, request_is_whole, request_items, response_is_whole, said, said_answers, said_connected, said_from, said_on, said_returned, said_whole}
+use Rattle.px_chain.specs.ClosedForm.{Point, answers_at, dial_answers, request_is_whole, request_items, response_is_whole, said, said_answers, said_by, said_from, said_on, said_returned, said_whole}
+use Rattle.px_chain.specs.Sights.{Spare}
 use Rattle.px_chain.specs.Stages.{At, Doing, ServerSide, Stage, busy, connection, idle, next, over, request_body, response_body, response_head, upgraded}
 use Rattle.px_chain.specs.Streams.{bytes_of}
 use Rattle.px_chain.proofs.ClosedFronts.{Waits}
@@ -32,8 +34,8 @@ goes_further all sent more texts before left is more_is before_is =
     is ∙ (ap (λ l. said sent ++ l) before_is ∙ (sym (append_assoc (said sent) texts left) ∙ ap (λ l. l ++ left) (sym on)))
 
 -- where the request of this flow stands
-abbrev pub standing : At → ℕ → ℕ → List (Option Fault) → Point
-standing at server from dials = record { flow = at.flow; server = server; bytes = at.used; events = from; dials = dials }
+abbrev pub standing : At → ℕ → List (Option Fault) → Option Spare → Point
+standing at from dials spare = record { flow = at.flow; server = at.dials; bytes = at.used; events = from; dials = dials; spare = spare }
 
 -- all that is said, whatever it is
 module _ (terms : Terms) (events : List (Timed Event)) (all : List Command) where
@@ -44,85 +46,87 @@ module _ (terms : Terms) (events : List (Timed Event)) (all : List Command) wher
   abbrev pub items_behind : ℕ → List (Item RequestHead)
   items_behind bytes = request_items (drop bytes all_bytes)
 
-  -- what is said of the requests behind so many bytes, and of those behind the first of them
-  abbrev pub further_behind : ℕ → Point → List Command
-  further_behind bytes there = said_from terms events there (items_behind bytes)
+  -- what is said of so many requests behind so many bytes, and of those behind the first of them
+  abbrev pub further_behind : ℕ → ℕ → Point → List Command
+  further_behind flows bytes there = said_from terms events there (take flows (items_behind bytes))
 
-  abbrev pub further_after : ℕ → Point → List Command
-  further_after bytes there = said_from terms events there (items_after (drop bytes all_bytes))
+  abbrev pub further_after : ℕ → ℕ → Point → List Command
+  further_after flows bytes there = said_from terms events there (take flows (items_after (drop bytes all_bytes)))
 
   -- the responses of its server
   abbrev pub told : ServerSide → ℕ → Request → Answers
   told side opened asked = answers_at events side.server opened (is_head asked.method)
 
-  -- what is said behind its response
-  abbrev pub behind_answer : At → ServerSide → ℕ → ℕ → Request → List Reply → Response → List Command
-  behind_answer at side from opened asked left =
-      said_on events (standing at side.server from (dial_answers left)) opened (further_behind at.used) asked
+  -- ---- where it stands, over so many events, with these replies left, and with so many flows behind this one
 
-  -- ---- where it stands, over so many events, with these replies left
+  module _ (flows : ℕ) (spare : Option Spare) where
+    -- what is said behind its response, where the request went to its server over so many events
+    abbrev pub behind_answer : At → ServerSide → ℕ → ℕ → ℕ → Request → List Reply → Response → List Command
+    behind_answer at side opened went from asked left =
+        said_on events (standing at from (dial_answers left) spare) (record { server = side.server; opened = opened; went = went }) (further_behind flows at.used) asked
 
-  -- between two requests: the next one is not whole over fewer
-  pub record Between (at : At) (come : ℕ) (sent : List Command) (left : List Reply) : Type 0 where
-    pub from : ℕ
-    pub within : from ≤ come
-    pub waits : Waits (request_is_whole events at.used) from come
-    pub rest : all ≡ said sent ++ further_behind at.used (standing at at.dials from (dial_answers left))
+    -- between two requests: the next one is not whole over fewer
+    pub record Between (at : At) (come : ℕ) (sent : List Command) (left : List Reply) : Type 0 where
+      pub from : ℕ
+      pub within : from ≤ come
+      pub waits : Waits (request_is_whole events at.used) from come
+      pub rest : all ≡ said sent ++ further_behind (suc flows) at.used (standing at from (dial_answers left) spare)
 
-  -- a request's body is awaited
-  pub record Begun (at : At) (asked : Request) (come : ℕ) (sent : List Command) (left : List Reply) : Type 0 where
-    pub from : ℕ
-    pub within : from ≤ come
-    pub waits : Waits (request_is_whole events at.used) from come
-    pub head : RequestHead
-    pub there : head_in (request_item (drop at.used all_bytes)) ≡ Some head
-    pub accepted : judged terms.place head ≡ Accepted asked
-    pub rest : all ≡ said sent
-        ++ said_whole terms events (standing at at.dials from (dial_answers left)) asked (request_item (drop at.used all_bytes)) (further_after at.used)
+    -- a request's body is awaited
+    pub record Begun (at : At) (asked : Request) (come : ℕ) (sent : List Command) (left : List Reply) : Type 0 where
+      pub from : ℕ
+      pub within : from ≤ come
+      pub waits : Waits (request_is_whole events at.used) from come
+      pub head : RequestHead
+      pub there : head_in (request_item (drop at.used all_bytes)) ≡ Some head
+      pub accepted : judged terms.place head ≡ Accepted asked
+      pub rest : all ≡ said sent
+          ++ said_whole terms events (standing at from (dial_answers left) spare) asked (request_item (drop at.used all_bytes)) (further_after flows at.used)
 
-  -- the connection to its server
-  pub record Connecting (at : At) (asked : Request) (come : ℕ) (sent : List Command) (left : List Reply) : Type 0 where
-    pub from : ℕ
-    pub rest : all ≡ said sent
-        ++ said_connected terms events (standing at at.dials from (dial_answers left)) asked (Some come) (further_behind at.used)
+    -- the connection to its server
+    pub record Connecting (at : At) (asked : Request) (come : ℕ) (sent : List Command) (left : List Reply) : Type 0 where
+      pub from : ℕ
+      pub rest : all ≡ said sent
+          ++ said_by terms events (standing at from (dial_answers left) spare) asked come None (further_behind flows at.used)
 
-  -- the request was sent on, and its response is not whole over fewer
-  pub record Onward (at : At) (asked : Request) (side : ServerSide) (opened come : ℕ) : Type 0 where
-    pub used : side.used ≡ 0
-    pub dials : at.dials ≡ side.server + 1
-    pub within : opened ≤ come
-    pub waits : Waits (response_is_whole events side.server opened (is_head asked.method)) opened come
+    -- the request was sent on, over so many events, and its response is not whole over fewer
+    pub record Onward (asked : Request) (side : ServerSide) (opened went come : ℕ) : Type 0 where
+      pub used : side.used ≡ 0
+      pub within : went ≤ come
+      pub waits : Waits (response_is_whole events side.server opened (is_head asked.method)) went come
 
-  -- its final response is awaited
-  pub record Answering (at : At) (asked : Request) (side : ServerSide) (opened come : ℕ) (sent : List Command) (left : List Reply) : Type 0 where
-    pub onward : Onward at asked side opened come
-    pub from : ℕ
-    pub rest : all ≡ said sent ++ said_answers asked (told side opened asked) (behind_answer at side from opened asked left)
+    -- its final response is awaited
+    pub record Answering (at : At) (asked : Request) (side : ServerSide) (opened come : ℕ) (sent : List Command) (left : List Reply) : Type 0 where
+      pub went : ℕ
+      pub onward : Onward asked side opened went come
+      pub from : ℕ
+      pub rest : all ≡ said sent ++ said_answers asked (told side opened asked) (behind_answer at side opened went from asked left)
 
-  -- and that response's body
-  pub record Returning (at : At) (flow : Flow) (side : ServerSide) (opened come : ℕ) (sent : List Command) (left : List Reply) : Type 0 where
-    pub onward : Onward at flow.request side opened come
-    pub from : ℕ
-    pub head : ResponseHead
-    pub final : head_in (told side opened flow.request).final ≡ Some head
-    pub response : flow.response ≡ Some (response_of head)
-    pub rest : all ≡ said sent
-        ++ said_returned flow.request (told side opened flow.request).final (behind_answer at side from opened flow.request left)
+    -- and that response's body
+    pub record Returning (at : At) (flow : Flow) (side : ServerSide) (opened come : ℕ) (sent : List Command) (left : List Reply) : Type 0 where
+      pub went : ℕ
+      pub onward : Onward flow.request side opened went come
+      pub from : ℕ
+      pub head : ResponseHead
+      pub final : head_in (told side opened flow.request).final ≡ Some head
+      pub response : flow.response ≡ Some (response_of head)
+      pub rest : all ≡ said sent
+          ++ said_returned flow.request (told side opened flow.request).final (behind_answer at side opened went from flow.request left)
 
-  -- it has ended, and all was said
-  pub record Ended (sent : List Command) : Type 0 where
-    pub is_all : all ≡ said sent
+    -- it has ended, and all was said
+    pub record Ended (sent : List Command) : Type 0 where
+      pub is_all : all ≡ said sent
 
-  abbrev pub IsDoing : At → Flow → Doing → ℕ → ℕ → List Command → List Reply → Type 0
-  IsDoing at flow (request_body None) opened come sent left = Begun at flow.request come sent left
-  IsDoing at flow connection opened come sent left = Connecting at flow.request come sent left
-  IsDoing at flow (response_head side how) opened come sent left = Answering at flow.request side opened come sent left
-  IsDoing at flow (response_body side how) opened come sent left = Returning at flow side opened come sent left
-  IsDoing at flow (upgraded side) opened come sent left = Ended sent
-  IsDoing at flow _ opened come sent left = ⊥
+    abbrev pub IsDoing : At → Flow → Doing → ℕ → ℕ → List Command → List Reply → Type 0
+    IsDoing at flow (request_body None) opened come sent left = Begun at flow.request come sent left
+    IsDoing at flow connection opened come sent left = Connecting at flow.request come sent left
+    IsDoing at flow (response_head side how) opened come sent left = Answering at flow.request side opened come sent left
+    IsDoing at flow (response_body side how) opened come sent left = Returning at flow side opened come sent left
+    IsDoing at flow (upgraded side) opened come sent left = Ended sent
+    IsDoing at flow _ opened come sent left = ⊥
 
-  abbrev pub IsAt : Stage → ℕ → ℕ → List Command → List Reply → Type 0
-  IsAt (idle at) opened come sent left = Between at come sent left
-  IsAt (busy at flow doing) opened come sent left = IsDoing at flow doing opened come sent left
-  IsAt (next at) opened come sent left = ⊥
-  IsAt over opened come sent left = Ended sent
+    abbrev pub IsAt : Stage → ℕ → ℕ → List Command → List Reply → Type 0
+    IsAt (idle at) opened come sent left = Between at come sent left
+    IsAt (busy at flow doing) opened come sent left = IsDoing at flow doing opened come sent left
+    IsAt (next at) opened come sent left = ⊥
+    IsAt over opened come sent left = Ended sent

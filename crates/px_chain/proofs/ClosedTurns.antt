@@ -11,14 +11,14 @@ use Rattle.px_event.specs.declared.command.Command.TheVariants as commands
 use Rattle.px_event.specs.declared.event.Event.{Event}
 use Rattle.px_event.specs.declared.reply.Reply.{Reply}
 use Rattle.px_event.specs.declared.reply.Reply.TheVariants as reply
-use Rattle.px_event.specs.declared.side.Side.TheVariants.{Client}
+use Rattle.px_event.specs.declared.side.Side.TheVariants.{Client, Server}
 use Rattle.px_event.specs.Chain.{Timed, NotYet, Asks, Ends, Turn}
 use Rattle.px_read.specs.Items.{Body, Item, missing, part, complete, bad_head, bad_body, request_item}
 use Rattle.px_read.specs.Laws.{head_in}
 use Rattle.px_read.specs.declared.head.RequestHead.{RequestHead as ReadRequest}
 use Rattle.px_read.proofs.ItemLemmas.{Carries, request_carries}
 use Rattle.px_read.proofs.LawLemmas.{chunk_laws}
-use Rattle.px_exchange.specs.Places.{dialled_for, goes_home}
+use Rattle.px_exchange.specs.Places.{dialled_for, form_at, goes_home}
 use Rattle.px_exchange.specs.declared.asked.Judged.{Judged}
 use Rattle.px_exchange.specs.declared.asked.Judged.TheVariants.{Refused, Accepted, Connects}
 use Rattle.px_exchange.specs.declared.ending.Used.TheVariants.{NoServer}
@@ -29,15 +29,15 @@ use Rattle.px_exchange.specs.Endings.{closed_message, ends_by_fault, ends_early}
 use Rattle.px_exchange.specs.Finds.{look_body, look_head, look_judged, or_leaves}
 use Rattle.px_exchange.specs.Flows.{ask_of, with_body}
 use Rattle.px_exchange.specs.Requests.{expects, flow_of, is_head, judged}
-use Rattle.px_exchange.specs.Texts.{meets_expectation}
-use Rattle.px_chain.specs.Chain.{goes_on_by, sequence, spare_for, turn_body, turn_dial, turn_head, turn_judged, turn_taken_body, turn_taken_head, used_more}
-use Rattle.px_chain.specs.ClosedForm.{GoesOn, request_items, behind_request, connected_at, dial_answers, fault_said, is_whole, request_is_whole, said, said_connected, said_from, said_whole}
-use Rattle.px_chain.specs.Sights.{Sight, Unused, request_in, sight_of}
-use Rattle.px_chain.specs.Stages.{At, Stage}
+use Rattle.px_exchange.specs.Texts.{meets_expectation, onward_text}
+use Rattle.px_chain.specs.Chain.{goes_on_by, opened_spare, sequence, spare_for, turn_body, turn_dial, turn_head, turn_judged, turn_taken_body, turn_taken_head, used_more}
+use Rattle.px_chain.specs.ClosedForm.{GoesOn, request_items, behind_request, connected_at, dial_answers, fault_said, first_flows, flows_behind, is_whole, request_is_whole, said, said_by, said_connected, said_from, said_of, said_whole, side_for}
+use Rattle.px_chain.specs.Sights.{Sight, Spare, is_taken, request_in, sight_of, unless_taken, unused_over}
+use Rattle.px_chain.specs.Stages.{At, Stage, request_body, side_of}
 use Rattle.px_chain.specs.Streams.{Since, bytes_of}
 use Rattle.px_chain.proofs.ClosedFronts.{IsFront, front_length, least_at, same_bytes, same_taken, side_grows}
 use Rattle.px_chain.proofs.ClosedItems.{after_on, items_after, opening_on}
-use Rattle.px_chain.proofs.ClosedQuiet.{no_dial, says_expectation, says_fault, takes_request_body, takes_request_head}
+use Rattle.px_chain.proofs.ClosedQuiet.{SaysLast, goes_behind, no_dial, said_join, says_expectation, says_fault, takes_request_body, takes_request_head}
 use Rattle.px_chain.proofs.ClosedStages.{Begun, Between, Connecting, IsAt, all_bytes, further_after, further_behind, goes_further, items_behind, standing}
 
 -- ---- nothing asked
@@ -52,10 +52,6 @@ ends_ask owed ask is = cc
 pub asks_same : (one ask : Command) → Asks one ≡ Asks ask → one ≡ ask
 asks_same one ask is = cc
 
-no_spare : (home : Bool) → spare_for home None ≡ None
-no_spare true = refl
-no_spare false = refl
-
 -- ---- the client's requests over a prefix
 
 pub drop_on : (n : ℕ) (xs ys : List ℕ) → (more : List ℕ) × (drop n (xs ++ ys) ≡ drop n xs ++ more)
@@ -64,15 +60,71 @@ drop_on (suc n) [] ys = (drop (suc n) ys, refl)
 drop_on (suc n) (x ∷ xs) ys = drop_on n xs ys
 
 module _ (terms : Terms) (events : List (Timed Event)) (all : List Command) where
-  -- where it stands behind the reply, and the replies that are left go on
-  pub record Led (stage : Stage) (opened come : ℕ) (sent : List Command) (waits : Bool) (rest : List Command) (replies : List Reply) : Type 0 where
-    pub place : IsAt terms events all stage opened come sent replies
-    pub goes : GoesOn waits rest replies
+  -- Where it stands behind the reply, with so many flows behind that one, and the replies that are left go on; or the last of these flows
+  -- has ended.
+  pub data Led (flows : ℕ) (turned : Turn Stage Command) (spare : Option Spare) (opened come : ℕ) (sent so_far : List Command) (ask : Command) (waits : Bool)
+      (rest : List Command) (replies : List Reply) : Type 0 where
+    goes_on : (more : ℕ) → IsAt terms events all more spare (sequence turned.stage) opened come (sent ++ (so_far ++ ask ∷ turned.owed)) replies →
+        first_flows (flows_behind flows ask) (turned.owed ++ rest) ≡ turned.owed ++ first_flows (suc more) rest → GoesOn waits (first_flows (suc more) rest) replies →
+        Led flows turned spare opened come sent so_far ask waits rest replies
+    has_ended : said (sent ++ (so_far ++ ask ∷ first_flows (flows_behind flows ask) (turned.owed ++ rest))) ≡ all →
+        Led flows turned spare opened come sent so_far ask waits rest replies
 
-  abbrev pub Leads : Turn Stage Command → ℕ → ℕ → List Command → List Command → Command → Bool → List Command → Reply → List Reply → Type 0
-  Leads turned opened come sent so_far ask waits rest value replies =
-      GoesOn waits (ask ∷ (turned.owed ++ rest)) (value ∷ replies) →
-      Led (sequence turned.stage) opened come (sent ++ (so_far ++ ask ∷ turned.owed)) waits rest replies
+  abbrev pub Leads : ℕ → Turn Stage Command → Option Spare → ℕ → ℕ → List Command → List Command → Command → Bool → List Command → Reply → List Reply → Type 0
+  Leads flows turned spare opened come sent so_far ask waits rest value replies =
+      GoesOn waits (ask ∷ first_flows (flows_behind flows ask) (turned.owed ++ rest)) (value ∷ replies) →
+      Led flows turned spare opened come sent so_far ask waits rest replies
+
+  -- a reply that ends its flow
+  pub ending_led : (flows : ℕ) (turned : Turn Stage Command) (spare : Option Spare) (opened come : ℕ) (sent so_far : List Command) (ask : Command) (waits : Bool)
+      (rest : List Command) (replies : List Reply) (texts : List Command) → flows_behind flows ask ≡ suc flows → SaysLast turned.owed texts →
+      (flows ≡ 0 → all ≡ said (sent ++ (so_far ++ ask ∷ turned.owed))) →
+      ((more : ℕ) → flows ≡ suc more → IsAt terms events all more spare (sequence turned.stage) opened come (sent ++ (so_far ++ ask ∷ turned.owed)) replies) →
+      GoesOn waits (first_flows (flows_behind flows ask) (turned.owed ++ rest)) replies → Led flows turned spare opened come sent so_far ask waits rest replies
+  ending_led zero turned spare opened come sent so_far ask waits rest replies texts behind says last more goes =
+      let asked : List Command → List Command = λ l. sent ++ (so_far ++ ask ∷ l) in
+      let split : (l : List Command) → said (asked l) ≡ said sent ++ (said so_far ++ (said_of ask ++ said l)) = λ l.
+      said_join sent (so_far ++ ask ∷ l) ∙ ap (λ m. said sent ++ m) (said_join so_far (ask ∷ l)) in
+      has_ended
+      (split (first_flows (flows_behind 0 ask) (turned.owed ++ rest))
+      ∙ (ap (λ n. said sent ++ (said so_far ++ (said_of ask ++ said (first_flows n (turned.owed ++ rest))))) behind
+      ∙ (ap (λ l. said sent ++ (said so_far ++ (said_of ask ++ l))) (says.last rest ∙ sym says.is)
+      ∙ (sym (split turned.owed) ∙ sym (last refl)))))
+  ending_led (suc more) turned spare opened come sent so_far ask waits rest replies texts behind says last on goes =
+      let cut : first_flows (flows_behind (suc more) ask) (turned.owed ++ rest) ≡ turned.owed ++ first_flows (suc more) rest =
+      ap (λ n. first_flows n (turned.owed ++ rest)) behind ∙ says.keeps more rest in
+      let P : List Command → Type 0 = λ l. GoesOn waits l replies in
+      goes_on more (on more refl) cut (says.skips waits (first_flows (suc more) rest) replies (subst P cut goes))
+
+  -- a request that goes on: its server is dialled, or it goes to the spare side
+  side_led : (flows : ℕ) (spare : Option Spare) (home : Bool) (at : At) (whole : Flow) (from later : ℕ) (sent : List Command) (waits : Bool) (rest : List Command)
+      (replies : List Reply) (prefix : List (Timed Event)) →
+      let ask = ask_of whole RequestBody in
+      let turned = goes_on_by (spare_for home (unused_over spare prefix)) terms.place at whole in
+      let taken = is_taken (request_body None) (side_of (sequence turned.stage)) in
+      all ≡ said sent ++ said_by terms events (standing at from (dial_answers replies) spare) whole.request (length prefix) (side_for home spare) (further_behind terms events all flows at.used) →
+      GoesOn waits (first_flows (suc flows) (turned.owed ++ rest)) replies →
+      Led flows turned (unless_taken taken spare) (opened_spare taken spare later) (length prefix) sent [] ask waits rest replies
+  side_led flows None true at whole from later sent waits rest replies prefix is goes =
+      goes_on flows (record { from = from; rest = goes_further all sent (ask_of whole RequestBody ∷ []) [] _ _ is refl refl }) refl goes
+  side_led flows None false at whole from later sent waits rest replies prefix is goes =
+      goes_on flows (record { from = from; rest = goes_further all sent (ask_of whole RequestBody ∷ []) [] _ _ is refl refl }) refl goes
+  side_led flows (Some spare) false at whole from later sent waits rest replies prefix is goes =
+      goes_on flows (record { from = from; rest = goes_further all sent (ask_of whole RequestBody ∷ []) [] _ _ is refl refl }) refl goes
+  side_led flows (Some spare) true at whole from later sent waits rest replies prefix is goes =
+      let text : Command = commands.Send (Server spare.server) (onward_text (form_at terms.place) whole.request) in
+      goes_on flows
+      (record {
+        went = length prefix;
+        onward = record {
+          used = refl;
+          within = omega arith;
+          waits = λ k low high. absurd (omega arith);
+        };
+        from = from;
+        rest = goes_further all sent (ask_of whole RequestBody ∷ text ∷ []) (text ∷ []) _ _ is refl refl;
+      })
+      refl goes
 
   pub client_carried : (used : ℕ) (prefix : List (Timed Event)) → IsFront prefix events →
       Carries (request_item (drop used (bytes_of Client prefix))) (request_item (drop used (all_bytes terms events all)))
@@ -83,7 +135,8 @@ module _ (terms : Terms) (events : List (Timed Event)) (all : List Command) wher
       let P : List ℕ → Type 0 = λ l. Carries (request_item (drop used bytes)) (request_item l) in
       subst P (sym (ap (drop used) grows.grown ∙ on.1)) (request_carries chunk_laws (drop used bytes) on.0)
 
-  module _ (sent : List Command) (moment : ℕ) (value : Reply) (waits : Bool) (rest : List Command) (replies : List Reply) (since : Since) (opened : ℕ)
+  module _ (flows : ℕ) (spare : Option Spare) (sent : List Command) (moment : ℕ) (value : Reply) (waits : Bool) (rest : List Command) (replies : List Reply)
+      (since : Since) (opened : ℕ)
       (prefix : List (Timed Event)) (is_front : IsFront prefix events) (ask : Command) where
     abbrev answer : Timed Reply
     answer = record { moment = moment; value = value }
@@ -94,7 +147,7 @@ module _ (terms : Terms) (events : List (Timed Event)) (all : List Command) wher
 
     -- while no server is used
     abbrev seen : Sight
-    seen = sight_of None since opened None prefix
+    seen = sight_of None since opened spare prefix
 
     -- the replies that are left before this one, and behind it
     abbrev left : List Reply
@@ -107,46 +160,47 @@ module _ (terms : Terms) (events : List (Timed Event)) (all : List Command) wher
 
     -- ---- the head of a request
 
-    accepted_led : (later : ℕ) (at : At) (head : ReadRequest) (message : Request) → Between terms events all at come sent left →
+    accepted_led : (later : ℕ) (at : At) (head : ReadRequest) (message : Request) → Between terms events all flows spare at come sent left →
         head_in (request_item (drop at.used (all_bytes terms events all))) ≡ Some head → judged terms.place head ≡ Accepted message →
-        Leads (turn_judged terms at head (Accepted message) seen answer) later come sent [] (ask_of (flow_of terms at.flow message seen.now) RequestHead) waits rest value replies
+        Leads flows (turn_judged terms at head (Accepted message) seen answer) spare later come sent [] (ask_of (flow_of terms at.flow message seen.now) RequestHead) waits rest value replies
     accepted_led later at head message b there accepted goes =
         let flow = flow_of terms at.flow message seen.now in
         let asked = ask_of flow RequestHead in
         let bytes = drop at.used (all_bytes terms events all) in
         let meets = says_expectation (expects head) in
         let whole : List (Option Fault) → List Command = λ d.
-        said_whole terms events (standing at at.dials b.from d) message (request_item bytes) (further_after terms events all at.used) in
-        let opening = opening_on terms events (standing at at.dials b.from (dial_answers left)) bytes head message there accepted in
-        let P : Taken Request → Type 0 = λ t. Leads (turn_taken_head at flow (expects head) t moment seen.closed) later come sent [] asked waits rest value replies in
-        let led : P (taken.GoesOn message) = λ on. record {
-          place = record {
-            from = b.from;
-            within = b.within;
-            waits = b.waits;
-            head = head;
-            there = there;
-            accepted = accepted;
-            rest = goes_further all sent (asked ∷ meets_expectation (expects head)) (meets_expectation (expects head)) _ (whole (dial_answers replies)) b.rest meets.is
-                (opening ∙ ap (λ d. meets_expectation (expects head) ++ whole d) (no_dial flow value replies on.0));
-          };
-          goes = meets.skips waits rest replies on.1;
-        } in
+        said_whole terms events (standing at b.from d spare) message (request_item bytes) (further_after terms events all flows at.used) in
+        let opening = opening_on terms events (standing at b.from (dial_answers left) spare) flows bytes head message there accepted in
+        let P : Taken Request → Type 0 = λ t. Leads flows (turn_taken_head at flow (expects head) t moment seen.closed) spare later come sent [] asked waits rest value replies in
+        let led : P (taken.GoesOn message) = λ on.
+        goes_on flows
+        (record {
+          from = b.from;
+          within = b.within;
+          waits = b.waits;
+          head = head;
+          there = there;
+          accepted = accepted;
+          rest = goes_further all sent (asked ∷ meets_expectation (expects head)) (meets_expectation (expects head)) _ (whole (dial_answers replies)) b.rest meets.is
+              (opening ∙ ap (λ d. meets_expectation (expects head) ++ whole d) (no_dial flow value replies on.0));
+        })
+        (meets.keeps flows rest)
+        (goes_behind (meets_expectation (expects head)) (meets_expectation (expects head)) meets waits flows rest replies on.1) in
         subst P (sym (takes_request_head flow value goes.0)) led goes
 
-    judged_led : (later : ℕ) (at : At) (head : ReadRequest) (made : Judged) → judged terms.place head ≡ made → Between terms events all at come sent left →
+    judged_led : (later : ℕ) (at : At) (head : ReadRequest) (made : Judged) → judged terms.place head ≡ made → Between terms events all flows spare at come sent left →
         head_in (request_item (drop at.used (all_bytes terms events all))) ≡ Some head →
         or_leaves seen.closed [] (look_judged terms at.flow head made seen.now seen.closed) ≡ Asks ask →
-        Leads (turn_judged terms at head made seen answer) later come sent [] ask waits rest value replies
+        Leads flows (turn_judged terms at head made seen answer) spare later come sent [] ask waits rest value replies
     judged_led later at head (Refused fault) made b there asks = absurd (ends_ask _ ask asks)
     judged_led later at head (Connects address) made b there asks = absurd (ends_ask _ ask asks)
     judged_led later at head (Accepted message) made b there asks =
-        let P : Command → Type 0 = λ c. Leads (turn_judged terms at head (Accepted message) seen answer) later come sent [] c waits rest value replies in
+        let P : Command → Type 0 = λ c. Leads flows (turn_judged terms at head (Accepted message) seen answer) spare later come sent [] c waits rest value replies in
         subst P (asks_same _ ask asks) (accepted_led later at head message b there made)
 
-    pub idle_led : (later : ℕ) (at : At) (item : Item ReadRequest) → request_in at seen ≡ item → Between terms events all at come sent left →
+    pub idle_led : (later : ℕ) (at : At) (item : Item ReadRequest) → request_in at seen ≡ item → Between terms events all flows spare at come sent left →
         or_leaves seen.closed [] (look_head terms at.flow item seen.now seen.closed) ≡ Asks ask →
-        Leads (turn_head terms at item seen answer) later come sent [] ask waits rest value replies
+        Leads flows (turn_head terms at item seen answer) spare later come sent [] ask waits rest value replies
     idle_led later at missing is b asks = absurd (asks_nothing seen.closed [] ask asks)
     idle_led later at (part head body) is b asks =
         judged_led later at head (judged terms.place head) refl b ((client_carried at.used prefix is_front).head head (ap head_in is)) asks
@@ -158,10 +212,15 @@ module _ (terms : Terms) (events : List (Timed Event)) (all : List Command) wher
 
     -- ---- the request's body
 
+    -- by the reply to its hook the spare side may be taken
+    abbrev LeadsOn : ℕ → Turn Stage Command → Command → Type 0
+    LeadsOn later turned asked =
+        let taken = is_taken (request_body None) (side_of (sequence turned.stage)) in
+        Leads flows turned (unless_taken taken spare) (opened_spare taken spare later) come sent [] asked waits rest value replies
+
     whole_led : (later : ℕ) (at : At) (flow : Flow) (head : ReadRequest) (body : Body) (trailers : List (List ℕ × List ℕ)) (used : ℕ) →
-        request_in at seen ≡ complete head body trailers used → Begun terms events all at flow.request come sent left →
-        Leads (turn_body terms.place at flow (complete head body trailers used) seen answer) later come sent []
-        (ask_of (with_body flow body.content trailers seen.now) RequestBody) waits rest value replies
+        request_in at seen ≡ complete head body trailers used → Begun terms events all flows spare at flow.request come sent left →
+        LeadsOn later (turn_body terms.place at flow (complete head body trailers used) seen answer) (ask_of (with_body flow body.content trailers seen.now) RequestBody)
     whole_led later at flow head body trailers used is b goes =
         let whole = with_body flow body.content trailers seen.now in
         let asked = ask_of whole RequestBody in
@@ -170,79 +229,72 @@ module _ (terms : Terms) (events : List (Timed Event)) (all : List Command) wher
         let same : Some b.head ≡ Some head = sym b.there ∙ ap head_in item in
         let heads : b.head ≡ head = cc in
         let accepted : judged terms.place head ≡ Accepted flow.request = ap (judged terms.place) (sym heads) ∙ b.accepted in
-        let connected : connected_at events (standing at at.dials b.from (dial_answers replies)) ≡ Some come =
+        let point = standing at b.from (dial_answers replies) spare in
+        let connected : connected_at events point ≡ Some come =
         least_at (request_is_whole events at.used) b.from come (length events) b.within (front_length prefix events is_front) b.waits
         (whole_here at.used ∙ ap is_whole is) in
         let after : items_after bytes ≡ items_behind terms events all (at.used + used) =
         after_on terms.place bytes head body trailers used flow.request item accepted
         ∙ ap (λ l. request_items l) (drop-drop used at.used (all_bytes terms events all)) in
-        let F = further_after terms events all at.used in
-        let point = standing at at.dials b.from (dial_answers replies) in
-        let ends_here : List Command = said_connected terms events (behind_request point used) whole.request (Some come) (further_behind terms events all (at.used + used)) in
-        let on : dial_answers left ≡ dial_answers replies → said_whole terms events (standing at at.dials b.from (dial_answers left)) flow.request (request_item bytes) F ≡ ends_here = λ same.
-        ap (λ d. said_whole terms events (standing at at.dials b.from d) flow.request (request_item bytes) F) same
+        let F = further_after terms events all flows at.used in
+        let ends_here : List Command = said_connected terms events (behind_request point used) whole.request (Some come) (further_behind terms events all flows (at.used + used)) in
+        let on : dial_answers left ≡ dial_answers replies → said_whole terms events (standing at b.from (dial_answers left) spare) flow.request (request_item bytes) F ≡ ends_here = λ same.
+        ap (λ d. said_whole terms events (standing at b.from d spare) flow.request (request_item bytes) F) same
         ∙ (ap (λ i. said_whole terms events point flow.request i F) item
         ∙ (ap (λ o. said_connected terms events (behind_request point used) whole.request o F) connected
-        ∙ ap (λ l. said_connected terms events (behind_request point used) whole.request (Some come) (λ next. said_from terms events next l)) after)) in
-        let P : Taken Request → Type 0 = λ t. Leads (turn_taken_body terms.place (used_more at used) whole None t moment seen.closed) later come sent [] asked waits rest value replies in
-        let Q : Option Unused → Type 0 = λ s. Leads (goes_on_by s terms.place (used_more at used) whole) later come sent [] asked waits rest value replies in
-        let led : Q None = λ on_it. record {
-          place = record {
-            from = b.from;
-            rest = goes_further all sent (asked ∷ []) [] _ ends_here b.rest refl (on (no_dial whole value replies on_it.0));
-          };
-          goes = on_it.1;
-        } in
-        let home : P (taken.GoesOn whole.request) = subst Q (sym (no_spare (goes_home terms.place whole.request))) led in
+        ∙ ap (λ l. said_connected terms events (behind_request point used) whole.request (Some come) (λ next. said_from terms events next (take flows l))) after)) in
+        let P : Taken Request → Type 0 = λ t. LeadsOn later (turn_taken_body terms.place (used_more at used) whole seen.spare t moment seen.closed) asked in
+        let home : P (taken.GoesOn whole.request) = λ on_it.
+        side_led flows spare (goes_home terms.place whole.request) (used_more at used) whole b.from later sent waits rest replies prefix
+        (b.rest ∙ ap (λ l. said sent ++ l) (on (no_dial whole value replies on_it.0))) on_it.1 in
         subst P (sym (takes_request_body whole value goes.0)) home goes
 
-    pub body_led : (later : ℕ) (at : At) (flow : Flow) (item : Item ReadRequest) → request_in at seen ≡ item → Begun terms events all at flow.request come sent left →
+    pub body_led : (later : ℕ) (at : At) (flow : Flow) (item : Item ReadRequest) → request_in at seen ≡ item → Begun terms events all flows spare at flow.request come sent left →
         or_leaves seen.closed (ends_early flow closed_message seen.now NoServer true) (look_body flow item seen.now seen.closed) ≡ Asks ask →
-        Leads (turn_body terms.place at flow item seen answer) later come sent [] ask waits rest value replies
+        LeadsOn later (turn_body terms.place at flow item seen answer) ask
     body_led later at flow missing is b asks = absurd (asks_nothing seen.closed _ ask asks)
     body_led later at flow (part head body) is b asks = absurd (asks_nothing seen.closed _ ask asks)
     body_led later at flow (complete head body trailers used) is b asks =
-        let P : Command → Type 0 = λ c. Leads (turn_body terms.place at flow (complete head body trailers used) seen answer) later come sent [] c waits rest value replies in
+        let P : Command → Type 0 = LeadsOn later (turn_body terms.place at flow (complete head body trailers used) seen answer) in
         subst P (asks_same _ ask asks) (whole_led later at flow head body trailers used is b)
     body_led later at flow (bad_head fault) is b asks = absurd (asks_nothing seen.closed _ ask asks)
     body_led later at flow (bad_body fault head body) is b asks = absurd (ends_ask _ ask asks)
 
     -- ---- the connection
 
-    answered_led : (at : At) (flow : Flow) (answered : Reply) → Connecting terms events all at flow.request come sent (answered ∷ replies) →
-        Leads (turn_dial terms.place at flow (record { moment = moment; value = answered }) seen.closed) come come sent []
+    answered_led : (at : At) (flow : Flow) (answered : Reply) → Connecting terms events all flows spare at flow.request come sent (answered ∷ replies) →
+        Leads flows (turn_dial terms.place at flow (record { moment = moment; value = answered }) seen.closed) spare come come sent []
         (commands.Dial at.dials (dialled_for terms.place flow.request) None) waits rest answered replies
-    answered_led at flow reply.Dialled c goes = record {
-      place = record {
-        onward = record {
-          used = refl;
-          dials = refl;
-          within = omega arith;
-          waits = λ k low high. absurd (omega arith);
-        };
-        from = c.from;
-        rest = goes_further all sent _ _ _ _ c.rest refl refl;
-      };
-      goes = goes.1;
-    }
+    answered_led at flow reply.Dialled c goes =
+        goes_on flows
+        (record {
+          went = come;
+          onward = record {
+            used = refl;
+            within = omega arith;
+            waits = λ k low high. absurd (omega arith);
+          };
+          from = c.from;
+          rest = goes_further all sent _ _ _ _ c.rest refl refl;
+        })
+        refl goes.1
     answered_led at flow (reply.Refused fault) c goes =
         let ends = says_fault flow fault moment NoServer seen.closed in
         let dial = commands.Dial at.dials (dialled_for terms.place flow.request) None in
-        let on : all ≡ said (sent ++ dial ∷ ends_by_fault flow fault moment NoServer seen.closed) ++ [] =
-        goes_further all sent (dial ∷ ends_by_fault flow fault moment NoServer seen.closed) (dial ∷ fault_said fault (is_head flow.request.method)) _ [] c.rest
-        (ap (λ l. dial ∷ l) ends.is) refl in
-        record {
-          place = record { is_all = on ∙ append-nil _ };
-          goes = ends.skips waits rest replies goes.1;
-        }
+        let owed = ends_by_fault flow fault moment NoServer seen.closed in
+        let on : all ≡ said (sent ++ dial ∷ owed) ++ [] =
+        goes_further all sent (dial ∷ owed) (dial ∷ fault_said fault (is_head flow.request.method)) _ [] c.rest (ap (λ l. dial ∷ l) ends.is) refl in
+        let is_all = on ∙ append-nil _ in
+        ending_led flows (turn_dial terms.place at flow (record { moment = moment; value = reply.Refused fault }) seen.closed) spare come come sent [] dial waits rest replies
+        (fault_said fault (is_head flow.request.method)) refl ends (λ none. is_all) (λ more is. record { is_all = is_all }) goes.1
     answered_led at flow (reply.Go given streamed) c goes = absurd goes.0
     answered_led at flow (reply.Respond response) c goes = absurd goes.0
     answered_led at flow reply.Kill c goes = absurd goes.0
     answered_led at flow reply.Discard c goes = absurd goes.0
 
-    pub dial_led : (at : At) (flow : Flow) → Connecting terms events all at flow.request come sent left →
+    pub dial_led : (at : At) (flow : Flow) → Connecting terms events all flows spare at flow.request come sent left →
         or_leaves seen.closed [] (Asks (commands.Dial at.dials (dialled_for terms.place flow.request) None)) ≡ Asks ask →
-        Leads (turn_dial terms.place at flow answer seen.closed) come come sent [] ask waits rest value replies
+        Leads flows (turn_dial terms.place at flow answer seen.closed) spare come come sent [] ask waits rest value replies
     dial_led at flow c asks =
-        let P : Command → Type 0 = λ d. Leads (turn_dial terms.place at flow answer seen.closed) come come sent [] d waits rest value replies in
+        let P : Command → Type 0 = λ d. Leads flows (turn_dial terms.place at flow answer seen.closed) spare come come sent [] d waits rest value replies in
         subst P (asks_same _ ask asks) (answered_led at flow value c)

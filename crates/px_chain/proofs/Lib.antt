@@ -17,6 +17,8 @@ pub mod ClosedLooks
 pub mod ClosedTurns
 pub mod ClosedReturns
 pub mod ClosedWalk
+pub mod WalkLemmas
+pub mod FlowPlaces
 pub mod ClosedExact
 pub mod ClosedExamples
 pub mod PlainTexts

@@ -18,6 +18,7 @@ use Rattle.px_read.specs.Readings.{behind_bytes, body_reading, request_behind, r
 use Rattle.px_read.specs.Requests.{Requests, request_list, requests_behind, requests_on, requests_within}
 use Rattle.px_read.specs.declared.head.RequestHead.{RequestHead}
 use Rattle.px_read.specs.declared.head.ResponseHead.{ResponseHead}
+use Rattle.px_chain.proofs.ClosedItems.{items_of}
 use Rattle.px_chain.proofs.PlainTexts.{number_is}
 use Rattle.px_chain.proofs.ReadAgain.{IsPlainAnswer}
 
@@ -51,9 +52,6 @@ request_parts bytes head body trailers used e = request_by bytes (request_front 
 -- an item that stands at the front of some bytes
 abbrev pub IsRead : Item RequestHead → Type 0
 IsRead item = (bytes : List ℕ) × (request_item bytes ≡ item)
-
-abbrev items_of : Requests → List (Item RequestHead)
-items_of requests = requests.whole ++ option_to_list requests.last
 
 one_read : (item : Item RequestHead) → IsRead item → All IsRead (item ∷ [])
 one_read item read = All-cons IsRead item [] read (All-nil IsRead)

@@ -18,7 +18,8 @@ use Rattle.px_write.specs.Text.{body_text, version_text}
 use Rattle.px_write.proofs.PlainLemmas.{request-plain}
 use Rattle.px_write.proofs.ReadBackLemmas.{request_back, response_back}
 use Rattle.px_chain.specs.WhatWasRead.{EndsThere, IsReadable, answer_body_text, answer_head_text, head_text}
-use Rattle.px_chain.proofs.PlainTexts.{fields_plain, fields_valid, head_stands, trailers_stand, version_back}
+use Rattle.px_write.proofs.ReadBackLemmas.{version_back}
+use Rattle.px_chain.proofs.PlainTexts.{fields_plain, fields_valid, head_stands, trailers_stand}
 
 -- ---- requests
 

@@ -1,7 +1,7 @@
 -- The texts of the closed form say what was read, one message behind the other.
-use Rattle.std.proofs.Common.{◌≡◌, ◌≢◌, ℕ, ◌+◌, Bool, true, false, List, [], ◌∷◌, ◌++◌, map, drop, Option, Some, None, refl, sym, subst, inl, inr, append_assoc}
-use Rattle.std.specs.Prelude.{All, ⊤}
-use Rattle.std.proofs.lemmas.List.Elements.{All-head, All-tail}
+use Rattle.std.proofs.Common.{◌≡◌, ◌≢◌, ℕ, zero, suc, ◌+◌, Bool, true, false, List, [], ◌∷◌, ◌++◌, map, drop, Option, Some, None, refl, ap, sym, ◌∙◌, subst, inl, inr, append_assoc}
+use Rattle.std.specs.Prelude.{All, ⊤, take}
+use Rattle.std.proofs.lemmas.List.Elements.{All-cons, All-head, All-nil, All-tail}
 use Rattle.px_message.specs.declared.fault.Fault.{Fault}
 use Rattle.px_message.specs.declared.request.Request.{Request}
 use Rattle.px_message.specs.declared.response.Response.{Response}
@@ -11,8 +11,6 @@ use Rattle.px_event.specs.declared.command.Command.{Command}
 use Rattle.px_event.specs.declared.event.Event.{Event}
 use Rattle.px_event.specs.declared.side.Side.TheVariants.{Client, Server}
 use Rattle.px_event.specs.Chain.{Timed}
-use Rattle.px_event.specs.Layer.{Move}
-use Rattle.px_event.specs.Stands.{due_by}
 use Rattle.px_read.specs.Heads.{connect_method}
 use Rattle.px_read.specs.Items.{Body, Item, answer_list, bad_body, bad_head, complete, missing, part, request_item, response_item}
 use Rattle.px_read.specs.declared.head.RequestHead.{RequestHead}
@@ -21,17 +19,20 @@ use Rattle.px_read.proofs.WholeLemmas.{final-behind}
 use Rattle.px_message.specs.Target.{target_form}
 use Rattle.px_message.specs.declared.address.Address.{Address}
 use Rattle.px_exchange.specs.Finds.{is_relayed}
+use Rattle.px_exchange.specs.Places.{goes_home}
 use Rattle.px_exchange.specs.Requests.{expects, goal_at, is_head, is_http11, judged, request_of}
 use Rattle.px_exchange.specs.Texts.{interim_command, meets_expectation, sends_on}
 use Rattle.px_exchange.specs.declared.asked.Judged.{Judged}
 use Rattle.px_exchange.specs.declared.asked.Judged.TheVariants.{Refused, Accepted, Connects}
 use Rattle.px_exchange.specs.declared.place.Place.{Place}
+use Rattle.px_exchange.specs.declared.place.Place.TheVariants as places
 use Rattle.px_exchange.specs.declared.terms.Terms.{Terms}
-use Rattle.px_chain.specs.Chain.{begin, http_chain, sequence}
-use Rattle.px_chain.specs.ClosedForm.{GoesOn, Point, answered, behind_request, connected_at, ended_at, fault_said, first_point, heard, next_point, request_items, said, said_answers, said_behind, said_connected, said_dialled, said_final, said_for, said_from, said_item, said_judged, said_on, said_relayed, said_returned, whole_request}
+use Rattle.px_chain.specs.ClosedForm.{GoesOn, Point, Served, behind_request, connected_at, ended_at, fault_said, first_flows, next_point, request_items, said, said_answers, said_behind, said_by, said_connected, said_dialled, said_final, said_from, said_item, said_judged, said_of_flows, said_on, said_relayed, said_returned, said_served, side_for, whole_request}
+use Rattle.px_chain.specs.Sights.{Spare}
 use Rattle.px_chain.specs.Stages.{At, idle}
 use Rattle.px_chain.specs.Streams.{bytes_of, is_closed}
-use Rattle.px_chain.specs.WhatWasRead.{Here, IsOwn, Message, SayWhatWasRead, a_final_response, an_interim_response, answers_read, final_read, interim_known, messages_at, messages_behind, messages_from, messages_of, messages_read}
+use Rattle.px_chain.specs.Walks.{Walk, answered, due_from, heard, point_at}
+use Rattle.px_chain.specs.WhatWasRead.{Here, IsOwn, Message, SayWhatWasRead, a_final_response, an_interim_response, answers_read, behind_by, final_read, goes_home_by, here_of, interim_known, messages_at, messages_behind, messages_from, messages_of, messages_once, messages_read, served_by}
 use Rattle.px_chain.proofs.ClosedWalk.{said_begins}
 use Rattle.px_chain.proofs.PartsRead.{IsInterimRead, IsRead, interim_read, list_read}
 use Rattle.px_chain.proofs.SaysRequests.{accepted, says_made}
@@ -122,9 +123,18 @@ module _ (place : Place) where
 
 -- ---- the closed form
 
--- where a request stands
-abbrev here_of : Point → Here
-here_of point = record { server = point.server; bytes = point.bytes; events = point.events }
+-- a request goes where it went without its body
+home_whole : (place : Place) (request : Request) (body : Body) (trailers : List (List ℕ × List ℕ)) → goes_home place (whole_request request body trailers) ≡ goes_home place request
+home_whole places.Regular request body trailers = refl
+home_whole (places.Upstream proxy) request body trailers = refl
+home_whole (places.Fixed address side inside) request body trailers = refl
+
+-- of so many of them each was read
+first_read : (flows : ℕ) (items : List (Item RequestHead)) → All IsRead items → All IsRead (take flows items)
+first_read zero items all = All-nil IsRead
+first_read (suc flows) [] all = all
+first_read (suc flows) (item ∷ items) all =
+    All-cons IsRead item (take flows items) (All-head IsRead item items all) (first_read flows items (All-tail IsRead item items all))
 
 module _ (terms : Terms) (events : List (Timed Event)) where
   abbrev Say : List Command → List Message → Type 0
@@ -135,8 +145,7 @@ module _ (terms : Terms) (events : List (Timed Event)) where
   GoOn further messages = (next : Point) → Say (further next) (messages (here_of next))
 
   behind_say : (goes : Bool) (point : Point) (ended : Option ℕ) (further : Point → List Command) (messages : Here → List Message) → GoOn further messages
-      → Say (said_behind goes point ended further)
-      (messages_behind ended (λ ended. messages (record { server = point.server + 1; bytes = point.bytes; events = ended })))
+      → Say (said_behind goes point ended further) (messages_behind ended (λ ended. messages (here_of (next_point point ended))))
   behind_say true point (Some ended) further messages on = on (next_point point ended)
   behind_say true point None further messages on = tt
   behind_say false point ended further messages on = tt
@@ -149,46 +158,67 @@ module _ (terms : Terms) (events : List (Timed Event)) where
       abbrev asked : Request
       asked = whole_request (request_of address head path no_connect) body trailers
 
-      abbrev behind : Point → Option ℕ → List Message
-      behind point opened = messages_at events point.server head body trailers opened
-          (λ ended. messages (record { server = point.server + 1; bytes = point.bytes; events = ended }))
-
-      dialled_say : (point : Point) (opened : ℕ) (dials : List (Option Fault)) → Say (said_dialled terms events point asked opened dials further) (behind point (Some opened))
-      dialled_say point opened [] = tt
-      dialled_say point opened (Some fault ∷ dials) =
-          own_say terms.place (fault_said fault (is_head head.method)) (behind point (Some opened)) (fault_own fault (is_head head.method))
-      dialled_say point opened (None ∷ dials) = inr (
+      served_say : (point : Point) (served : Served) → Say (said_served terms events point served further asked)
+          (messages_at events served head body trailers (λ ended. messages (here_of (next_point point ended))))
+      served_say point served = inr (
         (refl, says_made terms.place bytes head body trailers used whole address path no_connect goal),
-        answers_say terms.place asked (is_closed (Server point.server) (drop opened events)) (bytes_of (Server point.server) (drop opened events))
-            (said_on events (record point { dials = dials }) opened further asked)
-            (messages_behind (ended_at events point.server opened (is_head head.method))
-            (λ ended. messages (record { server = point.server + 1; bytes = point.bytes; events = ended })))
-            (λ response. behind_say _ (record point { dials = dials }) (ended_at events point.server opened (is_head head.method)) further messages on),
+        answers_say terms.place asked (is_closed (Server served.server) (drop served.opened events)) (bytes_of (Server served.server) (drop served.opened events))
+            (said_on events point served further asked)
+            (messages_behind (ended_at events served (is_head head.method)) (λ ended. messages (here_of (next_point point ended))))
+            (λ response. behind_say _ point (ended_at events served (is_head head.method)) further messages on),
       )
 
-      connected_say : (point : Point) (opened : Option ℕ) → Say (said_connected terms events point asked opened further) (behind point opened)
-      connected_say point None = tt
-      connected_say point (Some opened) = inl (tt, dialled_say point opened point.dials)
+      dialled_say : (point : Point) (come : ℕ) (dials : List (Option Fault)) → Say (said_dialled terms events (behind_request point used) asked come dials further)
+          (messages_at events (served_by (here_of point) come None) head body trailers (λ ended. messages (behind_by (here_of point) used ended None)))
+      dialled_say point come [] = tt
+      dialled_say point come (Some fault ∷ dials) =
+          own_say terms.place (fault_said fault (is_head head.method))
+          (messages_at events (served_by (here_of point) come None) head body trailers (λ ended. messages (behind_by (here_of point) used ended None)))
+          (fault_own fault (is_head head.method))
+      dialled_say point come (None ∷ dials) =
+          served_say (record (behind_request point used) { server = point.server + 1; dials = dials }) (record { server = point.server; opened = come; went = come })
 
-    whole_say : (point : Point) (opened : Option ℕ) (request : Request) → judged terms.place head ≡ Accepted request
-        → Say (said_connected terms events point (whole_request request body trailers) opened further)
-        (messages_at events point.server head body trailers opened (λ ended. messages (record { server = point.server + 1; bytes = point.bytes; events = ended })))
-    whole_say point opened request is =
+      by_say : (point : Point) (come : ℕ) (side : Option Spare) → Say (said_by terms events (behind_request point used) asked come side further)
+          (messages_at events (served_by (here_of point) come side) head body trailers (λ ended. messages (behind_by (here_of point) used ended side)))
+      by_say point come None = inl (tt, dialled_say point come point.dials)
+      by_say point come (Some spare) =
+          served_say (record (behind_request point used) { spare = None }) (record { server = spare.server; opened = spare.opened; went = come })
+
+      connected_say : (point : Point) (come : Option ℕ) → goes_home_by terms.place (judged terms.place head) ≡ goes_home terms.place asked
+          → Say (said_connected terms events (behind_request point used) asked come further)
+          (messages_once terms.place events (here_of point) head body trailers used come messages)
+      connected_say point None home = tt
+      connected_say point (Some come) home =
+          let P : Bool → Type 0 = λ b. Say (said_connected terms events (behind_request point used) asked (Some come) further)
+          (messages_at events (served_by (here_of point) come (side_for b point.spare)) head body trailers
+          (λ ended. messages (behind_by (here_of point) used ended (side_for b point.spare)))) in
+          subst P (sym home) (by_say point come (side_for (goes_home terms.place asked) point.spare))
+
+    whole_say : (point : Point) (come : Option ℕ) (request : Request) → judged terms.place head ≡ Accepted request
+        → Say (said_connected terms events (behind_request point used) (whole_request request body trailers) come further)
+        (messages_once terms.place events (here_of point) head body trailers used come messages)
+    whole_say point come request is =
         let made = accepted terms.place head request is in
-        subst (λ (r : Request). Say (said_connected terms events point (whole_request r body trailers) opened further)
-        (messages_at events point.server head body trailers opened (λ ended. messages (record { server = point.server + 1; bytes = point.bytes; events = ended }))))
-        made.is (connected_say made.address made.path made.no_connect made.goal point opened)
+        let P : Request → Type 0 = λ r. Say (said_connected terms events (behind_request point used) (whole_request r body trailers) come further)
+        (messages_once terms.place events (here_of point) head body trailers used come messages) in
+        let home : goes_home_by terms.place (judged terms.place head) ≡ goes_home terms.place request = ap (goes_home_by terms.place) is in
+        let first : Request = request_of made.address head made.path made.no_connect in
+        subst P made.is
+        (connected_say made.address made.path made.no_connect made.goal point come
+        (home ∙ (ap (goes_home terms.place) (sym made.is) ∙ sym (home_whole terms.place first body trailers))))
 
     judged_say : (point : Point) (made : Judged) → judged terms.place head ≡ made
         → Say (said_judged terms events point head made (complete head body trailers used) further)
-        (messages_of events (here_of point) (complete head body trailers used) messages)
-    judged_say point (Refused fault) is = own_say terms.place (fault_said fault (is_head head.method)) _ (fault_own fault (is_head head.method))
+        (messages_of terms.place events (here_of point) (complete head body trailers used) messages)
+    judged_say point (Refused fault) is =
+        own_say terms.place (fault_said fault (is_head head.method)) (messages_of terms.place events (here_of point) (complete head body trailers used) messages)
+        (fault_own fault (is_head head.method))
     judged_say point (Connects address) is = tt
     judged_say point (Accepted request) is =
         own_before terms.place (meets_expectation (expects head))
         (said_connected terms events (behind_request point used) (whole_request request body trailers) (connected_at events point) further)
-        (messages_of events (here_of point) (complete head body trailers used) messages) (expectation_own (expects head))
-        (whole_say (behind_request point used) (connected_at events point) request is)
+        (messages_of terms.place events (here_of point) (complete head body trailers used) messages) (expectation_own (expects head))
+        (whole_say point (connected_at events point) request is)
 
   -- a request whose body is not whole, or at fault
   part_say : (point : Point) (head : RequestHead) (body : Body) (made : Judged) (further : Point → List Command) (messages : List Message)
@@ -207,7 +237,7 @@ module _ (terms : Terms) (events : List (Timed Event)) where
       (own_say terms.place (fault_said at (is_head request.method)) messages (fault_own at (is_head request.method)))
 
   item_say : (point : Point) (bytes : List ℕ) (item : Item RequestHead) → request_item bytes ≡ item → (further : Point → List Command) (messages : Here → List Message)
-      → GoOn further messages → Say (said_item terms events point item further) (messages_of events (here_of point) item messages)
+      → GoOn further messages → Say (said_item terms events point item further) (messages_of terms.place events (here_of point) item messages)
   item_say point bytes missing is further messages on = tt
   item_say point bytes (part head body) is further messages on = part_say point head body (judged terms.place head) further []
   item_say point bytes (complete head body trailers used) is further messages on =
@@ -215,21 +245,24 @@ module _ (terms : Terms) (events : List (Timed Event)) where
   item_say point bytes (bad_head fault) is further messages on = own_say terms.place (fault_said fault false) [] (fault_own fault false)
   item_say point bytes (bad_body fault head body) is further messages on = bad_say point head body fault (judged terms.place head) further []
 
-  list_say : (items : List (Item RequestHead)) → All IsRead items → GoOn (λ point. said_from terms events point items) (λ here. messages_from events here items)
+  list_say : (items : List (Item RequestHead)) → All IsRead items → GoOn (λ point. said_from terms events point items) (λ here. messages_from terms.place events here items)
   list_say [] all point = tt
   list_say (item ∷ items) all point =
       let read = All-head IsRead item items all in
-      item_say point read.0 item read.1 (λ next. said_from terms events next items) (λ next. messages_from events next items)
+      item_say point read.0 item read.1 (λ next. said_from terms events next items) (λ next. messages_from terms.place events next items)
       (list_say items (All-tail IsRead item items all))
 
 -- ---- what is due
 
-pub all_said : (made : Terms) (at : At) (moves : List Move) → GoesOn true (due_by (http_chain sequence made) (begin (idle at)) moves) (answered moves)
-    → SayWhatWasRead made.place (said (due_by (http_chain sequence made) (begin (idle at)) moves)) (messages_read at moves)
-all_said made at moves goes =
-    let begins = said_begins made at moves goes in
-    let bytes = drop at.used (bytes_of Client (heard moves)) in
-    let whole : SayWhatWasRead made.place (said_for made at moves) (messages_read at moves) =
-    list_say made (heard moves) (request_items bytes) (list_read bytes) (first_point at moves) in
-    front_says made.place (said (due_by (http_chain sequence made) (begin (idle at)) moves)) begins.0 (messages_read at moves)
-    (subst (λ (due : List Command). SayWhatWasRead made.place due (messages_read at moves)) begins.1 whole)
+pub all_said : (made : Terms) (here : Walk) (at : At) (flows : ℕ) → here.place.stage ≡ idle at → GoesOn true (first_flows flows (due_from made here)) (answered here)
+    → SayWhatWasRead made.place (said (first_flows flows (due_from made here))) (messages_read made.place (heard here) (point_at at here) flows)
+all_said made here at flows is goes =
+    let begins = said_begins made here at flows is goes in
+    let events = heard here in
+    let point = point_at at here in
+    let bytes = drop at.used (bytes_of Client events) in
+    let messages = messages_read made.place events point flows in
+    let P : List Command → Type 0 = λ due. SayWhatWasRead made.place due messages in
+    let whole : P (said_of_flows made events point flows) =
+    list_say made events (take flows (request_items bytes)) (first_read flows (request_items bytes) (list_read bytes)) point in
+    front_says made.place (said (first_flows flows (due_from made here))) begins.0 messages (subst P begins.1 whole)

@@ -15,6 +15,8 @@ use Rattle.px_message.specs.Path.{is_path, is_path_byte}
 use Rattle.px_message.specs.Target.{absolute, absolute_form, asterisk, authority, authority_form, authority_len, has_http_scheme, located, origin, path_form, rooted, target_form}
 use Rattle.px_message.specs.TellHost.{tell_host}
 use Rattle.px_write.specs.TargetPath.{path_said}
+use Rattle.px_write.proofs.TargetPathLemmas.{authority_none}
+use Rattle.px_write.proofs.TargetTextLemmas.{path_byte}
 
 some_is : {A : Type 0} (a b : A) → Some a ≡ Some b → a ≡ b
 some_is a b e = cc
@@ -90,9 +92,6 @@ no_star : (path : List ℕ) → slice_index path 0 ≡ 47 → path ≢ codes "*"
 no_star path first same =
     let other : slice_index path 0 ≡ 42 = ap (λ (p : List ℕ). slice_index p 0) same in absurd (omega (arith, first, other))
 
-path_byte : (b : ℕ) → is_path_byte b ≡ true → is_uri_byte b ≡ true
-path_byte b is = grind (arith, nat_tests)
-
 -- a path is one of the grammar's targets
 pub path_bytes : (path : List ℕ) → is_path path ≡ true → (0 < length path) × AllPass is_uri_byte path
 path_bytes [] valid = absurd (let e : false ≡ true = valid in cc)
@@ -149,10 +148,6 @@ url_read text a is = by_test (has_http_scheme text) is
     by_test false is = absurd (let e = is in cc)
 
 -- ---- targets
-
-authority_none : (address : Option (List ℕ × ℕ)) (path : List ℕ) → path_said (option_map (λ a. authority a.0 a.1) address) ≡ Some path → ⊥
-authority_none None path is = let e = is in cc
-authority_none (Some address) path is = let e = is in cc
 
 origin_path : (found : Option (List ℕ)) (path : List ℕ) → path_said (option_map origin found) ≡ Some path → found ≡ Some path
 origin_path None path is = absurd (let e = is in cc)

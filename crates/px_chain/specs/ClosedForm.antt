@@ -1,8 +1,9 @@
--- What goes on is sent on: what is due in a conversation whose replies all go on, said over whole lists and without stages. The
--- requests of the client's stream stand one behind the other; each is sent to a server of its own, once the response before it is
--- whole, and the client gets what came of each. Nothing stands behind a fault, a CONNECT, a response that switches protocols, or one
--- behind which the connection does not go on.
-use Rattle.std.specs.Prelude.{◌≡◌, ℕ, ◌+◌, ◌==◌, Bool, true, false, ◌&&◌, not, List, [], ◌∷◌, ◌++◌, drop, take, length, map, ⊤, Option, Some, None, option_to_list}
+-- What goes on is sent on: what is due for flows whose replies all go on, said over whole lists and without stages, from any place where
+-- a request is awaited. The requests of the client's stream stand one behind the other; each is sent to a server of its own, once the
+-- response before it is whole, and the client gets what came of each. A server that is connected already and that no flow has used (the
+-- spare side) gets the first request that goes there. Nothing stands behind a fault, a CONNECT, a response that switches protocols, or
+-- one behind which the connection does not go on.
+use Rattle.std.specs.Prelude.{◌≡◌, ℕ, zero, suc, ◌+◌, ◌==◌, Bool, true, false, ◌&&◌, not, List, [], ◌∷◌, ◌++◌, drop, take, length, ⊤, Option, Some, None, option_to_list}
 use Rattle.std.specs.List.{flat_map}
 use Rattle.px_text.specs.Least.{least}
 use Rattle.px_message.specs.declared.fault.Fault.{Fault}
@@ -16,9 +17,7 @@ use Rattle.px_event.specs.declared.event.Event.{Event}
 use Rattle.px_event.specs.declared.reply.Reply.{Reply}
 use Rattle.px_event.specs.declared.reply.Reply.TheVariants as reply
 use Rattle.px_event.specs.declared.side.Side.TheVariants.{Client, Server}
-use Rattle.px_event.specs.Chain.{Timed, at_its_step}
-use Rattle.px_event.specs.Layer.{Move}
-use Rattle.px_event.specs.Stands.{events_in, replies_in}
+use Rattle.px_event.specs.Chain.{Timed}
 use Rattle.px_write.specs.Error.{error_text}
 use Rattle.px_read.specs.Items.{Answers, Body, Item, complete, bad_head, bad_body, answer_list, request_item}
 use Rattle.px_read.specs.Laws.{head_in}
@@ -28,13 +27,13 @@ use Rattle.px_read.specs.declared.head.ResponseHead.{ResponseHead}
 use Rattle.px_exchange.specs.Endings.{connection_goes_on}
 use Rattle.px_exchange.specs.Finds.{is_relayed}
 use Rattle.px_exchange.specs.Flows.{response_of}
-use Rattle.px_exchange.specs.Places.{dialled_for, form_at}
+use Rattle.px_exchange.specs.Places.{dialled_for, form_at, goes_home}
 use Rattle.px_exchange.specs.Requests.{expects, is_head, judged}
 use Rattle.px_exchange.specs.Texts.{interim_commands, meets_expectation, onward_text, returned_text}
 use Rattle.px_exchange.specs.declared.asked.Judged.{Judged}
 use Rattle.px_exchange.specs.declared.asked.Judged.TheVariants.{Refused, Accepted, Connects}
 use Rattle.px_exchange.specs.declared.terms.Terms.{Terms}
-use Rattle.px_chain.specs.Stages.{At}
+use Rattle.px_chain.specs.Sights.{Spare}
 use Rattle.px_chain.specs.Streams.{bytes_of, is_closed}
 
 -- ---- replies that go on
@@ -66,6 +65,19 @@ GoesOn waits (commands.Send side text ∷ rest) replies = GoesOn waits rest repl
 GoesOn waits (commands.Close side ∷ rest) replies = GoesOn waits rest replies
 GoesOn waits (commands.Done flow ∷ rest) replies = GoesOn waits rest replies
 
+-- ---- the first flows of what is due
+
+-- how many are still to end behind this command
+abbrev pub flows_behind : ℕ → Command → ℕ
+flows_behind more (commands.Done flow) = more
+flows_behind more command = suc more
+
+-- what is due up to the end of so many flows, or all where they do not end
+abbrev pub first_flows : ℕ → List Command → List Command
+first_flows zero due = []
+first_flows (suc more) [] = []
+first_flows (suc more) (command ∷ due) = command ∷ first_flows (flows_behind more command) due
+
 -- ---- what is said
 
 -- the texts that are sent, to the client and to servers, and the dials, in order
@@ -82,13 +94,6 @@ abbrev pub fault_said : Fault → Bool → List Command
 fault_said fault asked_head = commands.Send Client (error_text fault asked_head) ∷ []
 
 -- ---- what was heard
-
--- the events of the moves, and the replies
-abbrev pub heard : List Move → List (Timed Event)
-heard moves = map at_its_step (events_in 1 moves)
-
-abbrev pub answered : List Move → List Reply
-answered moves = map (λ r. r.value) (replies_in 1 moves)
 
 -- how dials were answered: by the fault that refused one, or by none, which is the connection
 abbrev pub dial_answer : Reply → List (Option Fault)
@@ -107,7 +112,7 @@ request_items bytes = (request_list bytes).whole ++ option_to_list (request_list
 
 -- where a request stands
 pub record Point : Type 0 where
-  -- the number of its flow, and that of its server
+  -- the number of its flow, and that of the next server that is dialled
   pub flow : ℕ
   pub server : ℕ
   -- how many of the client's bytes were used
@@ -116,6 +121,8 @@ pub record Point : Type 0 where
   pub events : ℕ
   -- the answers of the dials from here on
   pub dials : List (Option Fault)
+  -- the side of a server that is connected and that no flow has used
+  pub spare : Option Spare
 
 -- a request that is whole has used its bytes
 abbrev pub behind_request : Point → ℕ → Point
@@ -123,13 +130,14 @@ behind_request point used = record point { bytes = point.bytes + used }
 
 -- and once its response is whole as well, the next one stands here
 abbrev pub next_point : Point → ℕ → Point
-next_point point ended = record {
-  flow = point.flow + 1;
-  server = point.server + 1;
-  bytes = point.bytes;
-  events = ended;
-  dials = point.dials;
-}
+next_point point ended = record point { flow = point.flow + 1; events = ended }
+
+-- the server that a request went to: its number, and how many events had come when it was connected, behind which it is heard, and when
+-- the request went there
+pub record Served : Type 0 where
+  pub server : ℕ
+  pub opened : ℕ
+  pub went : ℕ
 
 abbrev pub is_whole : {H : Type 0} → Item H → Bool
 is_whole (complete head body trailers used) = true
@@ -139,7 +147,7 @@ is_whole _ = false
 abbrev pub request_is_whole : List (Timed Event) → ℕ → ℕ → Bool
 request_is_whole events bytes so_many = is_whole (request_item (drop bytes (bytes_of Client (take so_many events))))
 
--- its server is dialled, and heard once it is connected, behind the fewest events over which the request is whole
+-- the request goes on behind the fewest events over which it is whole
 abbrev pub connected_at : List (Timed Event) → Point → Option ℕ
 connected_at events point = least (request_is_whole events point.bytes) point.events (length events + 1)
 
@@ -152,9 +160,9 @@ answers_at events server opened asked_head =
 abbrev pub response_is_whole : List (Timed Event) → ℕ → ℕ → Bool → ℕ → Bool
 response_is_whole events server opened asked_head so_many = is_whole (answers_at (take so_many events) server opened asked_head).final
 
--- the fewest over which it is
-abbrev pub ended_at : List (Timed Event) → ℕ → ℕ → Bool → Option ℕ
-ended_at events server opened asked_head = least (response_is_whole events server opened asked_head) opened (length events + 1)
+-- the fewest over which it is, behind those over which the request went there
+abbrev pub ended_at : List (Timed Event) → Served → Bool → Option ℕ
+ended_at events served asked_head = least (response_is_whole events served.server served.opened asked_head) served.went (length events + 1)
 
 -- ---- what is said of a response
 
@@ -207,25 +215,41 @@ said_answers request answers behind = interim_commands request answers.interim +
 -- ---- what is said of a request
 
 -- behind its response
-abbrev pub said_on : List (Timed Event) → Point → ℕ → (Point → List Command) → Request → Response → List Command
-said_on events point opened further request response =
-    said_behind (next_is_read point request response) point (ended_at events point.server opened (is_head request.method)) further
+abbrev pub said_on : List (Timed Event) → Point → Served → (Point → List Command) → Request → Response → List Command
+said_on events point served further request response =
+    said_behind (next_is_read point request response) point (ended_at events served (is_head request.method)) further
 
--- By the answer of its dial: it is sent on, and its response comes back; or the dial is refused.
+-- it is sent on, and its response comes back
+abbrev pub said_served : Terms → List (Timed Event) → Point → Served → (Point → List Command) → Request → List Command
+said_served terms events point served further request =
+    commands.Send (Server served.server) (onward_text (form_at terms.place) request)
+    ∷ said_answers request (answers_at events served.server served.opened (is_head request.method)) (said_on events point served further request)
+
+-- By the answer of its dial it goes to the new server, which is heard from then on; or the dial is refused.
 abbrev pub said_dialled : Terms → List (Timed Event) → Point → Request → ℕ → List (Option Fault) → (Point → List Command) → List Command
-said_dialled terms events point request opened [] further = []
-said_dialled terms events point request opened (Some fault ∷ dials) further = fault_said fault (is_head request.method)
-said_dialled terms events point request opened (None ∷ dials) further =
-    commands.Send (Server point.server) (onward_text (form_at terms.place) request)
-    ∷ said_answers request (answers_at events point.server opened (is_head request.method))
-    (said_on events (record point { dials = dials }) opened further request)
+said_dialled terms events point request come [] further = []
+said_dialled terms events point request come (Some fault ∷ dials) further = fault_said fault (is_head request.method)
+said_dialled terms events point request come (None ∷ dials) further =
+    said_served terms events (record point { server = point.server + 1; dials = dials })
+    (record { server = point.server; opened = come; went = come }) further request
 
--- its server, or the proxy through which that is reached, is dialled once it is whole
+-- the spare side is for a request that goes where it is connected to
+abbrev pub side_for : Bool → Option Spare → Option Spare
+side_for true spare = spare
+side_for false spare = None
+
+-- It goes there without a dial; or its server is dialled, or the proxy through which that is reached.
+abbrev pub said_by : Terms → List (Timed Event) → Point → Request → ℕ → Option Spare → (Point → List Command) → List Command
+said_by terms events point request come None further =
+    commands.Dial point.server (dialled_for terms.place request) None ∷ said_dialled terms events point request come point.dials further
+said_by terms events point request come (Some spare) further =
+    said_served terms events (record point { spare = None }) (record { server = spare.server; opened = spare.opened; went = come }) further request
+
+-- once it is whole
 abbrev pub said_connected : Terms → List (Timed Event) → Point → Request → Option ℕ → (Point → List Command) → List Command
 said_connected terms events point request None further = []
-said_connected terms events point request (Some opened) further =
-    commands.Dial point.server (dialled_for terms.place request) None
-    ∷ said_dialled terms events point request opened point.dials further
+said_connected terms events point request (Some come) further =
+    said_by terms events point request come (side_for (goes_home terms.place request) point.spare) further
 
 abbrev pub said_whole : Terms → List (Timed Event) → Point → Request → Item RequestHead → (Point → List Command) → List Command
 said_whole terms events point request (complete head body trailers used) further =
@@ -254,18 +278,8 @@ abbrev pub said_from : Terms → List (Timed Event) → Point → List (Item Req
 said_from terms events point [] = []
 said_from terms events point (item ∷ items) = said_item terms events point item (λ next. said_from terms events next items)
 
--- where a conversation begins
-abbrev pub first_point : At → List Move → Point
-first_point at moves = record {
-  flow = at.flow;
-  server = at.dials;
-  bytes = at.used;
-  events = 0;
-  dials = dial_answers (answered moves);
-}
-
--- What is said by these moves: for each request the `100 Continue` that its client waits for, the dial of its server, its text there, the
--- interim responses that came of it and its final one; and then what is said of the next.
-abbrev pub said_for : Terms → At → List Move → List Command
-said_for terms at moves =
-    said_from terms (heard moves) (first_point at moves) (request_items (drop at.used (bytes_of Client (heard moves))))
+-- What is said of so many requests from this point on: of each the `100 Continue` that its client waits for, the dial of its server,
+-- its text there, the interim responses that came of it and its final one; and then what is said of the next.
+abbrev pub said_of_flows : Terms → List (Timed Event) → Point → ℕ → List Command
+said_of_flows terms events point flows =
+    said_from terms events point (take flows (request_items (drop point.bytes (bytes_of Client events))))

@@ -6,4 +6,5 @@ pub mod Sights
 pub mod Silent
 pub mod Stages
 pub mod Streams
+pub mod Walks
 pub mod WhatWasRead

@@ -5,7 +5,7 @@
 -- here, and does not go on (`is_met`); a body in chunks goes as one chunk, or as none where it is empty (`one_chunk`); and a client of
 -- version 1.0 gets no interim responses (`interim_known`). A reason that the grammar of heads does not give is read as the empty one,
 -- and so it is sent.
-use Rattle.std.specs.Prelude.{◌≡◌, ◌≢◌, ◌⊎◌, ◌<◌, ◌≤◌, ◌^◌, ℕ, ◌+◌, Bool, true, false, not, if◌then◌else◌, List, [], ◌∷◌, ◌++◌, codes, drop, filter, length, map, ⊤, Option, Some, None, Ok}
+use Rattle.std.specs.Prelude.{◌≡◌, ◌≢◌, ◌⊎◌, ◌<◌, ◌≤◌, ◌^◌, ℕ, ◌+◌, Bool, true, false, not, if◌then◌else◌, List, [], ◌∷◌, ◌++◌, codes, drop, take, filter, length, map, ⊤, Option, Some, None, Ok}
 use Rattle.px_text.specs.Least.{least}
 use Rattle.px_message.specs.Fields.{is_valued}
 use Rattle.px_message.specs.Length.{has_no_body, is_framed_in_chunks, response_length}
@@ -19,7 +19,6 @@ use Rattle.px_event.specs.declared.command.Command.TheVariants as commands
 use Rattle.px_event.specs.declared.event.Event.{Event}
 use Rattle.px_event.specs.declared.side.Side.TheVariants.{Client, Server}
 use Rattle.px_event.specs.Chain.{Timed}
-use Rattle.px_event.specs.Layer.{Move}
 use Rattle.px_read.specs.Items.{Answers, Body, Item, complete, no_body, request_item, response_item}
 use Rattle.px_read.specs.declared.head.RequestHead.{RequestHead}
 use Rattle.px_read.specs.declared.head.ResponseHead.{ResponseHead}
@@ -27,12 +26,15 @@ use Rattle.px_write.specs.Error.{error_text}
 use Rattle.px_write.specs.ReadBack.{one_chunk}
 use Rattle.px_write.specs.TargetPath.{path_said}
 use Rattle.px_write.specs.Text.{body_text, fields_text, interim_text, request_line, version_text}
-use Rattle.px_exchange.specs.Requests.{is_head}
+use Rattle.px_exchange.specs.Places.{goes_home}
+use Rattle.px_exchange.specs.Requests.{is_head, judged}
 use Rattle.px_exchange.specs.Texts.{continue_text}
+use Rattle.px_exchange.specs.declared.asked.Judged.{Judged}
+use Rattle.px_exchange.specs.declared.asked.Judged.TheVariants.{Accepted}
 use Rattle.px_exchange.specs.declared.place.Place.{Place}
 use Rattle.px_exchange.specs.declared.place.Place.TheVariants as places
-use Rattle.px_chain.specs.ClosedForm.{answers_at, ended_at, heard, request_is_whole, request_items}
-use Rattle.px_chain.specs.Stages.{At}
+use Rattle.px_chain.specs.ClosedForm.{Point, Served, answers_at, ended_at, request_is_whole, request_items, side_for}
+use Rattle.px_chain.specs.Sights.{Spare}
 use Rattle.px_chain.specs.Streams.{bytes_of}
 
 -- ---- what a text says
@@ -110,41 +112,68 @@ final_read asked_head _ = []
 abbrev pub answers_read : Version → Bool → Answers → List Message
 answers_read version asked_head answers = map an_interim_response (interim_known version answers.interim) ++ final_read asked_head answers.final
 
--- where a request stands: the number of its server, how many of the client's bytes are in front of it, and how many events had come
--- when the response before it was whole
+-- where a request stands: the number of the next server that is dialled, how many of the client's bytes are in front of it, how many
+-- events had come when the response before it was whole, and the spare side, of a server that is connected and that no flow has used
 pub record Here : Type 0 where
   pub server : ℕ
   pub bytes : ℕ
   pub events : ℕ
+  pub spare : Option Spare
+
+abbrev pub goes_home_by : Place → Judged → Bool
+goes_home_by place (Accepted request) = goes_home place request
+goes_home_by place _ = false
+
+-- the spare side, where the request of this head goes there
+abbrev pub side_of_head : Place → RequestHead → Option Spare → Option Spare
+side_of_head place head spare = side_for (goes_home_by place (judged place head)) spare
+
+-- the server that the request goes to once so many events have come: that of the spare side, or the next one
+abbrev pub served_by : Here → ℕ → Option Spare → Served
+served_by here come None = record { server = here.server; opened = come; went = come }
+served_by here come (Some spare) = record { server = spare.server; opened = spare.opened; went = come }
+
+-- and where the next request stands, behind so many bytes, once its response is whole
+abbrev pub behind_by : Here → ℕ → ℕ → Option Spare → Here
+behind_by here used ended None = record { server = here.server + 1; bytes = here.bytes + used; events = ended; spare = here.spare }
+behind_by here used ended (Some spare) = record { server = here.server; bytes = here.bytes + used; events = ended; spare = None }
 
 abbrev pub messages_behind : Option ℕ → (ℕ → List Message) → List Message
 messages_behind None further = []
 messages_behind (Some ended) further = further ended
 
--- a request, what its server answered in the events behind so many, and what was read behind that response
-abbrev pub messages_at : List (Timed Event) → ℕ → RequestHead → Body → List (List ℕ × List ℕ) → Option ℕ → (ℕ → List Message) → List Message
-messages_at events server head body trailers None further = []
-messages_at events server head body trailers (Some opened) further =
+-- a request, what its server answered, and what was read behind that response
+abbrev pub messages_at : List (Timed Event) → Served → RequestHead → Body → List (List ℕ × List ℕ) → (ℕ → List Message) → List Message
+messages_at events served head body trailers further =
     let asked_head = is_head head.method in
-    a_request server head body trailers
-    ∷ (answers_read head.version asked_head (answers_at events server opened asked_head)
-    ++ messages_behind (ended_at events server opened asked_head) further)
+    a_request served.server head body trailers
+    ∷ (answers_read head.version asked_head (answers_at events served.server served.opened asked_head)
+    ++ messages_behind (ended_at events served asked_head) further)
 
--- its server is heard behind the fewest events over which the request is whole
-abbrev pub messages_of : List (Timed Event) → Here → Item RequestHead → (Here → List Message) → List Message
-messages_of events here (complete head body trailers used) further =
-    messages_at events here.server head body trailers (least (request_is_whole events here.bytes) here.events (length events + 1))
-    (λ ended. further (record { server = here.server + 1; bytes = here.bytes + used; events = ended }))
-messages_of events here _ further = []
+-- it goes there behind the fewest events over which it is whole
+abbrev pub messages_once : Place → List (Timed Event) → Here → RequestHead → Body → List (List ℕ × List ℕ) → ℕ → Option ℕ → (Here → List Message) → List Message
+messages_once place events here head body trailers used None further = []
+messages_once place events here head body trailers used (Some come) further =
+    let side = side_of_head place head here.spare in
+    messages_at events (served_by here come side) head body trailers (λ ended. further (behind_by here used ended side))
 
-abbrev pub messages_from : List (Timed Event) → Here → List (Item RequestHead) → List Message
-messages_from events here [] = []
-messages_from events here (item ∷ items) = messages_of events here item (λ next. messages_from events next items)
+abbrev pub messages_of : Place → List (Timed Event) → Here → Item RequestHead → (Here → List Message) → List Message
+messages_of place events here (complete head body trailers used) further =
+    messages_once place events here head body trailers used (least (request_is_whole events here.bytes) here.events (length events + 1)) further
+messages_of place events here _ further = []
 
--- All that was read by these moves, in order: each request of the client's stream, and what its server answered.
-abbrev pub messages_read : At → List Move → List Message
-messages_read at moves =
-    messages_from (heard moves) (record { server = at.dials; bytes = at.used; events = 0 }) (request_items (drop at.used (bytes_of Client (heard moves))))
+abbrev pub messages_from : Place → List (Timed Event) → Here → List (Item RequestHead) → List Message
+messages_from place events here [] = []
+messages_from place events here (item ∷ items) = messages_of place events here item (λ next. messages_from place events next items)
+
+-- where a request stands, without its number and the answers of dials
+abbrev pub here_of : Point → Here
+here_of point = record { server = point.server; bytes = point.bytes; events = point.events; spare = point.spare }
+
+-- All that was read from this point on, in order: each of so many requests of the client's stream, and what its server answered.
+abbrev pub messages_read : Place → List (Timed Event) → Point → ℕ → List Message
+messages_read place events point flows =
+    messages_from place events (here_of point) (take flows (request_items (drop point.bytes (bytes_of Client events))))
 
 -- ---- what is sent says it
 

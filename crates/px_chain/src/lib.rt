@@ -28,9 +28,10 @@
 //!
 //! `laws` says what follows: what is due only grows, in each view; a server hears nothing before its dial was answered, and the text of
 //! one request at most; bytes come before the end of their flow, and that before closes; a CONNECT that ends HTTP stands whole. Where
-//! every reply goes on with the flow as it was asked, `specs/ClosedForm.antt` says over whole lists, without stages, which texts are sent
-//! and which servers are dialled, in order and with the faults' texts, and the chain does that. Whoever reads those texts reads what was
-//! read here before: `specs/WhatWasRead.antt` says it, with the few things that differ. For crates with larger chains
+//! every reply to a flow goes on with the flow as it was asked, `specs/ClosedForm.antt` says over whole lists, without stages, which texts
+//! are sent and which servers are dialled, in order and with the faults' texts, and the chain does that: from whatever place of a walk the
+//! flow begins (`specs/Walks.antt`), and whatever other flows are answered. Whoever reads those texts reads what was read here before:
+//! `specs/WhatWasRead.antt` says it, with the few things that differ. For crates with larger chains
 //! `proofs/CountedLemmas.antt` says that no server hears anything early of any chain that counts its servers, as this one does.
 #![tactic(auto)]
 
