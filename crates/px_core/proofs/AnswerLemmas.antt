@@ -4,7 +4,7 @@ use Rattle.px_message.specs.declared.flow.Flow.{Flow}
 use Rattle.px_event.specs.declared.ask.Hook.{Hook}
 use Rattle.px_event.specs.Trace.{Trace}
 use Rattle.px_core.specs.declared.answerer.Answer.{Answer}
-use Rattle.px_core.specs.Answered.{Answers, LeavesFiles, Pending, at_change, at_first, at_hook, at_other, at_reply}
+use Rattle.px_core.specs.Answered.{Answers, LeavesFiles, Pending, at_change, at_first, at_hook, at_mark, at_other, at_release, at_reply}
 use Rattle.px_core.specs.Answers.{Answering, AnswererState, ByAnswers, Failing, FilesAfter, FilesMeaning, after_answers, after_failure, by_answer, by_none}
 use Rattle.px_core.specs.Course.{AllAre, Change, Course, KeepsOwn, MovesFiles, change}
 use Rattle.px_core.specs.Due.{Due}
@@ -60,16 +60,27 @@ module _ {S : Type 0} (answers : Answering S) (fails : Failing S) (is : S → Ty
   kept_by_answers first last so (by_answer start old new hook flow given more answered) =
       kept_one first old last hook flow given answered (kept_by_answers first old so more)
 
+  -- an operation changes neither the answerer nor files
+  kept_operated : (due : Due) (course made : Course S) → is course.first.own → AllAre (KeepsOwn is) course.changes → AllAre (MovesFiles goes) course.changes → (trace : Trace)
+      (last : AnswererState S) (pending : Pending) → course.first ≡ made.first → course.changes ≡ made.changes →
+      (is made.first.own → AllAre (KeepsOwn is) made.changes → AllAre (MovesFiles goes) made.changes → KeptBy made.first last) → KeptBy course.first last
+  kept_operated due course made so own moved trace last pending same all before =
+      let P : AnswererState S → Type 0 = λ state. is state.own in
+      let Q : List (Change S) → Type 0 = AllAre (KeepsOwn is) in
+      let R : List (Change S) → Type 0 = AllAre (MovesFiles goes) in
+      let M : AnswererState S → Type 0 = λ first. KeptBy first last in
+      subst M (sym same) (before (subst P same so) (subst Q all own) (subst R all moved))
+
   -- so they do over a trace, where each other change does so too
   pub kept_over : (due : Due) (course : Course S) → is course.first.own → AllAre (KeepsOwn is) course.changes → AllAre (MovesFiles goes) course.changes →
       (trace : Trace) (last : AnswererState S) (pending : Pending) → Answers answers due course trace last pending → KeptBy course.first last
-  kept_over due course so own moved trace last pending (at_first c none) = kept_none last so
-  kept_over due course so own moved whole last pending (at_hook c trace next old new was conv hook flow given earlier before split free about answered) =
+  kept_over due course so own moved trace last pending (at_first c none no_operations) = kept_none last so
+  kept_over due course so own moved whole last pending (at_hook c trace next old new was conv hook flow given before split free about marked answered) =
       kept_one course.first old last hook flow given answered (kept_over due course so own moved trace old was before)
   kept_over due course so own moved whole last pending (at_reply c trace next now was conv ask reply before split is_given) =
       kept_over due course so own moved trace last was before
-  kept_over due course so own moved whole last pending (at_other c trace next now was step before split quiet) =
-      kept_over due course so own moved trace last pending before
+  kept_over due course so own moved whole last pending (at_other c trace next now was step before split quiet marked) =
+      kept_over due course so own moved trace last was before
   kept_over due course so own moved whole last pending (at_change made next trace old new was before split) =
       let one : Change S = change whole old last in
       let P : AnswererState S → Type 0 = λ state. is state.own in
@@ -82,6 +93,12 @@ module _ {S : Type 0} (answers : Answering S) (fails : Failing S) (is : S → Ty
       let moves = last_is (MovesFiles goes) made.changes one (subst R all moved) in
       let k = kept_over due made (subst P same so) owns.0 moves.0 whole old pending before in
       subst M (sym same) (record { so = owns.1 k.so; goes_so = keeps.on made.first.files old.files last.files k.goes_so moves.1 })
+  kept_over due course so own moved whole last pending (at_mark made next trace now was id before split) =
+      kept_operated due course made so own moved whole last pending (ap (λ c. c.first) split) (ap (λ c. c.changes) split)
+      (λ begins owns moves. kept_over due made begins owns moves whole last pending before)
+  kept_over due course so own moved whole last pending (at_release made c trace next now was operation id hook draft before split for waits grown) =
+      kept_operated due course made so own moved trace last was (ap (λ c. c.first) split) (ap (λ c. c.changes) split)
+      (λ begins owns moves. kept_over due made begins owns moves trace last was before)
 
   -- and where the last of them ran out of memory too
   pub kept_after : (first : AnswererState S) (files : FilesMeaning) → is first.own → FilesAfter answers fails first files → goes first.files files

@@ -28,6 +28,8 @@ stands_changed standing awaited number made_due answers due course old new table
   pending = s.pending;
   answered = at_change course (with_change course trace old new) trace old new s.pending s.answered refl;
   drafts = s.drafts;
+  marks = s.marks;
+  shown = s.shown;
 }
 
 -- the last of them too

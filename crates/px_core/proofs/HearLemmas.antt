@@ -17,6 +17,7 @@ use Rattle.px_event.specs.Trace.{Trace}
 use Rattle.px_event.proofs.Seen.{seen_append}
 use Rattle.px_event.specs.View.{View, line, questions, course, flows, seen_of, seen_in, step_atoms}
 use Rattle.px_core.specs.declared.answerer.Draft.{Draft}
+use Rattle.px_core.specs.declared.flows.Flows.{Flows}
 use Rattle.px_core.specs.declared.held.Held.{Held}
 use Rattle.px_core.specs.declared.news.News.{News}
 use Rattle.px_core.specs.declared.news.News.TheVariants as news
@@ -24,14 +25,16 @@ use Rattle.px_core.specs.Answers.{Answering, AnswererState}
 use Rattle.px_core.specs.Calls.{Calls, calls, calls_of, hears_by, takes, addressed, is_connected, is_dialling, dial_ends, dial_reply, moved}
 use Rattle.px_core.specs.Conversation.{AllNamed, AsksWhile}
 use Rattle.px_core.specs.Due.{Due, due_by, due_in, IsServed}
-use Rattle.px_core.specs.Held.{is_side, servers_by, AreServers, dial_from, dial_of, IsSettled, IsReady, IsKept, IsDrafted, IsDraftedBehind, IsOneOn, Follows, Gives, Within, Stood, Works, Takes, Hears}
+use Rattle.px_core.specs.Held.{is_side, servers_by, AreServers, dial_from, dial_of, IsSettled, IsReady, IsKept, IsDrafted, IsDraftedBehind, IsOneOn, Follows, kept_of, Gives, Within, Stood, Works, Takes, Hears}
 use Rattle.px_core.specs.Hooks.{hook_of, AsksInTurn}
+use Rattle.px_core.specs.Live.{shown_in}
 use Rattle.px_core.specs.Runs.{has}
 use Rattle.px_core.proofs.AskLemmas.{asks_one, dial_now, quiet}
 use Rattle.px_core.proofs.CallLemmas.{calls_more, seen_more, same_number}
 use Rattle.px_core.proofs.HookLemmas.{hook_heard, hook_is, one_turn, quiet_turn, quiet_same, kept_on}
 use Rattle.px_core.proofs.ServedLemmas.{due_there}
 use Rattle.px_core.proofs.SideLemmas.{servers_along, servers_same, side_connected, servers_end}
+use Rattle.px_core.proofs.WorkLemmas.{alike_more}
 
 pub heard_seen : (view : View) (conv moment : ℕ) (heard : Heard) → step_atoms view conv (steps.Heard moment heard) ≡ []
 heard_seen (line side) conv moment heard = refl
@@ -118,13 +121,12 @@ module _ {C : Type 0} (standing : Standing C) (awaited : C → Option Ask) (numb
   -- a call was taken
   taken_stands : (due : Due) (conv : ℕ) (peer : Address) (moment : ℕ) (move : Move) (dial : Option ℕ) (servers : ℕ → Bool) (before after : Held C) (trace next : Trace) (given : List Command) →
       (w : Stood standing awaited number made_due due conv peer before.conversation trace) → IsOneOn conv peer moment move dial servers trace next →
-      Gives standing awaited move dial before.conversation after.conversation given → standing w.made after.conversation (calls_of conv next) (w.earlier ++ given)
+      Gives standing awaited move dial before.conversation after.conversation given → standing w.made after.conversation (calls_of conv next) (w.given ++ given)
   taken_stands due conv peer moment move dial servers before after trace next given w on gives =
-      let P : List Move → Type 0 = λ l. standing w.made after.conversation l (w.earlier ++ given) in
+      let P : List Move → Type 0 = λ l. standing w.made after.conversation l (w.given ++ given) in
       let Q : List Command → Type 0 = λ l. standing w.made after.conversation (calls_of conv trace ++ move ∷ []) l in
-      let all : (w.earlier ++ []) ++ gives.goes.more ≡ w.earlier ++ given =
-      ap (λ l. l ++ gives.goes.more) (append-nil w.earlier) ∙ ap (λ l. w.earlier ++ l) (sym gives.goes.grown) in
-      subst P (sym on.moves) (subst Q all (gives.goes.stands w.made (calls_of conv trace) (w.earlier ++ []) w.stands))
+      let all : w.given ++ gives.goes.more ≡ w.given ++ given = ap (λ l. w.given ++ l) (sym gives.goes.grown) in
+      subst P (sym on.moves) (subst Q all (gives.goes.stands w.made (calls_of conv trace) w.given w.stands))
 
   -- and its commands are still to be told
   taken_within : (due : Due) (conv : ℕ) (peer : Address) (moment : ℕ) (move : Move) (dial : Option ℕ) (servers : ℕ → Bool) (before after : Held C) (trace next : Trace) (given : List Command) →
@@ -135,8 +137,10 @@ module _ {C : Type 0} (standing : Standing C) (awaited : C → Option Ask) (numb
       record {
         made = w.made;
         peer = peer;
+        given = w.given ++ given;
         earlier = w.earlier;
         stands = taken_stands due conv peer moment move dial servers before after trace next given w on gives;
+        alike = alike_more w.given w.earlier given w.alike;
         owes = w.owes;
         tells = λ view told. w.tells view told ∙ sym (on.sees view told);
         named = named;
@@ -161,70 +165,73 @@ module _ {C : Type 0} (standing : Standing C) (awaited : C → Option Ask) (numb
         let was_open : hook_of (awaited before.conversation) ≡ Some ask =
         quiet_same given none (hook_of (awaited before.conversation)) (hook_of (awaited after.conversation)) gives.turn ∙ ap hook_of waits in
         let was : awaited before.conversation ≡ Some ask = hook_is (awaited before.conversation) ask was_open in
-        let earlier : due_in due flows conv trace ≡ seen_of flows w.earlier =
+        let earlier : due_in due flows conv trace ≡ seen_of flows w.given =
         due_there due conv trace peer (w.there ask was_open) flows
-        ∙ (ap (seen_of flows) (sym (w.owes (calls_of conv trace)))
-        ∙ (sym (gave w.made before.conversation (calls_of conv trace) (w.earlier ++ []) w.stands flows) ∙ ap (seen_of flows) (append-nil w.earlier))) in
-        let later : due_in due flows conv next ≡ seen_of flows w.earlier =
+        ∙ (ap (seen_of flows) (sym (w.owes (calls_of conv trace))) ∙ sym (gave w.made before.conversation (calls_of conv trace) w.given w.stands flows)) in
+        let later : due_in due flows conv next ≡ seen_of flows w.given =
         due_there due conv next peer on.begun flows
         ∙ (ap (seen_of flows) (sym (w.owes (calls_of conv next)))
-        ∙ (sym (gave w.made after.conversation (calls_of conv next) (w.earlier ++ given) (taken_stands due conv peer moment move dial servers before after trace next given w on gives) flows)
-        ∙ (seen_append flows w.earlier given
-        ∙ (ap (λ l. seen_of flows w.earlier ++ l) (quiet given none None None).sees ∙ append-nil (seen_of flows w.earlier))))) in
+        ∙ (sym (gave w.made after.conversation (calls_of conv next) (w.given ++ given) (taken_stands due conv peer moment move dial servers before after trace next given w on gives) flows)
+        ∙ (seen_append flows w.given given
+        ∙ (ap (λ l. seen_of flows w.given ++ l) (quiet given none None None).sees ∙ append-nil (seen_of flows w.given))))) in
         let P : Option Draft → Type 0 = λ d. IsKept answers due next conv ask d in
         subst P (sym kept) (kept_on answers due conv trace next ask before.draft (later ∙ sym earlier) (drafted flow hook was))
 
     pub works_taken : (gave : (made state : C) (moves : List Move) (given : List Command) → standing made state moves given →
         (view : View) → seen_of view given ≡ seen_of view (made_due made moves))
-        (conv moment : ℕ) (move : Move) (dial : Option ℕ) (servers : ℕ → Bool) (before between after : Held C) {old new : AnswererState S} (given : List Command) (out new_out : List Step) →
+        (conv moment : ℕ) (move : Move) (dial : Option ℕ) (servers : ℕ → Bool) (before between after : Held C) (shown new_shown : Flows) {old new : AnswererState S} (given : List Command) (out new_out : List Step) →
         number between.conversation ≡ conv → Gives standing awaited move dial before.conversation between.conversation given → ((n : ℕ) → servers n ≡ has between.connected n) →
-        between.draft ≡ before.draft →
-        Works standing awaited number made_due answers conv moment given between after old new None out new_out →
-        Takes standing awaited number made_due answers conv moment move dial servers before after old new out new_out
-    works_taken gave conv moment move dial servers before between after {old} {new} given out new_out named gives same kept works = record {
+        between.draft ≡ before.draft → between.marks ≡ before.marks →
+        Works standing awaited number made_due answers conv moment given between after shown new_shown old new None out new_out →
+        Takes standing awaited number made_due answers conv moment move dial servers before after shown new_shown old new out new_out
+    works_taken gave conv moment move dial servers before between after shown new_shown {old} {new} given out new_out named gives same kept marked works = record {
       more = works.more;
       grown = works.grown;
       own = works.own;
       takes = λ due course pending peer trace next w drafted on served follows.
-          let P : Option Draft → Type 0 = λ d. Follows answers due course pending conv d old next in
+          let P : Option Draft → Type 0 = λ d. Follows answers due course pending conv (record { draft = d; marks = has before.marks; shown = shown_in shown conv }) old next in
+          let Q : List (ℕ × ℕ) → Type 0 = λ r. Follows answers due course pending conv (record { draft = between.draft; marks = has r; shown = shown_in shown conv }) old next in
           let to = works.works due course pending next (taken_within due conv peer moment move dial servers before between trace next given w on named gives same) on.now served
-          (drafted_taken gave due conv peer moment move dial servers before between trace next given w on gives kept drafted) (subst P (sym kept) follows) in
+          (drafted_taken gave due conv peer moment move dial servers before between trace next given w on gives kept drafted) (subst Q (sym marked) (subst P (sym kept) follows)) in
           (to.within, to.served, to.drafted, to.follows);
       settled = works.next;
+      others = works.others;
     }
 
     -- the same where a side was noted before the call
     pub works_end : (gave : (made state : C) (moves : List Move) (given : List Command) → standing made state moves given →
         (view : View) → seen_of view given ≡ seen_of view (made_due made moves))
-        (conv moment : ℕ) (move : Move) (dial : Option ℕ) (servers : ℕ → Bool) (before noted between after : Held C) {old new : AnswererState S} (given : List Command) (out new_out : List Step) →
+        (conv moment : ℕ) (move : Move) (dial : Option ℕ) (servers : ℕ → Bool) (before noted between after : Held C) (shown new_shown : Flows) {old new : AnswererState S} (given : List Command) (out new_out : List Step) →
         noted.conversation ≡ before.conversation → number between.conversation ≡ conv → Gives standing awaited move dial noted.conversation between.conversation given → ((n : ℕ) → servers n ≡ has between.connected n) →
-        between.draft ≡ before.draft →
-        Works standing awaited number made_due answers conv moment given between after old new None out new_out →
-        Takes standing awaited number made_due answers conv moment move dial servers before after old new out new_out
-    works_end gave conv moment move dial servers before noted between after given out new_out same named gives are kept works =
+        between.draft ≡ before.draft → between.marks ≡ before.marks →
+        Works standing awaited number made_due answers conv moment given between after shown new_shown old new None out new_out →
+        Takes standing awaited number made_due answers conv moment move dial servers before after shown new_shown old new out new_out
+    works_end gave conv moment move dial servers before noted between after shown new_shown given out new_out same named gives are kept marked works =
         let P : C → Type 0 = λ s. Gives standing awaited move dial s between.conversation given in
-        works_taken gave conv moment move dial servers before between after given out new_out named (subst P same gives) are kept works
+        works_taken gave conv moment move dial servers before between after shown new_shown given out new_out named (subst P same gives) are kept marked works
 
     -- news that are no call
-    pub ignored : (conv moment : ℕ) (what : News) (held : Held C) {state : AnswererState S} (out : List Step) →
+    pub ignored : (conv moment : ℕ) (what : News) (held : Held C) (shown : Flows) {state : AnswererState S} (out : List Step) →
         ((c : Calls) (peer : Address) → c.peer ≡ Some peer → AreServers (has held.connected) c.connected → c.dial ≡ dial_of (awaited held.conversation) → takes moment c what ≡ c) → IsSettled awaited held →
-        Hears standing awaited number made_due answers conv moment what held held state state out out
-    ignored conv moment what held {state} out nothing settled = record {
+        Hears standing awaited number made_due answers conv moment what held held shown shown state state out out
+    ignored conv moment what held shown {state} out nothing settled = record {
       more = [];
       grown = sym (append-nil out);
       own = tt;
       hears = λ due course pending trace heard is w drafted served follows.
           let on : calls conv (trace ++ steps.Heard moment heard ∷ []) ≡ record (calls conv trace) { moment = moment } =
           calls_heard conv trace moment heard what is ∙ ap (λ (c : Calls). record c { moment = moment }) (nothing (calls conv trace) w.peer w.begun w.servers w.dial) in
-          let P : List Move → Type 0 = λ l. standing w.made held.conversation l (w.earlier ++ []) in
-          let Q : Trace → Type 0 = λ t. Within standing awaited number made_due due conv held t [] × IsServed answers due t × IsDrafted awaited answers due conv held t × Follows answers due course pending conv held.draft state t in
+          let P : List Move → Type 0 = λ l. standing w.made held.conversation l w.given in
+          let Q : Trace → Type 0 = λ t. Within standing awaited number made_due due conv held t [] × IsServed answers due t × IsDrafted awaited answers due conv held t × Follows answers due course pending conv (kept_of conv held shown) state t in
           let there : Trace = trace ++ steps.Heard moment heard ∷ [] in
           subst Q (sym (append-nil (trace ++ steps.Heard moment heard ∷ []))) (
             record {
               made = w.made;
               peer = w.peer;
+              given = w.given;
               earlier = w.earlier;
               stands = subst P (sym (ap (λ (c : Calls). c.moves) on)) w.stands;
+              alike = w.alike;
               owes = w.owes;
               tells = λ view told. w.tells view told ∙ sym (seen_heard view conv trace moment heard);
               named = w.named;
@@ -238,22 +245,23 @@ module _ {C : Type 0} (standing : Standing C) (awaited : C → Option Ask) (numb
             follows,
           );
       settled = settled;
+      others = λ other index apart. refl;
     }
 
     -- news that are a call
-    pub taken : (conv moment : ℕ) (what : News) (move : Move) (dial : Option ℕ) (servers : ℕ → Bool) (before after : Held C) {old new : AnswererState S} (out new_out : List Step) →
+    pub taken : (conv moment : ℕ) (what : News) (move : Move) (dial : Option ℕ) (servers : ℕ → Bool) (before after : Held C) (shown new_shown : Flows) {old new : AnswererState S} (out new_out : List Step) →
         ((c : Calls) (peer : Address) → c.peer ≡ Some peer → AreServers (has before.connected) c.connected → c.dial ≡ dial_of (awaited before.conversation) →
         (takes moment c what).moves ≡ c.moves ++ move ∷ [] × ((takes moment c what).peer ≡ Some peer) × ((takes moment c what).dial ≡ dial) × AreServers servers (takes moment c what).connected) →
-        Takes standing awaited number made_due answers conv moment move dial servers before after old new out new_out →
-        Hears standing awaited number made_due answers conv moment what before after old new out new_out
-    taken conv moment what move dial servers before after {old} {new} out new_out one t = record {
+        Takes standing awaited number made_due answers conv moment move dial servers before after shown new_shown old new out new_out →
+        Hears standing awaited number made_due answers conv moment what before after shown new_shown old new out new_out
+    taken conv moment what move dial servers before after shown new_shown {old} {new} out new_out one t = record {
       more = t.more;
       grown = t.grown;
       own = t.own;
       hears = λ due course pending trace heard is w drafted served follows.
           let on = calls_heard conv trace moment heard what is in
           let facts = one (calls conv trace) w.peer w.begun w.servers w.dial in
-          t.takes due course pending w.peer trace (trace ++ steps.Heard moment heard ∷ []) (record { made = w.made; earlier = w.earlier; stands = w.stands; owes = w.owes; tells = w.tells; hook = w.turn; there = λ _ _. w.begun }) drafted (record {
+          t.takes due course pending w.peer trace (trace ++ steps.Heard moment heard ∷ []) (record { made = w.made; given = w.given; earlier = w.earlier; stands = w.stands; alike = w.alike; owes = w.owes; tells = w.tells; hook = w.turn; there = λ _ _. w.begun }) drafted (record {
             moves = ap (λ (c : Calls). c.moves) on ∙ facts.0;
             begun = ap (λ (c : Calls). c.peer) on ∙ facts.1;
             dials = ap (λ (c : Calls). c.dial) on ∙ facts.2;
@@ -263,6 +271,7 @@ module _ {C : Type 0} (standing : Standing C) (awaited : C → Option Ask) (numb
             hook = hook_heard conv trace moment heard;
           }) served follows;
       settled = t.settled;
+      others = t.others;
     }
 
 -- what each news takes
@@ -290,22 +299,22 @@ takes_end moment c server ok dial same is =
     let yes : is_dialling server c.dial ≡ true = ap (is_dialling server) same ∙ is in rw yes refl
 
 module _ {C : Type 0} (standing : Standing C) (awaited : C → Option Ask) (number : C → ℕ) (made_due : C → List Move → List Command) {S : Type 0} (answers : Answering S) where
-  pub heard_event : (conv moment : ℕ) (what : News) (side : Side) (event : Event) (before after : Held C) {old new : AnswererState S} (out new_out : List Step) → what ≡ news.Event side event →
+  pub heard_event : (conv moment : ℕ) (what : News) (side : Side) (event : Event) (before after : Held C) (shown new_shown : Flows) {old new : AnswererState S} (out new_out : List Step) → what ≡ news.Event side event →
       is_side side (has before.connected) ≡ true →
-      Takes standing awaited number made_due answers conv moment (Took moment event) (dial_of (awaited before.conversation)) (has before.connected) before after old new out new_out →
-      Hears standing awaited number made_due answers conv moment what before after old new out new_out
-  heard_event conv moment what side event before after out new_out is connected t =
-      taken standing awaited number made_due answers conv moment what (Took moment event) (dial_of (awaited before.conversation)) (has before.connected) before after out new_out
+      Takes standing awaited number made_due answers conv moment (Took moment event) (dial_of (awaited before.conversation)) (has before.connected) before after shown new_shown old new out new_out →
+      Hears standing awaited number made_due answers conv moment what before after shown new_shown old new out new_out
+  heard_event conv moment what side event before after shown new_shown out new_out is connected t =
+      taken standing awaited number made_due answers conv moment what (Took moment event) (dial_of (awaited before.conversation)) (has before.connected) before after shown new_shown out new_out
       (λ c peer begun are dial.
       let on : takes moment c what ≡ moved (Took moment event) c = ap (takes moment c) is ∙ takes_connected moment c peer side event (has before.connected) begun are connected in
       (ap (λ (c : Calls). c.moves) on, ap (λ (c : Calls). c.peer) on ∙ begun, ap (λ (c : Calls). c.dial) on ∙ dial, servers_along (has before.connected) _ _ (ap (λ (c : Calls). c.connected) on) are)) t
 
-  pub heard_end : (conv moment : ℕ) (what : News) (server : ℕ) (ok : Bool) (before after : Held C) {old new : AnswererState S} (out new_out : List Step) → what ≡ news.Dialled server ok →
+  pub heard_end : (conv moment : ℕ) (what : News) (server : ℕ) (ok : Bool) (before after : Held C) (shown new_shown : Flows) {old new : AnswererState S} (out new_out : List Step) → what ≡ news.Dialled server ok →
       is_dialling server (dial_of (awaited before.conversation)) ≡ true →
-      Takes standing awaited number made_due answers conv moment (Replied moment (dial_reply ok)) None (servers_by server ok (has before.connected)) before after old new out new_out →
-      Hears standing awaited number made_due answers conv moment what before after old new out new_out
-  heard_end conv moment what server ok before after out new_out is dialling t =
-      taken standing awaited number made_due answers conv moment what (Replied moment (dial_reply ok)) None (servers_by server ok (has before.connected)) before after out new_out
+      Takes standing awaited number made_due answers conv moment (Replied moment (dial_reply ok)) None (servers_by server ok (has before.connected)) before after shown new_shown old new out new_out →
+      Hears standing awaited number made_due answers conv moment what before after shown new_shown old new out new_out
+  heard_end conv moment what server ok before after shown new_shown out new_out is dialling t =
+      taken standing awaited number made_due answers conv moment what (Replied moment (dial_reply ok)) None (servers_by server ok (has before.connected)) before after shown new_shown out new_out
       (λ c peer begun are dial.
       let on : takes moment c what ≡ dial_ends moment server ok c = ap (takes moment c) is ∙ takes_end moment c server ok (dial_of (awaited before.conversation)) dial dialling in
       (ap (λ (c : Calls). c.moves) on, ap (λ (c : Calls). c.peer) on ∙ begun, ap (λ (c : Calls). c.dial) on, servers_along (servers_by server ok (has before.connected)) _ _ (ap (λ (c : Calls). c.connected) on) (servers_end server ok (has before.connected) c.connected are))) t

@@ -19,8 +19,9 @@ use Rattle.px_event.specs.View.{flows}
 use Rattle.px_core.specs.declared.answerer.Draft.{Draft}
 use Rattle.px_core.specs.Answers.{Answering}
 use Rattle.px_core.specs.Conversation.{AllNamed, IsHookOf}
-use Rattle.px_core.specs.Due.{Due, due_in}
+use Rattle.px_core.specs.Due.{Due, due_in, IsAskedLast}
 use Rattle.px_core.specs.Held.{step_of, IsOf, AllOf, IsKept}
+use Rattle.px_core.specs.Unmarked.{all_unmarked}
 use Rattle.px_core.specs.Hooks.{hook_on, hook_from, open_hook, IsInTurn, hook_of, AsksInTurn}
 use Rattle.px_core.proofs.CallLemmas.{same_number}
 
@@ -145,6 +146,11 @@ hook_named (Some (asks.Hook flow hook)) ask is = (flow, hook, some_one ask (asks
     some_one : (a b : Ask) → Some a ≡ Some b → a ≡ b
     some_one a b e = cc
 
+-- what was asked last is the same
+pub asked_same : (due : Due) (conv : ℕ) (trace next : Trace) (ask : Ask) (flow : Flow) → due_in due flows conv next ≡ due_in due flows conv trace →
+    IsAskedLast due trace conv ask flow → IsAskedLast due next conv ask flow
+asked_same due conv trace next ask flow same a = record { earlier = a.earlier; last = ap all_unmarked same ∙ a.last }
+
 -- a hook that waits goes on to wait where what was asked last is the same
 pub kept_on : {S : Type 0} (answers : Answering S) (due : Due) (conv : ℕ) (trace next : Trace) (ask : Ask) (kept : Option Draft) →
     due_in due flows conv next ≡ due_in due flows conv trace → IsKept answers due trace conv ask kept → IsKept answers due next conv ask kept
@@ -157,8 +163,7 @@ kept_on answers due conv trace next ask kept same k =
         hook = w.hook;
         flow = w.flow;
         asked = w.asked;
-        earlier = w.earlier;
-        last = same ∙ w.last;
+        last = asked_same due conv trace next ask w.flow same w.last;
         old = w.old;
         old_files = w.old_files;
         new = w.new;

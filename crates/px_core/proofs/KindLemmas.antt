@@ -9,17 +9,20 @@ use Rattle.px_event.specs.declared.reply.Reply.{Reply}
 use Rattle.px_event.specs.declared.step.Step.{Step}
 use Rattle.px_event.specs.declared.step.Step.TheVariants as steps
 use Rattle.px_event.specs.Trace.{Trace, Always}
-use Rattle.px_event.specs.View.{Atom, about, flows}
 use Rattle.px_event.proofs.TraceLemmas.{always_empty, always_more}
 use Rattle.px_core.specs.declared.answerer.Answer.{Answer}
 use Rattle.px_core.specs.declared.answerer.Answer.TheVariants as answer
-use Rattle.px_core.specs.Answered.{GivenTo, Pending, with_pending, IsNoAnswer, Answers, at_first, at_hook, at_reply, at_other, at_change}
+use Rattle.px_message.specs.declared.flow.FlowId.{FlowId}
+use Rattle.px_core.specs.declared.answerer.Draft.{Draft}
+use Rattle.px_core.specs.declared.operation.Operation.{Operation}
+use Rattle.px_core.specs.Drafts.{ComesTo, released_by}
+use Rattle.px_core.specs.Answered.{GivenTo, Pending, with_given, with_pending, with_asked, IsNoAnswer, Answers, at_first, at_hook, at_reply, at_other, at_change, at_mark, at_release}
 use Rattle.px_core.specs.Answers.{Answering, AnswererState}
 use Rattle.px_core.specs.Course.{AllAre, Change, Course, IsFrontOf, KeepsOwn, change}
-use Rattle.px_core.specs.Due.{Due, due_in}
+use Rattle.px_core.specs.Due.{Due, IsAskedLast}
 use Rattle.px_core.specs.Kind.{KeepsKind, LeavesAlone, AllLeaveAlone, IsOfKind, EndsOfKind}
 use Rattle.px_core.proofs.CourseLemmas.{begins_so, last_is, made_are}
-use Rattle.px_core.proofs.AnsweredLemmas.{pending_here, pending_other}
+use Rattle.px_core.proofs.AnsweredLemmas.{comes_released, operated_front, pending_here, pending_other}
 use Rattle.px_core.proofs.ServedLemmas.{last_step}
 
 alone_more : (conv : ℕ) (trace : Trace) (step : Step) → AllLeaveAlone conv trace → LeavesAlone conv step → AllLeaveAlone conv (trace ++ step ∷ [])
@@ -44,14 +47,14 @@ same_given : (a b : GivenTo) → Some a ≡ Some b → a ≡ b
 same_given a b e = cc
 
 -- what is pending, where one conversation's has changed
-pending_is : (P : ℕ → GivenTo → Type 0) (conv : ℕ) (now : Option GivenTo) (before : Pending) → ((given : GivenTo) → now ≡ Some given → P conv given) →
+pending_is : (P : ℕ → GivenTo → Type 0) (conv : ℕ) (now : Option GivenTo) (before : ℕ → Option GivenTo) → ((given : GivenTo) → now ≡ Some given → P conv given) →
     ((other : ℕ) (given : GivenTo) → conv ≢ other → before other ≡ Some given → P other given) →
-    (other : ℕ) (given : GivenTo) → with_pending conv now before other ≡ Some given → P other given
+    (other : ℕ) (given : GivenTo) → with_given conv now before other ≡ Some given → P other given
 pending_is P conv now before here there other given e = by (eqb_tells conv other)
   where
     by : ((conv == other) ≡ true) × (conv ≡ other) ⊎ ((conv == other) ≡ false) × (conv ≢ other) → P other given
     by (inl h) =
-        let Q : ℕ → Type 0 = λ n. with_pending conv now before n ≡ Some given → P n given in
+        let Q : ℕ → Type 0 = λ n. with_given conv now before n ≡ Some given → P n given in
         subst Q h.1 (λ is. here given (sym (pending_here conv now before) ∙ is)) e
     by (inr h) = there other given h.1 (sym (pending_other conv other now before h.1) ∙ e)
 
@@ -67,14 +70,13 @@ module _ (gives : Hook → Flow → Answer → Type 0) (due : Due) where
     hook = k.hook;
     flow = k.flow;
     asked = k.asked;
-    earlier = k.earlier;
     last = k.last;
     gives_so = k.gives_so;
   }
 
-  -- where the step behind a trace is an answer, it is of the kind
+  -- where the step behind a trace is an answer, it comes from one of the kind
   abbrev IsSo : Trace → Step → Type 0
-  IsSo trace (steps.Answered conv ask reply) = IsOfKind gives due trace conv ask (answer.Reply reply)
+  IsSo trace (steps.Answered conv ask reply) = (given : Answer) × ComesTo given reply × IsOfKind gives due trace conv ask given
   IsSo trace _ = Unit {0}
 
   quiet_so : (trace : Trace) (step : Step) → IsNoAnswer step → IsSo trace step
@@ -100,14 +102,14 @@ module _ {S : Type 0} (answers : Answering S) (due : Due) (is : S → Type 0) (g
   -- The answerer's own state is so, what is pending was given where its hook was asked, and each reply is of the kind.
   pub record Kept (trace : Trace) (now : AnswererState S) (pending : Pending) : Type 0 where
     pub so : is now.own
-    pub given : (conv : ℕ) (g : GivenTo) → pending conv ≡ Some g → IsOfKind gives due trace conv g.ask g.answer
+    pub given : (conv : ℕ) (g : GivenTo) → pending.given conv ≡ Some g → IsOfKind gives due trace conv g.ask g.answer
     pub of_kind : Always (EndsOfKind gives due) trace
 
-  hook_kept : (trace next : Trace) (old new : AnswererState S) (was : Pending) (conv : ℕ) (hook : Hook) (flow : Flow) (given : Answer) (earlier : List Atom) →
-      next ≡ trace ++ steps.Asked conv (asks.Hook flow.id.index hook) ∷ [] → due_in due flows conv trace ≡ earlier ++ about (asks.Hook flow.id.index hook) flow ∷ [] →
+  hook_kept : (trace next : Trace) (old new : AnswererState S) (was : Pending) (conv : ℕ) (hook : Hook) (flow : Flow) (given : Answer) →
+      next ≡ trace ++ steps.Asked conv (asks.Hook flow.id.index hook) ∷ [] → IsAskedLast due trace conv (asks.Hook flow.id.index hook) flow →
       answers hook flow old.own old.files new.own new.files given → Kept trace old was →
-      Kept next new (with_pending conv (Some (record { ask = asks.Hook flow.id.index hook; answer = given })) was)
-  hook_kept trace next old new was conv hook flow given earlier split last answered k =
+      Kept next new (with_asked conv (record { ask = asks.Hook flow.id.index hook; answer = given }) flow was)
+  hook_kept trace next old new was conv hook flow given split last answered k =
       let ask : Ask = asks.Hook flow.id.index hook in
       let now : GivenTo = record { ask = ask; answer = given } in
       let here : IsOfKind gives due next conv ask given = record {
@@ -118,7 +120,6 @@ module _ {S : Type 0} (answers : Answering S) (due : Due) (is : S → Type 0) (g
         hook = hook;
         flow = flow;
         asked = refl;
-        earlier = earlier;
         last = last;
         gives_so = keeps.gives_so hook flow old.own old.files new.own new.files given k.so answered;
       } in
@@ -126,35 +127,35 @@ module _ {S : Type 0} (answers : Answering S) (due : Due) (is : S → Type 0) (g
       let Q : GivenTo → Type 0 = P conv in
       record {
         so = keeps.stays hook flow old.own old.files new.own new.files given k.so answered;
-        given = pending_is P conv (Some now) was (λ g e. subst Q (same_given now g e) here)
+        given = pending_is P conv (Some now) was.given (λ g e. subst Q (same_given now g e) here)
             (λ other g apart e. kind_grown gives due trace next (steps.Asked conv ask) other g.ask g.answer split apart (k.given other g e));
         of_kind = always_so gives due trace next (steps.Asked conv ask) split tt k.of_kind;
       }
 
   reply_kept : (trace next : Trace) (now : AnswererState S) (was : Pending) (conv : ℕ) (ask : Ask) (reply : Reply) → next ≡ trace ++ steps.Answered conv ask reply ∷ [] →
-      was conv ≡ Some (record { ask = ask; answer = answer.Reply reply }) → Kept trace now was → Kept next now (with_pending conv None was)
-  reply_kept trace next now was conv ask reply split is_given k =
+      (given : Answer) → ComesTo given reply → was.given conv ≡ Some (record { ask = ask; answer = given }) → Kept trace now was → Kept next now (with_pending conv None was)
+  reply_kept trace next now was conv ask reply split given_answer comes is_given k =
       let P : ℕ → GivenTo → Type 0 = λ n g. IsOfKind gives due next n g.ask g.answer in
       record {
         so = k.so;
-        given = pending_is P conv None was (λ g e. absurd (none_given g e))
+        given = pending_is P conv None was.given (λ g e. absurd (none_given g e))
             (λ other g apart e. kind_grown gives due trace next (steps.Answered conv ask reply) other g.ask g.answer split apart (k.given other g e));
-        of_kind = always_so gives due trace next (steps.Answered conv ask reply) split (k.given conv _ is_given) k.of_kind;
+        of_kind = always_so gives due trace next (steps.Answered conv ask reply) split (given_answer, comes, k.given conv _ is_given) k.of_kind;
       }
 
   pub kept : (course : Course S) → is course.first.own → AllAre (KeepsOwn is) course.changes → (trace : Trace) (now : AnswererState S) (pending : Pending) →
       Answers answers due course trace now pending → Kept trace now pending
-  kept course begins stay trace now pending (at_first c none) = record {
+  kept course begins stay trace now pending (at_first c none no_operations) = record {
     so = begins;
     given = λ conv g e. absurd (none_given g e);
     of_kind = always_empty (EndsOfKind gives due) (λ prefix conv ask reply e. absurd (no_end prefix (steps.Answered conv ask reply) e));
   }
-  kept course begins stay whole now pending (at_hook c trace next old new was conv hook flow given earlier before split free last so) =
-      hook_kept trace whole old now was conv hook flow given earlier split last so (kept course begins stay trace old was before)
+  kept course begins stay whole now pending (at_hook c trace next old new was conv hook flow given before split free last marked so) =
+      hook_kept trace whole old now was conv hook flow given split last so (kept course begins stay trace old was before)
   kept course begins stay whole now pending (at_reply c trace next state was conv ask reply before split is_given) =
-      reply_kept trace whole now was conv ask reply split is_given (kept course begins stay trace now was before)
-  kept course begins stay whole now pending (at_other c trace next state was step before split quiet) =
-      let k = kept course begins stay trace now pending before in
+      reply_kept trace whole now was conv ask reply split (answer.Reply reply) refl is_given (kept course begins stay trace now was before)
+  kept course begins stay whole now pending (at_other c trace next state was step before split quiet marked) =
+      let k = kept course begins stay trace now was before in
       record {
         so = k.so;
         given = λ conv g e. kind_grown gives due trace whole step conv g.ask g.answer split (quiet_alone conv step quiet) (k.given conv g e);
@@ -166,6 +167,15 @@ module _ {S : Type 0} (answers : Answering S) (due : Due) (is : S → Type 0) (g
       let all = last_is (KeepsOwn is) made.changes (change whole old now) (subst Q (ap (λ c. c.changes) split) stay) in
       let k = kept made (subst P (ap (λ c. c.first) split) begins) all.0 whole old pending before in
       record { so = all.1 k.so; given = k.given; of_kind = k.of_kind }
+  kept course begins stay whole now pending (at_mark made next trace state was id before split) =
+      let P : AnswererState S → Type 0 = λ state. is state.own in
+      let Q : List (Change S) → Type 0 = AllAre (KeepsOwn is) in
+      kept made (subst P (ap (λ c. c.first) split) begins) (subst Q (ap (λ c. c.changes) split) stay) whole now pending before
+  kept course begins stay whole now pending (at_release made c trace next state was operation id hook draft before split for waits grown) =
+      let P : AnswererState S → Type 0 = λ state. is state.own in
+      let Q : List (Change S) → Type 0 = AllAre (KeepsOwn is) in
+      let k = kept made (subst P (ap (λ c. c.first) split) begins) (subst Q (ap (λ c. c.changes) split) stay) trace now was before in
+      reply_kept trace whole now was id.conv (asks.Hook id.index hook) (released_by operation draft) grown (answer.Wait draft) (comes_released operation draft) waits k
 
   -- with the first changes of a course
   pub kept_in : (course made : Course S) → IsFrontOf course made → is course.first.own → AllAre (KeepsOwn is) course.changes → (trace : Trace) (now : AnswererState S) (pending : Pending) →

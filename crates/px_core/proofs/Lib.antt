@@ -2,6 +2,7 @@ pub mod AddonLemmas
 pub mod AnswerLemmas
 pub mod AnsweredLemmas
 pub mod CourseLemmas
+pub mod FlowsLemmas
 pub mod AskLemmas
 pub mod CallLemmas
 pub mod ChainNamedLemmas
@@ -10,6 +11,8 @@ pub mod HookLemmas
 pub mod KindLemmas
 pub mod LeavingLemmas
 pub mod NamedLemmas
+pub mod OperateLemmas
+pub mod OperateRunLemmas
 pub mod OrderedLemmas
 pub mod ResultLemmas
 pub mod RouteLemmas
@@ -20,3 +23,4 @@ pub mod TableLemmas
 pub mod ServedLemmas
 pub mod WorkLemmas
 pub mod LiveLemmas
+pub mod UnmarkedLemmas

@@ -11,6 +11,7 @@ use Rattle.px_event.specs.View.{Atom, about, asked, byte, close, course, dialled
 use Rattle.px_core.specs.Calls.{calls, calls_of}
 use Rattle.px_core.specs.Due.{Due, due_at, IsWithinDue}
 use Rattle.px_core.proofs.LeavingLemmas.{leaving_ordered}
+use Rattle.px_core.specs.Unmarked.{all_unmarked}
 use Rattle.px_core.specs.Ordered.{AsksNoneOf, AsksBeforeEnds, HooksNoneOf, HooksBeforeEnds, IsInOrder, LeavesFlows}
 
 -- what is due of a chain that leaves its flows behind
@@ -54,14 +55,54 @@ ordered_front (close ∷ xs) ys ordered = ordered_front xs ys ordered
 ordered_front (dialled server address ∷ xs) ys ordered = ordered_front xs ys ordered
 ordered_front (about ask flow ∷ xs) ys ordered = ordered_front xs ys ordered
 
+-- marks change no order
+none_unmarked : (index : ℕ) (l : List Atom) → HooksNoneOf index l → HooksNoneOf index (all_unmarked l)
+none_unmarked index [] none = tt
+none_unmarked index (asked (asks.Hook number hook) ∷ l) (apart, none) = (apart, none_unmarked index l none)
+none_unmarked index (asked (asks.Dial server) ∷ l) none = none_unmarked index l none
+none_unmarked index (byte value ∷ l) none = none_unmarked index l none
+none_unmarked index (close ∷ l) none = none_unmarked index l none
+none_unmarked index (dialled server address ∷ l) none = none_unmarked index l none
+none_unmarked index (done flow ∷ l) none = none_unmarked index l none
+none_unmarked index (about ask flow ∷ l) none = none_unmarked index l none
+
+none_marked : (index : ℕ) (l : List Atom) → HooksNoneOf index (all_unmarked l) → HooksNoneOf index l
+none_marked index [] none = tt
+none_marked index (asked (asks.Hook number hook) ∷ l) (apart, none) = (apart, none_marked index l none)
+none_marked index (asked (asks.Dial server) ∷ l) none = none_marked index l none
+none_marked index (byte value ∷ l) none = none_marked index l none
+none_marked index (close ∷ l) none = none_marked index l none
+none_marked index (dialled server address ∷ l) none = none_marked index l none
+none_marked index (done flow ∷ l) none = none_marked index l none
+none_marked index (about ask flow ∷ l) none = none_marked index l none
+
+ordered_unmarked : (l : List Atom) → HooksBeforeEnds l → HooksBeforeEnds (all_unmarked l)
+ordered_unmarked [] ordered = tt
+ordered_unmarked (done flow ∷ l) (none, ordered) = (none_unmarked flow.id.index l none, ordered_unmarked l ordered)
+ordered_unmarked (asked ask ∷ l) ordered = ordered_unmarked l ordered
+ordered_unmarked (byte value ∷ l) ordered = ordered_unmarked l ordered
+ordered_unmarked (close ∷ l) ordered = ordered_unmarked l ordered
+ordered_unmarked (dialled server address ∷ l) ordered = ordered_unmarked l ordered
+ordered_unmarked (about ask flow ∷ l) ordered = ordered_unmarked l ordered
+
+ordered_marked : (l : List Atom) → HooksBeforeEnds (all_unmarked l) → HooksBeforeEnds l
+ordered_marked [] ordered = tt
+ordered_marked (done flow ∷ l) (none, ordered) = (none_marked flow.id.index l none, ordered_marked l ordered)
+ordered_marked (asked ask ∷ l) ordered = ordered_marked l ordered
+ordered_marked (byte value ∷ l) ordered = ordered_marked l ordered
+ordered_marked (close ∷ l) ordered = ordered_marked l ordered
+ordered_marked (dialled server address ∷ l) ordered = ordered_marked l ordered
+ordered_marked (about ask flow ∷ l) ordered = ordered_marked l ordered
+
 -- what is within what is due is in order
 pub in_order : (due : Due) → ((conv : ℕ) (peer : Address) (moves : List Move) → AsksBeforeEnds (due conv peer moves)) →
     (trace : Trace) → IsWithinDue due trace → IsInOrder trace
 in_order due ordered trace within conv =
     let prefix = within conv course tt in
     let P : List Atom → Type 0 = HooksBeforeEnds in
-    ordered_front (seen_in course conv trace) prefix.0 (subst P prefix.1 (here (calls conv trace).peer))
+    ordered_marked (seen_in course conv trace) (ordered_front (all_unmarked (seen_in course conv trace)) prefix.0 (subst P prefix.1 (here (calls conv trace).peer)))
   where
-    here : (at : Option Address) → HooksBeforeEnds (seen_of course (due_at due conv at (calls_of conv trace)))
+    here : (at : Option Address) → HooksBeforeEnds (all_unmarked (seen_of course (due_at due conv at (calls_of conv trace))))
     here None = tt
-    here (Some peer) = hooks_ordered (due conv peer (calls_of conv trace)) (ordered conv peer (calls_of conv trace))
+    here (Some peer) =
+        ordered_unmarked (seen_of course (due conv peer (calls_of conv trace))) (hooks_ordered (due conv peer (calls_of conv trace)) (ordered conv peer (calls_of conv trace)))

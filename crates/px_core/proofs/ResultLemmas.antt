@@ -15,6 +15,10 @@ pub if_ok_both : {T E A : Type 0} (r : Result T E) (B P : T → Type 0) → ((t 
 if_ok_both (Ok t) B P all a b = all t a b
 if_ok_both (Err e) B P all a b = tt
 
+pub if_ok_all : {T E A B : Type 0} (r : Result T E) (Q P : T → Type 0) → ((t : T) → A → Q t → B → P t) → OnOk r A → IfOk r Q → OnOk r B → IfOk r P
+if_ok_all (Ok t) Q P all a q b = all t a q b
+if_ok_all (Err e) Q P all a q b = tt
+
 pub goes_from_empty : {C : Type 0} (standing : Standing C) (before after : C) (move : Move) (out given : List Command) → out ≡ [] →
     Goes standing before after move out given → Goes standing before after move [] given
 goes_from_empty standing before after move out given empty goes =

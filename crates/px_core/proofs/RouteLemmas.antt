@@ -20,6 +20,8 @@ use Rattle.px_event.specs.Trace.{Trace}
 use Rattle.px_event.specs.View.{View, Atom, flows, IsTold, seen_of, seen_in}
 use Rattle.px_event.proofs.TraceLemmas.{always_empty, always_more, before_empty, before_heard}
 use Rattle.px_core.specs.declared.answerer.Draft.{Draft}
+use Rattle.px_message.specs.declared.flow.Flow.{Flow}
+use Rattle.px_core.specs.declared.flows.Flows.{Flows}
 use Rattle.px_core.specs.declared.held.Held.{Held}
 use Rattle.px_core.specs.declared.news.News.{News}
 use Rattle.px_core.specs.declared.news.News.TheVariants as news
@@ -28,14 +30,17 @@ use Rattle.px_core.specs.declared.table.Entry.TheVariants as place
 use Rattle.px_core.specs.declared.table.Table.{Table}
 use Rattle.px_core.specs.Answered.{nothing_pending, at_first, at_other}
 use Rattle.px_core.specs.Answers.{Answering, AnswererState}
-use Rattle.px_core.specs.Course.{Course, begins_at}
+use Rattle.px_core.specs.Course.{Course, Operated, begins_at, is_marked}
 use Rattle.px_core.specs.Calls.{Calls, calls, calls_of, takes, moved, addressed, is_connected, is_dialling, dial_ends}
 use Rattle.px_core.specs.Due.{Due, due_at, due_by, due_in, IsWithinDue, IsAllTold, EndsMet, Waits, OpenOnesWait, IsServed}
-use Rattle.px_core.specs.Held.{AllOf, dial_of, waiting, Follows, Hears, Takes}
+use Rattle.px_core.specs.Held.{AllOf, Kept, ShowsOthers, dial_of, kept_of, waiting, Follows, Hears, Takes}
+use Rattle.px_core.specs.Live.{shown_in}
+use Rattle.px_core.specs.Unmarked.{all_unmarked}
 use Rattle.px_core.specs.Hooks.{open_hook, hook_of, EndsInTurn}
-use Rattle.px_core.specs.Router.{Found, unknown, over, lost, live, found_at, found_by, place_of, found, draft_of, PutsPlace, IsUnknown, IsOver, IsLive, StandsIn, TableStands, IsTabled, HearsAt, Hands, Admits, Routes, IsAtKey}
+use Rattle.px_core.specs.Router.{Found, unknown, over, lost, live, found_at, found_by, place_of, found, draft_of, KeepsMarks, PutsPlace, IsUnknown, IsOver, IsLive, StandsIn, TableStands, IsTabled, HearsAt, Hands, Admits, Routes, IsAtKey}
 use Rattle.px_core.specs.Runs.{has}
-use Rattle.px_core.proofs.AnsweredLemmas.{follows_step}
+use Rattle.px_core.proofs.AnsweredLemmas.{follows_heard}
+use Rattle.px_core.proofs.UnmarkedLemmas.{unmarked_prefix}
 use Rattle.px_core.proofs.CallLemmas.{others_calls, others_seen}
 use Rattle.px_core.proofs.HearLemmas.{seen_heard, calls_heard, calls_heard_other, calls_heard_none}
 use Rattle.px_core.proofs.HookLemmas.{hook_heard, others_hook, hook_is, hook_named, kept_on}
@@ -52,13 +57,13 @@ ended_stays standing made_due ended is_over exact stays made state moves given s
     stays made moves (sym (exact made state moves given stands) ∙ end) more view
 
 -- nothing of the conversation is new
-record Same (conv : ℕ) (trace next : Trace) : Type 0 where
-  moves : calls_of conv next ≡ calls_of conv trace
-  peer : (calls conv next).peer ≡ (calls conv trace).peer
-  dial : (calls conv next).dial ≡ (calls conv trace).dial
-  connected : (calls conv next).connected ≡ (calls conv trace).connected
-  sees : (view : View) → IsTold view → seen_in view conv next ≡ seen_in view conv trace
-  hook : open_hook conv next ≡ open_hook conv trace
+pub record Same (conv : ℕ) (trace next : Trace) : Type 0 where
+  pub moves : calls_of conv next ≡ calls_of conv trace
+  pub peer : (calls conv next).peer ≡ (calls conv trace).peer
+  pub dial : (calls conv next).dial ≡ (calls conv trace).dial
+  pub connected : (calls conv next).connected ≡ (calls conv trace).connected
+  pub sees : (view : View) → IsTold view → seen_in view conv next ≡ seen_in view conv trace
+  pub hook : open_hook conv next ≡ open_hook conv trace
 
 same_by : (conv moment : ℕ) (trace next : Trace) → calls conv next ≡ record (calls conv trace) { moment = moment } →
     ((view : View) → IsTold view → seen_in view conv next ≡ seen_in view conv trace) → open_hook conv next ≡ open_hook conv trace → Same conv trace next
@@ -131,23 +136,25 @@ no_answer_heard moment conv heard ask reply e = cc
 
 -- where nothing of an ended conversation changes what is due
 over_grown : (due : Due) (conv : ℕ) (trace next : Trace) → IsOver due conv trace → IsGrown (calls conv trace) (calls conv next) → (view : View) →
-    due_in due view conv next ≡ due_in due view conv trace
-over_grown due conv trace next w (inl same, stays) view = ap (seen_of view) (due_same due conv (calls conv next) (calls conv trace) (stays w.peer w.begun ∙ sym w.begun) same)
+    all_unmarked (due_in due view conv next) ≡ all_unmarked (due_in due view conv trace)
+over_grown due conv trace next w (inl same, stays) view =
+    ap (λ l. all_unmarked (seen_of view l)) (due_same due conv (calls conv next) (calls conv trace) (stays w.peer w.begun ∙ sym w.begun) same)
 over_grown due conv trace next w (inr (move, is), stays) view =
-    due_there due conv next w.peer (stays w.peer w.begun) view ∙ (ap (λ l. seen_of view (due conv w.peer l)) is ∙ w.stays view (move ∷ []))
+    ap all_unmarked (due_there due conv next w.peer (stays w.peer w.begun) view) ∙ (ap (λ l. all_unmarked (seen_of view (due conv w.peer l))) is ∙ w.stays view (move ∷ []))
 
 over_stays : (due : Due) (conv : ℕ) (trace next : Trace) (w : IsOver due conv trace) → IsGrown (calls conv trace) (calls conv next) → (view : View) (more : List Move) →
-    seen_of view (due conv w.peer (calls_of conv next ++ more)) ≡ due_in due view conv trace
-over_stays due conv trace next w (inl same, stays) view more = ap (λ l. seen_of view (due conv w.peer (l ++ more))) same ∙ w.stays view more
+    all_unmarked (seen_of view (due conv w.peer (calls_of conv next ++ more))) ≡ all_unmarked (due_in due view conv trace)
+over_stays due conv trace next w (inl same, stays) view more = ap (λ l. all_unmarked (seen_of view (due conv w.peer (l ++ more)))) same ∙ w.stays view more
 over_stays due conv trace next w (inr (move, is), stays) view more =
-    ap (λ l. seen_of view (due conv w.peer (l ++ more))) is ∙ (ap (λ l. seen_of view (due conv w.peer l)) (append_assoc (calls_of conv trace) (move ∷ []) more) ∙ w.stays view (move ∷ more))
+    ap (λ l. all_unmarked (seen_of view (due conv w.peer (l ++ more)))) is
+    ∙ (ap (λ l. all_unmarked (seen_of view (due conv w.peer l))) (append_assoc (calls_of conv trace) (move ∷ []) more) ∙ w.stays view (move ∷ more))
 
 pub over_next : (due : Due) (conv : ℕ) (trace next : Trace) → IsOver due conv trace → IsGrown (calls conv trace) (calls conv next) →
     ((view : View) → IsTold view → seen_in view conv next ≡ seen_in view conv trace) → open_hook conv next ≡ open_hook conv trace → IsOver due conv next
 over_next due conv trace next w grown sees hook = record {
   peer = w.peer;
   begun = grown.1 w.peer w.begun;
-  told = λ view told. sees view told ∙ (w.told view told ∙ sym (over_grown due conv trace next w grown view));
+  told = λ view told. ap all_unmarked (sees view told) ∙ (w.told view told ∙ sym (over_grown due conv trace next w grown view));
   stays = λ view more. over_stays due conv trace next w grown view more ∙ sym (over_grown due conv trace next w grown view);
   hook = hook ∙ w.hook;
 }
@@ -165,7 +172,7 @@ unplaced None is = refl
 unplaced (Some a) is = absurd (let no : true ≡ false = is in cc)
 
 module _ {C : Type 0} (standing : Standing C) (awaited : C → Option Ask) (number : C → ℕ) (made_due : C → List Move → List Command) where
-  stands_same : {S : Type 0} (answers : Answering S) (due : Due) (conv : ℕ) (trace next : Trace) → Same conv trace next → (x : Found (Held C)) →
+  pub stands_same : {S : Type 0} (answers : Answering S) (due : Due) (conv : ℕ) (trace next : Trace) → Same conv trace next → (x : Found (Held C)) →
       StandsIn standing awaited number made_due answers due conv trace x → StandsIn standing awaited number made_due answers due conv next x
   stands_same answers due conv trace next s unknown w = record {
     begun = s.peer ∙ w.begun;
@@ -179,13 +186,15 @@ module _ {C : Type 0} (standing : Standing C) (awaited : C → Option Ask) (numb
   stands_same answers due conv trace next s lost w = w
   stands_same answers due conv trace next s (live held) w =
       let v = w.within in
-      let P : List Move → Type 0 = λ l. standing v.made held.conversation l (v.earlier ++ []) in
+      let P : List Move → Type 0 = λ l. standing v.made held.conversation l v.given in
       record {
         within = record {
           made = v.made;
           peer = v.peer;
+          given = v.given;
           earlier = v.earlier;
           stands = subst P (sym s.moves) v.stands;
+          alike = v.alike;
           owes = v.owes;
           tells = λ view told. v.tells view told ∙ sym (s.sees view told);
           named = v.named;
@@ -202,22 +211,27 @@ module _ {C : Type 0} (standing : Standing C) (awaited : C → Option Ask) (numb
 
   -- a table in which nothing was admitted
   pub new_stands : {S : Type 0} (answers : Answering S) (due : Due) (first : AnswererState S) (table : Table C) → ((conv : ℕ) → place_of table conv ≡ None) →
-      TableStands standing awaited number made_due answers due (begins_at first) first table []
-  new_stands answers due first table empty = record {
+      ((conv index : ℕ) → shown_in table.flows conv index ≡ None) → TableStands standing awaited number made_due answers due (begins_at first) first table []
+  new_stands answers due first table empty no_flows = record {
     at = λ conv.
         let P : Found (Held C) → Type 0 = StandsIn standing awaited number made_due answers due conv [] in
         let u : IsUnknown conv [] = record { begun = refl; dial = refl; connected = refl; moves = refl; sees = λ view told. refl; hook = refl } in
         subst P (sym (ap (found_by table.live) (empty conv))) u;
     served = record {
-      within = always_empty (IsWithinDue due) (λ conv view told. (due_in due view conv [], refl));
+      within = always_empty (IsWithinDue due) (λ conv view told. (all_unmarked (due_in due view conv []), refl));
       told = before_empty (IsAllTold due);
       met = always_empty (EndsMet answers due) (λ prefix conv ask reply e. absurd (no_end prefix (steps.Answered conv ask reply) e));
       turns = always_empty EndsInTurn (λ prefix step e. absurd (no_end prefix step e));
       waits = before_empty (OpenOnesWait answers due);
     };
     pending = nothing_pending;
-    answered = at_first (begins_at first) refl;
+    answered = at_first (begins_at first) refl refl;
     drafts = λ conv. refl;
+    marks = λ conv.
+        let P : Found (Held C) → Type 0 = KeepsMarks [] conv in
+        let none : KeepsMarks {C = C} [] conv unknown = λ index. refl in
+        subst P (sym (ap (found_by table.live) (empty conv))) none;
+    shown = λ conv index. sym (no_flows conv index);
   }
     where
       no_end : (prefix : List Step) (step : Step) → [] ≡ prefix ++ step ∷ [] → ⊥
@@ -229,12 +243,13 @@ module _ {C : Type 0} (standing : Standing C) (awaited : C → Option Ask) (numb
       (grows : (made : C) (moves : List Move) (move : Move) (view : View) → IsPrefixOf (seen_of view (made_due made moves)) (seen_of view (made_due made (moves ++ move ∷ []))))
       {S : Type 0} (answers : Answering S) where
     told_in : (due : Due) (conv : ℕ) (trace : Trace) (x : Found (Held C)) → StandsIn standing awaited number made_due answers due conv trace x → (view : View) → IsTold view →
-        seen_in view conv trace ≡ due_in due view conv trace
-    told_in due conv trace unknown w view told = w.sees view told ∙ sym (ap (λ at. seen_of view (due_at due conv at (calls_of conv trace))) w.begun)
+        all_unmarked (seen_in view conv trace) ≡ all_unmarked (due_in due view conv trace)
+    told_in due conv trace unknown w view told =
+        ap all_unmarked (w.sees view told) ∙ sym (ap (λ at. all_unmarked (seen_of view (due_at due conv at (calls_of conv trace)))) w.begun)
     told_in due conv trace over w view told = w.told view told
     told_in due conv trace lost w view told = absurd w
     told_in due conv trace (live held) w view told =
-        sym (due_is answers due standing awaited number made_due gave conv held trace [] w.within view ∙ (append-nil (seen_of view w.within.earlier) ∙ w.within.tells view told))
+        sym (due_is answers due standing awaited number made_due gave conv held trace [] w.within view ∙ (append-nil (all_unmarked (seen_of view w.within.earlier)) ∙ ap all_unmarked (w.within.tells view told)))
 
     pub all_told : (due : Due) {course : Course S} {now : AnswererState S} (table : Table C) (trace : Trace) → TableStands standing awaited number made_due answers due course now table trace → IsAllTold due trace
     all_told due table trace stands conv view told = told_in due conv trace (found table conv) (stands.at conv) view told
@@ -258,37 +273,39 @@ module _ {C : Type 0} (standing : Standing C) (awaited : C → Option Ask) (numb
     -- what is due to one that is live by one call more
     live_within : (due : Due) (conv : ℕ) (trace next : Trace) (move : Move) (held : Held C) (w : IsLive standing awaited number made_due answers due conv held trace) →
         calls_of conv next ≡ calls_of conv trace ++ move ∷ [] → (calls conv next).peer ≡ Some w.within.peer → (view : View) → IsTold view →
-        IsPrefixOf (seen_in view conv trace) (due_in due view conv next)
+        IsPrefixOf (all_unmarked (seen_in view conv trace)) (all_unmarked (due_in due view conv next))
     live_within due conv trace next move held w is there view told =
         let v = w.within in
-        let P : List Atom → Type 0 = λ l. IsPrefixOf l (seen_of view (made_due v.made (calls_of conv trace ++ move ∷ []))) in
-        let Q : List Atom → Type 0 = λ l. IsPrefixOf (seen_in view conv trace) l in
-        let before : seen_of view (made_due v.made (calls_of conv trace)) ≡ seen_in view conv trace =
-        ap (seen_of view) (v.owes (calls_of conv trace)) ∙ (sym (due_there due conv trace v.peer v.begun view) ∙ sym (told_in due conv trace (live held) w view told)) in
-        let after : seen_of view (made_due v.made (calls_of conv trace ++ move ∷ [])) ≡ due_in due view conv next =
-        ap (seen_of view) (v.owes (calls_of conv trace ++ move ∷ [])) ∙ (ap (λ l. seen_of view (due conv v.peer l)) (sym is) ∙ sym (due_there due conv next v.peer there view)) in
-        subst Q after (subst P before (grows v.made (calls_of conv trace) move view))
+        let P : List Atom → Type 0 = λ l. IsPrefixOf l (all_unmarked (seen_of view (made_due v.made (calls_of conv trace ++ move ∷ [])))) in
+        let Q : List Atom → Type 0 = λ l. IsPrefixOf (all_unmarked (seen_in view conv trace)) l in
+        let here = seen_of view (made_due v.made (calls_of conv trace)) in
+        let then_due = seen_of view (made_due v.made (calls_of conv trace ++ move ∷ [])) in
+        let before : all_unmarked here ≡ all_unmarked (seen_in view conv trace) =
+        ap all_unmarked (ap (seen_of view) (v.owes (calls_of conv trace)) ∙ sym (due_there due conv trace v.peer v.begun view)) ∙ sym (told_in due conv trace (live held) w view told) in
+        let after : all_unmarked then_due ≡ all_unmarked (due_in due view conv next) =
+        ap all_unmarked (ap (seen_of view) (v.owes (calls_of conv trace ++ move ∷ [])) ∙ (ap (λ l. seen_of view (due conv v.peer l)) (sym is) ∙ sym (due_there due conv next v.peer there view))) in
+        subst Q after (subst P before (unmarked_prefix here then_due (grows v.made (calls_of conv trace) move view)))
 
     live_next : (due : Due) (conv : ℕ) (trace next : Trace) (held : Held C) → IsLive standing awaited number made_due answers due conv held trace →
         IsGrown (calls conv trace) (calls conv next) → (view : View) → IsTold view → seen_in view conv next ≡ seen_in view conv trace →
-        IsPrefixOf (seen_in view conv next) (due_in due view conv next)
+        IsPrefixOf (all_unmarked (seen_in view conv next)) (all_unmarked (due_in due view conv next))
     live_next due conv trace next held w (inl same, stays) view told sees =
-        let P : List Atom → Type 0 = λ l. IsPrefixOf (seen_in view conv next) l in
+        let P : List Atom → Type 0 = λ l. IsPrefixOf (all_unmarked (seen_in view conv next)) l in
         let here : due_by due conv (calls conv trace) ≡ due_by due conv (calls conv next) =
         due_same due conv (calls conv trace) (calls conv next) (w.within.begun ∙ sym (stays w.within.peer w.within.begun)) (sym same) in
-        subst P (sees ∙ (told_in due conv trace (live held) w view told ∙ ap (seen_of view) here)) (prefix_self (seen_in view conv next))
+        subst P (ap all_unmarked sees ∙ (told_in due conv trace (live held) w view told ∙ ap (λ l. all_unmarked (seen_of view l)) here)) (prefix_self (all_unmarked (seen_in view conv next)))
     live_next due conv trace next held w (inr (move, is), stays) view told sees =
-        let P : List Atom → Type 0 = λ l. IsPrefixOf l (due_in due view conv next) in
+        let P : List Atom → Type 0 = λ l. IsPrefixOf (all_unmarked l) (all_unmarked (due_in due view conv next)) in
         subst P (sym sees) (live_within due conv trace next move held w is (stays w.within.peer w.within.begun) view told)
 
     next_within : (due : Due) (conv : ℕ) (trace next : Trace) (x : Found (Held C)) → StandsIn standing awaited number made_due answers due conv trace x →
         IsGrown (calls conv trace) (calls conv next) → (view : View) → IsTold view → seen_in view conv next ≡ seen_in view conv trace →
-        IsPrefixOf (seen_in view conv next) (due_in due view conv next)
+        IsPrefixOf (all_unmarked (seen_in view conv next)) (all_unmarked (due_in due view conv next))
     next_within due conv trace next unknown w grown view told sees =
-        let P : List Atom → Type 0 = λ l. IsPrefixOf l (due_in due view conv next) in subst P (sym (sees ∙ w.sees view told)) (due_in due view conv next, refl)
+        let P : List Atom → Type 0 = λ l. IsPrefixOf (all_unmarked l) (all_unmarked (due_in due view conv next)) in subst P (sym (sees ∙ w.sees view told)) (all_unmarked (due_in due view conv next), refl)
     next_within due conv trace next over w grown view told sees =
-        let P : List Atom → Type 0 = λ l. IsPrefixOf (seen_in view conv next) l in
-        subst P (sees ∙ (w.told view told ∙ sym (over_grown due conv trace next w grown view))) (prefix_self (seen_in view conv next))
+        let P : List Atom → Type 0 = λ l. IsPrefixOf (all_unmarked (seen_in view conv next)) l in
+        subst P (ap all_unmarked sees ∙ (w.told view told ∙ sym (over_grown due conv trace next w grown view))) (prefix_self (all_unmarked (seen_in view conv next)))
     next_within due conv trace next lost w grown view told sees = absurd w
     next_within due conv trace next (live held) w grown view told sees = live_next due conv trace next held w grown view told sees
 
@@ -305,50 +322,101 @@ module _ {C : Type 0} (standing : Standing C) (awaited : C → Option Ask) (numb
       waits = before_heard (OpenOnesWait answers due) trace moment heard stands.served.waits (open_ones_wait due table trace stands);
     }
 
+    -- marks that are the same are kept
+    keeps_same : (before after : List Operated) (conv : ℕ) (x : Found (Held C)) → ((index : ℕ) → is_marked after conv index ≡ is_marked before conv index) → KeepsMarks before conv x → KeepsMarks after conv x
+    keeps_same before after conv unknown same kept = λ index. same index ∙ kept index
+    keeps_same before after conv over same kept = tt
+    keeps_same before after conv lost same kept = tt
+    keeps_same before after conv (live held) same kept = λ index. same index ∙ kept index
+
     -- the others stay, and this one stands
-    next_stands : (due : Due) {course : Course S} {old new : AnswererState S} (conv moment : ℕ) (what : News) (before after : Table C) (draft : Option Draft) (trace more : Trace) (heard : Heard) → addressed heard ≡ Some (conv, what) →
-        AllOf conv more → ((other : ℕ) → conv ≢ other → found after other ≡ found before other) → (stands : TableStands standing awaited number made_due answers due course old before trace) →
-        StandsIn standing awaited number made_due answers due conv ((trace ++ steps.Heard moment heard ∷ []) ++ more) (found after conv) →
-        IsServed answers due ((trace ++ steps.Heard moment heard ∷ []) ++ more) →
-        (f : Follows answers due course stands.pending conv draft new ((trace ++ steps.Heard moment heard ∷ []) ++ more)) →
-        waiting (open_hook conv ((trace ++ steps.Heard moment heard ∷ []) ++ more)) draft ≡ waiting (open_hook conv ((trace ++ steps.Heard moment heard ∷ []) ++ more)) (draft_of (found after conv)) →
-        TableStands standing awaited number made_due answers due course new after ((trace ++ steps.Heard moment heard ∷ []) ++ more)
-    next_stands due conv moment what before after draft trace more heard is own others stands here served f kept = record {
+    pub next_stands : (due : Due) {course made : Course S} {old new : AnswererState S} (conv : ℕ) (before after : Table C) (kept : Kept) (trace next : Trace) →
+        ((other : ℕ) → conv ≢ other → Same other trace next) → ((other : ℕ) → conv ≢ other → found after other ≡ found before other) →
+        ((other index : ℕ) → conv ≢ other → is_marked made.operations other index ≡ is_marked course.operations other index) → ShowsOthers conv before.flows after.flows →
+        (stands : TableStands standing awaited number made_due answers due course old before trace) → StandsIn standing awaited number made_due answers due conv next (found after conv) →
+        IsServed answers due next → (f : Follows answers due made stands.pending conv kept new next) →
+        waiting (open_hook conv next) kept.draft ≡ waiting (open_hook conv next) (draft_of (found after conv)) → KeepsMarks made.operations conv (found after conv) →
+        ((index : ℕ) → kept.shown index ≡ shown_in after.flows conv index) → TableStands standing awaited number made_due answers due made new after next
+    next_stands due {course} {made} conv before after kept trace next same others marked shows stands here served f draft_so marks_so shown_so = record {
       at = λ other. by other (eqb_tells conv other);
       served = served;
       pending = f.pending;
       answered = f.answered;
       drafts = λ other. drafted other (eqb_tells conv other);
+      marks = λ other. marks_of other (eqb_tells conv other);
+      shown = λ other index. shown_of other index (eqb_tells conv other);
     }
       where
-        next : Trace
-        next = (trace ++ steps.Heard moment heard ∷ []) ++ more
-
         by : (other : ℕ) → ((conv == other) ≡ true) × (conv ≡ other) ⊎ ((conv == other) ≡ false) × (conv ≢ other) →
-            StandsIn standing awaited number made_due answers due other ((trace ++ steps.Heard moment heard ∷ []) ++ more) (found after other)
-        by other (inl same) =
-            let P : ℕ → Type 0 = λ k. StandsIn standing awaited number made_due answers due k ((trace ++ steps.Heard moment heard ∷ []) ++ more) (found after k) in subst P same.1 here
+            StandsIn standing awaited number made_due answers due other next (found after other)
+        by other (inl is) =
+            let P : ℕ → Type 0 = λ k. StandsIn standing awaited number made_due answers due k next (found after k) in subst P is.1 here
         by other (inr apart) =
-            let P : Found (Held C) → Type 0 = λ x. StandsIn standing awaited number made_due answers due other ((trace ++ steps.Heard moment heard ∷ []) ++ more) x in
-            subst P (sym (others other apart.1)) (stands_same answers due other trace ((trace ++ steps.Heard moment heard ∷ []) ++ more) (other_same conv other moment trace more heard what is own apart.1) (found before other) (stands.at other))
+            let P : Found (Held C) → Type 0 = λ x. StandsIn standing awaited number made_due answers due other next x in
+            subst P (sym (others other apart.1)) (stands_same answers due other trace next (same other apart.1) (found before other) (stands.at other))
 
         drafted : (other : ℕ) → ((conv == other) ≡ true) × (conv ≡ other) ⊎ ((conv == other) ≡ false) × (conv ≢ other) →
-            f.pending other ≡ waiting (open_hook other ((trace ++ steps.Heard moment heard ∷ []) ++ more)) (draft_of (found after other))
-        drafted other (inl same) =
-            let P : ℕ → Type 0 = λ k. f.pending k ≡ waiting (open_hook k ((trace ++ steps.Heard moment heard ∷ []) ++ more)) (draft_of (found after k)) in subst P same.1 (f.here ∙ kept)
+            f.pending.given other ≡ waiting (open_hook other next) (draft_of (found after other))
+        drafted other (inl is) =
+            let P : ℕ → Type 0 = λ k. f.pending.given k ≡ waiting (open_hook k next) (draft_of (found after k)) in subst P is.1 (f.here ∙ draft_so)
         drafted other (inr apart) =
             f.others other apart.1
             ∙ (stands.drafts other
-            ∙ (ap (λ h. waiting h (draft_of (found before other))) (sym (other_same conv other moment trace more heard what is own apart.1).hook)
-            ∙ ap (λ x. waiting (open_hook other ((trace ++ steps.Heard moment heard ∷ []) ++ more)) (draft_of x)) (sym (others other apart.1))))
+            ∙ (ap (λ h. waiting h (draft_of (found before other))) (sym (same other apart.1).hook)
+            ∙ ap (λ x. waiting (open_hook other next) (draft_of x)) (sym (others other apart.1))))
 
-    -- what is heard follows where the table stands
-    heard_follows : (due : Due) {course : Course S} {now : AnswererState S} (conv moment : ℕ) (table : Table C) (draft : Option Draft) (trace : Trace) (heard : Heard) →
-        (stands : TableStands standing awaited number made_due answers due course now table trace) → draft_of (found table conv) ≡ draft →
-        Follows answers due course stands.pending conv draft now (trace ++ steps.Heard moment heard ∷ [])
-    heard_follows due {course} {now} conv moment table draft trace heard stands same =
-        follows_step answers due course stands.pending conv draft now trace (steps.Heard moment heard)
-        (record { pending = stands.pending; answered = stands.answered; here = stands.drafts conv ∙ ap (waiting (open_hook conv trace)) same; others = λ other apart. refl }) tt
+        marks_of : (other : ℕ) → ((conv == other) ≡ true) × (conv ≡ other) ⊎ ((conv == other) ≡ false) × (conv ≢ other) → KeepsMarks made.operations other (found after other)
+        marks_of other (inl is) = let P : ℕ → Type 0 = λ k. KeepsMarks made.operations k (found after k) in subst P is.1 marks_so
+        marks_of other (inr apart) =
+            let P : Found (Held C) → Type 0 = KeepsMarks made.operations other in
+            subst P (sym (others other apart.1))
+            (keeps_same course.operations made.operations other (found before other) (λ index. marked other index apart.1) (stands.marks other))
+
+        shown_of : (other index : ℕ) → ((conv == other) ≡ true) × (conv ≡ other) ⊎ ((conv == other) ≡ false) × (conv ≢ other) → f.pending.shown other index ≡ shown_in after.flows other index
+        shown_of other index (inl is) = let P : ℕ → Type 0 = λ k. f.pending.shown k index ≡ shown_in after.flows k index in subst P is.1 (f.shown index ∙ shown_so index)
+        shown_of other index (inr apart) = f.shown_others other index apart.1 ∙ (stands.shown other index ∙ sym (shows other index apart.1))
+
+    -- so it is of what was heard
+    heard_stands : (due : Due) {course : Course S} {old new : AnswererState S} (conv moment : ℕ) (what : News) (before after : Table C) (kept : Kept) (trace more : Trace) (heard : Heard) →
+        addressed heard ≡ Some (conv, what) → AllOf conv more → ((other : ℕ) → conv ≢ other → found after other ≡ found before other) → ShowsOthers conv before.flows after.flows →
+        (stands : TableStands standing awaited number made_due answers due course old before trace) →
+        StandsIn standing awaited number made_due answers due conv ((trace ++ steps.Heard moment heard ∷ []) ++ more) (found after conv) →
+        IsServed answers due ((trace ++ steps.Heard moment heard ∷ []) ++ more) →
+        (f : Follows answers due course stands.pending conv kept new ((trace ++ steps.Heard moment heard ∷ []) ++ more)) →
+        waiting (open_hook conv ((trace ++ steps.Heard moment heard ∷ []) ++ more)) kept.draft ≡ waiting (open_hook conv ((trace ++ steps.Heard moment heard ∷ []) ++ more)) (draft_of (found after conv)) →
+        KeepsMarks course.operations conv (found after conv) → ((index : ℕ) → kept.shown index ≡ shown_in after.flows conv index) →
+        TableStands standing awaited number made_due answers due course new after ((trace ++ steps.Heard moment heard ∷ []) ++ more)
+    heard_stands due conv moment what before after kept trace more heard is own others shows =
+        next_stands due conv before after kept trace ((trace ++ steps.Heard moment heard ∷ []) ++ more) (λ other apart. other_same conv other moment trace more heard what is own apart)
+        others (λ other index apart. refl) shows
+
+    -- it follows where the table stands
+    pub table_follows : (due : Due) {course : Course S} {now : AnswererState S} (conv : ℕ) (table : Table C) (kept : Kept) (trace : Trace) →
+        (stands : TableStands standing awaited number made_due answers due course now table trace) → draft_of (found table conv) ≡ kept.draft →
+        ((index : ℕ) → is_marked course.operations conv index ≡ kept.marks index) → ((index : ℕ) → shown_in table.flows conv index ≡ kept.shown index) →
+        Follows answers due course stands.pending conv kept now trace
+    table_follows due conv table kept trace stands same marked shows = record {
+      pending = stands.pending;
+      answered = stands.answered;
+      here = stands.drafts conv ∙ ap (waiting (open_hook conv trace)) same;
+      others = λ other apart. refl;
+      marks = marked;
+      shown = λ index. stands.shown conv index ∙ shows index;
+      shown_others = λ other index apart. refl;
+    }
+
+    -- what is heard too
+    heard_follows : (due : Due) {course : Course S} {now : AnswererState S} (conv moment : ℕ) (table : Table C) (kept : Kept) (trace : Trace) (heard : Heard) →
+        (stands : TableStands standing awaited number made_due answers due course now table trace) → draft_of (found table conv) ≡ kept.draft →
+        ((index : ℕ) → is_marked course.operations conv index ≡ kept.marks index) → ((index : ℕ) → shown_in table.flows conv index ≡ kept.shown index) →
+        Follows answers due course stands.pending conv kept now (trace ++ steps.Heard moment heard ∷ [])
+    heard_follows due {course} {now} conv moment table kept trace heard stands same marked shows =
+        follows_heard answers due course stands.pending conv kept now trace moment heard (table_follows due conv table kept trace stands same marked shows)
+
+    -- the marks of one that is live
+    pub marks_live : {due : Due} {course : Course S} {now : AnswererState S} (conv : ℕ) (table : Table C) (held : Held C) (trace : Trace) → found table conv ≡ live held →
+        TableStands standing awaited number made_due answers due course now table trace → (index : ℕ) → is_marked course.operations conv index ≡ has held.marks index
+    marks_live {course = course} conv table held trace was stands = let P : Found (Held C) → Type 0 = KeepsMarks course.operations conv in subst P was (stands.marks conv)
 
     module _ (ended : C → Bool) (ends : (made state : C) (moves : List Move) (given : List Command) → standing made state moves given → ended state ≡ true →
         (more : List Move) (view : View) → seen_of view (made_due made (moves ++ more)) ≡ seen_of view (made_due made moves))
@@ -360,36 +428,40 @@ module _ {C : Type 0} (standing : Standing C) (awaited : C → Option Ask) (numb
         begun = w.within.begun;
         told = told_in due conv trace (live held) w;
         stays = λ view more.
-            ap (seen_of view) (sym (w.within.owes (calls_of conv trace ++ more)))
-            ∙ (ends w.within.made held.conversation (calls_of conv trace) (w.within.earlier ++ []) w.within.stands is more view
-            ∙ (ap (seen_of view) (w.within.owes (calls_of conv trace)) ∙ sym (due_there due conv trace w.within.peer w.within.begun view)));
-        hook = w.within.turn ∙ ap hook_of (rests w.within.made held.conversation (calls_of conv trace) (w.within.earlier ++ []) w.within.stands is);
+            ap all_unmarked (ap (seen_of view) (sym (w.within.owes (calls_of conv trace ++ more)))
+            ∙ (ends w.within.made held.conversation (calls_of conv trace) w.within.given w.within.stands is more view
+            ∙ (ap (seen_of view) (w.within.owes (calls_of conv trace)) ∙ sym (due_there due conv trace w.within.peer w.within.begun view))));
+        hook = w.within.turn ∙ ap hook_of (rests w.within.made held.conversation (calls_of conv trace) w.within.given w.within.stands is);
       }
 
       -- what became of the conversation is held, or it has ended
       abbrev pub IsHeldOr : Held C → Found (Held C) → Type 0
       IsHeldOr held x = (x ≡ live held) ⊎ ((x ≡ over) × (ended held.conversation ≡ true))
 
-      here_stands : (due : Due) (conv : ℕ) (held : Held C) (trace : Trace) (x : Found (Held C)) → IsLive standing awaited number made_due answers due conv held trace → IsHeldOr held x →
+      pub here_stands : (due : Due) (conv : ℕ) (held : Held C) (trace : Trace) (x : Found (Held C)) → IsLive standing awaited number made_due answers due conv held trace → IsHeldOr held x →
           StandsIn standing awaited number made_due answers due conv trace x
       here_stands due conv held trace x w (inl is) = let P : Found (Held C) → Type 0 = StandsIn standing awaited number made_due answers due conv trace in subst P (sym is) w
       here_stands due conv held trace x w (inr (is, end)) =
           let P : Found (Held C) → Type 0 = StandsIn standing awaited number made_due answers due conv trace in subst P (sym is) (over_of due conv held trace w end)
 
       -- of one that has ended no hook is open
-      draft_in : (due : Due) (conv : ℕ) (held : Held C) (trace : Trace) (x : Found (Held C)) → IsLive standing awaited number made_due answers due conv held trace → IsHeldOr held x →
+      pub draft_in : (due : Due) (conv : ℕ) (held : Held C) (trace : Trace) (x : Found (Held C)) → IsLive standing awaited number made_due answers due conv held trace → IsHeldOr held x →
           waiting (open_hook conv trace) held.draft ≡ waiting (open_hook conv trace) (draft_of x)
       draft_in due conv held trace x w (inl is) = ap (λ y. waiting (open_hook conv trace) (draft_of y)) (sym is)
       draft_in due conv held trace x w (inr (is, end)) =
           let none : open_hook conv trace ≡ None = (over_of due conv held trace w end).hook in
           ap (λ h. waiting h held.draft) none ∙ sym (ap (λ h. waiting h (draft_of x)) none)
 
-      live_in : (due : Due) (conv : ℕ) (held : Held C) (trace : Trace) (x : Found (Held C)) → x ≡ live held → StandsIn standing awaited number made_due answers due conv trace x →
+      pub marks_in : (made : List Operated) (conv : ℕ) (held : Held C) (x : Found (Held C)) → IsHeldOr held x → ((index : ℕ) → is_marked made conv index ≡ has held.marks index) → KeepsMarks made conv x
+      marks_in made conv held x (inl is) marked = let P : Found (Held C) → Type 0 = KeepsMarks made conv in subst P (sym is) marked
+      marks_in made conv held x (inr (is, end)) marked = let P : Found (Held C) → Type 0 = KeepsMarks made conv in subst P (sym is) tt
+
+      pub live_in : (due : Due) (conv : ℕ) (held : Held C) (trace : Trace) (x : Found (Held C)) → x ≡ live held → StandsIn standing awaited number made_due answers due conv trace x →
           IsLive standing awaited number made_due answers due conv held trace
       live_in due conv held trace x is w = let P : Found (Held C) → Type 0 = StandsIn standing awaited number made_due answers due conv trace in subst P is w
 
       pub hands_of : (conv moment : ℕ) (what : News) (before after : Table C) (held new_held : Held C) {old new : AnswererState S} (out new_out : List Step) → found before conv ≡ live held →
-          Hears standing awaited number made_due answers conv moment what held new_held old new out new_out → IsHeldOr new_held (found after conv) →
+          Hears standing awaited number made_due answers conv moment what held new_held before.flows after.flows old new out new_out → IsHeldOr new_held (found after conv) →
           ((other : ℕ) → conv ≢ other → found after other ≡ found before other) → Hands standing awaited number made_due answers conv moment what before after old new out new_out
       hands_of conv moment what before after held new_held out new_out was hears there others = record {
         more = hears.more;
@@ -399,19 +471,20 @@ module _ {C : Type 0} (standing : Standing C) (awaited : C → Option Ask) (numb
         stands = λ due course trace heard is stands.
             let w = live_in due conv held trace (found before conv) was (stands.at conv) in
             let next = hears.hears due course stands.pending trace heard is w.within w.drafted (heard_served due before trace moment heard stands)
-            (heard_follows due conv moment before held.draft trace heard stands (ap draft_of was)) in
+            (heard_follows due conv moment before (kept_of conv held before.flows) trace heard stands (ap draft_of was) (marks_live conv before held trace was stands) (λ index. refl)) in
             let there_now : IsLive standing awaited number made_due answers due conv new_held ((trace ++ steps.Heard moment heard ∷ []) ++ hears.more) =
             record { within = next.0; settled = hears.settled; drafted = next.2 } in
-            next_stands due conv moment what before after new_held.draft trace hears.more heard is hears.own others stands
+            heard_stands due conv moment what before after (kept_of conv new_held after.flows) trace hears.more heard is hears.own others hears.others stands
             (here_stands due conv new_held ((trace ++ steps.Heard moment heard ∷ []) ++ hears.more) (found after conv) there_now there) next.1 next.3
-            (draft_in due conv new_held ((trace ++ steps.Heard moment heard ∷ []) ++ hears.more) (found after conv) there_now there);
+            (draft_in due conv new_held ((trace ++ steps.Heard moment heard ∷ []) ++ hears.more) (found after conv) there_now there)
+            (marks_in course.operations conv new_held (found after conv) there next.3.marks) (λ index. refl);
       }
 
       pub admits_of : (conv moment : ℕ) (conversation : C) (before after : Table C) (held new_held : Held C) {old new : AnswererState S} (out new_out : List Step) → found before conv ≡ unknown →
-          held.conversation ≡ conversation → held.draft ≡ None → awaited conversation ≡ None → standing conversation conversation [] [] →
-          Takes standing awaited number made_due answers conv moment (Took moment events.Begun) None (has []) held new_held old new out new_out → IsHeldOr new_held (found after conv) →
+          held.conversation ≡ conversation → held.draft ≡ None → held.marks ≡ [] → awaited conversation ≡ None → standing conversation conversation [] [] →
+          Takes standing awaited number made_due answers conv moment (Took moment events.Begun) None (has []) held new_held before.flows after.flows old new out new_out → IsHeldOr new_held (found after conv) →
           ((other : ℕ) → conv ≢ other → found after other ≡ found before other) → Admits standing awaited number made_due answers conv moment conversation before after old new out new_out
-      admits_of conv moment conversation before after held new_held {old} {new} out new_out was same no_draft free fresh t there others = record {
+      admits_of conv moment conversation before after held new_held {old} {new} out new_out was same no_draft no_marks free fresh t there others = record {
         more = t.more;
         grown = t.grown;
         own = t.own;
@@ -424,11 +497,14 @@ module _ {C : Type 0} (standing : Standing C) (awaited : C → Option Ask) (numb
             let Q : C → Type 0 = λ s. standing conversation s (calls_of conv trace) [] in
             let R : List Move → Type 0 = λ l. standing conversation conversation l [] in
             let none : awaited held.conversation ≡ None = ap awaited same ∙ free in
-            let T : Option Draft → Type 0 = λ d. Follows answers due course stands.pending conv d old (trace ++ steps.Heard moment heard ∷ []) in
+            let U : Found (Held C) → Type 0 = KeepsMarks course.operations conv in
+            let marked : KeepsMarks {C = C} course.operations conv unknown = subst U was (stands.marks conv) in
             let next = t.takes due course stands.pending peer trace (trace ++ steps.Heard moment heard ∷ [])
             (record {
               made = conversation;
+              given = [];
               earlier = [];
+              alike = refl;
               stands = subst Q (sym same) (subst R (sym w.moves) fresh);
               owes = owes;
               tells = λ view told. sym (w.sees view told);
@@ -446,12 +522,14 @@ module _ {C : Type 0} (standing : Standing C) (awaited : C → Option Ask) (numb
               hook = hook_heard conv trace moment heard;
             })
             (heard_served due before trace moment heard stands)
-            (subst T (sym no_draft) (heard_follows due conv moment before None trace heard stands (ap draft_of was))) in
+            (heard_follows due conv moment before (kept_of conv held before.flows) trace heard stands (ap draft_of was ∙ sym no_draft)
+            (λ index. marked index ∙ sym (ap (λ r. has r index) no_marks)) (λ index. refl)) in
             let there_now : IsLive standing awaited number made_due answers due conv new_held ((trace ++ steps.Heard moment heard ∷ []) ++ t.more) =
             record { within = next.0; settled = t.settled; drafted = next.2 } in
-            next_stands due conv moment (news.Begun peer) before after new_held.draft trace t.more heard is t.own others stands
+            heard_stands due conv moment (news.Begun peer) before after (kept_of conv new_held after.flows) trace t.more heard is t.own others t.others stands
             (here_stands due conv new_held ((trace ++ steps.Heard moment heard ∷ []) ++ t.more) (found after conv) there_now there) next.1 next.3
-            (draft_in due conv new_held ((trace ++ steps.Heard moment heard ∷ []) ++ t.more) (found after conv) there_now there);
+            (draft_in due conv new_held ((trace ++ steps.Heard moment heard ∷ []) ++ t.more) (found after conv) there_now there)
+            (marks_in course.operations conv new_held (found after conv) there next.3.marks) (λ index. refl);
       }
 
     -- news that the table ignores
@@ -467,11 +545,12 @@ module _ {C : Type 0} (standing : Standing C) (awaited : C → Option Ask) (numb
       stands = λ due course trace heard is stands.
           let P : Trace → Type 0 = λ t. StandsIn standing awaited number made_due answers due conv t (found table conv) in
           let Q : Trace → Type 0 = IsServed answers due in
-          let R : Trace → Type 0 = Follows answers due course stands.pending conv (draft_of (found table conv)) state in
+          let kept : Kept = record { draft = draft_of (found table conv); marks = is_marked course.operations conv; shown = shown_in table.flows conv } in
+          let R : Trace → Type 0 = Follows answers due course stands.pending conv kept state in
           let same = sym (append-nil (trace ++ steps.Heard moment heard ∷ [])) in
-          next_stands due conv moment what table table (draft_of (found table conv)) trace [] heard is tt (λ other apart. refl) stands
+          heard_stands due conv moment what table table kept trace [] heard is tt (λ other apart. refl) (λ other index apart. refl) stands
           (subst P same (here due trace heard is (stands.at conv))) (subst Q same (heard_served due table trace moment heard stands))
-          (subst R same (heard_follows due conv moment table (draft_of (found table conv)) trace heard stands refl)) refl;
+          (subst R same (heard_follows due conv moment table kept trace heard stands refl (λ index. refl) (λ index. refl))) refl (stands.marks conv) (λ index. refl);
     }
 
     pub over_hands : (conv moment : ℕ) (what : News) (table : Table C) {state : AnswererState S} (out : List Step) → found table conv ≡ over → Hands standing awaited number made_due answers conv moment what table table state state out out
@@ -511,7 +590,9 @@ module _ {C : Type 0} (standing : Standing C) (awaited : C → Option Ask) (numb
             at = λ conv. stands_same answers due conv trace (trace ++ steps.Heard moment heard ∷ []) (none_same conv moment trace heard is) (found table conv) (stands.at conv);
             served = heard_served due table trace moment heard stands;
             pending = stands.pending;
-            answered = at_other course trace (trace ++ steps.Heard moment heard ∷ []) state stands.pending (steps.Heard moment heard) stands.answered refl tt;
+            answered = at_other course trace (trace ++ steps.Heard moment heard ∷ []) state stands.pending (steps.Heard moment heard) stands.answered refl tt tt;
+            marks = stands.marks;
+            shown = stands.shown;
             drafts = λ conv. stands.drafts conv ∙ ap (λ h. waiting h (draft_of (found table conv))) (sym (hook_heard conv trace moment heard));
           });
     }
@@ -566,13 +647,13 @@ module _ {C : Type 0} (standing : Standing C) (awaited : C → Option Ask) (numb
         let there : found table other ≡ lost = ap (found_by table.live) at ∙ ap found_at is in
         let P : Found (Held C) → Type 0 = StandsIn standing awaited number made_due answers due other trace in subst P there (stands.at other)
 
-    first_takes : (conv moment : ℕ) (conversation : C) (held new_held : Held C) {old new : AnswererState S} (out new_out : List Step) → held.conversation ≡ conversation → held.connected ≡ [] →
+    first_takes : (conv moment : ℕ) (conversation : C) (held new_held : Held C) (shown new_shown : Flows) {old new : AnswererState S} (out new_out : List Step) → held.conversation ≡ conversation → held.connected ≡ [] →
         awaited conversation ≡ None →
-        Takes standing awaited number made_due answers conv moment (Took moment events.Begun) (dial_of (awaited held.conversation)) (has held.connected) held new_held old new out new_out →
-        Takes standing awaited number made_due answers conv moment (Took moment events.Begun) None (has []) held new_held old new out new_out
-    first_takes conv moment conversation held new_held {old} {new} out new_out same sides free t =
-        let P : Option ℕ → Type 0 = λ d. Takes standing awaited number made_due answers conv moment (Took moment events.Begun) d (has []) held new_held old new out new_out in
-        let Q : List (ℕ × ℕ) → Type 0 = λ l. Takes standing awaited number made_due answers conv moment (Took moment events.Begun) (dial_of (awaited held.conversation)) (has l) held new_held old new out new_out in
+        Takes standing awaited number made_due answers conv moment (Took moment events.Begun) (dial_of (awaited held.conversation)) (has held.connected) held new_held shown new_shown old new out new_out →
+        Takes standing awaited number made_due answers conv moment (Took moment events.Begun) None (has []) held new_held shown new_shown old new out new_out
+    first_takes conv moment conversation held new_held shown new_shown {old} {new} out new_out same sides free t =
+        let P : Option ℕ → Type 0 = λ d. Takes standing awaited number made_due answers conv moment (Took moment events.Begun) d (has []) held new_held shown new_shown old new out new_out in
+        let Q : List (ℕ × ℕ) → Type 0 = λ l. Takes standing awaited number made_due answers conv moment (Took moment events.Begun) (dial_of (awaited held.conversation)) (has l) held new_held shown new_shown old new out new_out in
         subst P (ap (λ s. dial_of (awaited s)) same ∙ ap dial_of free) (subst Q sides t)
 
     pub at_key : (due : Due) {course : Course S} {now : AnswererState S} (table : Table C) (trace : Trace) (conv key : ℕ) → TableStands standing awaited number made_due answers due course now table trace →
@@ -588,7 +669,7 @@ module _ {C : Type 0} (standing : Standing C) (awaited : C → Option Ask) (numb
             record {
               held = held;
               is = is;
-              sound = (w.within.made, calls_of conv trace, w.within.earlier ++ [], w.within.stands);
+              sound = (w.within.made, calls_of conv trace, w.within.given, w.within.stands);
               named = w.within.named;
               settled = w.settled;
             }
@@ -616,36 +697,39 @@ module _ {C : Type 0} (standing : Standing C) (awaited : C → Option Ask) (numb
       pub hands_ended : (conv moment key : ℕ) (what : News) (before between after : Table C) {old new : AnswererState S} (over_now : Bool) (out new_out : List Step) →
           IsTabled standing awaited number made_due answers before → place_of before conv ≡ Some (place.Live key) →
           HearsAt standing awaited number made_due answers ended conv moment what key before between old new over_now out new_out → over_now ≡ true →
-          slab.Updates between.live after.live key None → PutsPlace between after conv (Some place.Ended) →
+          slab.Updates between.live after.live key None → after.flows ≡ between.flows → PutsPlace between after conv (Some place.Ended) →
           Hands standing awaited number made_due answers conv moment what before after old new out new_out
-      hands_ended conv moment key what before between after over_now out new_out (due, course, now, trace, stands) at h is_over_now removed noted =
-          hands_of ended ends rests conv moment what before after h.held h.new_held out new_out (ap (found_by before.live) at ∙ ap found_at h.was) h.hears
+      hands_ended conv moment key what before between after {old} {new} over_now out new_out (due, course, now, trace, stands) at h is_over_now removed same_flows noted =
+          let F : Flows → Type 0 = λ f. Hears standing awaited number made_due answers conv moment what h.held h.new_held before.flows f old new out new_out in
+          hands_of ended ends rests conv moment what before after h.held h.new_held out new_out (ap (found_by before.live) at ∙ ap found_at h.was) (subst F (sym same_flows) h.hears)
           (inr (ap (found_by after.live) noted.here, sym h.ends ∙ is_over_now))
           (λ other apart. same_found before.live after.live (place_of before other) (place_of after other) key
           (noted.others other apart ∙ h.places other)
           (λ k k_apart. removed.others k k_apart ∙ h.live_now.others k k_apart)
           (apart_keys due before trace conv other key h.held stands h.was (named_at due before trace conv key h.held stands at h.was) apart))
 
-      pub admits_added : (conv moment key : ℕ) (conversation : C) (before after : Table C) (held new_held : Held C) {old new : AnswererState S} (out new_out : List Step) →
+      pub admits_added : (conv moment key : ℕ) (conversation : C) (before after : Table C) (held new_held : Held C) (mid : Flows) {old new : AnswererState S} (out new_out : List Step) →
           IsTabled standing awaited number made_due answers before → is_some (place_of before conv) ≡ false →
-          held.conversation ≡ conversation → held.connected ≡ [] → held.draft ≡ None → awaited conversation ≡ None → standing conversation conversation [] [] →
-          Takes standing awaited number made_due answers conv moment (Took moment events.Begun) (dial_of (awaited held.conversation)) (has held.connected) held new_held old new out new_out →
+          held.conversation ≡ conversation → held.connected ≡ [] → held.draft ≡ None → held.marks ≡ [] → awaited conversation ≡ None → standing conversation conversation [] [] →
+          Takes standing awaited number made_due answers conv moment (Took moment events.Begun) (dial_of (awaited held.conversation)) (has held.connected) held new_held before.flows mid old new out new_out → after.flows ≡ mid →
           slab.Updates before.live after.live key (Some new_held) → slab.get before.live key ≡ None → PutsPlace before after conv (Some (place.Live key)) →
           Admits standing awaited number made_due answers conv moment conversation before after old new out new_out
-      admits_added conv moment key conversation before after held new_held out new_out (due, course, now, trace, stands) unknown_here same sides no_draft free fresh t added vacant noted =
-          admits_of ended ends rests conv moment conversation before after held new_held out new_out (ap (found_by before.live) (unplaced (place_of before conv) unknown_here)) same no_draft free fresh
-          (first_takes conv moment conversation held new_held out new_out same sides free t)
+      admits_added conv moment key conversation before after held new_held mid {old} {new} out new_out (due, course, now, trace, stands) unknown_here same sides no_draft no_marks free fresh t same_flows added vacant noted =
+          let F : Flows → Type 0 = λ f. Takes standing awaited number made_due answers conv moment (Took moment events.Begun) (dial_of (awaited held.conversation)) (has held.connected) held new_held before.flows f old new out new_out in
+          admits_of ended ends rests conv moment conversation before after held new_held out new_out (ap (found_by before.live) (unplaced (place_of before conv) unknown_here)) same no_draft no_marks free fresh
+          (first_takes conv moment conversation held new_held before.flows after.flows out new_out same sides free (subst F (sym same_flows) t))
           (inl (ap (found_by after.live) noted.here ∙ ap found_at added.changed))
           (λ other apart. same_found before.live after.live (place_of before other) (place_of after other) key (noted.others other apart) added.others
           (no_vacant_key due before trace other key stands vacant))
 
-      pub admits_ended : (conv moment : ℕ) (conversation : C) (before after : Table C) (held new_held : Held C) {old new : AnswererState S} (out new_out : List Step) → is_some (place_of before conv) ≡ false →
-          held.conversation ≡ conversation → held.connected ≡ [] → held.draft ≡ None → awaited conversation ≡ None → standing conversation conversation [] [] →
-          Takes standing awaited number made_due answers conv moment (Took moment events.Begun) (dial_of (awaited held.conversation)) (has held.connected) held new_held old new out new_out →
+      pub admits_ended : (conv moment : ℕ) (conversation : C) (before after : Table C) (held new_held : Held C) (mid : Flows) {old new : AnswererState S} (out new_out : List Step) → is_some (place_of before conv) ≡ false →
+          held.conversation ≡ conversation → held.connected ≡ [] → held.draft ≡ None → held.marks ≡ [] → awaited conversation ≡ None → standing conversation conversation [] [] →
+          Takes standing awaited number made_due answers conv moment (Took moment events.Begun) (dial_of (awaited held.conversation)) (has held.connected) held new_held before.flows mid old new out new_out → after.flows ≡ mid →
           ended new_held.conversation ≡ true → after.live ≡ before.live → PutsPlace before after conv (Some place.Ended) →
           Admits standing awaited number made_due answers conv moment conversation before after old new out new_out
-      admits_ended conv moment conversation before after held new_held out new_out unknown_here same sides no_draft free fresh t is_over_now kept noted =
-          admits_of ended ends rests conv moment conversation before after held new_held out new_out (ap (found_by before.live) (unplaced (place_of before conv) unknown_here)) same no_draft free fresh
-          (first_takes conv moment conversation held new_held out new_out same sides free t)
+      admits_ended conv moment conversation before after held new_held mid {old} {new} out new_out unknown_here same sides no_draft no_marks free fresh t same_flows is_over_now kept noted =
+          let F : Flows → Type 0 = λ f. Takes standing awaited number made_due answers conv moment (Took moment events.Begun) (dial_of (awaited held.conversation)) (has held.connected) held new_held before.flows f old new out new_out in
+          admits_of ended ends rests conv moment conversation before after held new_held out new_out (ap (found_by before.live) (unplaced (place_of before conv) unknown_here)) same no_draft no_marks free fresh
+          (first_takes conv moment conversation held new_held before.flows after.flows out new_out same sides free (subst F (sym same_flows) t))
           (inr (ap (found_by after.live) noted.here, is_over_now))
           (λ other apart. ap (λ l. found_by l (place_of after other)) kept ∙ ap (found_by before.live) (noted.others other apart))

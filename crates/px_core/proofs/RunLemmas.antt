@@ -173,7 +173,7 @@ answered_none answers due course trace moment what now a is =
         front_of = a.front_of;
         last = a.last;
         pending = a.pending;
-        answered = at_other a.made trace there a.last a.pending (steps.Heard moment what) a.answered refl tt;
+        answered = at_other a.made trace there a.last a.pending (steps.Heard moment what) a.answered refl tt tt;
       });
     }
 
@@ -213,11 +213,11 @@ handed_none trace moment what now taken same is = record {
   );
 }
 
-own_front : (conv : ℕ) (prefix rest : List Step) → AllOf conv (prefix ++ rest) → AllOf conv prefix
+pub own_front : (conv : ℕ) (prefix rest : List Step) → AllOf conv (prefix ++ rest) → AllOf conv prefix
 own_front conv [] rest all = tt
 own_front conv (x ∷ prefix) rest (here, all) = (here, own_front conv prefix rest all)
 
-none_front : (prefix rest : List Step) → prefix ++ rest ≡ [] → prefix ≡ []
+pub none_front : (prefix rest : List Step) → prefix ++ rest ≡ [] → prefix ≡ []
 none_front [] rest e = refl
 none_front (x ∷ prefix) rest e = absurd (cc)
 

@@ -24,9 +24,11 @@ use Rattle.px_core.specs.Due.{Due, due_at, due_by, due_in, IsWithinDue, IsAllTol
 use Rattle.px_core.specs.Held.{step_of, IsOf, AllOf, dial_by, dial_from, Within}
 use Rattle.px_core.specs.Hooks.{IsInTurn, EndsInTurn, hook_of}
 use Rattle.px_core.specs.Runs.{has}
+use Rattle.px_core.specs.Unmarked.{all_unmarked, none_marked}
 use Rattle.px_core.proofs.CallLemmas.{calls_more, seen_more, others_calls, others_seen, told_calls, told_seen, told_own}
 use Rattle.px_core.proofs.HookLemmas.{turn_is, turn_on}
 use Rattle.px_core.proofs.SideLemmas.{servers_along}
+use Rattle.px_core.proofs.UnmarkedLemmas.{alike_seen, unmarked_append}
 
 -- the last elements of two equal lists
 last_in : (x y : Step) (trace prefix : Trace) → IsFrontOfMore trace x prefix (y ∷ []) → (prefix ≡ trace) × (y ≡ x)
@@ -74,25 +76,25 @@ due_same due conv a b peer moves = ap (λ at. due_at due conv at a.moves) peer �
 module _ {S : Type 0} (answers : Answering S) (due : Due) where
   -- the others stay within what is due to them
   pub step_within : (conv : ℕ) (trace : Trace) (step : Step) → IsOf conv step → IsWithinDue due trace →
-      ((view : View) → IsTold view → IsPrefixOf (seen_in view conv (trace ++ step ∷ [])) (due_in due view conv (trace ++ step ∷ []))) →
+      ((view : View) → IsTold view → IsPrefixOf (all_unmarked (seen_in view conv (trace ++ step ∷ []))) (all_unmarked (due_in due view conv (trace ++ step ∷ [])))) →
       IsWithinDue due (trace ++ step ∷ [])
   step_within conv trace step of before own other view told = by (eqb_tells conv other)
     where
       by : ((conv == other) ≡ true) × (conv ≡ other) ⊎ ((conv == other) ≡ false) × (conv ≢ other) →
-          IsPrefixOf (seen_in view other (trace ++ step ∷ [])) (due_in due view other (trace ++ step ∷ []))
-      by (inl same) = let P : ℕ → Type 0 = λ k. IsPrefixOf (seen_in view k (trace ++ step ∷ [])) (due_in due view k (trace ++ step ∷ [])) in subst P same.1 (own view told)
+          IsPrefixOf (all_unmarked (seen_in view other (trace ++ step ∷ []))) (all_unmarked (due_in due view other (trace ++ step ∷ [])))
+      by (inl same) = let P : ℕ → Type 0 = λ k. IsPrefixOf (all_unmarked (seen_in view k (trace ++ step ∷ []))) (all_unmarked (due_in due view k (trace ++ step ∷ []))) in subst P same.1 (own view told)
       by (inr apart) =
           let seen = others_seen view conv other trace (step ∷ []) (of, tt) apart.1 in
           let made = others_calls conv other trace (step ∷ []) (of, tt) apart.1 in
-          let P : List Atom → Type 0 = λ l. IsPrefixOf l (due_in due view other (trace ++ step ∷ [])) in
-          let Q : Calls → Type 0 = λ c. IsPrefixOf (seen_in view other trace) (seen_of view (due_by due other c)) in
+          let P : List Atom → Type 0 = λ l. IsPrefixOf (all_unmarked l) (all_unmarked (due_in due view other (trace ++ step ∷ []))) in
+          let Q : Calls → Type 0 = λ c. IsPrefixOf (all_unmarked (seen_in view other trace)) (all_unmarked (seen_of view (due_by due other c))) in
           subst P (sym seen) (subst Q (sym made) (before other view told))
 
   now_of : (P : Trace → Type 0) (trace : Trace) → Always P trace → P trace
   now_of P trace always = always.at trace [] (sym (append-nil trace))
 
   pub served_step : (conv : ℕ) (trace : Trace) (step : Step) → IsOf conv step → IsServed answers due trace →
-      ((view : View) → IsTold view → IsPrefixOf (seen_in view conv (trace ++ step ∷ [])) (due_in due view conv (trace ++ step ∷ []))) →
+      ((view : View) → IsTold view → IsPrefixOf (all_unmarked (seen_in view conv (trace ++ step ∷ []))) (all_unmarked (due_in due view conv (trace ++ step ∷ [])))) →
       EndsMet answers due (trace ++ step ∷ []) → IsInTurn trace step → IsServed answers due (trace ++ step ∷ [])
   served_step conv trace step of served own met turn = record {
     within = always_more (IsWithinDue due) trace step served.within (step_within conv trace step of (now_of (IsWithinDue due) trace served.within) own);
@@ -124,18 +126,25 @@ module _ {S : Type 0} (answers : Answering S) (due : Due) where
   module _ {C : Type 0} (standing : Standing C) (awaited : C → Option Ask) (number : C → ℕ) (made_due : C → List Move → List Command)
       (gave : (made state : C) (moves : List Move) (given : List Command) → standing made state moves given →
       (view : View) → seen_of view given ≡ seen_of view (made_due made moves)) where
-    -- what is due is what the trace has, and what is still to be told
-    pub due_is : (conv : ℕ) (held : Held C) (trace : Trace) (rest : List Command) (w : Within standing awaited number made_due due conv held trace rest) (view : View) →
-        due_in due view conv trace ≡ seen_of view w.earlier ++ seen_of view rest
-    due_is conv held trace rest w view =
+    -- what is due is what the conversation gave
+    pub due_given : (conv : ℕ) (held : Held C) (trace : Trace) (rest : List Command) (w : Within standing awaited number made_due due conv held trace rest) (view : View) →
+        due_in due view conv trace ≡ seen_of view w.given
+    due_given conv held trace rest w view =
         due_there due conv trace w.peer w.begun view
-        ∙ (ap (seen_of view) (sym (w.owes (calls_of conv trace)))
-        ∙ (sym (gave w.made held.conversation (calls_of conv trace) (w.earlier ++ rest) w.stands view) ∙ seen_append view w.earlier rest))
+        ∙ (ap (seen_of view) (sym (w.owes (calls_of conv trace))) ∙ sym (gave w.made held.conversation (calls_of conv trace) w.given w.stands view))
+
+    -- but for marks it is what the trace has, and what is still to be told
+    pub due_is : (conv : ℕ) (held : Held C) (trace : Trace) (rest : List Command) (w : Within standing awaited number made_due due conv held trace rest) (view : View) →
+        all_unmarked (due_in due view conv trace) ≡ all_unmarked (seen_of view w.earlier) ++ all_unmarked (seen_of view rest)
+    due_is conv held trace rest w view =
+        ap all_unmarked (due_given conv held trace rest w view)
+        ∙ (alike_seen view w.given (w.earlier ++ rest) w.alike
+        ∙ (ap all_unmarked (seen_append view w.earlier rest) ∙ unmarked_append (seen_of view w.earlier) (seen_of view rest)))
 
     pub within_due : (conv : ℕ) (held : Held C) (trace : Trace) (rest : List Command) → Within standing awaited number made_due due conv held trace rest →
-        (view : View) → IsTold view → IsPrefixOf (seen_in view conv trace) (due_in due view conv trace)
+        (view : View) → IsTold view → IsPrefixOf (all_unmarked (seen_in view conv trace)) (all_unmarked (due_in due view conv trace))
     within_due conv held trace rest w view told =
-        (seen_of view rest, due_is conv held trace rest w view ∙ ap (λ l. l ++ seen_of view rest) (w.tells view told))
+        (all_unmarked (seen_of view rest), due_is conv held trace rest w view ∙ ap (λ l. all_unmarked l ++ all_unmarked (seen_of view rest)) (w.tells view told))
 
     -- one command is told
     told_within : (conv : ℕ) (held : Held C) (trace : Trace) (command : Command) (rest : List Command) →
@@ -144,13 +153,14 @@ module _ {S : Type 0} (answers : Answering S) (due : Due) where
     told_within conv held trace command rest w named =
         let on : calls conv (trace ++ step_of conv command ∷ []) ≡ record (calls conv trace) { dial = dial_by command (calls conv trace).dial } =
         calls_more conv trace (step_of conv command) ∙ told_calls conv (calls conv trace) command in
-        let P : List Move → Type 0 = λ l. standing w.made held.conversation l ((w.earlier ++ command ∷ []) ++ rest) in
-        let Q : List Command → Type 0 = λ l. standing w.made held.conversation (calls_of conv trace) l in
+        let P : List Move → Type 0 = λ l. standing w.made held.conversation l w.given in
         record {
           made = w.made;
           peer = w.peer;
+          given = w.given;
           earlier = w.earlier ++ command ∷ [];
-          stands = subst P (sym (ap (λ (c : Calls). c.moves) on)) (subst Q (sym (append_assoc w.earlier (command ∷ []) rest)) w.stands);
+          stands = subst P (sym (ap (λ (c : Calls). c.moves) on)) w.stands;
+          alike = w.alike ∙ ap none_marked (sym (append_assoc w.earlier (command ∷ []) rest));
           owes = w.owes;
           tells = λ view told.
               seen_append view w.earlier (command ∷ [])
@@ -183,7 +193,3 @@ module _ {S : Type 0} (answers : Answering S) (due : Due) where
         (told_all conv moment held given (trace ++ step ∷ []) next same
         (served_step conv trace step (told_own conv command named.0) served (within_due conv held (trace ++ step ∷ []) given next) (ends_told conv trace command) (turn_is conv trace command given (hook_of (awaited held.conversation)) w.turn))
         named.1)
-
-pub all_own : (conv : ℕ) (given : List Command) → AllNamed conv given → AllOf conv (map (step_of conv) given)
-all_own conv [] named = tt
-all_own conv (command ∷ given) named = (told_own conv command named.0, all_own conv given named.1)

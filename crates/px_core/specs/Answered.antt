@@ -2,9 +2,10 @@
 --
 -- One answerer answers the hooks of all conversations. What it is moves at each hook that is asked, in the order of the trace, and
 -- else where the course of the run says so. So what it gives follows from what it was at first, from all that it was asked before and
--- from those changes.
-use Rattle.std.specs.Prelude.{◌≡◌, ℕ, ◌==◌, if◌then◌else◌, List, [], ◌∷◌, ◌++◌, Option, Some, None}
+-- from those changes. A hook that it let wait is answered where the course has an operator's word, and nowhere else.
+use Rattle.std.specs.Prelude.{◌≡◌, ℕ, ◌==◌, ◌&&◌, if◌then◌else◌, List, [], ◌∷◌, ◌++◌, Option, Some, None}
 use Rattle.px_message.specs.declared.flow.Flow.{Flow}
+use Rattle.px_message.specs.declared.flow.FlowId.{FlowId}
 use Rattle.px_event.specs.declared.ask.Ask.{Ask}
 use Rattle.px_event.specs.declared.ask.Ask.TheVariants as asks
 use Rattle.px_event.specs.declared.ask.Hook.{Hook}
@@ -12,29 +13,59 @@ use Rattle.px_event.specs.declared.reply.Reply.{Reply}
 use Rattle.px_event.specs.declared.step.Step.{Step}
 use Rattle.px_event.specs.declared.step.Step.TheVariants as steps
 use Rattle.px_event.specs.Trace.{Trace}
-use Rattle.px_event.specs.View.{Atom, about, flows}
 use Rattle.px_core.specs.declared.answerer.Answer.{Answer}
 use Rattle.px_core.specs.declared.answerer.Answer.TheVariants as answer
 use Rattle.px_core.specs.Answers.{Answering, AnswererState, Failing, FilesAfter, FilesMeaning}
-use Rattle.px_core.specs.Course.{Course, IsFrontOf, with_change}
-use Rattle.px_core.specs.Due.{Due, due_in}
+use Rattle.px_core.specs.Course.{Course, Operated, IsFrontOf, is_marked, with_change, with_operation}
+use Rattle.px_core.specs.Drafts.{answers_for, released_by}
+use Rattle.px_core.specs.Due.{Due, IsAskedLast}
+use Rattle.px_core.specs.declared.answerer.Draft.{Draft}
+use Rattle.px_core.specs.declared.operation.Operation.{Operation}
+use Rattle.px_core.specs.declared.operation.Operation.TheVariants as operations
 
 -- what the answerer gave to a hook
 pub record GivenTo : Type 0 where
   pub ask : Ask
   pub answer : Answer
 
--- by conversation: what it gave to the hook that is asked and not answered
-abbrev pub Pending : Type 0
-Pending = ℕ → Option GivenTo
+-- What is pending: by conversation, what it gave to the hook that is asked and not answered; and by conversation and index, what each flow
+-- was when it was asked about it last, until that flow is finished.
+pub record Pending : Type 0 where
+  pub given : ℕ → Option GivenTo
+  pub shown : ℕ → ℕ → Option Flow
 
 -- no hook was asked
 abbrev pub nothing_pending : Pending
-nothing_pending conv = None
+nothing_pending = record { given = λ conv. None; shown = λ conv index. None }
+
+-- in this conversation that is given, and in the others what was before
+abbrev pub with_given : ℕ → Option GivenTo → (ℕ → Option GivenTo) → ℕ → Option GivenTo
+with_given conv what before other = if other == conv then what else before other
+
+-- of this flow that is shown, and of the others what was before
+abbrev pub with_shown : ℕ → ℕ → Option Flow → (ℕ → ℕ → Option Flow) → ℕ → ℕ → Option Flow
+with_shown conv index what before other place = if (conv == other) && (index == place) then what else before other place
 
 -- in this conversation that is pending, and in the others what was before
 abbrev pub with_pending : ℕ → Option GivenTo → Pending → Pending
-with_pending conv given before other = if other == conv then given else before other
+with_pending conv what before = record { given = with_given conv what before.given; shown = before.shown }
+
+-- a hook was asked about this flow, and this was given
+abbrev pub with_asked : ℕ → GivenTo → Flow → Pending → Pending
+with_asked conv what flow before = record { given = with_given conv (Some what) before.given; shown = with_shown conv flow.id.index (Some flow) before.shown }
+
+-- behind a step that asks nothing and answers nothing: a flow that is finished is shown no more
+abbrev pub shown_behind : Step → (ℕ → ℕ → Option Flow) → ℕ → ℕ → Option Flow
+shown_behind (steps.Done flow) before = with_shown flow.id.conv flow.id.index None before
+shown_behind _ before = before
+
+abbrev pub pending_behind : Step → Pending → Pending
+pending_behind step before = record { given = before.given; shown = shown_behind step before.shown }
+
+-- a flow that the step finishes has its mark where one of these operations was to mark it
+abbrev pub IsMarkedBy : List Operated → Step → Type 0
+IsMarkedBy made (steps.Done flow) = flow.marked ≡ is_marked made flow.id.conv flow.id.index
+IsMarkedBy made _ = Unit {0}
 
 -- the step neither asks a hook nor answers one
 abbrev pub IsNoAnswer : Step → Type 0
@@ -43,23 +74,33 @@ IsNoAnswer (steps.Answered conv ask reply) = ⊥
 IsNoAnswer _ = Unit {0}
 
 -- The answerer over a trace, by a course, and what is pending then. It begins as the course says, and moves at each hook that is asked,
--- once, by its own relation and about the flow that is due there. A reply that it gave at once stands in the trace as that hook's answer.
--- Nothing else is an answer: a hook that waits is not answered yet. All changes of the course were made, each once, in their order and behind
--- its own trace.
+-- once, by its own relation and about the flow that is due there, with the mark that the course made in front of it. A reply that it gave at
+-- once stands in the trace as that hook's answer. A hook that it let wait is answered by an operation of the course, in its place, with what
+-- that makes of the draft. Nothing else is an answer. A flow that is finished has its mark too. All changes and operations of the course were
+-- made, each once, in their order and behind its own trace.
 pub data Answers {S : Type 0} (answers : Answering S) (due : Due) : Course S → Trace → AnswererState S → Pending → Type 0 where
-  at_first : (course : Course S) → course.changes ≡ [] → Answers answers due course [] course.first nothing_pending
-  at_hook : (course : Course S) (trace next : Trace) (old new : AnswererState S) (pending : Pending) (conv : ℕ) (hook : Hook) (flow : Flow) (given : Answer) (earlier : List Atom) →
-      Answers answers due course trace old pending → next ≡ trace ++ steps.Asked conv (asks.Hook flow.id.index hook) ∷ [] → pending conv ≡ None →
-      due_in due flows conv trace ≡ earlier ++ about (asks.Hook flow.id.index hook) flow ∷ [] → answers hook flow old.own old.files new.own new.files given →
-      Answers answers due course next new (with_pending conv (Some (record { ask = asks.Hook flow.id.index hook; answer = given })) pending)
+  at_first : (course : Course S) → course.changes ≡ [] → course.operations ≡ [] → Answers answers due course [] course.first nothing_pending
+  at_hook : (course : Course S) (trace next : Trace) (old new : AnswererState S) (pending : Pending) (conv : ℕ) (hook : Hook) (flow : Flow) (given : Answer) →
+      Answers answers due course trace old pending → next ≡ trace ++ steps.Asked conv (asks.Hook flow.id.index hook) ∷ [] → pending.given conv ≡ None →
+      IsAskedLast due trace conv (asks.Hook flow.id.index hook) flow → flow.marked ≡ is_marked course.operations conv flow.id.index →
+      answers hook flow old.own old.files new.own new.files given →
+      Answers answers due course next new (with_asked conv (record { ask = asks.Hook flow.id.index hook; answer = given }) flow pending)
   at_reply : (course : Course S) (trace next : Trace) (now : AnswererState S) (pending : Pending) (conv : ℕ) (ask : Ask) (reply : Reply) →
       Answers answers due course trace now pending → next ≡ trace ++ steps.Answered conv ask reply ∷ [] →
-      pending conv ≡ Some (record { ask = ask; answer = answer.Reply reply }) →
+      pending.given conv ≡ Some (record { ask = ask; answer = answer.Reply reply }) →
       Answers answers due course next now (with_pending conv None pending)
   at_other : (course : Course S) (trace next : Trace) (now : AnswererState S) (pending : Pending) (step : Step) →
-      Answers answers due course trace now pending → next ≡ trace ++ step ∷ [] → IsNoAnswer step → Answers answers due course next now pending
+      Answers answers due course trace now pending → next ≡ trace ++ step ∷ [] → IsNoAnswer step → IsMarkedBy course.operations step →
+      Answers answers due course next now (pending_behind step pending)
   at_change : (course next : Course S) (trace : Trace) (old new : AnswererState S) (pending : Pending) →
       Answers answers due course trace old pending → next ≡ with_change course trace old new → Answers answers due next trace new pending
+  at_mark : (course next : Course S) (trace : Trace) (now : AnswererState S) (pending : Pending) (id : FlowId) →
+      Answers answers due course trace now pending → next ≡ with_operation course trace (operations.Mark id) → Answers answers due next trace now pending
+  at_release : (course made : Course S) (trace next : Trace) (now : AnswererState S) (pending : Pending) (operation : Operation) (id : FlowId) (hook : Hook) (draft : Draft) →
+      Answers answers due course trace now pending → made ≡ with_operation course trace operation → answers_for operation ≡ Some id →
+      pending.given id.conv ≡ Some (record { ask = asks.Hook id.index hook; answer = answer.Wait draft }) →
+      next ≡ trace ++ steps.Answered id.conv (asks.Hook id.index hook) (released_by operation draft) ∷ [] →
+      Answers answers due made next now (with_pending id.conv None pending)
 
 -- It came over the whole trace, with the first changes of the course.
 pub record IsAnswered {S : Type 0} (answers : Answering S) (due : Due) (course : Course S) (trace : Trace) : Type 0 where

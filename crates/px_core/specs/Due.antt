@@ -12,11 +12,14 @@ use Rattle.px_event.specs.declared.step.Step.TheVariants as steps
 use Rattle.px_event.specs.Layer.{Move}
 use Rattle.px_event.specs.Trace.{Trace, Always, BeforeEachHeard}
 use Rattle.px_event.specs.View.{View, Atom, about, flows, IsTold, seen_of, seen_in}
+use Rattle.px_core.specs.declared.answerer.Answer.{Answer}
 use Rattle.px_core.specs.declared.answerer.Answer.TheVariants as answer
 use Rattle.px_core.specs.declared.answerer.Draft.{Draft}
 use Rattle.px_core.specs.Answers.{Answering, FilesMeaning}
 use Rattle.px_core.specs.Calls.{Calls, calls}
+use Rattle.px_core.specs.Drafts.{ComesTo}
 use Rattle.px_core.specs.Hooks.{open_hook, EndsInTurn}
+use Rattle.px_core.specs.Unmarked.{unmarked, all_unmarked}
 
 -- what is due in the conversation of each number, by where its client is and by its calls
 abbrev pub Due : Type 0
@@ -35,26 +38,33 @@ due_by due conv c = due_at due conv c.peer c.moves
 abbrev pub due_in : Due → View → ℕ → Trace → List Atom
 due_in due view conv trace = seen_of view (due_by due conv (calls conv trace))
 
--- in each conversation and each view, what the trace has begins what is due
+-- in each conversation and each view, what the trace has begins what is due, but for marks
 abbrev pub IsWithinDue : Due → Trace → Type 0
-IsWithinDue due trace = (conv : ℕ) (view : View) → IsTold view → IsPrefixOf (seen_in view conv trace) (due_in due view conv trace)
+IsWithinDue due trace = (conv : ℕ) (view : View) → IsTold view → IsPrefixOf (all_unmarked (seen_in view conv trace)) (all_unmarked (due_in due view conv trace))
 
--- in each conversation and each view, the trace has what is due
+-- in each conversation and each view, the trace has what is due, but for marks
 abbrev pub IsAllTold : Due → Trace → Type 0
-IsAllTold due trace = (conv : ℕ) (view : View) → IsTold view → seen_in view conv trace ≡ due_in due view conv trace
+IsAllTold due trace = (conv : ℕ) (view : View) → IsTold view → all_unmarked (seen_in view conv trace) ≡ all_unmarked (due_in due view conv trace)
 
--- An answer after this trace is one that the answerer may give to the hook about the flow with which it was asked last.
+-- the flow, but for its mark, is the one with which the conversation was asked last
+pub record IsAskedLast (due : Due) (trace : Trace) (conv : ℕ) (ask : Ask) (flow : Flow) : Type 0 where
+  pub earlier : List Atom
+  pub last : all_unmarked (due_in due flows conv trace) ≡ earlier ++ about ask (unmarked flow) ∷ []
+
+-- An answer after this trace comes from one that the answerer may give to the hook about the flow with which it was asked last: it is that
+-- one, or what an operator made of the draft with which the hook waits.
 pub record IsMet {S : Type 0} (answers : Answering S) (due : Due) (trace : Trace) (conv : ℕ) (ask : Ask) (reply : Reply) : Type 0 where
   pub hook : Hook
   pub flow : Flow
   pub asked : ask ≡ asks.Hook flow.id.index hook
-  pub earlier : List Atom
-  pub last : due_in due flows conv trace ≡ earlier ++ about ask flow ∷ []
+  pub last : IsAskedLast due trace conv ask flow
+  pub given : Answer
+  pub comes : ComesTo given reply
   pub old : S
   pub old_files : FilesMeaning
   pub new : S
   pub new_files : FilesMeaning
-  pub answers_so : answers hook flow old old_files new new_files (answer.Reply reply)
+  pub answers_so : answers hook flow old old_files new new_files given
 
 -- so is the answer with which the trace ends, where it ends with one
 abbrev pub EndsMet : {S : Type 0} → Answering S → Due → Trace → Type 0
@@ -67,8 +77,7 @@ pub record Waits {S : Type 0} (answers : Answering S) (due : Due) (trace : Trace
   pub hook : Hook
   pub flow : Flow
   pub asked : ask ≡ asks.Hook flow.id.index hook
-  pub earlier : List Atom
-  pub last : due_in due flows conv trace ≡ earlier ++ about ask flow ∷ []
+  pub last : IsAskedLast due trace conv ask flow
   pub old : S
   pub old_files : FilesMeaning
   pub new : S

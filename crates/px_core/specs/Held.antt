@@ -3,6 +3,7 @@ use Rattle.std.specs.Prelude.{◌≡◌, ℕ, ◌≢◌, ◌+◌, ◌==◌, ◌|
 use Rattle.std.specs.List.{flat_map}
 use Rattle.px_message.specs.declared.address.Address.{Address}
 use Rattle.px_message.specs.declared.flow.Flow.{Flow}
+use Rattle.px_message.specs.declared.flow.FlowId.{FlowId}
 use Rattle.px_event.specs.declared.ask.Ask.{Ask}
 use Rattle.px_event.specs.declared.ask.Ask.TheVariants as asks
 use Rattle.px_event.specs.declared.ask.Hook.{Hook}
@@ -17,21 +18,26 @@ use Rattle.px_event.specs.declared.step.Step.TheVariants as steps
 use Rattle.px_event.specs.declared.heard.Heard.{Heard}
 use Rattle.px_event.specs.Layer.{Move, Replied, Standing, Goes, IsNews, asks_in}
 use Rattle.px_event.specs.Trace.{Trace}
-use Rattle.px_event.specs.View.{View, Atom, about, flows, IsTold, seen_of, seen_in}
+use Rattle.px_event.specs.View.{View, IsTold, seen_of, seen_in}
 use Rattle.px_core.specs.declared.answerer.Answer.TheVariants as answer
 use Rattle.px_core.specs.declared.answerer.Draft.{Draft}
+use Rattle.px_core.specs.declared.flows.Flows.{Flows}
 use Rattle.px_core.specs.declared.held.Held.{Held}
 use Rattle.px_core.specs.declared.held.Question.{Question}
-use Rattle.px_core.specs.Answered.{GivenTo, Pending, IsNoAnswer, Answers}
+use Rattle.px_core.specs.declared.operation.Operation.{Operation}
+use Rattle.px_core.specs.Answered.{GivenTo, Pending, IsMarkedBy, IsNoAnswer, Answers, shown_behind, with_shown}
 use Rattle.px_core.specs.Answers.{Answering, AnswererState}
-use Rattle.px_core.specs.Course.{Course}
+use Rattle.px_core.specs.Course.{Course, Operated, is_marked, with_operation}
 use Rattle.px_core.specs.declared.news.News.{News}
 use Rattle.px_core.specs.declared.news.News.TheVariants as news
 use Rattle.px_core.specs.Calls.{calls, calls_of, addressed, is_connected}
 use Rattle.px_core.specs.Conversation.{AllNamed}
-use Rattle.px_core.specs.Due.{Due, due_in, Waits, IsServed}
+use Rattle.px_core.specs.Drafts.{answers_for}
+use Rattle.px_core.specs.Due.{Due, IsAskedLast, Waits, IsServed}
 use Rattle.px_core.specs.Hooks.{open_hook, hook_of, AsksInTurn}
+use Rattle.px_core.specs.Live.{shown_in}
 use Rattle.px_core.specs.Runs.{has}
+use Rattle.px_core.specs.Unmarked.{all_marked, none_marked}
 
 -- whether a side is connected, by the test which servers are
 abbrev pub is_side : Side → (ℕ → Bool) → Bool
@@ -118,8 +124,7 @@ IsReady awaited held given =
 -- the flow that was asked about last is the question's
 abbrev pub IsAbout : Due → ℕ → Trace → Option Question → Type 0
 IsAbout due conv trace None = Unit {0}
-IsAbout due conv trace (Some question) =
-    (earlier : List Atom) × (due_in due flows conv trace ≡ earlier ++ about question.ask question.flow ∷ [])
+IsAbout due conv trace (Some question) = IsAskedLast due trace conv question.ask question.flow
 
 -- the draft that is kept of a hook that waits is the one that the answerer gave
 pub record IsKept {S : Type 0} (answers : Answering S) (due : Due) (trace : Trace) (conv : ℕ) (ask : Ask) (kept : Option Draft) : Type 0 where
@@ -151,49 +156,100 @@ abbrev pub NoneAnswers : List Step → Type 0
 NoneAnswers [] = Unit {0}
 NoneAnswers (step ∷ rest) = IsNoAnswer step × NoneAnswers rest
 
--- The answerer came so far over a trace in which this conversation is worked off. Of a hook that is open in it, this draft is
--- pending, and in the others what was pending before.
-pub record Follows {S : Type 0} (answers : Answering S) (due : Due) (course : Course S) (before : Pending) (conv : ℕ) (draft : Option Draft) (now : AnswererState S)
+-- what is kept of a conversation beside its state: the draft of its hook if that waits, which of its flows have a mark, by their indices,
+-- and what each of its live flows was when it was asked about last
+pub record Kept : Type 0 where
+  pub draft : Option Draft
+  pub marks : ℕ → Bool
+  pub shown : ℕ → Option Flow
+
+abbrev pub kept_of : {C : Type 0} → ℕ → Held C → Flows → Kept
+kept_of conv held shown = record { draft = held.draft; marks = has held.marks; shown = shown_in shown conv }
+
+-- what is shown of flows behind steps that ask nothing and answer nothing
+abbrev pub shown_over : List Step → (ℕ → ℕ → Option Flow) → ℕ → ℕ → Option Flow
+shown_over [] before = before
+shown_over (step ∷ rest) before = shown_over rest (shown_behind step before)
+
+-- what is shown of them behind commands: one that asks shows its flow, and one that finishes a flow shows it no more
+abbrev pub shown_by : Command → (ℕ → ℕ → Option Flow) → ℕ → ℕ → Option Flow
+shown_by (commands.Ask ask flow) before = with_shown flow.id.conv flow.id.index (Some flow) before
+shown_by (commands.Done flow) before = with_shown flow.id.conv flow.id.index None before
+shown_by _ before = before
+
+abbrev pub shown_told : List Command → (ℕ → ℕ → Option Flow) → ℕ → ℕ → Option Flow
+shown_told [] before = before
+shown_told (command ∷ rest) before = shown_told rest (shown_by command before)
+
+-- so is what the one shows behind these commands of what the other shows
+abbrev pub ShowsTold : List Command → Flows → Flows → Type 0
+ShowsTold given before after = (conv index : ℕ) → shown_in after conv index ≡ shown_told given (shown_in before) conv index
+
+-- of flows of other conversations it shows what it showed
+abbrev pub ShowsOthers : ℕ → Flows → Flows → Type 0
+ShowsOthers conv before after = (other index : ℕ) → conv ≢ other → shown_in after other index ≡ shown_in before other index
+
+-- each flow that these steps finish has its mark
+abbrev pub AllMarkedBy : List Operated → List Step → Type 0
+AllMarkedBy made [] = Unit {0}
+AllMarkedBy made (step ∷ rest) = IsMarkedBy made step × AllMarkedBy made rest
+
+-- The answerer came so far over a trace in which this conversation is worked off. Of a hook that is open in it, the draft that is kept is
+-- pending, and in the others what was pending before. What is kept of its flows is so too.
+pub record Follows {S : Type 0} (answers : Answering S) (due : Due) (course : Course S) (before : Pending) (conv : ℕ) (kept : Kept) (now : AnswererState S)
     (trace : Trace) : Type 0 where
   pub pending : Pending
   pub answered : Answers answers due course trace now pending
-  pub here : pending conv ≡ waiting (open_hook conv trace) draft
-  pub others : (other : ℕ) → conv ≢ other → pending other ≡ before other
+  pub here : pending.given conv ≡ waiting (open_hook conv trace) kept.draft
+  pub others : (other : ℕ) → conv ≢ other → pending.given other ≡ before.given other
+  pub marks : (index : ℕ) → is_marked course.operations conv index ≡ kept.marks index
+  pub shown : (index : ℕ) → pending.shown conv index ≡ kept.shown index
+  pub shown_others : (other index : ℕ) → conv ≢ other → pending.shown other index ≡ before.shown other index
 
 -- The answerer is still to be asked this question: it came so far directly before its hook was asked, about whose flow it was, and
--- behind that no hook was asked or answered.
-pub record IsToAsk {S : Type 0} (answers : Answering S) (due : Due) (course : Course S) (before : Pending) (conv : ℕ) (draft : Option Draft) (now : AnswererState S)
+-- behind that no hook was asked or answered. What is kept of flows is already so behind all of it.
+pub record IsToAsk {S : Type 0} (answers : Answering S) (due : Due) (course : Course S) (before : Pending) (conv : ℕ) (kept : Kept) (now : AnswererState S)
     (trace : Trace) (question : Question) : Type 0 where
   pub prefix : Trace
   pub behind : List Step
   pub is : trace ≡ (prefix ++ steps.Asked conv question.ask ∷ []) ++ behind
   pub quiet : NoneAnswers behind
-  pub follows : Follows answers due course before conv draft now prefix
+  pub own : AllOf conv behind
+  pub marked_behind : AllMarkedBy course.operations behind
+  pub was : ℕ → Option Flow
+  pub follows : Follows answers due course before conv (record { draft = kept.draft; marks = kept.marks; shown = was }) now prefix
   pub free : open_hook conv prefix ≡ None
-  pub earlier : List Atom
-  pub last : due_in due flows conv prefix ≡ earlier ++ about question.ask question.flow ∷ []
+  pub last : IsAskedLast due prefix conv question.ask question.flow
+  pub marked : question.flow.marked ≡ is_marked course.operations conv question.flow.id.index
+  pub shown : (index : ℕ) → shown_over behind (with_shown conv question.flow.id.index (Some question.flow) follows.pending.shown) conv index ≡ kept.shown index
 
 -- it came so far, or where a question is open is still to be asked it
-abbrev pub FollowsTo : {S : Type 0} → Answering S → Due → Course S → Pending → ℕ → Option Draft → AnswererState S → Trace → Option Question → Type 0
-FollowsTo answers due course before conv draft now trace None = Follows answers due course before conv draft now trace
-FollowsTo answers due course before conv draft now trace (Some question) = IsToAsk answers due course before conv draft now trace question
+abbrev pub FollowsTo : {S : Type 0} → Answering S → Due → Course S → Pending → ℕ → Kept → AnswererState S → Trace → Option Question → Type 0
+FollowsTo answers due course before conv kept now trace None = Follows answers due course before conv kept now trace
+FollowsTo answers due course before conv kept now trace (Some question) = IsToAsk answers due course before conv kept now trace question
+
+-- the operation answers the hook that the conversation of this number awaits
+abbrev pub IsReleased : {C : Type 0} → (C → Option Ask) → ℕ → Operation → Held C → Type 0
+IsReleased awaited conv operation held = (id : FlowId) × (hook : Hook) × (answers_for operation ≡ Some id) × (id.conv ≡ conv) × (awaited held.conversation ≡ Some (asks.Hook id.index hook))
 
 -- how often the loop that answers can still turn
 abbrev pub turns_left : ℕ → Option Question → ℕ
 turns_left left None = left
 turns_left left (Some question) = left + 1
 
--- A reply that was given: it stands in the trace before what it causes.
+-- A reply that was given: it stands in the trace before what it causes, in which each flow has its mark.
 pub record Replies {C : Type 0} (standing : Standing C) (awaited : C → Option Ask) (conv moment : ℕ) (ask : Ask) (reply : Reply)
-    (before after : Held C) (question : Option Question) (out new_out : List Step) : Type 0 where
+    (before after : Held C) (shown new_shown : Flows) (question : Option Question) (out new_out : List Step) : Type 0 where
   pub given : List Command
-  pub grown : new_out ≡ (out ++ steps.Answered conv ask reply ∷ []) ++ map (step_of conv) given
+  pub grown : new_out ≡ (out ++ steps.Answered conv ask reply ∷ []) ++ map (step_of conv) (all_marked (has before.marks) given)
   pub goes : Goes standing before.conversation after.conversation (Replied moment reply) [] given
   pub asks_one : flat_map asks_in given ≡ option_to_list (awaited after.conversation)
   pub named : AllNamed conv given
-  pub asked : question ≡ asked_from None given
+  pub asked : question ≡ asked_from None (all_marked (has before.marks) given)
+  pub shows : ShowsTold (all_marked (has before.marks) given) shown new_shown
   pub same_sides : after.connected ≡ before.connected
   pub same_draft : after.draft ≡ before.draft
+  pub same_marks : after.marks ≡ before.marks
 
 -- A call gave these commands; with what was dialled before, they dial what is awaited, and with the hook that was awaited
 -- before, they ask the one that is.
@@ -219,13 +275,15 @@ IsHeardNews (news.Event side event) = IsNews event
 IsHeardNews _ = Unit {0}
 
 module _ {C : Type 0} (standing : Standing C) (awaited : C → Option Ask) (number : C → ℕ) (made_due : C → List Move → List Command) where
-  -- The conversation stands for its calls in the trace. It gave what the trace has of it, and these commands behind, which
+  -- The conversation stands for its calls in the trace. It gave, but for marks, what the trace has of it, and these commands behind, which
   -- are still to be told.
   pub record Within (due : Due) (conv : ℕ) (held : Held C) (trace : Trace) (rest : List Command) : Type 0 where
     pub made : C
     pub peer : Address
+    pub given : List Command
     pub earlier : List Command
-    pub stands : standing made held.conversation (calls_of conv trace) (earlier ++ rest)
+    pub stands : standing made held.conversation (calls_of conv trace) given
+    pub alike : none_marked given ≡ none_marked (earlier ++ rest)
     pub owes : (moves : List Move) → made_due made moves ≡ due conv peer moves
     pub tells : (view : View) → IsTold view → seen_of view earlier ≡ seen_in view conv trace
     pub named : number held.conversation ≡ conv
@@ -238,8 +296,10 @@ module _ {C : Type 0} (standing : Standing C) (awaited : C → Option Ask) (numb
   -- that it awaits is open, and only one that has begun awaits one.
   pub record Stood (due : Due) (conv : ℕ) (peer : Address) (state : C) (trace : Trace) : Type 0 where
     pub made : C
+    pub given : List Command
     pub earlier : List Command
-    pub stands : standing made state (calls_of conv trace) (earlier ++ [])
+    pub stands : standing made state (calls_of conv trace) given
+    pub alike : none_marked given ≡ none_marked (earlier ++ [])
     pub owes : (moves : List Move) → made_due made moves ≡ due conv peer moves
     pub tells : (view : View) → IsTold view → seen_of view earlier ≡ seen_in view conv trace
     pub hook : open_hook conv trace ≡ hook_of (awaited state)
@@ -248,58 +308,75 @@ module _ {C : Type 0} (standing : Standing C) (awaited : C → Option Ask) (numb
   module _ {S : Type 0} (answers : Answering S) where
     -- Where a conversation is worked off to, with this question open, and the answerer with it. Each record below takes the answerer
     -- from what it is before to what it is after, whatever it was at first and whatever is pending in the other conversations.
-    pub record WorkedTo (due : Due) (course : Course S) (pending : Pending) (conv moment : ℕ) (held : Held C) (state : AnswererState S) (question : Option Question) (trace : Trace) : Type 0 where
+    pub record WorkedTo (due : Due) (course : Course S) (pending : Pending) (conv moment : ℕ) (held : Held C) (shown : Flows) (state : AnswererState S) (question : Option Question) (trace : Trace) : Type 0 where
       pub within : Within due conv held trace []
       pub now : (calls conv trace).moment ≡ moment
       pub served : IsServed answers due trace
       pub last : IsAbout due conv trace question
       pub drafted : IsDraftedBut awaited answers due conv held trace question
-      pub follows : FollowsTo answers due course pending conv held.draft state trace question
+      pub follows : FollowsTo answers due course pending conv (kept_of conv held shown) state trace question
 
-    -- Answering its open hook, or letting it wait, does so too.
-    pub record Asks (conv moment : ℕ) (question : Question) (before after : Held C) (old new : AnswererState S) (open_now : Option Question) (out new_out : List Step) : Type 0 where
+    -- Answering its open hook, or letting it wait, does so too, once or until none is left.
+    pub record Asks (conv moment : ℕ) (question : Option Question) (before after : Held C) (shown new_shown : Flows) (old new : AnswererState S) (open_now : Option Question) (out new_out : List Step) : Type 0 where
       pub more : List Step
       pub grown : new_out ≡ out ++ more
       pub own : AllOf conv more
-      pub works : (due : Due) (course : Course S) (pending : Pending) (trace : Trace) → WorkedTo due course pending conv moment before old (Some question) trace →
-          WorkedTo due course pending conv moment after new open_now (trace ++ more)
+      pub works : (due : Due) (course : Course S) (pending : Pending) (trace : Trace) → WorkedTo due course pending conv moment before shown old question trace →
+          WorkedTo due course pending conv moment after new_shown new open_now (trace ++ more)
       pub next : IsNext awaited after open_now
+      pub others : ShowsOthers conv shown new_shown
 
     -- Working off a conversation that has these commands still to be told adds steps of its own; wherever it stood in a
     -- trace, it stands in that trace with these steps more.
-    pub record Works (conv moment : ℕ) (rest : List Command) (before after : Held C) (old new : AnswererState S) (question : Option Question) (out new_out : List Step) : Type 0 where
+    pub record Works (conv moment : ℕ) (rest : List Command) (before after : Held C) (shown new_shown : Flows) (old new : AnswererState S) (question : Option Question) (out new_out : List Step) : Type 0 where
       pub more : List Step
       pub grown : new_out ≡ out ++ more
       pub own : AllOf conv more
       pub works : (due : Due) (course : Course S) (pending : Pending) (trace : Trace) → Within due conv before trace rest → (calls conv trace).moment ≡ moment → IsServed answers due trace →
-          IsDraftedBehind awaited answers due conv before trace rest → Follows answers due course pending conv before.draft old trace →
-          WorkedTo due course pending conv moment after new question (trace ++ more)
+          IsDraftedBehind awaited answers due conv before trace rest → Follows answers due course pending conv (kept_of conv before shown) old trace →
+          WorkedTo due course pending conv moment after new_shown new question (trace ++ more)
       pub next : IsNext awaited after question
+      pub others : ShowsOthers conv shown new_shown
 
     -- A call that was taken and worked off adds steps of the conversation's; wherever it stood in a trace that goes on by
     -- that call, it stands in that trace with these steps more.
-    pub record Takes (conv moment : ℕ) (move : Move) (dial : Option ℕ) (servers : ℕ → Bool) (before after : Held C) (old new : AnswererState S) (out new_out : List Step) : Type 0 where
+    pub record Takes (conv moment : ℕ) (move : Move) (dial : Option ℕ) (servers : ℕ → Bool) (before after : Held C) (shown new_shown : Flows) (old new : AnswererState S) (out new_out : List Step) : Type 0 where
       pub more : List Step
       pub grown : new_out ≡ out ++ more
       pub own : AllOf conv more
       pub takes : (due : Due) (course : Course S) (pending : Pending) (peer : Address) (trace next : Trace) → Stood due conv peer before.conversation trace →
           IsDrafted awaited answers due conv before trace → IsOneOn conv peer moment move dial servers trace next → IsServed answers due next →
-          Follows answers due course pending conv before.draft old next →
+          Follows answers due course pending conv (kept_of conv before shown) old next →
           Within due conv after (next ++ more) [] × IsServed answers due (next ++ more) × IsDrafted awaited answers due conv after (next ++ more)
-          × Follows answers due course pending conv after.draft new (next ++ more)
+          × Follows answers due course pending conv (kept_of conv after new_shown) new (next ++ more)
       pub settled : IsSettled awaited after
+      pub others : ShowsOthers conv shown new_shown
 
     -- News that a conversation took add steps of its own; wherever it stood in a trace, it stands in that trace with what
     -- was heard and these steps more.
-    pub record Hears (conv moment : ℕ) (what : News) (before after : Held C) (old new : AnswererState S) (out new_out : List Step) : Type 0 where
+    pub record Hears (conv moment : ℕ) (what : News) (before after : Held C) (shown new_shown : Flows) (old new : AnswererState S) (out new_out : List Step) : Type 0 where
       pub more : List Step
       pub grown : new_out ≡ out ++ more
       pub own : AllOf conv more
       pub hears : (due : Due) (course : Course S) (pending : Pending) (trace : Trace) (heard : Heard) → addressed heard ≡ Some (conv, what) →
           Within due conv before trace [] → IsDrafted awaited answers due conv before trace → IsServed answers due (trace ++ steps.Heard moment heard ∷ []) →
-          Follows answers due course pending conv before.draft old (trace ++ steps.Heard moment heard ∷ []) →
+          Follows answers due course pending conv (kept_of conv before shown) old (trace ++ steps.Heard moment heard ∷ []) →
           Within due conv after ((trace ++ steps.Heard moment heard ∷ []) ++ more) []
           × IsServed answers due ((trace ++ steps.Heard moment heard ∷ []) ++ more)
           × IsDrafted awaited answers due conv after ((trace ++ steps.Heard moment heard ∷ []) ++ more)
-          × Follows answers due course pending conv after.draft new ((trace ++ steps.Heard moment heard ∷ []) ++ more)
+          × Follows answers due course pending conv (kept_of conv after new_shown) new ((trace ++ steps.Heard moment heard ∷ []) ++ more)
       pub settled : IsSettled awaited after
+      pub others : ShowsOthers conv shown new_shown
+
+    -- A hook that waits was answered by an operation, and what follows was worked off: it adds steps of the conversation's own; wherever it
+    -- stood at a step's end, at the moment of what was heard last, it stands there with these steps more, by the course with this operation.
+    pub record Releases (conv moment : ℕ) (operation : Operation) (before after : Held C) (shown new_shown : Flows) (old new : AnswererState S) (out new_out : List Step) : Type 0 where
+      pub more : List Step
+      pub grown : new_out ≡ out ++ more
+      pub own : AllOf conv more
+      pub releases : (due : Due) (course : Course S) (pending : Pending) (trace : Trace) → Within due conv before trace [] → IsDrafted awaited answers due conv before trace →
+          (calls conv trace).moment ≡ moment → IsServed answers due trace → Follows answers due course pending conv (kept_of conv before shown) old trace →
+          Within due conv after (trace ++ more) [] × IsServed answers due (trace ++ more) × IsDrafted awaited answers due conv after (trace ++ more)
+          × Follows answers due (with_operation course trace operation) pending conv (kept_of conv after new_shown) new (trace ++ more)
+      pub settled : IsSettled awaited after
+      pub others : ShowsOthers conv shown new_shown

@@ -1,5 +1,5 @@
 -- Answers of a kind: what holds of each answer that an answerer gives from states of one property, and what becomes of files then.
-use Rattle.std.specs.Prelude.{◌≡◌, ◌≢◌, ℕ, List, [], ◌∷◌, ◌++◌}
+use Rattle.std.specs.Prelude.{◌≡◌, ◌≢◌, ℕ, [], ◌∷◌, ◌++◌}
 use Rattle.px_message.specs.declared.flow.Flow.{Flow}
 use Rattle.px_event.specs.declared.ask.Ask.{Ask}
 use Rattle.px_event.specs.declared.ask.Ask.TheVariants as asks
@@ -8,11 +8,10 @@ use Rattle.px_event.specs.declared.reply.Reply.{Reply}
 use Rattle.px_event.specs.declared.step.Step.{Step}
 use Rattle.px_event.specs.declared.step.Step.TheVariants as steps
 use Rattle.px_event.specs.Trace.{Trace}
-use Rattle.px_event.specs.View.{Atom, about, flows}
 use Rattle.px_core.specs.declared.answerer.Answer.{Answer}
-use Rattle.px_core.specs.declared.answerer.Answer.TheVariants as answer
 use Rattle.px_core.specs.Answers.{Answering, Failing, FilesMeaning}
-use Rattle.px_core.specs.Due.{Due, due_in}
+use Rattle.px_core.specs.Drafts.{ComesTo}
+use Rattle.px_core.specs.Due.{Due, IsAskedLast}
 
 -- From each of its own states that is so, whatever files mean, each answer leads to one that is so, and is of this kind.
 pub record KeepsKind {S : Type 0} (answers : Answering S) (is : S → Type 0) (gives : Hook → Flow → Answer → Type 0) : Type 0 where
@@ -53,11 +52,10 @@ pub record IsOfKind (gives : Hook → Flow → Answer → Type 0) (due : Due) (t
   pub hook : Hook
   pub flow : Flow
   pub asked : ask ≡ asks.Hook flow.id.index hook
-  pub earlier : List Atom
-  pub last : due_in due flows conv prefix ≡ earlier ++ about ask flow ∷ []
+  pub last : IsAskedLast due prefix conv ask flow
   pub gives_so : gives hook flow given
 
--- where the trace ends with an answer, it is such a one
+-- where the trace ends with an answer, it comes from such a one: it is that one, or what an operator made of the draft with which the hook waited
 abbrev pub EndsOfKind : (Hook → Flow → Answer → Type 0) → Due → Trace → Type 0
 EndsOfKind gives due trace = (prefix : Trace) (conv : ℕ) (ask : Ask) (reply : Reply) →
-    trace ≡ prefix ++ steps.Answered conv ask reply ∷ [] → IsOfKind gives due prefix conv ask (answer.Reply reply)
+    trace ≡ prefix ++ steps.Answered conv ask reply ∷ [] → (given : Answer) × ComesTo given reply × IsOfKind gives due prefix conv ask given

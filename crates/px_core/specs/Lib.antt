@@ -4,11 +4,14 @@ pub mod Answers
 pub mod Course
 pub mod Calls
 pub mod Conversation
+pub mod Drafts
 pub mod Due
 pub mod Held
 pub mod Hooks
 pub mod Kind
+pub mod Live
 pub mod Ordered
 pub mod Router
 pub mod Run
 pub mod Runs
+pub mod Unmarked

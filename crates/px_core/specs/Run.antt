@@ -14,9 +14,13 @@ use Rattle.px_event.specs.Trace.{Trace}
 use Rattle.px_core.specs.declared.news.News.{News}
 use Rattle.px_core.specs.declared.router.Router.{Router}
 use Rattle.px_core.specs.Calls.{number_end, addressed}
-use Rattle.px_core.specs.Due.{Due}
+use Rattle.px_core.specs.Answered.{IsAnswered, LeavesFiles}
+use Rattle.px_core.specs.Answers.{Answering, Failing, FilesMeaning}
+use Rattle.px_core.specs.Course.{Course, with_operation}
+use Rattle.px_core.specs.Due.{Due, IsServed}
 use Rattle.px_core.specs.Held.{AllOf}
-use Rattle.px_core.specs.Router.{found}
+use Rattle.px_core.specs.Router.{AllOfAny, caused_in, found}
+use Rattle.px_core.specs.declared.operation.Operation.{Operation}
 
 -- the maker means this due
 abbrev pub IsDueOf : Due → Due → Type 0
@@ -71,3 +75,22 @@ pub record TellsOfHeard (what : Heard) (trace : Trace) (told : Option Trace) : T
 pub record KeepsOthers {C A : Type 0} (what : Heard) (before after : Router C A) : Type 0 where
   pub others : (conv other : ℕ) (news : News) → addressed what ≡ Some (conv, news) → conv ≢ other → found after.table other ≡ found before.table other
   pub none : addressed what ≡ None → after.table ≡ before.table
+
+-- Steps that an operation added: those of the conversation whose hook it answers. The fact holds of the trace with them, and where the network
+-- tells its steps, it tells these too.
+pub record AddsSteps (P : Trace → Type 0) (operation : Operation) (trace : Trace) (before after : Option Trace) : Type 0 where
+  pub more : List Step
+  pub own : AllOfAny (caused_in operation) more
+  pub holds : P (trace ++ more)
+  pub tells : (told : Trace) → before ≡ Some told → after ≡ Some (told ++ more)
+
+-- An operation that memory ran out in: what was told of its steps. The trace with them is served, and the answerer came over it by the course with the
+-- operation.
+pub record BreaksOff {S : Type 0} (answers : Answering S) (fails : Failing S) (due : Due) (course : Course S) (operation : Operation) (trace told : Trace) (now : Option Trace)
+    (files : FilesMeaning) : Type 0 where
+  pub more : List Step
+  pub own : AllOfAny (caused_in operation) more
+  pub is : now ≡ Some (told ++ more)
+  pub served : IsServed answers due (trace ++ more)
+  pub follows : IsAnswered answers due (with_operation course trace operation) (trace ++ more)
+  pub leaves : LeavesFiles answers fails due (with_operation course trace operation) ⊥ files (trace ++ more)

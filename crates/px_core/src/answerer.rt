@@ -2,6 +2,7 @@
 ghost use Rattle.std.specs.Prelude.{◌≡◌, ◌↔◌, ℕ, List, false, IfOk, IsErr, OnOk, OnErr};
 ghost use Rattle.px_core.specs.Addons.{has_name, without_first};
 ghost use Rattle.px_core.specs.Answers.{Answering, Failing};
+ghost use Rattle.px_core.specs.Drafts.{reply_of};
 
 use px_event::{Hook, Reply};
 use px_message::{Flow, Response};
@@ -27,6 +28,25 @@ pub struct Draft {
     pub flow: Flow,
     pub stream: Option<u64>,
     pub verdict: Verdict,
+}
+
+impl Draft {
+    /// The reply that it is.
+    pub fn into_reply(self) -> Reply
+        ensures { result ≡ reply_of self }
+    {
+        let Draft {
+            flow,
+            stream,
+            verdict,
+        } = self;
+        match verdict {
+            Verdict::Go => Reply::Go { flow, stream },
+            Verdict::Respond(response) => Reply::Respond(response),
+            Verdict::Kill => Reply::Kill,
+            Verdict::Discard => Reply::Discard,
+        }
+    }
 }
 
 /// The answer to a hook, or the draft of one that waits for the operator.

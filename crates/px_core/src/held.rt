@@ -9,24 +9,31 @@ ghost use Rattle.px_event.specs.declared.ask.Ask.TheVariants.{Hook as AsksHook, 
 ghost use Rattle.px_core.specs.Answers.{ByAnswers, FilesAfter, files_meaning, state_of};
 ghost use Rattle.px_core.specs.Calls.{dial_reply, is_dialling};
 ghost use Rattle.px_core.specs.Conversation.{AllNamed};
-ghost use Rattle.px_core.specs.Held.{is_side, servers_by, step_of, question_about, question_by, question_in, asked_from, dial_of, Replies, Gives, Works, Takes, Hears, IsHeardNews, Asks, IsNext, IsReady, IsSettled, turns_left};
+ghost use Rattle.px_core.specs.Answered.{with_shown};
+ghost use Rattle.px_core.specs.Drafts.{released_by};
+ghost use Rattle.px_core.specs.Held.{is_side, servers_by, step_of, question_about, question_by, question_in, asked_from, dial_of, shown_by, Replies, Gives, Works, Takes, Hears, Releases, ShowsTold, IsHeardNews, IsReleased, Asks, IsNext, IsReady, IsSettled, turns_left};
+ghost use Rattle.px_core.specs.Live.{shown_in};
 ghost use Rattle.px_core.specs.Runs.{has};
+ghost use Rattle.px_core.specs.Unmarked.{all_marked, mark_on, with_mark};
 
+use crate::flows::Flows;
 use crate::news::News;
 use crate::runs::Runs;
-use crate::{Answer, Answerer, Draft, Owes};
+use crate::{Answer, Answerer, Draft, Operation, Owes};
 use px_event::{Ask, Command, Event, Hook, Reply, Said, Side, Step};
 use px_message::{Fault, Flow};
 use px_outside::Files;
 use px_text::NoMemory;
 use std::alloc::Global;
 
-/// A live conversation, the numbers of the servers that are connected, and the draft of its hook if that waits.
+/// A live conversation, the numbers of the servers that are connected, the draft of its hook if that waits, and the indices of its flows that an
+/// operator marked.
 #[derive(Drop)]
 pub struct Held<C> {
     pub(crate) conversation: C,
     pub(crate) connected: Runs,
     pub(crate) draft: Option<Draft>,
+    pub(crate) marks: Runs,
 }
 
 /// A hook that is asked and not answered.
@@ -54,13 +61,14 @@ impl<C: Owes> Held<C> {
         news: News,
         answerer: &mut A,
         files: &mut F,
+        flows: &mut Flows,
         steps: &mut Vec<Step>,
     ) -> Result<(), NoMemory>
         requires sound { IsSound C.stands self.old.conversation }
         requires number { C.number self.old.conversation ≡ call.conv }
         requires settled { IsSettled C.awaited self.old }
         requires news { IsHeardNews news }
-        ensures hears { OnOk result (Hears C.stands C.awaited C.number C.due A.answers call.conv call.moment news self.old self.new (state_of A.state F.contents F.calls F.misses F.faults F.losses answerer.old files.old) (state_of A.state F.contents F.calls F.misses F.faults F.losses answerer.new files.new) steps.old.items steps.new.items) }
+        ensures hears { OnOk result (Hears C.stands C.awaited C.number C.due A.answers call.conv call.moment news self.old self.new flows.old flows.new (state_of A.state F.contents F.calls F.misses F.faults F.losses answerer.old files.old) (state_of A.state F.contents F.calls F.misses F.faults F.losses answerer.new files.new) steps.old.items steps.new.items) }
         ensures files { FilesAfter A.answers A.fails (state_of A.state F.contents F.calls F.misses F.faults F.losses answerer.old files.old) (files_meaning F.contents F.calls F.misses F.faults F.losses files.new) }
         ensures given { OnOk result (ByAnswers A.answers (state_of A.state F.contents F.calls F.misses F.faults F.losses answerer.old files.old) (state_of A.state F.contents F.calls F.misses F.faults F.losses answerer.new files.new)) }
     {
@@ -68,14 +76,14 @@ impl<C: Owes> Held<C> {
             News::Begun { peer: _peer } => Ok(()),
             News::Event { side, event } => {
                 if self.is_connected(side) {
-                    self.hand(call, event, answerer, files, steps)
+                    self.hand(call, event, answerer, files, flows, steps)
                 } else {
                     Ok(())
                 }
             }
             News::Dialled { server, ok } => {
                 if self.is_dialling(server) {
-                    self.end_dial(call, server, ok, answerer, files, steps)
+                    self.end_dial(call, server, ok, answerer, files, flows, steps)
                 } else {
                     Ok(())
                 }
@@ -90,18 +98,19 @@ impl<C: Owes> Held<C> {
         event: Event,
         answerer: &mut A,
         files: &mut F,
+        flows: &mut Flows,
         steps: &mut Vec<Step>,
     ) -> Result<(), NoMemory>
         requires sound { IsSound C.stands self.old.conversation }
         requires number { C.number self.old.conversation ≡ call.conv }
         requires settled { IsSettled C.awaited self.old }
         requires news { IsNews event }
-        ensures takes { OnOk result (Takes C.stands C.awaited C.number C.due A.answers call.conv call.moment (Took call.moment event) (dial_of (C.awaited self.old.conversation)) (has self.old.connected) self.old self.new (state_of A.state F.contents F.calls F.misses F.faults F.losses answerer.old files.old) (state_of A.state F.contents F.calls F.misses F.faults F.losses answerer.new files.new) steps.old.items steps.new.items) }
+        ensures takes { OnOk result (Takes C.stands C.awaited C.number C.due A.answers call.conv call.moment (Took call.moment event) (dial_of (C.awaited self.old.conversation)) (has self.old.connected) self.old self.new flows.old flows.new (state_of A.state F.contents F.calls F.misses F.faults F.losses answerer.old files.old) (state_of A.state F.contents F.calls F.misses F.faults F.losses answerer.new files.new) steps.old.items steps.new.items) }
         ensures files { FilesAfter A.answers A.fails (state_of A.state F.contents F.calls F.misses F.faults F.losses answerer.old files.old) (files_meaning F.contents F.calls F.misses F.faults F.losses files.new) }
         ensures given { OnOk result (ByAnswers A.answers (state_of A.state F.contents F.calls F.misses F.faults F.losses answerer.old files.old) (state_of A.state F.contents F.calls F.misses F.faults F.losses answerer.new files.new)) }
     {
         let commands = self.take_event(call, event)?;
-        self.work_off(call, commands, answerer, files, steps)
+        self.work_off(call, commands, answerer, files, flows, steps)
     }
 
     /// Takes the end of the dial that is awaited, and works it off.
@@ -112,18 +121,19 @@ impl<C: Owes> Held<C> {
         ok: bool,
         answerer: &mut A,
         files: &mut F,
+        flows: &mut Flows,
         steps: &mut Vec<Step>,
     ) -> Result<(), NoMemory>
         requires sound { IsSound C.stands self.old.conversation }
         requires number { C.number self.old.conversation ≡ call.conv }
         requires awaited { C.awaited self.old.conversation ≡ Some (AsksDial server) }
-        ensures takes { OnOk result (Takes C.stands C.awaited C.number C.due A.answers call.conv call.moment (Replied call.moment (dial_reply ok)) None (servers_by server ok (has self.old.connected)) self.old self.new (state_of A.state F.contents F.calls F.misses F.faults F.losses answerer.old files.old) (state_of A.state F.contents F.calls F.misses F.faults F.losses answerer.new files.new) steps.old.items steps.new.items) }
+        ensures takes { OnOk result (Takes C.stands C.awaited C.number C.due A.answers call.conv call.moment (Replied call.moment (dial_reply ok)) None (servers_by server ok (has self.old.connected)) self.old self.new flows.old flows.new (state_of A.state F.contents F.calls F.misses F.faults F.losses answerer.old files.old) (state_of A.state F.contents F.calls F.misses F.faults F.losses answerer.new files.new) steps.old.items steps.new.items) }
         ensures files { FilesAfter A.answers A.fails (state_of A.state F.contents F.calls F.misses F.faults F.losses answerer.old files.old) (files_meaning F.contents F.calls F.misses F.faults F.losses files.new) }
         ensures given { OnOk result (ByAnswers A.answers (state_of A.state F.contents F.calls F.misses F.faults F.losses answerer.old files.old) (state_of A.state F.contents F.calls F.misses F.faults F.losses answerer.new files.new)) }
     {
         self.connect(server, ok)?;
         let commands = self.take_end(call, server, ok)?;
-        self.work_off(call, commands, answerer, files, steps)
+        self.work_off(call, commands, answerer, files, flows, steps)
     }
 
     /// Whether the side is the client, or a server that is connected.
@@ -152,6 +162,7 @@ impl<C: Owes> Held<C> {
         ensures connected { OnOk result ((number : ℕ) → has self.new.connected number ≡ servers_by server ok (has self.old.connected) number) }
         ensures conversation { self.new.conversation ≡ self.old.conversation }
         ensures draft { self.new.draft ≡ self.old.draft }
+        ensures marks { self.new.marks ≡ self.old.marks }
     {
         if ok {
             self.connected.add(server)?;
@@ -172,6 +183,7 @@ impl<C: Owes> Held<C> {
         ensures ready { IfOk result (λ given. IsReady C.awaited self.new given.items) }
         ensures connected { self.new.connected ≡ self.old.connected }
         ensures draft { self.new.draft ≡ self.old.draft }
+        ensures marks { self.new.marks ≡ self.old.marks }
     {
         let mut commands = Vec::new(call.alloc);
         self.conversation.take(call.moment, event, &mut commands)?;
@@ -190,6 +202,7 @@ impl<C: Owes> Held<C> {
         ensures ready { IfOk result (λ given. IsReady C.awaited self.new given.items) }
         ensures connected { self.new.connected ≡ self.old.connected }
         ensures draft { self.new.draft ≡ self.old.draft }
+        ensures marks { self.new.marks ≡ self.old.marks }
     {
         let mut commands = Vec::new(call.alloc);
         let ask = Ask::Dial { server };
@@ -206,21 +219,71 @@ impl<C: Owes> Held<C> {
         commands: Vec<Command>,
         answerer: &mut A,
         files: &mut F,
+        flows: &mut Flows,
         steps: &mut Vec<Step>,
     ) -> Result<(), NoMemory>
         requires sound { IsSound C.stands self.old.conversation }
         requires number { C.number self.old.conversation ≡ call.conv }
         requires named { AllNamed call.conv commands.items }
         requires ready { IsReady C.awaited self.old commands.items }
-        ensures works { OnOk result (Works C.stands C.awaited C.number C.due A.answers call.conv call.moment commands.items self.old self.new (state_of A.state F.contents F.calls F.misses F.faults F.losses answerer.old files.old) (state_of A.state F.contents F.calls F.misses F.faults F.losses answerer.new files.new) None steps.old.items steps.new.items) }
+        ensures works { OnOk result (Works C.stands C.awaited C.number C.due A.answers call.conv call.moment commands.items self.old self.new flows.old flows.new (state_of A.state F.contents F.calls F.misses F.faults F.losses answerer.old files.old) (state_of A.state F.contents F.calls F.misses F.faults F.losses answerer.new files.new) None steps.old.items steps.new.items) }
         ensures sound { OnOk result (IsSound C.stands self.new.conversation) }
         ensures number { OnOk result (C.number self.new.conversation ≡ call.conv) }
         ensures files { FilesAfter A.answers A.fails (state_of A.state F.contents F.calls F.misses F.faults F.losses answerer.old files.old) (files_meaning F.contents F.calls F.misses F.faults F.losses files.new) }
         ensures given { OnOk result (ByAnswers A.answers (state_of A.state F.contents F.calls F.misses F.faults F.losses answerer.old files.old) (state_of A.state F.contents F.calls F.misses F.faults F.losses answerer.new files.new)) }
     {
-        let mut open = tell(call.conv, commands, steps)?;
+        let open = tell(call.conv, &self.marks, commands, flows, steps)?;
+        self.answer_all(call, open, answerer, files, flows, steps)
+    }
+
+    /// Answers the hook that waits as an operator says, and works off what follows.
+    pub(crate) fn release<A: Answerer, F: Files>(
+        &mut self,
+        call: Call,
+        operation: &Operation,
+        answerer: &mut A,
+        files: &mut F,
+        flows: &mut Flows,
+        steps: &mut Vec<Step>,
+    ) -> Result<(), NoMemory>
+        requires sound { IsSound C.stands self.old.conversation }
+        requires number { C.number self.old.conversation ≡ call.conv }
+        requires settled { IsSettled C.awaited self.old }
+        requires waits { IsReleased C.awaited call.conv operation.now self.old }
+        ensures releases { OnOk result (Releases C.stands C.awaited C.number C.due A.answers call.conv call.moment operation.now self.old self.new flows.old flows.new (state_of A.state F.contents F.calls F.misses F.faults F.losses answerer.old files.old) (state_of A.state F.contents F.calls F.misses F.faults F.losses answerer.new files.new) steps.old.items steps.new.items) }
+        ensures files { FilesAfter A.answers A.fails (state_of A.state F.contents F.calls F.misses F.faults F.losses answerer.old files.old) (files_meaning F.contents F.calls F.misses F.faults F.losses files.new) }
+        ensures given { OnOk result (ByAnswers A.answers (state_of A.state F.contents F.calls F.misses F.faults F.losses answerer.old files.old) (state_of A.state F.contents F.calls F.misses F.faults F.losses answerer.new files.new)) }
+    {
+        let (Some(ask), Some(draft)) = (self.conversation.waiting(), self.draft.take()) else {
+            unreachable!()
+        };
+        let reply = released_by(operation, draft);
+        let open = self.reply(call, ask, reply, flows, steps)?;
+        self.answer_all(call, open, answerer, files, flows, steps)
+    }
+
+    /// Answers hooks until none is open or one waits.
+    fn answer_all<A: Answerer, F: Files>(
+        &mut self,
+        call: Call,
+        question: Option<Question>,
+        answerer: &mut A,
+        files: &mut F,
+        flows: &mut Flows,
+        steps: &mut Vec<Step>,
+    ) -> Result<(), NoMemory>
+        requires sound { IsSound C.stands self.old.conversation }
+        requires number { C.number self.old.conversation ≡ call.conv }
+        requires next { IsNext C.awaited self.old question }
+        ensures asks { OnOk result (Asks C.stands C.awaited C.number C.due A.answers call.conv call.moment question self.old self.new flows.old flows.new (state_of A.state F.contents F.calls F.misses F.faults F.losses answerer.old files.old) (state_of A.state F.contents F.calls F.misses F.faults F.losses answerer.new files.new) None steps.old.items steps.new.items) }
+        ensures sound { OnOk result (IsSound C.stands self.new.conversation) }
+        ensures number { OnOk result (C.number self.new.conversation ≡ call.conv) }
+        ensures files { FilesAfter A.answers A.fails (state_of A.state F.contents F.calls F.misses F.faults F.losses answerer.old files.old) (files_meaning F.contents F.calls F.misses F.faults F.losses files.new) }
+        ensures given { OnOk result (ByAnswers A.answers (state_of A.state F.contents F.calls F.misses F.faults F.losses answerer.old files.old) (state_of A.state F.contents F.calls F.misses F.faults F.losses answerer.new files.new)) }
+    {
+        let mut open = question;
         while let Some(question) = open {
-            open = self.ask(call, question, answerer, files, steps)?;
+            open = self.ask(call, question, answerer, files, flows, steps)?;
         }
         Ok(())
     }
@@ -232,12 +295,13 @@ impl<C: Owes> Held<C> {
         question: Question,
         answerer: &mut A,
         files: &mut F,
+        flows: &mut Flows,
         steps: &mut Vec<Step>,
     ) -> Result<Option<Question>, NoMemory>
         requires sound { IsSound C.stands self.old.conversation }
         requires number { C.number self.old.conversation ≡ call.conv }
         requires next { IsNext C.awaited self.old (Some question) }
-        ensures asks { IfOk result (λ now_open. Asks C.stands C.awaited C.number C.due A.answers call.conv call.moment question self.old self.new (state_of A.state F.contents F.calls F.misses F.faults F.losses answerer.old files.old) (state_of A.state F.contents F.calls F.misses F.faults F.losses answerer.new files.new) now_open steps.old.items steps.new.items) }
+        ensures asks { IfOk result (λ now_open. Asks C.stands C.awaited C.number C.due A.answers call.conv call.moment (Some question) self.old self.new flows.old flows.new (state_of A.state F.contents F.calls F.misses F.faults F.losses answerer.old files.old) (state_of A.state F.contents F.calls F.misses F.faults F.losses answerer.new files.new) now_open steps.old.items steps.new.items) }
         ensures sound { OnOk result (IsSound C.stands self.new.conversation) }
         ensures number { OnOk result (C.number self.new.conversation ≡ call.conv) }
         ensures left { IfOk result (λ now_open. turns_left (C.left self.new.conversation) now_open < turns_left (C.left self.old.conversation) (Some question)) }
@@ -250,7 +314,7 @@ impl<C: Owes> Held<C> {
                 self.draft = Some(draft);
                 Ok(None)
             }
-            Answer::Reply(reply) => self.reply(call, ask, reply, steps),
+            Answer::Reply(reply) => self.reply(call, ask, reply, flows, steps),
         }
     }
 
@@ -260,13 +324,14 @@ impl<C: Owes> Held<C> {
         call: Call,
         ask: Ask,
         reply: Reply,
+        flows: &mut Flows,
         steps: &mut Vec<Step>,
     ) -> Result<Option<Question>, NoMemory>
         requires sound { IsSound C.stands self.old.conversation }
         requires number { C.number self.old.conversation ≡ call.conv }
         requires awaited { C.awaited self.old.conversation ≡ Some ask }
         requires hook { (flow : _) × (hook : _) × (ask ≡ AsksHook flow hook) }
-        ensures replies { IfOk result (λ question. Replies C.stands C.awaited call.conv call.moment ask reply self.old self.new question steps.old.items steps.new.items) }
+        ensures replies { IfOk result (λ question. Replies C.stands C.awaited call.conv call.moment ask reply self.old self.new flows.old flows.new question steps.old.items steps.new.items) }
         ensures sound { OnOk result (IsSound C.stands self.new.conversation) }
         ensures number { OnOk result (C.number self.new.conversation ≡ call.conv) }
         ensures left { OnOk result (C.left self.new.conversation < C.left self.old.conversation) }
@@ -280,7 +345,7 @@ impl<C: Owes> Held<C> {
         let mut commands = Vec::new(call.alloc);
         self.conversation
             .take(call.moment, Event::Answered { ask, reply }, &mut commands)?;
-        tell(call.conv, commands, steps)
+        tell(call.conv, &self.marks, commands, flows, steps)
     }
 }
 
@@ -296,18 +361,35 @@ fn end_of_dial(ok: bool) -> Reply
     }
 }
 
-/// Adds the step of each command, and gives the last hook that they ask.
+/// With what an operator answers a hook that waits with this draft.
+fn released_by(operation: &Operation, draft: Draft) -> Reply
+    ensures { result ≡ released_by operation.now draft }
+{
+    match operation {
+        Operation::Kill(_) => {
+            drop(draft);
+            Reply::Kill
+        }
+        Operation::Resume(_) | Operation::Mark(_) | Operation::DropAddon(_) => draft.into_reply(),
+    }
+}
+
+/// Adds the step of each command, with the marks of flows, and gives the last hook that they ask. Flows that are asked about are shown, and those that are
+/// finished no more.
 fn tell(
     conv: u32,
+    marks: &Runs,
     commands: Vec<Command>,
+    flows: &mut Flows,
     steps: &mut Vec<Step>,
 ) -> Result<Option<Question>, NoMemory>
-    ensures told { OnOk result (steps.new.items ≡ steps.old.items ++ map (step_of conv) commands.items) }
-    ensures asked { IfOk result (λ question. question ≡ asked_from None commands.items) }
+    ensures told { OnOk result (steps.new.items ≡ steps.old.items ++ map (step_of conv) (all_marked (has marks.now) commands.items)) }
+    ensures asked { IfOk result (λ question. question ≡ asked_from None (all_marked (has marks.now) commands.items)) }
+    ensures shows { OnOk result (ShowsTold (all_marked (has marks.now) commands.items) flows.old flows.new) }
 {
     let mut open = None;
     for command in commands {
-        let question = tell_one(conv, command, steps)?;
+        let question = tell_one(conv, marks, command, flows, steps)?;
         put_later(&mut open, question);
     }
     Ok(open)
@@ -325,11 +407,14 @@ fn put_later(earlier: &mut Option<Question>, question: Option<Question>)
 /// Adds the step of a command, and gives the hook that it asks, if it asks one. What the command has moves into the step.
 fn tell_one(
     conv: u32,
+    marks: &Runs,
     command: Command,
+    flows: &mut Flows,
     steps: &mut Vec<Step>,
 ) -> Result<Option<Question>, NoMemory>
-    ensures told { OnOk result (steps.new.items ≡ steps.old.items ++ step_of conv command ∷ []) }
-    ensures question { IfOk result (λ question. question ≡ question_in command) }
+    ensures told { OnOk result (steps.new.items ≡ steps.old.items ++ step_of conv (mark_on (has marks.now) command) ∷ []) }
+    ensures question { IfOk result (λ question. question ≡ question_in (mark_on (has marks.now) command)) }
+    ensures shows { OnOk result ((other index : ℕ) → shown_in flows.new other index ≡ shown_by (mark_on (has marks.now) command) (shown_in flows.old) other index) }
 {
     match command {
         Command::Send { side, bytes } => tell_said(conv, Said::Send { side, bytes }, steps),
@@ -339,9 +424,18 @@ fn tell_one(
             address,
             ..
         } => tell_said(conv, Said::Dial { server, address }, steps),
-        Command::Ask { ask, flow } => tell_asked(conv, ask, flow, steps),
-        Command::Done { flow } => tell_done(flow, steps),
+        Command::Ask { ask, flow } => tell_asked(conv, ask, mark(marks, flow), flows, steps),
+        Command::Done { flow } => tell_done(mark(marks, flow), flows, steps),
     }
+}
+
+/// The flow, with its mark where it has one.
+fn mark(marks: &Runs, flow: Flow) -> Flow
+    ensures { result ≡ with_mark (has marks.now flow.id.index) flow }
+{
+    let mut flow = flow;
+    flow.marked = marks.has(flow.id.index);
+    flow
 }
 
 fn tell_said(conv: u32, said: Said, steps: &mut Vec<Step>) -> Result<Option<Question>, NoMemory>
@@ -356,12 +450,14 @@ fn tell_asked(
     conv: u32,
     ask: Ask,
     flow: Flow,
+    flows: &mut Flows,
     steps: &mut Vec<Step>,
 ) -> Result<Option<Question>, NoMemory>
     ensures told { OnOk result (steps.new.items ≡ steps.old.items ++ Step.Asked conv ask ∷ []) }
     ensures question { IfOk result (λ question. question ≡ question_about ask flow) }
+    ensures shows { OnOk result ((other index : ℕ) → shown_in flows.new other index ≡ with_shown flow.id.conv flow.id.index (Some flow) (shown_in flows.old) other index) }
 {
-    match steps.push(Step::Asked { conv, ask }) {
+    match note_asked(conv, ask, &flow, flows, steps) {
         Ok(()) => Ok(asking(ask, flow)),
         Err(_) => {
             drop(flow);
@@ -370,10 +466,32 @@ fn tell_asked(
     }
 }
 
-fn tell_done(flow: Flow, steps: &mut Vec<Step>) -> Result<Option<Question>, NoMemory>
+/// Adds the step of a hook that is asked, and shows its flow.
+fn note_asked(
+    conv: u32,
+    ask: Ask,
+    flow: &Flow,
+    flows: &mut Flows,
+    steps: &mut Vec<Step>,
+) -> Result<(), NoMemory>
+    ensures told { OnOk result (steps.new.items ≡ steps.old.items ++ Step.Asked conv ask ∷ []) }
+    ensures shows { OnOk result ((other index : ℕ) → shown_in flows.new other index ≡ with_shown flow.now.id.conv flow.now.id.index (Some flow.now) (shown_in flows.old) other index) }
+{
+    flows.show(flow)?;
+    steps.push(Step::Asked { conv, ask })?;
+    Ok(())
+}
+
+fn tell_done(
+    flow: Flow,
+    flows: &mut Flows,
+    steps: &mut Vec<Step>,
+) -> Result<Option<Question>, NoMemory>
     ensures told { OnOk result (steps.new.items ≡ steps.old.items ++ Step.Done flow ∷ []) }
     ensures question { IfOk result (λ question. question ≡ None) }
+    ensures shows { OnOk result ((other index : ℕ) → shown_in flows.new other index ≡ with_shown flow.id.conv flow.id.index None (shown_in flows.old) other index) }
 {
+    flows.hide(flow.id);
     steps.push(Step::Done { flow })?;
     Ok(None)
 }

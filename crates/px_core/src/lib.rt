@@ -21,6 +21,7 @@
 
 mod answerer;
 mod conversation;
+mod flows;
 mod gated;
 mod gates;
 mod held;
@@ -43,7 +44,7 @@ pub use kind::Kind;
 pub use laws::{an_end_lasts, answers_are_of_their_kind, no_hook_is_asked_behind_its_end};
 pub use maker::{Maker, Taker};
 pub use numbered::Numbered;
-pub use operation::Operation;
+pub use operation::{OperateError, Operation};
 pub use owes::Owes;
 pub use router::Router;
-pub use work::work_off;
+pub use work::{operate_over, work_off};

@@ -1,7 +1,7 @@
 //! What an operator does to flows and addons while they are live.
 
 use px_message::FlowId;
-use px_text::Bytes;
+use px_text::{Bytes, NoMemory};
 
 /// What an operator asks for.
 #[derive(Debug, Drop, PartialEq, Eq)]
@@ -14,4 +14,23 @@ pub enum Operation {
     Mark(FlowId),
     /// The first addon of this name is taken away.
     DropAddon(Bytes),
+}
+
+/// Why an operation was not done.
+#[derive(Debug, Clone, Copy, PartialEq, Eq)]
+pub enum OperateError {
+    /// No hook of the flow was asked, or it is finished.
+    NoSuchFlow,
+    /// The flow is live, and no hook of it waits.
+    NotWaiting,
+    /// No addon has the name.
+    NoSuchAddon,
+    /// Memory ran out.
+    NoMemory,
+}
+
+impl From<NoMemory> for OperateError {
+    fn from(_: NoMemory) -> OperateError {
+        OperateError::NoMemory
+    }
 }

@@ -7,9 +7,11 @@ ghost use Rattle.std.specs.Prelude.{◌≡◌, Some, None, IfOk, OnOk};
 ghost use Rattle.std.specs.Ordering.{nat_cmp};
 ghost use Rattle.std.specs.BTreeMap.{get as entry_of};
 ghost use Rattle.slab.specs.Slab.{get as held_under, Updates as UpdatesHeld};
+ghost use Rattle.px_core.specs.Live.{shown_in};
 ghost use Rattle.px_core.specs.Router.{place_of, PutsPlace};
 ghost use Rattle.px_core.specs.declared.table.Entry.TheVariants.{Live as IsLiveUnder, Ended as HasEnded};
 
+use crate::flows::Flows;
 use crate::held::Held;
 use crate::runs::Runs;
 use px_text::NoMemory;
@@ -26,12 +28,13 @@ pub enum Entry {
     Ended,
 }
 
-/// The live conversations with their keys by number, and the numbers of those that have ended.
+/// The live conversations with their keys by number, the numbers of those that have ended, and the live flows of all.
 #[derive(Drop)]
 pub struct Table<C> {
     pub(crate) live: Slab<Held<C>>,
     keys: BTreeMap<u32, usize>,
     ended: Runs,
+    pub(crate) flows: Flows,
 }
 
 impl<C: Drop> Table<C> {
@@ -39,11 +42,13 @@ impl<C: Drop> Table<C> {
     pub(crate) fn new(alloc: Global) -> Table<C>
         ensures empty { (conv : _) → place_of result conv ≡ None }
         ensures vacant { (key : _) → held_under result.live key ≡ None }
+        ensures flows { (conv index : _) → shown_in result.flows conv index ≡ None }
     {
         Table {
             live: Slab::new(alloc),
             keys: BTreeMap::new(alloc),
             ended: Runs::new(alloc),
+            flows: Flows::new(alloc),
         }
     }
 
@@ -66,6 +71,7 @@ impl<C: Drop> Table<C> {
         ensures live { IfOk result (λ key. UpdatesHeld self.old.live self.new.live key (Some held)) }
         ensures vacant { IfOk result (λ key. held_under self.old.live key ≡ None) }
         ensures places { IfOk result (λ key. PutsPlace self.old self.new conv (Some (IsLiveUnder key))) }
+        ensures flows { self.new.flows ≡ self.old.flows }
     {
         let key = self.live.insert(held)?;
         self.keys.insert(conv, key)?;
@@ -75,6 +81,7 @@ impl<C: Drop> Table<C> {
     /// Notes that the conversation of a number has ended.
     pub(crate) fn note_end(&mut self, conv: u32) -> Result<(), NoMemory>
         ensures live { self.new.live ≡ self.old.live }
+        ensures flows { self.new.flows ≡ self.old.flows }
         ensures places { OnOk result (PutsPlace self.old self.new conv (Some HasEnded)) }
         ensures forgets { OnOk result (entry_of nat_cmp self.new.keys conv ≡ None) }
     {
@@ -86,6 +93,7 @@ impl<C: Drop> Table<C> {
     /// Lets go of the conversation of a number, which has ended.
     pub(crate) fn end(&mut self, conv: u32, key: usize) -> Result<(), NoMemory>
         ensures live { OnOk result (UpdatesHeld self.old.live self.new.live key None) }
+        ensures flows { self.new.flows ≡ self.old.flows }
         ensures places { OnOk result (PutsPlace self.old self.new conv (Some HasEnded)) }
         ensures forgets { OnOk result (entry_of nat_cmp self.new.keys conv ≡ None) }
     {

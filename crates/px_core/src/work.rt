@@ -2,7 +2,7 @@
 //!
 //! The steps of a call are said and noted one by one, so the network may fail within them. Each prefix of them is served,
 //! since an answer stands before what it causes; so the promise holds in every exit.
-ghost use Rattle.std.specs.Prelude.{◌≡◌, ◌≢◌, ◌++◌, ◌∷◌, ◌⊎◌, ℕ, Some, None, true, false, [], List, IfOk, IfSome, IsErr, OnOk, OnErr};
+ghost use Rattle.std.specs.Prelude.{◌≡◌, ◌≢◌, ◌++◌, ◌∷◌, ◌⊎◌, ℕ, Some, None, true, false, [], List, Err, IfOk, IfErr, IfSome, IsErr, OnOk, OnErr};
 ghost use Rattle.std.specs.List.{flat_map};
 ghost use Rattle.px_text.specs.Prefix.{IsPrefixOf};
 ghost use Rattle.px_message.specs.declared.address.Address.{Address as PeerAddress};
@@ -12,16 +12,19 @@ ghost use Rattle.px_event.specs.declared.step.Step.TheVariants.{Heard as WasHear
 ghost use Rattle.px_outside.specs.Net.{IsNote};
 ghost use Rattle.px_core.specs.Answered.{IsAnswered, LeavesFiles};
 ghost use Rattle.px_core.specs.Answers.{ByAnswers, FilesAfter, files_meaning, state_of};
+ghost use Rattle.px_core.specs.Addons.{without_first};
 ghost use Rattle.px_core.specs.Course.{Course};
 ghost use Rattle.px_core.specs.Due.{Due, IsServed};
-ghost use Rattle.px_core.specs.Router.{HoldsNoEnded, RouterStands, IsRouted, BeginsNone, is_known, found};
+ghost use Rattle.px_core.specs.Router.{HoldsNoEnded, RouterStands, IsNow, IsRouted, IsRefused, MovesBy, BeginsNone, conv_of, is_known, found, operated_on, refusal};
+ghost use Rattle.px_core.specs.declared.operation.OperateError.TheVariants.{NoMemory as RanOut};
+ghost use Rattle.px_core.specs.declared.operation.Operation.TheVariants.{DropAddon as Drops};
 ghost use Rattle.px_core.specs.Calls.{addressed};
 ghost use Rattle.px_core.specs.Held.{AllOf};
 ghost use Rattle.px_core.specs.declared.news.News.TheVariants.{Begun as HasBegun};
-ghost use Rattle.px_core.specs.Run.{IsDueOf, begun_by, done_of, Tells, IsTellable, AllTellable, ToldPart, IsOfHeard, TellsOfHeard, KeepsOthers};
+ghost use Rattle.px_core.specs.Run.{IsDueOf, begun_by, done_of, Tells, IsTellable, AllTellable, ToldPart, IsOfHeard, TellsOfHeard, KeepsOthers, AddsSteps, BreaksOff};
 
 use crate::news::NUMBER_END;
-use crate::{Answerer, Maker, Owes, Router, Taker};
+use crate::{Answerer, Maker, OperateError, Operation, Owes, Router, Taker};
 use px_event::{Door, Heard, Step};
 use px_outside::{Files, Net};
 use px_text::NoMemory;
@@ -81,6 +84,128 @@ pub fn work_off<C: Owes, A: Answerer, M: Maker<C>, F: Files, N: Net, T: Taker>(
             router.poison();
             Err(NoMemory)
         }
+    }
+}
+
+/// Does what an operator asks for, at the moment of what was heard last, as `Router::operate` says: then says and notes each step that follows in its
+/// order, and hands on each finished flow. Each step is of the flow's conversation alone, and nothing changes of another; a mark and an addon that is
+/// dropped cause none. In every exit the answerer came over the trace by the course with this operation, and files are what its answers made of them.
+///
+/// What the network tells may have more than the trace that the router stands for: what was said to numbers that no conversation has. The same steps
+/// are added to both.
+///
+/// `NoSuchFlow`, `NotWaiting` and `NoSuchAddon` as `Router::operate` says; then nothing has changed. `NoMemory` where memory ran out: in the router,
+/// the network or the taker. The trace is served all the same, the flows that were handed on are a prefix of those that it finishes, and the
+/// router is poisoned.
+pub fn operate_over<C: Owes, A: Answerer, F: Files, N: Net, T: Taker>(
+    alloc: Global,
+    router: &mut Router<C, A>,
+    files: &mut F,
+    net: &mut N,
+    taker: &mut T,
+    moment: u64,
+    operation: &Operation,
+) -> Result<(), OperateError>
+    requires sound { IsRouted C.stands C.awaited C.number C.due A.answers router.old }
+    ensures ok { (due : Due) (course : Course A.State) (trace : Trace) → RouterStands C.stands C.awaited C.number C.due A.answers A.state due course (files_meaning F.contents F.calls F.misses F.faults F.losses files.old) router.old trace → IsNow moment trace →
+        OnOk result (AddsSteps (RouterStands C.stands C.awaited C.number C.due A.answers A.state due (operated_on course trace operation.now (state_of A.state F.contents F.calls F.misses F.faults F.losses router.old.answerer files.old) (state_of A.state F.contents F.calls F.misses F.faults F.losses router.new.answerer files.new)) (files_meaning F.contents F.calls F.misses F.faults F.losses files.new) router.new) operation.now trace (N.trace net.old) (N.trace net.new)) }
+    ensures breaks { (due : Due) (course : Course A.State) (trace told : Trace) → RouterStands C.stands C.awaited C.number C.due A.answers A.state due course (files_meaning F.contents F.calls F.misses F.faults F.losses files.old) router.old trace → IsNow moment trace → N.trace net.old ≡ Some told →
+        IfErr result (λ error. error ≡ RanOut → BreaksOff A.answers A.fails due course operation.now trace told (N.trace net.new) (files_meaning F.contents F.calls F.misses F.faults F.losses files.new)) }
+    ensures names { (name : List ℕ) → operation.now ≡ Drops name → OnOk result (A.names (A.state router.new.answerer) ≡ without_first name (A.names (A.state router.old.answerer))) }
+    ensures moves { OnOk result (MovesBy A.answers A.drops operation.now (state_of A.state F.contents F.calls F.misses F.faults F.losses router.old.answerer files.old) (state_of A.state F.contents F.calls F.misses F.faults F.losses router.new.answerer files.new)) }
+    ensures done { (due : Due) (course : Course A.State) (trace : Trace) → RouterStands C.stands C.awaited C.number C.due A.answers A.state due course (files_meaning F.contents F.calls F.misses F.faults F.losses files.old) router.old trace → OnOk result (refusal operation.now (A.names (A.state router.old.answerer)) trace ≡ None) }
+    ensures refused { (due : Due) (course : Course A.State) (trace : Trace) → RouterStands C.stands C.awaited C.number C.due A.answers A.state due course (files_meaning F.contents F.calls F.misses F.faults F.losses files.old) router.old trace →
+        IfErr result (λ error. error ≢ RanOut → refusal operation.now (A.names (A.state router.old.answerer)) trace ≡ Some error) }
+    ensures unchanged { IfErr result (λ error. error ≢ RanOut → IsRefused A.state router.old router.new × (files.new ≡ files.old) × (N.trace net.new ≡ N.trace net.old) × (T.taken taker.new ≡ T.taken taker.old)) }
+    ensures taken { (trace : Trace) → N.trace net.old ≡ Some trace → T.taken taker.old ≡ flat_map done_of trace →
+        OnOk result (Tells (λ told. T.taken taker.new ≡ flat_map done_of told) trace (N.trace net.new)) }
+    ensures listening { N.listening net.new ≡ N.listening net.old }
+    ensures faults { N.faults net.new ≡ N.faults net.old }
+    ensures others { (other : ℕ) → conv_of operation.now ≢ Some other → OnOk result (found router.new.table other ≡ found router.old.table other) }
+    ensures taken_part { (trace : Trace) → N.trace net.old ≡ Some trace → T.taken taker.old ≡ flat_map done_of trace →
+        OnErr result (Tells (λ told. IsPrefixOf (T.taken taker.new) (flat_map done_of told)) trace (N.trace net.new)) }
+    ensures again { router.old.poisoned ≡ true → (result ≡ Err RanOut) × (N.trace net.new ≡ N.trace net.old) × (T.taken taker.new ≡ T.taken taker.old) }
+    ensures files { FilesAfter A.answers A.fails (state_of A.state F.contents F.calls F.misses F.faults F.losses router.old.answerer files.old) (files_meaning F.contents F.calls F.misses F.faults F.losses files.new) }
+    ensures goes_on { HoldsNoEnded C.ended router.old.table → OnOk result (HoldsNoEnded C.ended router.new.table) }
+    ensures poisoned { result ≡ Err RanOut → router.new.poisoned ≡ true }
+{
+    match operate_told(alloc, router, files, net, taker, moment, operation) {
+        Ok(()) => Ok(()),
+        Err(OperateError::NoMemory) => out_of_memory(router),
+        Err(OperateError::NoSuchFlow) => Err(OperateError::NoSuchFlow),
+        Err(OperateError::NotWaiting) => Err(OperateError::NotWaiting),
+        Err(OperateError::NoSuchAddon) => Err(OperateError::NoSuchAddon),
+    }
+}
+
+/// The router answers so for ever.
+fn out_of_memory<C: Owes, A: Answerer>(router: &mut Router<C, A>) -> Result<(), OperateError>
+    ensures answer { result ≡ Err RanOut }
+    ensures poisoned { router.new.poisoned ≡ true }
+{
+    router.poison();
+    Err(OperateError::NoMemory)
+}
+
+/// Does what an operator asks for, and tells the steps that follow.
+fn operate_told<C: Owes, A: Answerer, F: Files, N: Net, T: Taker>(
+    alloc: Global,
+    router: &mut Router<C, A>,
+    files: &mut F,
+    net: &mut N,
+    taker: &mut T,
+    moment: u64,
+    operation: &Operation,
+) -> Result<(), OperateError>
+    requires sound { IsRouted C.stands C.awaited C.number C.due A.answers router.old }
+    ensures ok { (due : Due) (course : Course A.State) (trace : Trace) → RouterStands C.stands C.awaited C.number C.due A.answers A.state due course (files_meaning F.contents F.calls F.misses F.faults F.losses files.old) router.old trace → IsNow moment trace →
+        OnOk result (AddsSteps (RouterStands C.stands C.awaited C.number C.due A.answers A.state due (operated_on course trace operation.now (state_of A.state F.contents F.calls F.misses F.faults F.losses router.old.answerer files.old) (state_of A.state F.contents F.calls F.misses F.faults F.losses router.new.answerer files.new)) (files_meaning F.contents F.calls F.misses F.faults F.losses files.new) router.new) operation.now trace (N.trace net.old) (N.trace net.new)) }
+    ensures breaks { (due : Due) (course : Course A.State) (trace told : Trace) → RouterStands C.stands C.awaited C.number C.due A.answers A.state due course (files_meaning F.contents F.calls F.misses F.faults F.losses files.old) router.old trace → IsNow moment trace → N.trace net.old ≡ Some told →
+        IfErr result (λ error. error ≡ RanOut → BreaksOff A.answers A.fails due course operation.now trace told (N.trace net.new) (files_meaning F.contents F.calls F.misses F.faults F.losses files.new)) }
+    ensures names { (name : List ℕ) → operation.now ≡ Drops name → OnOk result (A.names (A.state router.new.answerer) ≡ without_first name (A.names (A.state router.old.answerer))) }
+    ensures moves { OnOk result (MovesBy A.answers A.drops operation.now (state_of A.state F.contents F.calls F.misses F.faults F.losses router.old.answerer files.old) (state_of A.state F.contents F.calls F.misses F.faults F.losses router.new.answerer files.new)) }
+    ensures done { (due : Due) (course : Course A.State) (trace : Trace) → RouterStands C.stands C.awaited C.number C.due A.answers A.state due course (files_meaning F.contents F.calls F.misses F.faults F.losses files.old) router.old trace → OnOk result (refusal operation.now (A.names (A.state router.old.answerer)) trace ≡ None) }
+    ensures refused { (due : Due) (course : Course A.State) (trace : Trace) → RouterStands C.stands C.awaited C.number C.due A.answers A.state due course (files_meaning F.contents F.calls F.misses F.faults F.losses files.old) router.old trace →
+        IfErr result (λ error. error ≢ RanOut → refusal operation.now (A.names (A.state router.old.answerer)) trace ≡ Some error) }
+    ensures unchanged { IfErr result (λ error. error ≢ RanOut → IsRefused A.state router.old router.new × (files.new ≡ files.old) × (N.trace net.new ≡ N.trace net.old) × (T.taken taker.new ≡ T.taken taker.old)) }
+    ensures taken { (trace : Trace) → N.trace net.old ≡ Some trace → T.taken taker.old ≡ flat_map done_of trace →
+        OnOk result (Tells (λ told. T.taken taker.new ≡ flat_map done_of told) trace (N.trace net.new)) }
+    ensures listening { N.listening net.new ≡ N.listening net.old }
+    ensures faults { N.faults net.new ≡ N.faults net.old }
+    ensures others { (other : ℕ) → conv_of operation.now ≢ Some other → OnOk result (found router.new.table other ≡ found router.old.table other) }
+    ensures taken_part { (trace : Trace) → N.trace net.old ≡ Some trace → T.taken taker.old ≡ flat_map done_of trace →
+        OnErr result (Tells (λ told. IsPrefixOf (T.taken taker.new) (flat_map done_of told)) trace (N.trace net.new)) }
+    ensures again { router.old.poisoned ≡ true → (result ≡ Err RanOut) × (N.trace net.new ≡ N.trace net.old) × (T.taken taker.new ≡ T.taken taker.old) }
+    ensures files { FilesAfter A.answers A.fails (state_of A.state F.contents F.calls F.misses F.faults F.losses router.old.answerer files.old) (files_meaning F.contents F.calls F.misses F.faults F.losses files.new) }
+    ensures goes_on { HoldsNoEnded C.ended router.old.table → OnOk result (HoldsNoEnded C.ended router.new.table) }
+{
+    let mut steps = Vec::new(alloc);
+    match router.operate(moment, operation, files, &mut steps) {
+        Ok(()) => tell_operated(net, taker, steps),
+        Err(error) => {
+            drop(steps);
+            Err(error)
+        }
+    }
+}
+
+/// Says or notes each step that an operation caused, in its order, and hands on each finished flow.
+fn tell_operated<N: Net, T: Taker>(
+    net: &mut N,
+    taker: &mut T,
+    steps: Vec<Step>,
+) -> Result<(), OperateError>
+    requires tellable { AllTellable steps.items }
+    ensures told { (trace : Trace) → N.trace net.old ≡ Some trace → OnOk result (N.trace net.new ≡ Some (trace ++ steps.items)) }
+    ensures part { (trace : Trace) → N.trace net.old ≡ Some trace → OnErr result (ToldPart steps.items trace (N.trace net.new) (T.taken taker.old) (T.taken taker.new)) }
+    ensures taken { OnOk result (T.taken taker.new ≡ T.taken taker.old ++ flat_map done_of steps.items) }
+    ensures listening { N.listening net.new ≡ N.listening net.old }
+    ensures faults { N.faults net.new ≡ N.faults net.old }
+    ensures error { IfErr result (λ error. error ≡ RanOut) }
+{
+    match tell_all(net, taker, steps) {
+        Ok(()) => Ok(()),
+        Err(NoMemory) => Err(OperateError::NoMemory),
     }
 }
 

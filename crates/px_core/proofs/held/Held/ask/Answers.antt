@@ -8,13 +8,13 @@ use Rattle.px_core.proofs.held.Held.ask.Goals as goal
 pub returns-in-Wait-clause-asks : goal.returns-in-Wait-clause-asks
 returns-in-Wait-clause-asks g c =
     wait_works g.C.Conversation.stands g.C.Conversation.awaited g.C.Conversation.number g.C.Owes.due g.met.C.Owes.gave g.A.Answerer.answers
-    c.args.call.conv c.args.call.moment c.args.question c.in-Wait.draft c.args.self.now _ c.args.steps.now.items _ _ _ c.requires.next _ c.in_ok-draft.ensures.answers c.in-Wait.is refl refl refl refl (λ flow hook is. refl)
+    c.args.call.conv c.args.call.moment c.args.question c.in-Wait.draft c.args.self.now _ _ c.args.steps.now.items _ _ _ c.requires.next _ c.in_ok-draft.ensures.answers c.in-Wait.is refl refl refl refl refl (λ flow hook is. refl)
 
 pub returns-in-Reply-clause-asks : goal.returns-in-Reply-clause-asks
 returns-in-Reply-clause-asks g c =
     if_ok_both c.reply.result _ _ (λ now_open named replies.
     reply_works g.C.Conversation.stands g.C.Conversation.awaited g.C.Conversation.number g.C.Owes.due g.met.C.Owes.gave g.A.Answerer.answers
-    c.args.call.conv c.args.call.moment c.args.question c.in-Reply.reply c.args.self.now _ now_open _ _ _ _ c.requires.next named _ c.in_ok-draft.ensures.answers c.in-Reply.is replies)
+    c.args.call.conv c.args.call.moment c.args.question c.in-Reply.reply c.args.self.now _ _ _ now_open _ _ _ _ c.requires.next named _ c.in_ok-draft.ensures.answers c.in-Reply.is replies)
     c.reply.ensures.number c.reply.ensures.replies
 
 pub returns-in-Reply-clause-left : goal.returns-in-Reply-clause-left

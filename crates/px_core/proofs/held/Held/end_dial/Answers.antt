@@ -8,10 +8,10 @@ use Rattle.px_core.proofs.held.Held.end_dial.Goals as goal
 pub returns : goal.returns
 returns g c = record {
   takes = on_ok_weaker c.work_off.result
-      (λ works. works_end g.C.Conversation.stands g.C.Conversation.awaited g.C.Conversation.number g.C.Owes.due g.A.Answerer.answers g.met.C.Owes.gave c.args.call.conv c.args.call.moment _ _ _ c.args.self.now c.connect.new.self _ _ _ _ _
+      (λ works. works_end g.C.Conversation.stands g.C.Conversation.awaited g.C.Conversation.number g.C.Owes.due g.A.Answerer.answers g.met.C.Owes.gave c.args.call.conv c.args.call.moment _ _ _ c.args.self.now c.connect.new.self _ _ _ _ _ _ _
       c.in_ok-connect.ensures.conversation c.in_ok-commands.ensures.number c.in_ok-commands.ensures.gives
       (λ n. sym (c.in_ok-connect.ensures.connected n) ∙ ap (λ r. has r n) (sym c.in_ok-commands.ensures.connected))
-      (c.in_ok-commands.ensures.draft ∙ c.in_ok-connect.ensures.draft) works)
+      (c.in_ok-commands.ensures.draft ∙ c.in_ok-connect.ensures.draft) (c.in_ok-commands.ensures.marks ∙ c.in_ok-connect.ensures.marks) works)
       c.work_off.ensures.works;
   files = c.work_off.ensures.files;
   given = c.work_off.ensures.given;

@@ -14,5 +14,5 @@ returns-clause-gives g c =
 
 pub returns-clause-ready : goal.returns-clause-ready
 returns-clause-ready g c =
-    ready_event g.C.Conversation.awaited c.args.self.now (record { conversation = c.take.new.self; connected = c.args.self.now.connected; draft = c.args.self.now.draft }) _ _ refl c.requires.settled refl
+    ready_event g.C.Conversation.awaited c.args.self.now (record { conversation = c.take.new.self; connected = c.args.self.now.connected; draft = c.args.self.now.draft; marks = c.args.self.now.marks }) _ _ refl c.requires.settled refl
     (asks_while_from_empty _ _ _ _ c.new-commands.ensures.items (c.in_ok-take.ensures.asks c.requires.news))

@@ -16,7 +16,7 @@ pub returns-then-over-clause-hands : goal.returns-then-over-clause-hands
 returns-then-over-clause-hands g c = on_ok_both c.end.result
     (λ removed noted. hands_ended g.C.Conversation.stands g.C.Conversation.awaited g.C.Conversation.number g.C.Owes.due g.met.C.Owes.gave g.C.Owes.grows g.A.Answerer.answers g.C.Conversation.ended (ended_stays g.C.Conversation.stands g.C.Owes.due g.C.Conversation.ended g.C.Owes.is_over g.met.C.Owes.ends g.C.Owes.over) g.met.C.Owes.rests
     c.args.call.conv c.args.call.moment c.in-Some-Live.key c.args.news c.args.self.now.table c.hear_at.new.self.table _ _ _ _ c.requires.sound (sym c.place.ensures.place ∙ (c.in-Some-Live.is) ∙ ap Some c.in-Some-Live.field-0-is)
-    c.in_ok-over-in-Some-Live.ensures.hears c.if-over.true removed noted) c.end.ensures.live c.end.ensures.places
+    c.in_ok-over-in-Some-Live.ensures.hears c.if-over.true removed c.end.ensures.flows noted) c.end.ensures.live c.end.ensures.places
 
 pub returns-else-over-clause-hands : goal.returns-else-over-clause-hands
 returns-else-over-clause-hands g c =

@@ -6,7 +6,7 @@ use Rattle.px_core.proofs.router.Router.new.Goals as goal
 
 pub returns-clause-stands : goal.returns-clause-stands
 returns-clause-stands g c = λ due files.
-    new_stands g.C.Conversation.stands g.C.Conversation.awaited g.C.Conversation.number g.C.Owes.due g.A.Answerer.answers due _ _ c.new.ensures.empty
+    new_stands g.C.Conversation.stands g.C.Conversation.awaited g.C.Conversation.number g.C.Owes.due g.A.Answerer.answers due _ _ c.new.ensures.empty c.new.ensures.flows
 
 pub returns-clause-sound : goal.returns-clause-sound
 returns-clause-sound g c = λ fresh.

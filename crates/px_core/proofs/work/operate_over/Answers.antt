@@ -1,0 +1,25 @@
+use Rattle.std.proofs.Common.{Some, ap, sym, ◌∙◌}
+use Rattle.px_core.proofs.OperateRunLemmas.{if_err_all}
+use Rattle.px_core.proofs.work.operate_over.Goals as goal
+
+pub returns-in-Ok-clause-ok : goal.returns-in-Ok-clause-ok
+returns-in-Ok-clause-ok g c = λ due course trace stands now. c.in-Ok.ensures.ok due course trace stands now
+
+pub returns-in-Ok-clause-done : goal.returns-in-Ok-clause-done
+returns-in-Ok-clause-done g c = λ due course trace stands. c.in-Ok.ensures.done due course trace stands
+
+pub returns-in-Err-NoMemory-clause-breaks : goal.returns-in-Err-NoMemory-clause-breaks
+returns-in-Err-NoMemory-clause-breaks g c = λ due course trace told stands now is.
+    if_err_all c.out_of_memory.result _ (c.in-Err-NoMemory.ensures.breaks due course trace told stands now is c.in-Err-NoMemory.field-0-is)
+
+pub returns-in-Err-NoSuchFlow-clause-refused : goal.returns-in-Err-NoSuchFlow-clause-refused
+returns-in-Err-NoSuchFlow-clause-refused g c = λ due course trace stands other.
+    c.in-Err-NoSuchFlow.ensures.refused due course trace stands (λ same. other (sym c.in-Err-NoSuchFlow.field-0-is ∙ same)) ∙ ap Some c.in-Err-NoSuchFlow.field-0-is
+
+pub returns-in-Err-NotWaiting-clause-refused : goal.returns-in-Err-NotWaiting-clause-refused
+returns-in-Err-NotWaiting-clause-refused g c = λ due course trace stands other.
+    c.in-Err-NotWaiting.ensures.refused due course trace stands (λ same. other (sym c.in-Err-NotWaiting.field-0-is ∙ same)) ∙ ap Some c.in-Err-NotWaiting.field-0-is
+
+pub returns-in-Err-NoSuchAddon-clause-refused : goal.returns-in-Err-NoSuchAddon-clause-refused
+returns-in-Err-NoSuchAddon-clause-refused g c = λ due course trace stands other.
+    c.in-Err-NoSuchAddon.ensures.refused due course trace stands (λ same. other (sym c.in-Err-NoSuchAddon.field-0-is ∙ same)) ∙ ap Some c.in-Err-NoSuchAddon.field-0-is
