@@ -15,7 +15,8 @@ use Rattle.px_map.specs.View.{block_views}
 use Rattle.px_write.specs.Short.{short_response}
 use Rattle.px_addons.specs.Blocked.{blocked, blocked_with}
 use Rattle.px_addons.specs.Moving.{Moves}
-use Rattle.px_addons.specs.Chain.{Movers, PartInTurn, by_part, past_part, PartsMove, no_part, next_part, PartsFail, fails_here, fails_later, ChainAnswers, ChainFails, begun, is_going, reply_of}
+use Rattle.px_core.specs.Drafts.{reply_of}
+use Rattle.px_addons.specs.Chain.{Movers, PartInTurn, by_part, past_part, PartsMove, no_part, next_part, PartsFail, fails_here, fails_later, ChainAnswers, ChainFails, begun, is_going}
 use Rattle.px_addons.specs.declared.parts.Part.{Part}
 use Rattle.px_addons.specs.declared.parts.Part.TheVariants as part
 use Rattle.px_addons.specs.declared.rules.Rules.{Rules}

@@ -23,7 +23,8 @@ use Rattle.px_replay.specs.declared.replay.Extra.TheVariants as extras
 use Rattle.px_replay.specs.declared.replay.Replay.{Replay}
 use Rattle.px_replay.specs.declared.replay.Replay.TheVariants as replays
 use Rattle.px_addons.specs.Moving.{Moves}
-use Rattle.px_addons.specs.Chain.{Movers, movers_of, PartMoves, PartInTurn, by_part, past_part, PartsMove, no_part, next_part, ChainAnswers, begun, is_going, reply_of}
+use Rattle.px_core.specs.Drafts.{reply_of}
+use Rattle.px_addons.specs.Chain.{Movers, movers_of, PartMoves, PartInTurn, by_part, past_part, PartsMove, no_part, next_part, ChainAnswers, begun, is_going}
 use Rattle.px_addons.specs.Replays.{AsksRecorded, Replays, replayed_by}
 use Rattle.px_addons.specs.ReplayRuns.{AreOfPlaces, AreOfRecorded, Given, InTurn, IsExtra, IsOfPlace, next_given, none_given, of_whole_request, their_answers, whole_requests}
 use Rattle.px_addons.specs.declared.parts.Part.{Part}

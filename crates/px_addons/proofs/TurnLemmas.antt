@@ -4,7 +4,8 @@ use Rattle.std.proofs.Math.Seq.{drop-cons}
 use Rattle.px_event.specs.declared.ask.Hook.{Hook}
 use Rattle.px_core.specs.declared.answerer.Draft.{Draft}
 use Rattle.px_addons.specs.Moving.{Moves}
-use Rattle.px_addons.specs.Chain.{Movers, movers_of, AddonMoves, AddonsMove, no_addon, next_addon, PartMoves, PartInTurn, by_part, PartsMove, no_part, next_part, PartFails, PartsFail, fails_here, fails_later, is_going, begun, reply_of, ChainAnswers, ChainFails}
+use Rattle.px_core.specs.Drafts.{reply_of}
+use Rattle.px_addons.specs.Chain.{Movers, movers_of, AddonMoves, AddonsMove, no_addon, next_addon, PartMoves, PartInTurn, by_part, PartsMove, no_part, next_part, PartFails, PartsFail, fails_here, fails_later, is_going, begun, ChainAnswers, ChainFails}
 use Rattle.px_replay.specs.Replaying.{Replaying}
 use Rattle.px_addons.specs.Mapped.{MapsLocal}
 use Rattle.px_addons.specs.Replays.{Replays}

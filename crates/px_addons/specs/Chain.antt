@@ -4,10 +4,9 @@
 use Rattle.std.specs.Prelude.{◌≡◌, ℕ, Bool, true, false, List, [], ◌∷◌, Option, ◌<◌, length, remove}
 use Rattle.px_message.specs.declared.flow.Flow.{Flow}
 use Rattle.px_event.specs.declared.ask.Hook.{Hook}
-use Rattle.px_event.specs.declared.reply.Reply.{Reply}
-use Rattle.px_event.specs.declared.reply.Reply.TheVariants as replies
 use Rattle.px_core.specs.Addons.{has_name_by, without_first_by}
 use Rattle.px_core.specs.Answers.{FilesMeaning}
+use Rattle.px_core.specs.Drafts.{reply_of}
 use Rattle.px_core.specs.declared.answerer.Answer.{Answer}
 use Rattle.px_core.specs.declared.answerer.Answer.TheVariants as answers
 use Rattle.px_core.specs.declared.answerer.Draft.{Draft}
@@ -32,16 +31,6 @@ is_going verdicts.Discard = false
 -- the draft that the first part gets
 abbrev pub begun : Flow → Option ℕ → Draft
 begun flow stream = record { flow = flow; stream = stream; verdict = verdicts.Go }
-
--- the reply that a draft is at the end
-abbrev pub reply_by : Verdict → Flow → Option ℕ → Reply
-reply_by verdicts.Go flow stream = replies.Go flow stream
-reply_by (verdicts.Respond response) flow stream = replies.Respond response
-reply_by verdicts.Kill flow stream = replies.Kill
-reply_by verdicts.Discard flow stream = replies.Discard
-
-abbrev pub reply_of : Draft → Reply
-reply_of draft = reply_by draft.verdict draft.flow draft.stream
 
 -- what a part that was asked and ran out of memory did to files: map local made some of its reads, and no other part touches a file
 abbrev pub PartFails : Rules → Part → Draft → FilesMeaning → FilesMeaning → Type 0

@@ -22,7 +22,8 @@ use Rattle.px_addons.specs.Blocked.{blocked}
 use Rattle.px_addons.specs.Mapped.{MapsLocal, answered_by, moved, names_for}
 use Rattle.px_addons.specs.Moving.{KeepsDrafts, Moves}
 use Rattle.px_addons.specs.Parts.{content_of, is_of_response, made_by, parts}
-use Rattle.px_addons.specs.Chain.{Movers, AddonMoves, by_addon, past_addon, AddonsMove, no_addon, next_addon, ByRules, PartMoves, PartInTurn, by_part, past_part, PartsMove, no_part, next_part, PartFails, PartsFail, fails_here, fails_later, ChainFails, begun, reply_of, ChainAnswers}
+use Rattle.px_core.specs.Drafts.{reply_of}
+use Rattle.px_addons.specs.Chain.{Movers, AddonMoves, by_addon, past_addon, AddonsMove, no_addon, next_addon, ByRules, PartMoves, PartInTurn, by_part, past_part, PartsMove, no_part, next_part, PartFails, PartsFail, fails_here, fails_later, ChainFails, begun, ChainAnswers}
 use Rattle.px_addons.specs.Quiet.{AllKeepDrafts, AreQuiet, ChangesNothing, NoRules, goes_on_unchanged}
 use Rattle.px_addons.specs.Replays.{Replays}
 use Rattle.px_addons.specs.declared.parts.Part.{Part}

@@ -2,7 +2,7 @@
 //!
 //! Both loops ask all that they go over, and each turn begins with the verdict: behind one that is not Go the turn does nothing.
 ghost use Rattle.std.specs.Prelude.{◌≡◌, true, false, None, MatchOption, OnErr, OnOk};
-ghost use Rattle.px_addons.specs.Chain.{AddonMoves, AddonsMove, IsFirstOfName, PartFails, PartInTurn, PartsFail, PartsMove, is_going, movers_of, reply_of};
+ghost use Rattle.px_addons.specs.Chain.{AddonMoves, AddonsMove, IsFirstOfName, PartFails, PartInTurn, PartsFail, PartsMove, is_going, movers_of};
 ghost use Rattle.px_addons.specs.Moving.{SameMoves};
 ghost use Rattle.px_addons.specs.Quiet.{AllKeepDrafts, NoRules};
 ghost use Rattle.px_core.specs.Addons.{has_name_by};
@@ -12,7 +12,7 @@ use crate::parts::parts;
 use crate::replaying::ask_replay;
 use crate::{Addon, Part, Rules};
 use px_core::{Answer, Answerer, Draft, Kind, NoSuchAddon, Verdict};
-use px_event::{Hook, Reply};
+use px_event::Hook;
 use px_message::Flow;
 use px_outside::Files;
 use px_replay::Recorded;
@@ -93,7 +93,7 @@ impl Answerer for Chain {
             &mut draft,
             files,
         ) {
-            Ok(()) => Ok(Answer::Reply(reply_of(draft))),
+            Ok(()) => Ok(Answer::Reply(draft.into_reply())),
             Err(e) => {
                 drop(draft);
                 Err(e)
@@ -246,21 +246,4 @@ fn is_going(verdict: &Verdict) -> bool
     ensures { result ≡ is_going verdict.now }
 {
     matches!(verdict, Verdict::Go)
-}
-
-// The reply that the draft is at the end.
-fn reply_of(draft: Draft) -> Reply
-    ensures { result ≡ reply_of draft }
-{
-    let Draft {
-        flow,
-        stream,
-        verdict,
-    } = draft;
-    match verdict {
-        Verdict::Go => Reply::Go { flow, stream },
-        Verdict::Respond(response) => Reply::Respond(response),
-        Verdict::Kill => Reply::Kill,
-        Verdict::Discard => Reply::Discard,
-    }
 }

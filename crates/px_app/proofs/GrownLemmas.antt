@@ -7,7 +7,7 @@ use Rattle.px_event.specs.declared.ask.Hook.{Hook}
 use Rattle.px_event.specs.Trace.{Trace}
 use Rattle.px_outside.specs.Files.{Appends, AppendsPart, Contents, SameContents, Told}
 use Rattle.px_core.specs.declared.answerer.Answer.{Answer}
-use Rattle.px_core.specs.Answered.{Answers, LeavesFiles, Pending, at_change, at_first, at_hook, at_other, at_reply}
+use Rattle.px_core.specs.Answered.{Answers, LeavesFiles, Pending, at_change, at_first, at_hook, at_mark, at_other, at_release, at_reply}
 use Rattle.px_core.specs.Answers.{Answering, AnswererState, Failing, FilesMeaning}
 use Rattle.px_core.specs.Course.{AllAre, Change, Course, KeepsOwn, change}
 use Rattle.px_core.specs.Due.{Due}
@@ -292,14 +292,14 @@ module _ {S : Type 0} (answers : Answering S) (fails : Failing S) (is : S → Ty
 
   grown_over : (due : Due) (course : Course S) (reached : Printing) (made : List Append) → is course.first.own → SavedOver (Some to) reached course.changes made →
       (trace : Trace) (last : AnswererState S) (pending : Pending) → Answers answers due course trace last pending → GrownOver course.first last made
-  grown_over due course reached made so saved trace last pending (at_first c none) =
+  grown_over due course reached made so saved trace last pending (at_first c none no_operations) =
       subst (λ l. GrownOver last last l) (sym (none_saved (Some to) reached course.changes made saved none)) (record { so = so; grown = told_none to.path last.files.contents })
-  grown_over due course reached made so saved whole last pending (at_hook c trace next old new was conv hook flow given earlier before split free about answered) =
+  grown_over due course reached made so saved whole last pending (at_hook c trace next old new was conv hook flow given before split free about marked answered) =
       grown_one course.first old last made hook flow given answered (grown_over due course reached made so saved trace old was before)
   grown_over due course reached made so saved whole last pending (at_reply c trace next now was conv ask reply before split is_given) =
       grown_over due course reached made so saved trace last was before
-  grown_over due course reached made so saved whole last pending (at_other c trace next now was step before split quiet) =
-      grown_over due course reached made so saved trace last pending before
+  grown_over due course reached made so saved whole last pending (at_other c trace next now was step before split quiet marked) =
+      grown_over due course reached made so saved trace last was before
   grown_over due course reached made so saved whole last pending (at_change prefix next trace old new was before split) =
       let one : Change S = change whole old last in
       let P : AnswererState S → Type 0 = λ state. is state.own in
@@ -311,6 +311,18 @@ module _ {S : Type 0} (answers : Answering S) (fails : Failing S) (is : S → Ty
       let ended = last_saved (Some to) reached prefix.changes course.changes one made saved all in
       let k = grown_over due prefix ended.reached ended.so_far (subst P same so) ended.saved_so whole old pending before in
       subst M (sym same) (grown_more prefix.first old last ended.so_far ended.more made ended.joined owns.1 ended.broke k)
+  grown_over due course reached made so saved whole last pending (at_mark prefix next trace now was id before split) =
+      let P : AnswererState S → Type 0 = λ state. is state.own in
+      let R : List (Change S) → Type 0 = λ l. SavedOver (Some to) reached l made in
+      let M : AnswererState S → Type 0 = λ first. GrownOver first last made in
+      let same = ap (λ c. c.first) split in
+      subst M (sym same) (grown_over due prefix reached made (subst P same so) (subst R (ap (λ c. c.changes) split) saved) whole last pending before)
+  grown_over due course reached made so saved whole last pending (at_release prefix more trace next now was operation id hook draft before split_course for waits split) =
+      let P : AnswererState S → Type 0 = λ state. is state.own in
+      let R : List (Change S) → Type 0 = λ l. SavedOver (Some to) reached l made in
+      let M : AnswererState S → Type 0 = λ first. GrownOver first last made in
+      let same = ap (λ c. c.first) split_course in
+      subst M (sym same) (grown_over due prefix reached made (subst P same so) (subst R (ap (λ c. c.changes) split_course) saved) trace last was before)
 
   -- where all was said the file has grown by all that was appended
   pub grown_leaving : (due : Due) (first : AnswererState S) (changes : List (Change S)) (reached : Printing) (made : List Append) (IsSaid : Type 0) (files : FilesMeaning) (trace : Trace) →

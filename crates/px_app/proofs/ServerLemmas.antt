@@ -17,9 +17,10 @@ use Rattle.px_event.specs.Chain.{Stamp, Stamped, Timed, worked_off, at_its_step,
 use Rattle.px_event.specs.Layer.{Move}
 use Rattle.px_event.specs.Stands.{events_in, replies_in, due_by}
 use Rattle.px_event.specs.Trace.{Trace, Always, said_in}
-use Rattle.px_event.specs.View.{Atom, asked, dialled, questions, seen_of, seen_in, command_atoms, step_atoms, said_atoms}
+use Rattle.px_event.specs.View.{Atom, about, asked, byte, close, dialled, done, questions, seen_of, seen_in, command_atoms, step_atoms, said_atoms}
 use Rattle.px_core.specs.Due.{Due, IsWithinDue, due_at}
 use Rattle.px_core.specs.Calls.{calls}
+use Rattle.px_core.specs.Unmarked.{all_unmarked}
 use Rattle.px_app.specs.Servers.{server_of, dialled_in, CountsFrom, CountsServers}
 
 -- ---- numbers that count
@@ -143,6 +144,16 @@ atom_server _ = []
 abbrev servers_in : List Atom → List ℕ
 servers_in atoms = flat_map atom_server atoms
 
+-- marks are of no server
+servers_unmarked : (atoms : List Atom) → servers_in (all_unmarked atoms) ≡ servers_in atoms
+servers_unmarked [] = refl
+servers_unmarked (byte value ∷ atoms) = servers_unmarked atoms
+servers_unmarked (close ∷ atoms) = servers_unmarked atoms
+servers_unmarked (asked ask ∷ atoms) = servers_unmarked atoms
+servers_unmarked (dialled server address ∷ atoms) = ap (λ l. server ∷ l) (servers_unmarked atoms)
+servers_unmarked (done flow ∷ atoms) = servers_unmarked atoms
+servers_unmarked (about ask flow ∷ atoms) = servers_unmarked atoms
+
 command_servers : (command : Command) → servers_in (command_atoms questions command) ≡ dial_in command
 command_servers (commands.Send side text) = refl
 command_servers (commands.Close side) = refl
@@ -195,8 +206,10 @@ within_counts due counts trace within conv =
     let P : List ℕ → Type 0 = CountsFrom 0 in
     let all : dials_in (due_at due conv c.peer c.moves) ≡ dialled_in trace conv ++ servers_in prefix.0 =
     sym (seen_servers (due_at due conv c.peer c.moves))
+    ∙ (sym (servers_unmarked (seen_of questions (due_at due conv c.peer c.moves)))
     ∙ (ap servers_in prefix.1
-    ∙ (flat_map-append atom_server (seen_in questions conv trace) prefix.0 ∙ ap (λ l. l ++ servers_in prefix.0) (trace_servers conv trace))) in
+    ∙ (flat_map-append atom_server (all_unmarked (seen_in questions conv trace)) prefix.0
+    ∙ ap (λ l. l ++ servers_in prefix.0) (servers_unmarked (seen_in questions conv trace) ∙ trace_servers conv trace)))) in
     counts_front 0 (dialled_in trace conv) (servers_in prefix.0) (subst P all (counts_at due counts conv c.peer c.moves))
 
 -- at every moment

@@ -15,7 +15,7 @@ use Rattle.px_event.specs.View.{View, seen_of}
 use Rattle.px_outside.specs.declared.net.NetError.{NetError}
 use Rattle.px_outside.specs.declared.net.NetError.TheVariants as net
 use Rattle.px_core.specs.declared.router.Router.{Router}
-use Rattle.px_core.specs.Answered.{Answers, IsAnswered, LeavesFiles, Pending, nothing_pending, at_change, at_first, at_hook, at_other, at_reply}
+use Rattle.px_core.specs.Answered.{Answers, IsAnswered, LeavesFiles, Pending, nothing_pending, at_change, at_first, at_hook, at_mark, at_other, at_release, at_reply}
 use Rattle.px_core.specs.Answers.{Answering, AnswererState, Failing, FilesMeaning}
 use Rattle.px_core.specs.Course.{Change, Course, begins_at, change, with_change}
 use Rattle.px_core.specs.Due.{Due, due_in, IsServed, IsAllTold, IsWithinDue, EndsMet, OpenOnesWait}
@@ -263,7 +263,7 @@ empty_served answers due = record {
 
 pub empty_answered : {S : Type 0} (answers : Answering S) (due : Due) (first : AnswererState S) → IsAnswered answers due (begins_at first) []
 empty_answered answers due first =
-    record { made = begins_at first; front_of = whole_front (begins_at first); last = first; pending = nothing_pending; answered = at_first (begins_at first) refl }
+    record { made = begins_at first; front_of = whole_front (begins_at first); last = first; pending = nothing_pending; answered = at_first (begins_at first) refl refl }
 
 pub empty_told : (due : Due) → IsAllTold due []
 empty_told due conv view told = refl
@@ -273,7 +273,7 @@ empty_waits answers due conv ask is = absurd (let no : None ≡ Some ask = is in
 
 -- so nothing was answered
 pub empty_leaves : {S : Type 0} (answers : Answering S) (fails : Failing S) (due : Due) (first : AnswererState S) (W : Type 0) → LeavesFiles answers fails due (begins_at first) W first.files []
-empty_leaves answers fails due first W = leaves_all answers fails due (begins_at first) first nothing_pending first.files [] (at_first (begins_at first) refl) refl W
+empty_leaves answers fails due first W = leaves_all answers fails due (begins_at first) first nothing_pending first.files [] (at_first (begins_at first) refl refl) refl W
 
 -- the network does not listen, or memory ran out before anything was heard
 pub error_first : {S : Type 0} (answers : Answering S) (fails : Failing S) (due : Due) (first : AnswererState S) (to : Option SavesTo) (budget : ℕ) (start : Option (List ℕ)) (error : NetError) (status : Status)
@@ -349,13 +349,17 @@ no_change (x ∷ changes) one e = cc
 -- before anything was asked or changed the answerer is what it was at first
 answers_none : {S : Type 0} (answers : Answering S) (due : Due) (course : Course S) (now : AnswererState S) (pending : Pending) (trace : Trace) → Answers answers due course trace now pending →
     trace ≡ [] → course.changes ≡ [] → now ≡ course.first
-answers_none answers due course now pending trace (at_first c empty) none still = refl
-answers_none answers due course now pending whole (at_hook c trace next old new was conv hook flow given earlier before split free about answered) none still =
+answers_none answers due course now pending trace (at_first c empty no_operations) none still = refl
+answers_none answers due course now pending whole (at_hook c trace next old new was conv hook flow given before split free about marked answered) none still =
     absurd (no_step trace _ (sym none ∙ split))
 answers_none answers due course now pending whole (at_reply c trace next same was conv ask reply before split is_given) none still = absurd (no_step trace _ (sym none ∙ split))
-answers_none answers due course now pending whole (at_other c trace next same was step before split quiet) none still = absurd (no_step trace _ (sym none ∙ split))
+answers_none answers due course now pending whole (at_other c trace next same was step before split quiet marked) none still = absurd (no_step trace _ (sym none ∙ split))
 answers_none answers due course now pending whole (at_change made next trace old new was before split) none still =
     absurd (no_change made.changes (change whole old now) (sym still ∙ ap (λ c. c.changes) split))
+answers_none answers due course now pending whole (at_mark made next trace state was id before split) none still =
+    answers_none answers due made now pending whole before none (sym (ap (λ c. c.changes) split) ∙ still) ∙ sym (ap (λ c. c.first) split)
+answers_none answers due course now pending whole (at_release made more trace next state was operation id hook draft before split_course for waits split) none still =
+    absurd (no_step trace _ (sym none ∙ split))
 
 pub state_first : {C : Type 0} (standing : Standing C) (awaited : C → Option Ask) (number : C → ℕ) (made_due : C → List Move → List Command) {S : Type 0} (answers : Answering S)
     {A : Type 0} (state : A → S) (due : Due) (first : S) (files : FilesMeaning) (router : Router C A) →

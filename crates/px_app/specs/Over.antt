@@ -29,9 +29,9 @@ abbrev pub rests_of : Trace → List Trace
 rests_of [] = []
 rests_of (step ∷ rest) = rests (step ∷ []) rest
 
--- the course of an answerer that began so, by these changes
+-- the course of an answerer that began so, by these changes; no operator does anything
 abbrev pub course_from : {S : Type 0} → AnswererState S → List (Change S) → Course S
-course_from first changes = record { first = first; changes = changes }
+course_from first changes = record { first = first; changes = changes; operations = [] }
 
 abbrev pub behind_of : {S : Type 0} → Change S → Trace
 behind_of change = change.behind

@@ -1,5 +1,5 @@
 -- No hook is answered by a chain as a dial is.
-use Rattle.std.proofs.Common.{◌≡◌, ◌∙◌, ℕ, List, refl, ap}
+use Rattle.std.proofs.Common.{◌≡◌, ◌∙◌, ℕ, List, Option, refl, ap}
 use Rattle.px_message.specs.declared.flow.Flow.{Flow}
 use Rattle.px_event.specs.declared.ask.Hook.{Hook}
 use Rattle.px_event.specs.declared.reply.Reply.{Reply}
@@ -7,7 +7,8 @@ use Rattle.px_core.specs.declared.answerer.Answer.TheVariants as answer
 use Rattle.px_core.specs.declared.answerer.Verdict.{Verdict}
 use Rattle.px_core.specs.declared.answerer.Verdict.TheVariants as verdicts
 use Rattle.px_core.specs.Answers.{FilesMeaning}
-use Rattle.px_addons.specs.Chain.{ChainAnswers, Movers, reply_by, reply_of}
+use Rattle.px_core.specs.Drafts.{reply_by, reply_of}
+use Rattle.px_addons.specs.Chain.{ChainAnswers, Movers}
 use Rattle.px_addons.specs.Moving.{Moves}
 use Rattle.px_addons.specs.declared.rules.Rules.{Rules}
 use Rattle.px_chain.specs.Silent.{connects}
@@ -15,7 +16,7 @@ use Rattle.px_chain.specs.Silent.{connects}
 same_reply : (one other : Reply) → answer.Reply one ≡ answer.Reply other → one ≡ other
 same_reply one other e = cc
 
-no_verdict_connects : (verdict : Verdict) (flow : Flow) (stream : _) → connects (reply_by verdict flow stream) ≡ 0
+pub no_verdict_connects : (verdict : Verdict) (flow : Flow) (stream : Option ℕ) → connects (reply_by verdict flow stream) ≡ 0
 no_verdict_connects verdicts.Go flow stream = refl
 no_verdict_connects (verdicts.Respond response) flow stream = refl
 no_verdict_connects verdicts.Kill flow stream = refl

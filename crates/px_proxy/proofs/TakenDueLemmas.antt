@@ -1,6 +1,6 @@
 -- What a wire took begins what is due: what was sent begins it, nothing is sent to a side that was not opened, and so the wire
 -- took for each side what was sent to it.
-use Rattle.std.proofs.Common.{◌≡◌, ◌∙◌, ℕ, ◌≤◌, false, refl, ap, sym, subst, arith, List, [], ◌∷◌, ◌++◌, length, Option, Some, None}
+use Rattle.std.proofs.Common.{◌≡◌, ◌∙◌, inl, inr, ℕ, ◌≤◌, false, refl, ap, sym, subst, arith, List, [], ◌∷◌, ◌++◌, length, Option, Some, None}
 use Rattle.std.proofs.lemmas.List.{append-nil, append_assoc}
 use Rattle.px_text.specs.Prefix.{IsPrefixOf}
 use Rattle.px_message.specs.declared.address.Address.{Address}
@@ -12,17 +12,22 @@ use Rattle.px_event.specs.declared.side.Side.TheVariants.{Client, Server}
 use Rattle.px_event.specs.declared.step.Step.TheVariants as steps
 use Rattle.px_event.specs.Layer.{Move}
 use Rattle.px_event.specs.Trace.{Trace, Always}
-use Rattle.px_event.specs.View.{bytes_in, line, seen_of, seen_in}
+use Rattle.px_event.specs.View.{Atom, bytes_in, line, seen_of, seen_in}
 use Rattle.px_event.proofs.LineLemmas.{bytes_begin}
 use Rattle.px_core.specs.Calls.{calls}
 use Rattle.px_core.specs.Due.{Due, due_at, due_in, IsWithinDue, EndsMet}
 use Rattle.px_core.specs.Answers.{Answering, FilesMeaning}
+use Rattle.px_core.specs.Drafts.{ComesTo}
+use Rattle.px_core.specs.Unmarked.{all_unmarked}
+use Rattle.px_core.specs.declared.answerer.Answer.{Answer}
 use Rattle.px_core.specs.declared.answerer.Answer.TheVariants as answer
+use Rattle.px_core.proofs.UnmarkedLemmas.{bytes_unmarked}
 use Rattle.px_app.specs.Servers.{dialled_in, CountsServers}
 use Rattle.px_chain.specs.Silent.{connects, connections, NoAnswer}
 use Rattle.px_proxy.specs.TakenDue.{TakesWhatIsDue, AlwaysTakesWhatIsDue}
 use Rattle.px_proxy.proofs.SentLemmas.{seen_is_sent}
 use Rattle.px_proxy.proofs.DialLemmas.{dials_once, not_dialled}
+use Rattle.px_proxy.proofs.ChainLemmas.{no_verdict_connects}
 use Rattle.px_proxy.proofs.CallLemmas.{NoDialAnswered, connections_most, not_begun}
 use Rattle.px_wire.specs.Calls.{Calls, steps_of}
 use Rattle.px_wire.specs.Rules.{Obeys}
@@ -50,7 +55,19 @@ no_dial_answered : {S : Type 0} (answers : Answering S) → ConnectsNone answers
 no_dial_answered answers none due trace met prefix rest conv ask reply is =
     let step = steps.Answered conv ask reply in
     let m = met.at (prefix ++ step ∷ []) rest (is ∙ sym (append_assoc prefix (step ∷ []) rest)) prefix conv ask reply refl in
-    none m.hook m.flow m.old m.old_files m.new m.new_files reply m.answers_so
+    by m.given m.comes (λ said is_said. none m.hook m.flow m.old m.old_files m.new m.new_files said (subst (answers m.hook m.flow m.old m.old_files m.new m.new_files) is_said m.answers_so))
+  where
+    by : (given : Answer) → ComesTo given reply → ((said : Reply) → given ≡ answer.Reply said → connects said ≡ 0) → connects reply ≡ 0
+    by (answer.Reply said) comes here = ap connects (sym comes) ∙ here said refl
+    by (answer.Wait draft) (inl comes) here = ap connects comes ∙ no_verdict_connects draft.verdict draft.flow draft.stream
+    by (answer.Wait draft) (inr comes) here = ap connects comes
+
+-- marks are in no bytes
+bytes_within : (a b : List Atom) → IsPrefixOf (all_unmarked a) (all_unmarked b) → IsPrefixOf (bytes_in a) (bytes_in b)
+bytes_within a b within =
+    let P : List ℕ → Type 0 = λ l. IsPrefixOf l (bytes_in b) in
+    let Q : List ℕ → Type 0 = λ l. IsPrefixOf (bytes_in (all_unmarked a)) l in
+    subst P (bytes_unmarked a) (subst Q (bytes_unmarked b) (bytes_begin (all_unmarked a) (all_unmarked b) within))
 
 -- ---- nothing is sent to a side that was not opened
 
@@ -74,7 +91,7 @@ module _ {S : Type 0} (answers : Answering S) (none_connects : ConnectsNone answ
 
   pub sends_to_opened : (trace : Trace) → CountsServers trace → NoDialAnswered trace → IsWithinDue due trace → SendsToOpened trace
   sends_to_opened trace counts answered within conv side never =
-      let told = bytes_begin (seen_in (line side) conv trace) (due_in due (line side) conv trace) (within conv (line side) tt) in
+      let told = bytes_within (seen_in (line side) conv trace) (due_in due (line side) conv trace) (within conv (line side) tt) in
       sym (seen_is_sent side conv trace)
       ∙ prefix_none (bytes_in (seen_in (line side) conv trace)) (bytes_in (due_in due (line side) conv trace)) told (nothing_due trace counts answered conv side never)
 
@@ -90,7 +107,7 @@ module _ {S : Type 0} (answers : Answering S) (none_connects : ConnectsNone answ
   taken_due : (list : Calls) → Obeys list → Always CountsServers (steps_of list) → Always (EndsMet answers due) (steps_of list) → Always (IsWithinDue due) (steps_of list) → TakesWhatIsDue due list
   taken_due list obeys counts going within conv side =
       let taken = taken_is_sent list obeys (always_sends (steps_of list) counts going within) (dials_once (steps_of list) counts) conv side in
-      let told = bytes_begin (seen_in (line side) conv (steps_of list)) (due_in due (line side) conv (steps_of list)) (always_all (IsWithinDue due) (steps_of list) within conv (line side) tt) in
+      let told = bytes_within (seen_in (line side) conv (steps_of list)) (due_in due (line side) conv (steps_of list)) (always_all (IsWithinDue due) (steps_of list) within conv (line side) tt) in
       let seen : bytes_in (seen_in (line side) conv (steps_of list)) ≡ taken_for conv side list ++ taken.0 = seen_is_sent side conv (steps_of list) ∙ taken.1 in
       (taken.0 ++ told.0, told.1 ∙ (ap (λ (l : List ℕ). l ++ told.0) seen ∙ append_assoc (taken_for conv side list) taken.0 told.0))
 
