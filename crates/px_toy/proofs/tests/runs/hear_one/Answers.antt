@@ -1,7 +1,9 @@
+use Rattle.std.proofs.Common.{◌≡◌, Some, subst, sym}
 use Rattle.px_core.specs.Answered.{IsAnswered}
 use Rattle.px_core.specs.Due.{IsServed}
 use Rattle.px_toy.specs.EchoRuns.{by_turns}
 use Rattle.px_toy.proofs.EchoRunLemmas.{both_ways, runs_on, stands_served, told_so}
+use Rattle.px_core.proofs.AnsweredLemmas.{whole_front}
 use Rattle.px_core.proofs.ResultLemmas.{on_ok_map}
 use Rattle.px_toy.proofs.tests.runs.hear_one.Goals as goal
 
@@ -22,3 +24,10 @@ pub returns-clause-follows : goal.returns-clause-follows
 returns-clause-follows g c = λ due course runs.
     told_so (IsAnswered by_turns due course) _ c.work_off.new.net.trace
     (c.work_off.ensures.follows due course c.args.run.now.net.trace runs.makes runs.stands c.in-Ok.ensures.heard)
+
+pub returns-in_default-clause-follows : goal.returns-in_default-clause-follows
+returns-in_default-clause-follows g c = λ due course runs.
+    let same : Some c.next.new.self.trace ≡ Some c.args.run.now.net.trace = c.in_default.ensures.err in
+    let plain : c.next.new.self.trace ≡ c.args.run.now.net.trace = cc in
+    subst (λ t. IsAnswered by_turns due course t) (sym plain)
+    (record { made = course; front_of = whole_front course; last = _; pending = runs.stands.pending; answered = runs.stands.answered })
