@@ -16,10 +16,11 @@ use Rattle.px_message.specs.declared.flow.FlowId.{FlowId}
 use Rattle.px_core.specs.declared.answerer.Draft.{Draft}
 use Rattle.px_core.specs.declared.operation.Operation.{Operation}
 use Rattle.px_core.specs.Drafts.{ComesTo, released_by}
-use Rattle.px_core.specs.Answered.{GivenTo, Pending, with_given, with_pending, with_asked, IsNoAnswer, Answers, at_first, at_hook, at_reply, at_other, at_change, at_mark, at_release}
+use Rattle.px_core.specs.Answered.{GivenTo, Pending, RestsBy, with_given, with_pending, with_asked, IsNoAnswer, Answers, at_first, at_hook, at_reply, at_other, at_change, at_mark, at_release}
 use Rattle.px_core.specs.Answers.{Answering, AnswererState}
 use Rattle.px_core.specs.Course.{AllAre, Change, Course, IsFrontOf, KeepsOwn, change}
 use Rattle.px_core.specs.Due.{Due, IsAskedLast}
+use Rattle.px_core.specs.Hooks.{IsAllAnswered, open_hook}
 use Rattle.px_core.specs.Kind.{KeepsKind, LeavesAlone, AllLeaveAlone, IsOfKind, EndsOfKind}
 use Rattle.px_core.proofs.CourseLemmas.{begins_so, last_is, made_are}
 use Rattle.px_core.proofs.AnsweredLemmas.{comes_released, operated_front, pending_here, pending_other}
@@ -182,3 +183,18 @@ module _ {S : Type 0} (answers : Answering S) (due : Due) (is : S → Type 0) (g
       Answers answers due made trace now pending → Kept trace now pending
   kept_in course made prefix begins stay trace now pending a =
       kept made (begins_so is course made prefix begins) (made_are (KeepsOwn is) course made prefix stay) trace now pending a
+
+  -- where no answer of the kind is to wait, every hook is answered at a rest
+  pub none_waits : ((hook : Hook) (flow : Flow) (draft : Draft) → gives hook flow (answer.Wait draft) → ⊥) → (course : Course S) → is course.first.own → AllAre (KeepsOwn is) course.changes →
+      (trace : Trace) → RestsBy answers due course trace → IsAllAnswered trace
+  none_waits none course begins stay trace rests conv = by (open_hook conv trace) refl
+    where
+      all : Kept trace rests.now rests.pending
+      all = kept_in course rests.made rests.front_of begins stay trace rests.now rests.pending rests.answered
+
+      by : (hook : Option Ask) → open_hook conv trace ≡ hook → open_hook conv trace ≡ None
+      by None opened = opened
+      by (Some ask) opened =
+          let given = rests.waits conv ask opened in
+          let k = all.given conv (record { ask = ask; answer = answer.Wait given.0 }) given.1 in
+          absurd (none k.hook k.flow given.0 k.gives_so)

@@ -7,6 +7,7 @@ pub mod AskLemmas
 pub mod CallLemmas
 pub mod ChainNamedLemmas
 pub mod HearLemmas
+pub mod HeardRunLemmas
 pub mod HookLemmas
 pub mod KindLemmas
 pub mod LeavingLemmas
@@ -19,6 +20,7 @@ pub mod RouteLemmas
 pub mod RunLemmas
 pub mod RunsLemmas
 pub mod SideLemmas
+pub mod StandsLemmas
 pub mod TableLemmas
 pub mod ServedLemmas
 pub mod WorkLemmas

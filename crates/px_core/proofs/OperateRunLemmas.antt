@@ -1,8 +1,6 @@
 -- An operation, and the steps of it that were told.
-use Rattle.std.proofs.Common.{◌≡◌, ◌≢◌, ℕ, List, [], ◌∷◌, ◌++◌, Option, Some, None, refl, ap, sym, ◌∙◌, subst, append_assoc, IfErr, OnOk, OnErr, Result, Ok, Err}
+use Rattle.std.proofs.Common.{◌≡◌, ℕ, List, [], ◌++◌, Option, Some, None, refl, ap, sym, ◌∙◌, subst, append_assoc, IfErr, OnErr, Result, Ok, Err}
 use Rattle.std.proofs.lemmas.List.{append-nil}
-use Rattle.std.specs.List.{flat_map}
-use Rattle.std.proofs.lemmas.Grind.{flat_map-append}
 use Rattle.px_text.specs.Prefix.{IsPrefixOf}
 use Rattle.px_message.specs.declared.flow.Flow.{Flow}
 use Rattle.px_event.specs.declared.ask.Ask.{Ask}
@@ -19,7 +17,7 @@ use Rattle.px_core.specs.Course.{Course, with_operation}
 use Rattle.px_core.specs.Due.{Due, IsServed}
 use Rattle.px_core.specs.Held.{AllOf}
 use Rattle.px_core.specs.Router.{AllOfAny, IsNow, Operates, TableStands, caused_in, operated_on}
-use Rattle.px_core.specs.Run.{done_of, Tells, AddsSteps, AllTellable, BreaksOff, ToldPart}
+use Rattle.px_core.specs.Run.{AddsSteps, AllTellable, BreaksOff, ToldPart}
 use Rattle.px_core.proofs.AnsweredLemmas.{answered_front, operated_front, whole_front}
 use Rattle.px_core.proofs.RunLemmas.{all_tellable, none_front, own_front, served_front}
 
@@ -30,10 +28,6 @@ if_err_of (Err e) P all a = λ p. all a
 pub if_err_all : {T E B : Type 0} (result : Result T E) (P : E → Type 0) → B → IfErr result (λ e. P e → B)
 if_err_all (Ok t) P b = tt
 if_err_all (Err e) P b = λ p. b
-
-pub on_ok_each : {T E : Type 0} (result : Result T E) {X : Type 0} {A P : X → Type 0} {Q : Type 0} → (((x : X) → A x → P x) → Q) → ((x : X) → A x → OnOk result (P x)) → OnOk result Q
-on_ok_each (Ok t) all each = all each
-on_ok_each (Err e) all each = tt
 
 any_none : (at : Option ℕ) → AllOfAny at []
 any_none None = refl
@@ -46,36 +40,6 @@ any_front (Some conv) prefix list (rest, whole) all = let P : List Step → Type
 pub any_tellable : (at : Option ℕ) (list : List Step) → AllOfAny at list → AllTellable list
 any_tellable None list none = let P : List Step → Type 0 = AllTellable in subst P (sym none) tt
 any_tellable (Some conv) list all = all_tellable conv list all
-
--- the flows that were finished before, and those that these steps finish
-pub taken_all : (trace list : Trace) (now : Option Trace) (before after : List Flow) → before ≡ flat_map done_of trace → now ≡ Some (trace ++ list) → after ≡ before ++ flat_map done_of list →
-    Tells (λ told. after ≡ flat_map done_of told) trace now
-taken_all trace list now before after same is taken = record {
-  more = list;
-  is = is;
-  holds = taken ∙ (ap (λ l. l ++ flat_map done_of list) same ∙ sym (flat_map-append done_of trace list));
-}
-
-pub taken_front : (trace list : Trace) (now : Option Trace) (before after : List Flow) → before ≡ flat_map done_of trace → ToldPart list trace now before after →
-    Tells (λ told. IsPrefixOf after (flat_map done_of told)) trace now
-taken_front trace list now before after same t = record {
-  more = t.given;
-  is = t.is;
-  holds = (
-    t.handed.0,
-    flat_map-append done_of trace t.given
-        ∙ (ap (λ l. flat_map done_of trace ++ l) t.handed.1
-        ∙ (sym (append_assoc (flat_map done_of trace) t.taken t.handed.0)
-        ∙ ap (λ l. l ++ t.handed.0) (ap (λ l. l ++ t.taken) (sym same) ∙ sym t.grown))),
-  );
-}
-
-pub taken_none : (trace : Trace) (now : Option Trace) (taken : List Flow) → taken ≡ flat_map done_of trace → now ≡ Some trace → Tells (λ told. IsPrefixOf taken (flat_map done_of told)) trace now
-taken_none trace now taken same is = record {
-  more = [];
-  is = is ∙ ap Some (sym (append-nil trace));
-  holds = ([], ap (flat_map done_of) (append-nil trace) ∙ (sym same ∙ sym (append-nil taken)));
-}
 
 module _ {C : Type 0} (standing : Standing C) (awaited : C → Option Ask) (number : C → ℕ) (made_due : C → List Move → List Command) {S : Type 0} (answers : Answering S) where
   operated_stands : (moment : ℕ) (operation : Operation) (before after : Table C) {old new : AnswererState S} (empty given : List Step) → empty ≡ [] →

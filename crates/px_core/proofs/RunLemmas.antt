@@ -20,15 +20,13 @@ use Rattle.px_event.specs.Trace.{Trace}
 use Rattle.px_core.specs.declared.news.News.{News}
 use Rattle.px_core.specs.declared.news.News.TheVariants as news
 use Rattle.px_core.specs.declared.table.Table.{Table}
-use Rattle.px_core.specs.Answered.{IsAnswered, LeavesFiles, at_other}
-use Rattle.px_core.specs.Answers.{Answering, AnswererState, Failing, FilesAfter, FilesMeaning}
+use Rattle.px_core.specs.Answers.{Answering, AnswererState}
 use Rattle.px_core.specs.Calls.{number_end, addressed}
 use Rattle.px_core.specs.Course.{Course}
 use Rattle.px_core.specs.Due.{Due, IsServed}
 use Rattle.px_core.specs.Held.{IsOf, AllOf}
 use Rattle.px_core.specs.declared.router.Router.{Router}
 use Rattle.px_core.specs.Router.{found, TableStands, Admits, Routes}
-use Rattle.px_core.proofs.AnsweredLemmas.{answered_front, whole_front}
 use Rattle.px_core.specs.Run.{begun_by, done_of, Tells, IsTellable, AllTellable, ToldPart, IsOfHeard, TellsOfHeard, KeepsOthers}
 
 -- steps of a conversation are said or noted
@@ -132,85 +130,41 @@ pub at_err : {T E P Q : Type 0} (result : Result T E) (all : P → Q) → OnErr 
 at_err (Ok t) all p = tt
 at_err (Err e) all p = all p
 
--- a prefix of the steps was told
-pub served_part : {S : Type 0} (answers : Answering S) (due : Due) (trace list : Trace) (now : Option Trace) (before after : List Flow) → IsServed answers due (trace ++ list) →
-    ToldPart list trace now before after → Tells (IsServed answers due) trace now
-served_part answers due trace list now before after served t = record {
-  more = t.given;
-  is = t.is;
-  holds =
-      let P : Trace → Type 0 = IsServed answers due in
-      served_front answers due (trace ++ t.given) t.prefix.0 (subst P (ap (λ l. trace ++ l) t.prefix.1 ∙ sym (append_assoc trace t.given t.prefix.0)) served);
-}
-
-pub served_none : {S : Type 0} (answers : Answering S) (due : Due) (trace : Trace) (now : Option Trace) → IsServed answers due trace → now ≡ Some trace → Tells (IsServed answers due) trace now
-served_none answers due trace now served is =
-    let P : Trace → Type 0 = IsServed answers due in
-    record { more = []; is = is ∙ ap Some (sym (append-nil trace)); holds = subst P (sym (append-nil trace)) served }
-
--- so the answerer came over what was told
-pub answered_part : {S : Type 0} (answers : Answering S) (due : Due) (course : Course S) (trace list : Trace) (now : Option Trace) (before after : List Flow) →
-    IsAnswered answers due course (trace ++ list) → ToldPart list trace now before after → Tells (IsAnswered answers due course) trace now
-answered_part answers due course trace list now before after all t = record {
-  more = t.given;
-  is = t.is;
-  holds =
-      answered_front answers due course (trace ++ t.given) t.prefix.0 (trace ++ list)
-      (ap (λ l. trace ++ l) t.prefix.1 ∙ sym (append_assoc trace t.given t.prefix.0)) all;
-}
-
--- and over what was heard where no step was told
-pub answered_none : {S : Type 0} (answers : Answering S) (due : Due) (course : Course S) (trace : Trace) (moment : ℕ) (what : Heard) (now : Option Trace) →
-    IsAnswered answers due course trace → now ≡ Some (trace ++ steps.Heard moment what ∷ []) → Tells (IsAnswered answers due course) (trace ++ steps.Heard moment what ∷ []) now
-answered_none answers due course trace moment what now a is =
-    let there = trace ++ steps.Heard moment what ∷ [] in
-    let P : Trace → Type 0 = IsAnswered answers due course in
-    record {
-      more = [];
-      is = is ∙ ap Some (sym (append-nil there));
-      holds = subst P (sym (append-nil there)) (record {
-        made = a.made;
-        front_of = a.front_of;
-        last = a.last;
-        pending = a.pending;
-        answered = at_other a.made trace there a.last a.pending (steps.Heard moment what) a.answered refl tt tt;
-      });
-    }
+pub on_ok_each : {T E : Type 0} (result : Result T E) {X : Type 0} {A P : X → Type 0} {Q : Type 0} → (((x : X) → A x → P x) → Q) → ((x : X) → A x → OnOk result (P x)) → OnOk result Q
+on_ok_each (Ok t) all each = all each
+on_ok_each (Err e) all each = tt
 
 pub done_next : (prefix : List Step) (x : Step) → flat_map done_of (prefix ++ x ∷ []) ≡ flat_map done_of prefix ++ done_of x
 done_next prefix x = flat_map-append done_of prefix (x ∷ []) ∙ ap (λ l. flat_map done_of prefix ++ l) (append-nil (done_of x))
 
-pub done_behind : (trace list : Trace) (moment : ℕ) (what : Heard) → flat_map done_of ((trace ++ steps.Heard moment what ∷ []) ++ list) ≡ flat_map done_of trace ++ flat_map done_of list
-done_behind trace list moment what =
-    flat_map-append done_of (trace ++ steps.Heard moment what ∷ []) list
-    ∙ ap (λ l. l ++ flat_map done_of list) (flat_map-append done_of trace (steps.Heard moment what ∷ []) ∙ append-nil (flat_map done_of trace))
+-- the flows that were finished before, and those that these steps finish
+pub taken_all : (trace list : Trace) (now : Option Trace) (before after : List Flow) → before ≡ flat_map done_of trace → now ≡ Some (trace ++ list) → after ≡ before ++ flat_map done_of list →
+    Tells (λ told. after ≡ flat_map done_of told) trace now
+taken_all trace list now before after same is taken = record {
+  more = list;
+  is = is;
+  holds = taken ∙ (ap (λ l. l ++ flat_map done_of list) same ∙ sym (flat_map-append done_of trace list));
+}
 
--- of the flows that were finished before, and of those that these steps finish, a prefix was handed on
-pub handed_part : (trace list : Trace) (moment : ℕ) (what : Heard) (now : Option Trace) (before after : List Flow) → before ≡ flat_map done_of trace →
-    ToldPart list (trace ++ steps.Heard moment what ∷ []) now before after →
-    Tells (λ told. IsPrefixOf after (flat_map done_of told)) (trace ++ steps.Heard moment what ∷ []) now
-handed_part trace list moment what now before after same t = record {
+pub taken_front : (trace list : Trace) (now : Option Trace) (before after : List Flow) → before ≡ flat_map done_of trace → ToldPart list trace now before after →
+    Tells (λ told. IsPrefixOf after (flat_map done_of told)) trace now
+taken_front trace list now before after same t = record {
   more = t.given;
   is = t.is;
   holds = (
     t.handed.0,
-    done_behind trace t.given moment what
+    flat_map-append done_of trace t.given
         ∙ (ap (λ l. flat_map done_of trace ++ l) t.handed.1
         ∙ (sym (append_assoc (flat_map done_of trace) t.taken t.handed.0)
         ∙ ap (λ l. l ++ t.handed.0) (ap (λ l. l ++ t.taken) (sym same) ∙ sym t.grown))),
   );
 }
 
--- where no step was told, nothing was handed on
-pub handed_none : (trace : Trace) (moment : ℕ) (what : Heard) (now : Option Trace) (taken : List Flow) → taken ≡ flat_map done_of trace →
-    now ≡ Some (trace ++ steps.Heard moment what ∷ []) → Tells (λ told. IsPrefixOf taken (flat_map done_of told)) (trace ++ steps.Heard moment what ∷ []) now
-handed_none trace moment what now taken same is = record {
+pub taken_none : (trace : Trace) (now : Option Trace) (taken : List Flow) → taken ≡ flat_map done_of trace → now ≡ Some trace → Tells (λ told. IsPrefixOf taken (flat_map done_of told)) trace now
+taken_none trace now taken same is = record {
   more = [];
-  is = is ∙ ap Some (sym (append-nil (trace ++ steps.Heard moment what ∷ [])));
-  holds = (
-    [],
-    done_behind trace [] moment what ∙ ap (λ l. l ++ []) (sym same),
-  );
+  is = is ∙ ap Some (sym (append-nil trace));
+  holds = ([], ap (flat_map done_of) (append-nil trace) ∙ (sym same ∙ sym (append-nil taken)));
 }
 
 pub own_front : (conv : ℕ) (prefix rest : List Step) → AllOf conv (prefix ++ rest) → AllOf conv prefix
@@ -309,35 +263,3 @@ pub tells_by : {T E : Type 0} (result : Result T E) (what : Heard) (trace list :
     OnOk result (now ≡ Some (trace ++ list)) → OnErr result (ToldPart list trace now before after) → TellsOfHeard what trace now
 tells_by (Ok t) what trace list now before after of all part = record { more = list; is = all; own = of }
 tells_by (Err e) what trace list now before after of all part = record { more = part.given; is = part.is; own = front_of_heard what part.given list part.prefix of }
-
--- a router that stands for what is told came there by its answers
-pub tells_answered : {C : Type 0} (standing : Standing C) (awaited : C → Option Ask) (number : C → ℕ) (made_due : C → List Move → List Command) {S : Type 0} (answers : Answering S)
-    (due : Due) {course : Course S} {now : AnswererState S} (table : Table C) (trace : Trace) (told : Option Trace) → Tells (TableStands standing awaited number made_due answers due course now table) trace told →
-    Tells (IsAnswered answers due course) trace told
-tells_answered standing awaited number made_due answers due {course} {now} table trace told t = record {
-  more = t.more;
-  is = t.is;
-  holds = record { made = course; front_of = whole_front course; last = now; pending = t.holds.pending; answered = t.holds.answered };
-}
-
--- Behind the trace before what was heard the answerer was asked what it was asked, whatever of that was told.
-pub leaves_told : {C : Type 0} (standing : Standing C) (awaited : C → Option Ask) (number : C → ℕ) (made_due : C → List Move → List Command) {S : Type 0} (answers : Answering S)
-    (fails : Failing S) (due : Due) (course : Course S) (now : AnswererState S) (files : FilesMeaning) (table : Table C) (trace : Trace) (moment : ℕ) (what : Heard) (told : Option Trace) →
-    TableStands standing awaited number made_due answers due course now table trace → FilesAfter answers fails now files →
-    TellsOfHeard what (trace ++ steps.Heard moment what ∷ []) told → Tells (LeavesFiles answers fails due course ⊥ files) (trace ++ steps.Heard moment what ∷ []) told
-leaves_told standing awaited number made_due answers fails due course now files table trace moment what told stands after t = record {
-  more = t.more;
-  is = t.is;
-  holds = record {
-    prefix = trace;
-    rest = steps.Heard moment what ∷ t.more;
-    split = append_assoc trace (steps.Heard moment what ∷ []) t.more;
-    made = course;
-    front_of = whole_front course;
-    last = now;
-    pending = stands.pending;
-    answered = stands.answered;
-    after = after;
-    whole = λ no. absurd no;
-  };
-}

@@ -19,6 +19,7 @@ use Rattle.px_core.specs.Answers.{Answering, AnswererState, Failing, FilesAfter,
 use Rattle.px_core.specs.Course.{Course, Operated, IsFrontOf, is_marked, with_change, with_operation}
 use Rattle.px_core.specs.Drafts.{answers_for, released_by}
 use Rattle.px_core.specs.Due.{Due, IsAskedLast}
+use Rattle.px_core.specs.Hooks.{open_hook}
 use Rattle.px_core.specs.declared.answerer.Draft.{Draft}
 use Rattle.px_core.specs.declared.operation.Operation.{Operation}
 use Rattle.px_core.specs.declared.operation.Operation.TheVariants as operations
@@ -109,6 +110,15 @@ pub record IsAnswered {S : Type 0} (answers : Answering S) (due : Due) (course :
   pub last : AnswererState S
   pub pending : Pending
   pub answered : Answers answers due made trace last pending
+
+-- At a rest of a trace: the answerer came over it with the first changes of the course, and each hook that is open was let wait, with this draft.
+pub record RestsBy {S : Type 0} (answers : Answering S) (due : Due) (course : Course S) (trace : Trace) : Type 0 where
+  pub made : Course S
+  pub front_of : IsFrontOf course made
+  pub now : AnswererState S
+  pub pending : Pending
+  pub answered : Answers answers due made trace now pending
+  pub waits : (conv : ℕ) (ask : Ask) → open_hook conv trace ≡ Some ask → (draft : Draft) × (pending.given conv ≡ Some (record { ask = ask; answer = answer.Wait draft }))
 
 -- What files mean at the end of a trace that came by this course. All that was answered stands in the trace, all changes were made, and the
 -- files are what the last answer or change left; or, where that is not said, behind some prefix of the trace more was answered than the

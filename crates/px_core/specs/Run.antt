@@ -76,6 +76,25 @@ pub record KeepsOthers {C A : Type 0} (what : Heard) (before after : Router C A)
   pub others : (conv other : ℕ) (news : News) → addressed what ≡ Some (conv, news) → conv ≢ other → found after.table other ≡ found before.table other
   pub none : addressed what ≡ None → after.table ≡ before.table
 
+-- Steps that follow from something heard: those of the conversation that was heard alone. The fact holds of the trace with them, and where the network
+-- tells its steps, it tells these too.
+pub record AddsHeard (P : Trace → Type 0) (what : Heard) (trace : Trace) (before after : Option Trace) : Type 0 where
+  pub more : List Step
+  pub own : IsOfHeard what more
+  pub holds : P (trace ++ more)
+  pub tells : (told : Trace) → before ≡ Some told → after ≡ Some (told ++ more)
+
+-- Something heard that memory ran out in: what was told of the steps that follow. The trace with them is served, and the answerer came over it by the
+-- course.
+pub record BreaksHeard {S : Type 0} (answers : Answering S) (fails : Failing S) (due : Due) (course : Course S) (what : Heard) (trace told : Trace) (now : Option Trace)
+    (files : FilesMeaning) : Type 0 where
+  pub more : List Step
+  pub own : IsOfHeard what more
+  pub is : now ≡ Some (told ++ more)
+  pub served : IsServed answers due (trace ++ more)
+  pub follows : IsAnswered answers due course (trace ++ more)
+  pub leaves : LeavesFiles answers fails due course ⊥ files (trace ++ more)
+
 -- Steps that an operation added: those of the conversation whose hook it answers. The fact holds of the trace with them, and where the network
 -- tells its steps, it tells these too.
 pub record AddsSteps (P : Trace → Type 0) (operation : Operation) (trace : Trace) (before after : Option Trace) : Type 0 where

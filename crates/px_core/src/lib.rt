@@ -41,7 +41,10 @@ pub use answerer::{Answer, Answerer, Draft, NoSuchAddon, Verdict};
 pub use conversation::Conversation;
 pub use gates::{Gates, LayerMaker};
 pub use kind::Kind;
-pub use laws::{an_end_lasts, answers_are_of_their_kind, no_hook_is_asked_behind_its_end};
+pub use laws::{
+    an_end_lasts, answers_are_of_their_kind, no_hook_is_asked_behind_its_end, no_hook_waits,
+    nobody_hears, what_waits_is_drafted,
+};
 pub use maker::{Maker, Taker};
 pub use numbered::Numbered;
 pub use operation::{OperateError, Operation};

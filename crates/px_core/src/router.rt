@@ -15,6 +15,7 @@ ghost use Rattle.px_core.specs.Due.{Due};
 ghost use Rattle.px_core.specs.Held.{IsHeardNews};
 ghost use Rattle.px_core.specs.Addons.{has_name, without_first};
 ghost use Rattle.px_core.specs.Answers.{AnswererState};
+ghost use Rattle.px_core.specs.Calls.{calls};
 ghost use Rattle.px_core.specs.Course.{Course, begins_at};
 ghost use Rattle.px_core.specs.Drafts.{answers_for};
 ghost use Rattle.px_core.specs.Held.{IsReleased};
@@ -66,9 +67,11 @@ impl<C: Owes, A: Answerer> Router<C, A> {
         }
     }
 
-    /// Whether a conversation of this number was admitted.
+    /// Whether a conversation of this number was admitted: exactly where it has begun in the trace that the router stands for.
     pub fn knows(&self, conv: u32) -> bool
-        ensures { result ≡ is_known self.now conv }
+        ensures known { result ≡ is_known self.now conv }
+        ensures begun { (due : Due) (course : Course A.State) (files : FilesMeaning) (trace : Trace) → RouterStands C.stands C.awaited C.number C.due A.answers A.state due course files self.now trace →
+            result ≡ is_some (calls conv trace).peer }
     {
         self.table.place(conv).is_some()
     }

@@ -10,18 +10,17 @@ ghost use Rattle.px_event.specs.Layer.{Move};
 ghost use Rattle.px_event.specs.Trace.{Trace};
 ghost use Rattle.px_event.specs.declared.step.Step.TheVariants.{Heard as WasHeard};
 ghost use Rattle.px_outside.specs.Net.{IsNote};
-ghost use Rattle.px_core.specs.Answered.{IsAnswered, LeavesFiles};
 ghost use Rattle.px_core.specs.Answers.{ByAnswers, FilesAfter, files_meaning, state_of};
 ghost use Rattle.px_core.specs.Addons.{without_first};
 ghost use Rattle.px_core.specs.Course.{Course};
-ghost use Rattle.px_core.specs.Due.{Due, IsServed};
+ghost use Rattle.px_core.specs.Due.{Due};
 ghost use Rattle.px_core.specs.Router.{HoldsNoEnded, RouterStands, IsNow, IsRouted, IsRefused, MovesBy, BeginsNone, conv_of, is_known, found, operated_on, refusal};
 ghost use Rattle.px_core.specs.declared.operation.OperateError.TheVariants.{NoMemory as RanOut};
 ghost use Rattle.px_core.specs.declared.operation.Operation.TheVariants.{DropAddon as Drops};
 ghost use Rattle.px_core.specs.Calls.{addressed};
 ghost use Rattle.px_core.specs.Held.{AllOf};
 ghost use Rattle.px_core.specs.declared.news.News.TheVariants.{Begun as HasBegun};
-ghost use Rattle.px_core.specs.Run.{IsDueOf, begun_by, done_of, Tells, IsTellable, AllTellable, ToldPart, IsOfHeard, TellsOfHeard, KeepsOthers, AddsSteps, BreaksOff};
+ghost use Rattle.px_core.specs.Run.{IsDueOf, begun_by, done_of, Tells, IsTellable, AllTellable, ToldPart, IsOfHeard, TellsOfHeard, KeepsOthers, AddsHeard, AddsSteps, BreaksHeard, BreaksOff};
 
 use crate::news::NUMBER_END;
 use crate::{Answerer, Maker, OperateError, Operation, Owes, Router, Taker};
@@ -30,11 +29,14 @@ use px_outside::{Files, Net};
 use px_text::NoMemory;
 use std::alloc::Global;
 
-/// Works off one thing that the network has just told: makes and admits the conversation that it begins, or hands it to
+/// Works off one thing heard, which the network has just told: makes and admits the conversation that it begins, or hands it to
 /// its own; then says and notes each step in its order, and hands on each finished flow. Each step is of the conversation
-/// that was heard alone, and nothing changes of another. In every exit the answerer came over the trace that is told by a course:
+/// that was heard alone, and nothing changes of another. In every exit the answerer came over the trace with what was heard by a course:
 /// from what it was at first, at each hook by its own relation, and else by the changes of the course; and files are what its
 /// answers made of them, each from the state that the one before left.
+///
+/// What the network tells may have more than the trace that the router stands for: what was said to numbers that no conversation has. The same steps
+/// are added to both.
 ///
 /// `NoMemory` where memory ran out: in the router, the maker, the network or the taker. The trace is served all the same,
 /// the flows that were handed on are a prefix of those that it finishes, and the router is poisoned: it answers out of memory
@@ -51,31 +53,22 @@ pub fn work_off<C: Owes, A: Answerer, M: Maker<C>, F: Files, N: Net, T: Taker>(
 ) -> Result<(), NoMemory>
     requires sound { IsRouted C.stands C.awaited C.number C.due A.answers router.old }
     ensures ok { (due : Due) (course : Course A.State) (trace : Trace) → IsDueOf (M.due maker.old) due → RouterStands C.stands C.awaited C.number C.due A.answers A.state due course (files_meaning F.contents F.calls F.misses F.faults F.losses files.old) router.old trace →
-        N.trace net.old ≡ Some (trace ++ WasHeard moment heard ∷ []) →
-        OnOk result (Tells (RouterStands C.stands C.awaited C.number C.due A.answers A.state due course (files_meaning F.contents F.calls F.misses F.faults F.losses files.new) router.new) (trace ++ WasHeard moment heard ∷ []) (N.trace net.new)) }
-    ensures stands { (due : Due) (course : Course A.State) (trace : Trace) → IsDueOf (M.due maker.old) due → RouterStands C.stands C.awaited C.number C.due A.answers A.state due course (files_meaning F.contents F.calls F.misses F.faults F.losses files.old) router.old trace →
-        OnOk result ((more : Trace) × RouterStands C.stands C.awaited C.number C.due A.answers A.state due course (files_meaning F.contents F.calls F.misses F.faults F.losses files.new) router.new ((trace ++ WasHeard moment heard ∷ []) ++ more)) }
-    ensures taken { (trace : Trace) → N.trace net.old ≡ Some (trace ++ WasHeard moment heard ∷ []) → T.taken taker.old ≡ flat_map done_of trace →
-        OnOk result (Tells (λ told. T.taken taker.new ≡ flat_map done_of told) (trace ++ WasHeard moment heard ∷ []) (N.trace net.new)) }
+        OnOk result (AddsHeard (RouterStands C.stands C.awaited C.number C.due A.answers A.state due course (files_meaning F.contents F.calls F.misses F.faults F.losses files.new) router.new) heard (trace ++ WasHeard moment heard ∷ []) (N.trace net.old) (N.trace net.new)) }
+    ensures breaks { (due : Due) (course : Course A.State) (trace told : Trace) → IsDueOf (M.due maker.old) due → RouterStands C.stands C.awaited C.number C.due A.answers A.state due course (files_meaning F.contents F.calls F.misses F.faults F.losses files.old) router.old trace → N.trace net.old ≡ Some told →
+        OnErr result (BreaksHeard A.answers A.fails due course heard (trace ++ WasHeard moment heard ∷ []) told (N.trace net.new) (files_meaning F.contents F.calls F.misses F.faults F.losses files.new)) }
+    ensures taken { (trace : Trace) → N.trace net.old ≡ Some trace → T.taken taker.old ≡ flat_map done_of trace →
+        OnOk result (Tells (λ told. T.taken taker.new ≡ flat_map done_of told) trace (N.trace net.new)) }
     ensures due { (number : ℕ) (at : PeerAddress) (moves : List Move) → M.due maker.new number at moves ≡ M.due maker.old number at moves }
     ensures listening { N.listening net.new ≡ N.listening net.old }
     ensures faults { N.faults net.new ≡ N.faults net.old }
     ensures own { (trace : Trace) → N.trace net.old ≡ Some trace → TellsOfHeard heard trace (N.trace net.new) }
     ensures others { OnOk result (KeepsOthers heard router.old router.new) }
-    ensures err { (due : Due) (course : Course A.State) (trace : Trace) → IsDueOf (M.due maker.old) due → RouterStands C.stands C.awaited C.number C.due A.answers A.state due course (files_meaning F.contents F.calls F.misses F.faults F.losses files.old) router.old trace →
-        N.trace net.old ≡ Some (trace ++ WasHeard moment heard ∷ []) →
-        OnErr result (Tells (IsServed A.answers due) (trace ++ WasHeard moment heard ∷ []) (N.trace net.new)) }
-    ensures taken_part { (trace : Trace) → N.trace net.old ≡ Some (trace ++ WasHeard moment heard ∷ []) → T.taken taker.old ≡ flat_map done_of trace →
-        OnErr result (Tells (λ told. IsPrefixOf (T.taken taker.new) (flat_map done_of told)) (trace ++ WasHeard moment heard ∷ []) (N.trace net.new)) }
-    ensures follows { (due : Due) (course : Course A.State) (trace : Trace) → IsDueOf (M.due maker.old) due → RouterStands C.stands C.awaited C.number C.due A.answers A.state due course (files_meaning F.contents F.calls F.misses F.faults F.losses files.old) router.old trace →
-        N.trace net.old ≡ Some (trace ++ WasHeard moment heard ∷ []) → Tells (IsAnswered A.answers due course) (trace ++ WasHeard moment heard ∷ []) (N.trace net.new) }
+    ensures taken_part { (trace : Trace) → N.trace net.old ≡ Some trace → T.taken taker.old ≡ flat_map done_of trace →
+        OnErr result (Tells (λ told. IsPrefixOf (T.taken taker.new) (flat_map done_of told)) trace (N.trace net.new)) }
     ensures poisoned { OnErr result (router.new.poisoned ≡ true) }
     ensures again { router.old.poisoned ≡ true → IsErr result × (N.trace net.new ≡ N.trace net.old) × (T.taken taker.new ≡ T.taken taker.old) }
     ensures files { FilesAfter A.answers A.fails (state_of A.state F.contents F.calls F.misses F.faults F.losses router.old.answerer files.old) (files_meaning F.contents F.calls F.misses F.faults F.losses files.new) }
     ensures given { OnOk result (ByAnswers A.answers (state_of A.state F.contents F.calls F.misses F.faults F.losses router.old.answerer files.old) (state_of A.state F.contents F.calls F.misses F.faults F.losses router.new.answerer files.new)) }
-    ensures leaves { (due : Due) (course : Course A.State) (trace : Trace) → IsDueOf (M.due maker.old) due → RouterStands C.stands C.awaited C.number C.due A.answers A.state due course (files_meaning F.contents F.calls F.misses F.faults F.losses files.old) router.old trace →
-        N.trace net.old ≡ Some (trace ++ WasHeard moment heard ∷ []) →
-        OnErr result (Tells (LeavesFiles A.answers A.fails due course ⊥ (files_meaning F.contents F.calls F.misses F.faults F.losses files.new)) (trace ++ WasHeard moment heard ∷ []) (N.trace net.new)) }
     ensures goes_on { HoldsNoEnded C.ended router.old.table → OnOk result (HoldsNoEnded C.ended router.new.table) }
 {
     match follow(alloc, router, maker, files, net, taker, moment, heard) {
@@ -222,25 +215,18 @@ fn follow<C: Owes, A: Answerer, M: Maker<C>, F: Files, N: Net, T: Taker>(
 ) -> Result<(), NoMemory>
     requires sound { IsRouted C.stands C.awaited C.number C.due A.answers router.old }
     ensures ok { (due : Due) (course : Course A.State) (trace : Trace) → IsDueOf (M.due maker.old) due → RouterStands C.stands C.awaited C.number C.due A.answers A.state due course (files_meaning F.contents F.calls F.misses F.faults F.losses files.old) router.old trace →
-        N.trace net.old ≡ Some (trace ++ WasHeard moment heard ∷ []) →
-        OnOk result (Tells (RouterStands C.stands C.awaited C.number C.due A.answers A.state due course (files_meaning F.contents F.calls F.misses F.faults F.losses files.new) router.new) (trace ++ WasHeard moment heard ∷ []) (N.trace net.new)) }
-    ensures stands { (due : Due) (course : Course A.State) (trace : Trace) → IsDueOf (M.due maker.old) due → RouterStands C.stands C.awaited C.number C.due A.answers A.state due course (files_meaning F.contents F.calls F.misses F.faults F.losses files.old) router.old trace →
-        OnOk result ((more : Trace) × RouterStands C.stands C.awaited C.number C.due A.answers A.state due course (files_meaning F.contents F.calls F.misses F.faults F.losses files.new) router.new ((trace ++ WasHeard moment heard ∷ []) ++ more)) }
-    ensures taken { (trace : Trace) → N.trace net.old ≡ Some (trace ++ WasHeard moment heard ∷ []) → T.taken taker.old ≡ flat_map done_of trace →
-        OnOk result (Tells (λ told. T.taken taker.new ≡ flat_map done_of told) (trace ++ WasHeard moment heard ∷ []) (N.trace net.new)) }
+        OnOk result (AddsHeard (RouterStands C.stands C.awaited C.number C.due A.answers A.state due course (files_meaning F.contents F.calls F.misses F.faults F.losses files.new) router.new) heard (trace ++ WasHeard moment heard ∷ []) (N.trace net.old) (N.trace net.new)) }
+    ensures breaks { (due : Due) (course : Course A.State) (trace told : Trace) → IsDueOf (M.due maker.old) due → RouterStands C.stands C.awaited C.number C.due A.answers A.state due course (files_meaning F.contents F.calls F.misses F.faults F.losses files.old) router.old trace → N.trace net.old ≡ Some told →
+        OnErr result (BreaksHeard A.answers A.fails due course heard (trace ++ WasHeard moment heard ∷ []) told (N.trace net.new) (files_meaning F.contents F.calls F.misses F.faults F.losses files.new)) }
+    ensures taken { (trace : Trace) → N.trace net.old ≡ Some trace → T.taken taker.old ≡ flat_map done_of trace →
+        OnOk result (Tells (λ told. T.taken taker.new ≡ flat_map done_of told) trace (N.trace net.new)) }
     ensures due { (number : ℕ) (at : PeerAddress) (moves : List Move) → M.due maker.new number at moves ≡ M.due maker.old number at moves }
     ensures listening { N.listening net.new ≡ N.listening net.old }
     ensures faults { N.faults net.new ≡ N.faults net.old }
     ensures own { (trace : Trace) → N.trace net.old ≡ Some trace → TellsOfHeard heard trace (N.trace net.new) }
     ensures others { OnOk result (KeepsOthers heard router.old router.new) }
-    ensures err { (due : Due) (course : Course A.State) (trace : Trace) → IsDueOf (M.due maker.old) due → RouterStands C.stands C.awaited C.number C.due A.answers A.state due course (files_meaning F.contents F.calls F.misses F.faults F.losses files.old) router.old trace →
-        N.trace net.old ≡ Some (trace ++ WasHeard moment heard ∷ []) →
-        OnErr result (Tells (IsServed A.answers due) (trace ++ WasHeard moment heard ∷ []) (N.trace net.new)) }
-    ensures follows { (due : Due) (course : Course A.State) (trace : Trace) → IsDueOf (M.due maker.old) due → RouterStands C.stands C.awaited C.number C.due A.answers A.state due course (files_meaning F.contents F.calls F.misses F.faults F.losses files.old) router.old trace →
-        N.trace net.old ≡ Some (trace ++ WasHeard moment heard ∷ []) →
-        OnErr result (Tells (IsAnswered A.answers due course) (trace ++ WasHeard moment heard ∷ []) (N.trace net.new)) }
-    ensures taken_part { (trace : Trace) → N.trace net.old ≡ Some (trace ++ WasHeard moment heard ∷ []) → T.taken taker.old ≡ flat_map done_of trace →
-        OnErr result (Tells (λ told. IsPrefixOf (T.taken taker.new) (flat_map done_of told)) (trace ++ WasHeard moment heard ∷ []) (N.trace net.new)) }
+    ensures taken_part { (trace : Trace) → N.trace net.old ≡ Some trace → T.taken taker.old ≡ flat_map done_of trace →
+        OnErr result (Tells (λ told. IsPrefixOf (T.taken taker.new) (flat_map done_of told)) trace (N.trace net.new)) }
     ensures again { router.old.poisoned ≡ true → IsErr result × (N.trace net.new ≡ N.trace net.old) × (T.taken taker.new ≡ T.taken taker.old) }
     ensures files { FilesAfter A.answers A.fails (state_of A.state F.contents F.calls F.misses F.faults F.losses router.old.answerer files.old) (files_meaning F.contents F.calls F.misses F.faults F.losses files.new) }
     ensures given { OnOk result (ByAnswers A.answers (state_of A.state F.contents F.calls F.misses F.faults F.losses router.old.answerer files.old) (state_of A.state F.contents F.calls F.misses F.faults F.losses router.new.answerer files.new)) }

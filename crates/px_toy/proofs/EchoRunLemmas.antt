@@ -2,6 +2,7 @@
 use Rattle.std.proofs.Common.{◌≡◌, ℕ, List, [], Option, Some, Result, Ok, Err, OnOk, OnErr, refl, sym, ◌∙◌, subst}
 use Rattle.px_message.specs.declared.address.Address.{Address}
 use Rattle.px_message.specs.declared.flow.Flow.{Flow}
+use Rattle.px_event.specs.declared.heard.Heard.{Heard}
 use Rattle.px_event.specs.Layer.{Move}
 use Rattle.px_event.specs.Stands.{due_by}
 use Rattle.px_event.specs.Trace.{Trace}
@@ -13,39 +14,36 @@ use Rattle.px_toy.specs.Stands.{EchoStands, awaits}
 use Rattle.px_core.specs.declared.answerer.Verdict.{Verdict}
 use Rattle.px_core.specs.declared.router.Router.{Router}
 use Rattle.px_core.specs.Answered.{IsAnswered}
-use Rattle.px_core.specs.Answers.{AnswererState}
+use Rattle.px_core.specs.Answers.{Answering, AnswererState, Failing, FilesMeaning}
 use Rattle.px_core.specs.Course.{Course}
 use Rattle.px_core.specs.Due.{Due, IsServed}
 use Rattle.px_toy.specs.EchoRuns.{echo_due, by_turns, EchoRuns}
 use Rattle.px_core.specs.Router.{TableStands}
-use Rattle.px_core.specs.Run.{IsDueOf, Tells}
+use Rattle.px_core.specs.Run.{AddsHeard, BreaksHeard, IsDueOf}
 use Rattle.px_core.proofs.AnsweredLemmas.{whole_front}
 
 same_trace : (told trace : Trace) → Some told ≡ Some trace → trace ≡ told
 same_trace told trace is = cc
 
-pub runs_on : {A : Type 0} (due : Due) (course : Course (List (Option Verdict))) (now : AnswererState (List (Option Verdict))) (flow new_flow : Flow) (router : Router (Gate LineEcho) A) (trace told : Trace) → IsDueOf (echo_due flow) due →
+-- what was heard was worked off beside what is told, which is the trace with it
+pub told_so : (P : Trace → Type 0) (what : Heard) (trace told : Trace) (before : Option Trace) → before ≡ Some trace → AddsHeard P what trace before (Some told) → P told
+told_so P what trace told before is adds = subst P (same_trace told _ (adds.tells trace is)) adds.holds
+
+-- so is it where memory ran out
+pub broken_so : {S : Type 0} (answers : Answering S) (fails : Failing S) (due : Due) (course : Course S) (what : Heard) (trace told : Trace) (files : FilesMeaning) →
+    BreaksHeard answers fails due course what trace trace (Some told) files → IsServed answers due told × IsAnswered answers due course told
+broken_so answers fails due course what trace told files breaks =
+    let same = same_trace told _ breaks.is in
+    let P : Trace → Type 0 = IsServed answers due in
+    let Q : Trace → Type 0 = IsAnswered answers due course in
+    (subst P same breaks.served, subst Q same breaks.follows)
+
+pub runs_on : {A : Type 0} (due : Due) (course : Course (List (Option Verdict))) (now : AnswererState (List (Option Verdict))) (flow new_flow : Flow) (router : Router (Gate LineEcho) A) (told : Trace) → IsDueOf (echo_due flow) due →
     ((number : ℕ) (at : Address) (moves : List Move) → echo_due new_flow number at moves ≡ echo_due flow number at moves) →
-    Tells (TableStands (GateStands EchoStands awaits) (λ gate. awaits gate.layer) (λ gate. gate.layer.flow.id.conv)
-    (λ made moves. due_by (echo_chain made.layer.flow) (Reading 0) moves) by_turns due course now router.table) trace (Some told) →
+    TableStands (GateStands EchoStands awaits) (λ gate. awaits gate.layer) (λ gate. gate.layer.flow.id.conv)
+    (λ made moves. due_by (echo_chain made.layer.flow) (Reading 0) moves) by_turns due course now router.table told →
     EchoRuns due course now new_flow router told
-runs_on due course now flow new_flow router trace told makes same tells = record {
-  makes = λ conv at moves. same conv at moves ∙ makes conv at moves;
-  stands = let P : Trace → Type 0 = TableStands (GateStands EchoStands awaits) (λ gate. awaits gate.layer) (λ gate. gate.layer.flow.id.conv)
-      (λ made moves. due_by (echo_chain made.layer.flow) (Reading 0) moves) by_turns due course now router.table in
-      subst P (same_trace told _ tells.is) tells.holds;
-}
-
--- what is told of the trace holds of it
-pub told_so : (P : Trace → Type 0) (trace told : Trace) → Tells P trace (Some told) → P told
-told_so P trace told tells = subst P (same_trace told _ tells.is) tells.holds
-
--- what stands for what is told is served
-pub stands_served : {A : Type 0} (due : Due) (course : Course (List (Option Verdict))) (now : AnswererState (List (Option Verdict))) (router : Router (Gate LineEcho) A) (trace told : Trace) →
-    Tells (TableStands (GateStands EchoStands awaits) (λ gate. awaits gate.layer) (λ gate. gate.layer.flow.id.conv)
-    (λ made moves. due_by (echo_chain made.layer.flow) (Reading 0) moves) by_turns due course now router.table) trace (Some told) →
-    IsServed by_turns due told
-stands_served due course now router trace told tells = let P : Trace → Type 0 = IsServed by_turns due in subst P (same_trace told _ tells.is) tells.holds.served
+runs_on due course now flow new_flow router told makes same stands = record { makes = λ conv at moves. same conv at moves ∙ makes conv at moves; stands = stands }
 
 -- and its answers follow from its course
 pub runs_answered : {A : Type 0} (due : Due) (course : Course (List (Option Verdict))) (now : AnswererState (List (Option Verdict))) (flow : Flow) (router : Router (Gate LineEcho) A) (trace : Trace) →

@@ -1,6 +1,6 @@
-use Rattle.px_core.proofs.OperateRunLemmas.{adds_all, any_tellable, breaks_none, breaks_part, if_err_of, on_ok_each, operated_own, taken_all, taken_front}
+use Rattle.px_core.proofs.OperateRunLemmas.{adds_all, any_tellable, breaks_none, breaks_part, if_err_of, operated_own}
 use Rattle.px_core.proofs.ResultLemmas.{on_ok_both, on_ok_of}
-use Rattle.px_core.proofs.RunLemmas.{at_err}
+use Rattle.px_core.proofs.RunLemmas.{at_err, on_ok_each, taken_all, taken_front}
 use Rattle.px_core.specs.Router.{caused_in}
 use Rattle.px_core.proofs.work.operate_told.Goals as goal
 
