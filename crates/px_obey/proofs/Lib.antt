@@ -1,0 +1,3 @@
+pub mod ObeyLemmas
+pub mod OrderLemmas
+pub mod LinesLemmas
