@@ -1,6 +1,7 @@
 -- Answers read no file but those that map local rules name.
 use Rattle.std.proofs.Common.{◌≡◌, ℕ, List, [], ◌∷◌, ◌++◌, refl, sym, subst}
 use Rattle.px_event.specs.declared.ask.Hook.{Hook}
+use Rattle.px_message.specs.declared.flow.Flow.{Flow}
 use Rattle.px_outside.specs.declared.files.FileCall.{FileCall}
 use Rattle.px_outside.specs.declared.files.FileCall.TheVariants.{Read, Missed, ReadFailed, Appended, AppendFailed}
 use Rattle.px_core.specs.Answers.{FilesMeaning}
@@ -13,7 +14,8 @@ use Rattle.px_map.specs.View.{local_views}
 use Rattle.px_map.specs.Within.{IsOfRule, ReadsOnly}
 use Rattle.px_addons.specs.Mapped.{LocalFails, MapsLocal, ReadsOfRules, names_for, seen_of}
 use Rattle.px_addons.specs.Moving.{Moves}
-use Rattle.px_addons.specs.Chain.{Movers, PartMoves, PartInTurn, by_part, past_part, PartsMove, no_part, next_part, PartFails, PartsFail, fails_here, fails_later}
+use Rattle.px_addons.specs.Parts.{parts}
+use Rattle.px_addons.specs.Chain.{Movers, PartMoves, PartInTurn, by_part, past_part, PartsMove, no_part, next_part, PartFails, PartsFail, fails_here, fails_later, ChainFails, part_failed, judging_failed, begun}
 use Rattle.px_addons.specs.declared.parts.Part.{Part}
 use Rattle.px_addons.specs.declared.parts.Part.TheVariants as part
 use Rattle.px_addons.specs.declared.rules.Rules.{Rules}
@@ -53,17 +55,17 @@ reads_failed rules draft files new_files fails = record {
   reads = fails.reads;
 }
 
-part_failed : (rules : Rules) (one : Part) (draft : Draft) (files new_files : FilesMeaning) → PartFails rules one draft files new_files →
+one_failed : (rules : Rules) (one : Part) (draft : Draft) (files new_files : FilesMeaning) → PartFails rules one draft files new_files →
     ReadsOfRules (local_views rules.local) files new_files
-part_failed rules part.Block draft files new_files failed = reads_none (local_views rules.local) files new_files failed
-part_failed rules part.MapLocal draft files new_files failed = reads_failed rules draft files new_files failed
-part_failed rules part.MapRemote draft files new_files failed = reads_none (local_views rules.local) files new_files failed
-part_failed rules part.ModifyHeaders draft files new_files failed = reads_none (local_views rules.local) files new_files failed
-part_failed rules part.Anticache draft files new_files failed = reads_none (local_views rules.local) files new_files failed
-part_failed rules part.Anticomp draft files new_files failed = reads_none (local_views rules.local) files new_files failed
-part_failed rules part.ServerReplay draft files new_files failed = reads_none (local_views rules.local) files new_files failed
-part_failed rules part.ModifyBody draft files new_files failed = reads_none (local_views rules.local) files new_files failed
-part_failed rules part.Addons draft files new_files failed = reads_none (local_views rules.local) files new_files failed
+one_failed rules part.Block draft files new_files failed = reads_none (local_views rules.local) files new_files failed
+one_failed rules part.MapLocal draft files new_files failed = reads_failed rules draft files new_files failed
+one_failed rules part.MapRemote draft files new_files failed = reads_none (local_views rules.local) files new_files failed
+one_failed rules part.ModifyHeaders draft files new_files failed = reads_none (local_views rules.local) files new_files failed
+one_failed rules part.Anticache draft files new_files failed = reads_none (local_views rules.local) files new_files failed
+one_failed rules part.Anticomp draft files new_files failed = reads_none (local_views rules.local) files new_files failed
+one_failed rules part.ServerReplay draft files new_files failed = reads_none (local_views rules.local) files new_files failed
+one_failed rules part.ModifyBody draft files new_files failed = reads_none (local_views rules.local) files new_files failed
+one_failed rules part.Addons draft files new_files failed = reads_none (local_views rules.local) files new_files failed
 
 module _ {B : Type 0} (title state : B → List ℕ) (moves : B → Moves) where
   asked_reads : (rules : Rules) (hook : Hook) (one : Part) (draft after : Draft) (old new : Movers B) (files new_files : FilesMeaning) →
@@ -92,7 +94,14 @@ module _ {B : Type 0} (title state : B → List ℕ) (moves : B → Moves) where
 
   pub failure_reads : (rules : Rules) (hook : Hook) (list : List Part) (draft : Draft) (old : Movers B) (files new_files : FilesMeaning) →
       PartsFail title state moves rules hook list draft old files new_files → ReadsOfRules (local_views rules.local) files new_files
-  failure_reads rules hook list draft old files new_files (fails_here one others _ _ _ _ going failed) = part_failed rules one draft files new_files failed
+  failure_reads rules hook list draft old files new_files (fails_here one others _ _ _ _ going failed) = one_failed rules one draft files new_files failed
   failure_reads rules hook list draft old files new_files (fails_later one others _ after _ mid _ mid_files _ moved behind) =
       reads_both (local_views rules.local) files mid_files new_files (part_reads rules hook one draft after old mid files mid_files moved)
       (failure_reads rules hook others after mid mid_files new_files behind)
+
+  -- so does an answer that ran out of memory
+  pub failed_reads : (hook : Hook) (flow : Flow) (rules : Rules) (old : Movers B) (files new_files : FilesMeaning) →
+      ChainFails title state moves hook flow rules old files new_files → ReadsOfRules (local_views rules.local) files new_files
+  failed_reads hook flow rules old files new_files (part_failed failed) = failure_reads rules hook (parts hook) (begun flow rules.stream) old files new_files failed
+  failed_reads hook flow rules old files new_files (judging_failed end new moved judged) =
+      parts_read rules hook (parts hook) (begun flow rules.stream) end old new files new_files moved

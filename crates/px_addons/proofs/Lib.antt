@@ -1,4 +1,5 @@
 pub mod TurnLemmas
+pub mod WaitLemmas
 pub mod NameLemmas
 pub mod SameLemmas
 pub mod FilesLemmas

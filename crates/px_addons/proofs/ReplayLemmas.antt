@@ -24,13 +24,14 @@ use Rattle.px_replay.specs.declared.replay.Replay.{Replay}
 use Rattle.px_replay.specs.declared.replay.Replay.TheVariants as replays
 use Rattle.px_addons.specs.Moving.{Moves}
 use Rattle.px_core.specs.Drafts.{reply_of}
-use Rattle.px_addons.specs.Chain.{Movers, movers_of, PartMoves, PartInTurn, by_part, past_part, PartsMove, no_part, next_part, ChainAnswers, begun, is_going}
+use Rattle.px_addons.specs.Chain.{Movers, movers_of, PartMoves, PartInTurn, by_part, past_part, PartsMove, no_part, next_part, ChainAnswers, answer_by, begun, is_going}
 use Rattle.px_addons.specs.Replays.{AsksRecorded, Replays, replayed_by}
 use Rattle.px_addons.specs.ReplayRuns.{AreOfPlaces, AreOfRecorded, Given, InTurn, IsExtra, IsOfPlace, next_given, none_given, of_whole_request, their_answers, whole_requests}
 use Rattle.px_addons.specs.declared.parts.Part.{Part}
 use Rattle.px_addons.specs.declared.parts.Part.TheVariants as part
 use Rattle.px_addons.specs.declared.rules.Rules.{Rules}
 use Rattle.px_addons.proofs.BlockLemmas.{all_passed}
+use Rattle.px_addons.proofs.WaitLemmas.{ended_replies}
 
 -- ---- one request more
 
@@ -199,7 +200,7 @@ module _ {B : Type 0} (title state : B → List ℕ) (moves : B → Moves) where
   part_asked rules hook recorded draft left old mid files mid_files going has (past_part _ _ _ over) = absurd (let no : true ≡ false = sym going ∙ over in cc)
 
   parts_asked : (rules : Rules) (hook : Hook) (recorded : Replaying) (others : List Part) (draft end : Draft) (old new : Movers B) (files new_files : FilesMeaning) (answer : Answer) →
-      is_going draft.verdict ≡ true → old.replay ≡ Some recorded → AreOthers others → answer ≡ answers.Reply (reply_of end) →
+      is_going draft.verdict ≡ true → old.replay ≡ Some recorded → AreOthers others → answer ≡ answer_by rules hook end →
       PartsMove title state moves rules hook (part.ServerReplay ∷ others) draft old files end new new_files →
       WasAsked recorded draft.flow.request old new files new_files answer
   parts_asked rules hook recorded others draft end old new files new_files answer going has are answered (next_part _ _ _ left _ _ mid _ _ mid_files _ moved behind) =
@@ -210,7 +211,7 @@ module _ {B : Type 0} (title state : B → List ℕ) (moves : B → Moves) where
         is = first.0.answers;
         used = parts_keep rules hook others left end mid new mid_files new_files are behind ∙ first.0.used;
         said = of_place recorded draft.flow.request first.0.answer draft left answer first.0.answers first.0.drafted
-            (λ over. answered ∙ ap (λ d. answers.Reply (reply_of d)) (passed over).0);
+            (λ over. answered ∙ ap (λ d. answer_by rules hook d) (passed over).0 ∙ ended_replies rules hook left over);
         alone = λ place found.
             let last = passed (found_ends first.0.answer place draft left found first.0.drafted) in
             (ap (λ (m : Movers B). m.addons) last.1 ∙ first.1, last.2 ∙ first.2);

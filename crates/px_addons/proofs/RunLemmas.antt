@@ -9,7 +9,7 @@ use Rattle.px_addons.specs.Moving.{Moves}
 use Rattle.px_addons.specs.Parts.{parts}
 use Rattle.px_addons.specs.QuietLaws.{answers_leave, failures_leave}
 use Rattle.px_addons.specs.declared.rules.Rules.{Rules}
-use Rattle.px_addons.proofs.FilesLemmas.{failure_reads, parts_read, reads_both, reads_none}
+use Rattle.px_addons.proofs.FilesLemmas.{failed_reads, parts_read, reads_both, reads_none}
 
 module _ {B S : Type 0} (title state : B → List ℕ) (moves : B → Moves) (rules_of : S → Rules) (movers_in : S → Movers B) where
   -- the answers of a chain that is told by its rules, and by its recorded list and its addons
@@ -31,7 +31,7 @@ module _ {B S : Type 0} (title state : B → List ℕ) (moves : B → Moves) (ru
         (parts_read title state moves (rules_of old) hook (parts hook) (begun flow (rules_of old).stream) answered.end (movers_in old) (movers_in new) old_files new_files answered.moved);
     failed_so = λ hook flow old old_files new_files is failed.
         subst (λ (r : Rules). ReadsOfRules (local_views r.local) old_files new_files) is
-        (failure_reads title state moves (rules_of old) hook (parts hook) (begun flow (rules_of old).stream) (movers_in old) old_files new_files failed);
+        (failed_reads title state moves hook flow (rules_of old) (movers_in old) old_files new_files failed);
   }
 
   -- without map local rules its answers leave files as they are

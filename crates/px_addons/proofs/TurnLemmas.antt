@@ -4,15 +4,13 @@ use Rattle.std.proofs.Math.Seq.{drop-cons}
 use Rattle.px_event.specs.declared.ask.Hook.{Hook}
 use Rattle.px_core.specs.declared.answerer.Draft.{Draft}
 use Rattle.px_addons.specs.Moving.{Moves}
-use Rattle.px_core.specs.Drafts.{reply_of}
-use Rattle.px_addons.specs.Chain.{Movers, movers_of, AddonMoves, AddonsMove, no_addon, next_addon, PartMoves, PartInTurn, by_part, PartsMove, no_part, next_part, PartFails, PartsFail, fails_here, fails_later, is_going, begun, ChainAnswers, ChainFails}
+use Rattle.px_addons.specs.Chain.{Movers, movers_of, AddonMoves, AddonsMove, no_addon, next_addon, PartMoves, PartInTurn, by_part, PartsMove, no_part, next_part, PartFails, PartsFail, fails_here, fails_later, is_going, begun, ChainAnswers, ChainFails, part_failed, judging_failed, answer_by, intercept_of, is_judged}
 use Rattle.px_replay.specs.Replaying.{Replaying}
 use Rattle.px_addons.specs.Mapped.{MapsLocal}
 use Rattle.px_addons.specs.Replays.{Replays}
 use Rattle.px_addons.specs.Parts.{made_by, parts}
-use Rattle.px_event.specs.declared.reply.Reply.{Reply}
 use Rattle.px_core.specs.Answers.{FilesMeaning}
-use Rattle.px_core.specs.declared.answerer.Answer.TheVariants as answers
+use Rattle.px_core.specs.declared.answerer.Answer.{Answer}
 use Rattle.px_message.specs.declared.flow.Flow.{Flow}
 use Rattle.px_addons.specs.declared.parts.Part.{Part}
 use Rattle.px_addons.specs.declared.parts.Part.TheVariants as part
@@ -190,19 +188,19 @@ module _ {B : Type 0} (title state : B → List ℕ) (moves : B → Moves) where
 
   -- what a chain answers, from what its parts made of a lent list
   pub answered : (rules : Rules) (hook : Hook) (flow : Flow) (files new_files : FilesMeaning) (replay new_replay : Option Replaying) (addons lent : List B) (asked : List Part)
-      (end : Draft) (new : List B) (len : ℕ) (reply : Reply) →
+      (end : Draft) (new : List B) (len : ℕ) (answer : Answer) →
       PartsMove title state moves rules hook asked (begun flow rules.stream) (movers_of replay lent) files end (movers_of new_replay new) new_files →
-      asked ≡ parts hook → lent ≡ addons → length new ≡ len → reply ≡ reply_of end →
+      asked ≡ parts hook → lent ≡ addons → length new ≡ len → answer ≡ answer_by rules hook end →
       ChainAnswers title state moves hook flow rules (movers_of replay addons) files rules
-      (movers_of new_replay (take len (new ++ drop (length new) addons))) new_files (answers.Reply reply)
-  answered rules hook flow files new_files replay new_replay addons lent asked end new len reply moved table same counted replied =
+      (movers_of new_replay (take len (new ++ drop (length new) addons))) new_files answer
+  answered rules hook flow files new_files replay new_replay addons lent asked end new len answer moved table same counted is =
       record {
         end = end;
         moved = subst (λ l. PartsMove title state moves rules hook (parts hook) (begun flow rules.stream) (movers_of replay addons) files end (movers_of new_replay l) new_files)
             (sym (written_back new addons len counted))
             (subst (λ l. PartsMove title state moves rules hook (parts hook) (begun flow rules.stream) (movers_of replay l) files end (movers_of new_replay new) new_files) same
             (subst (λ l. PartsMove title state moves rules hook l (begun flow rules.stream) (movers_of replay lent) files end (movers_of new_replay new) new_files) table moved));
-        answered = ap (λ r. answers.Reply r) replied;
+        answered = is;
         rules = refl;
       }
 
@@ -211,5 +209,16 @@ module _ {B : Type 0} (title state : B → List ℕ) (moves : B → Moves) where
       PartsFail title state moves rules hook asked (begun flow rules.stream) (movers_of replay lent) files new_files → asked ≡ parts hook → lent ≡ addons →
       ChainFails title state moves hook flow rules (movers_of replay addons) files new_files
   failed rules hook flow files new_files replay addons lent asked ran_out table same =
-      subst (λ l. PartsFail title state moves rules hook (parts hook) (begun flow rules.stream) (movers_of replay l) files new_files) same
-      (subst (λ l. PartsFail title state moves rules hook l (begun flow rules.stream) (movers_of replay lent) files new_files) table ran_out)
+      part_failed (subst (λ l. PartsFail title state moves rules hook (parts hook) (begun flow rules.stream) (movers_of replay l) files new_files) same
+      (subst (λ l. PartsFail title state moves rules hook l (begun flow rules.stream) (movers_of replay lent) files new_files) table ran_out))
+
+  -- or where judging the filter of the flows that wait did
+  pub judging : (rules : Rules) (hook : Hook) (flow : Flow) (files new_files : FilesMeaning) (replay : Option Replaying) (addons lent : List B) (asked : List Part)
+      (end : Draft) (new : Movers B) → PartsMove title state moves rules hook asked (begun flow rules.stream) (movers_of replay lent) files end new new_files →
+      asked ≡ parts hook → lent ≡ addons → is_judged (intercept_of rules) hook end ≡ true →
+      ChainFails title state moves hook flow rules (movers_of replay addons) files new_files
+  judging rules hook flow files new_files replay addons lent asked end new moved table same judged =
+      judging_failed end new
+      (subst (λ l. PartsMove title state moves rules hook (parts hook) (begun flow rules.stream) (movers_of replay l) files end new new_files) same
+      (subst (λ l. PartsMove title state moves rules hook l (begun flow rules.stream) (movers_of replay lent) files end new new_files) table moved))
+      judged

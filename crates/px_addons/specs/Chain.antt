@@ -1,9 +1,13 @@
 -- What a chain makes of a flow, of itself and of files, and what it answers.
 --
 -- An addon stands here as a value of any type B, with a name, a state and a relation for each.
-use Rattle.std.specs.Prelude.{◌≡◌, ℕ, Bool, true, false, List, [], ◌∷◌, Option, ◌<◌, length, remove}
+use Rattle.std.specs.Prelude.{◌≡◌, ℕ, Bool, true, false, ◌&&◌, List, [], ◌∷◌, Option, None, Some, is_some, option_map, ◌<◌, length, remove}
 use Rattle.px_message.specs.declared.flow.Flow.{Flow}
 use Rattle.px_event.specs.declared.ask.Hook.{Hook}
+use Rattle.px_event.specs.declared.ask.Hook.TheVariants as hooks
+use Rattle.px_filter.specs.Expression.{Expression}
+use Rattle.px_filter.specs.Holds.{holds}
+use Rattle.px_filter.specs.View.{expression}
 use Rattle.px_core.specs.Addons.{has_name_by, without_first_by}
 use Rattle.px_core.specs.Answers.{FilesMeaning}
 use Rattle.px_core.specs.Drafts.{reply_of}
@@ -27,6 +31,39 @@ is_going verdicts.Go = true
 is_going (verdicts.Respond _) = false
 is_going verdicts.Kill = false
 is_going verdicts.Discard = false
+
+-- the filter of the flows that wait, if there is one
+abbrev pub intercept_of : Rules → Option Expression
+intercept_of rules = option_map expression rules.intercept
+
+-- whether an answer at the hook may wait: where a request, a response or a WebSocket's message is whole
+abbrev pub may_wait : Hook → Bool
+may_wait hooks.RequestHead = false
+may_wait hooks.RequestBody = true
+may_wait hooks.ResponseHead = false
+may_wait hooks.ResponseBody = true
+may_wait (hooks.WsMessage _) = true
+
+-- whether the filter, if there is one, is judged on a draft: where an answer may wait, and all parts let the flow go on
+abbrev pub is_judged : Option Expression → Hook → Draft → Bool
+is_judged filter hook draft = is_some filter && (may_wait hook && is_going draft.verdict)
+
+-- whether a filter, if there is one, takes the flow
+abbrev pub is_taken : Option Expression → Flow → Bool
+is_taken None flow = false
+is_taken (Some filter) flow = holds flow filter
+
+-- whether a draft that all parts were asked about waits
+abbrev pub waits : Option Expression → Hook → Draft → Bool
+waits filter hook draft = is_judged filter hook draft && is_taken filter draft.flow
+
+abbrev pub answer_if : Bool → Draft → Answer
+answer_if true draft = answers.Wait draft
+answer_if false draft = answers.Reply (reply_of draft)
+
+-- the answer of a draft that all parts were asked about: it waits, or is the reply of the draft
+abbrev pub answer_by : Rules → Hook → Draft → Answer
+answer_by rules hook draft = answer_if (waits (intercept_of rules) hook draft) draft
 
 -- the draft that the first part gets
 abbrev pub begun : Flow → Option ℕ → Draft
@@ -117,12 +154,12 @@ module _ {B : Type 0} (title state : B → List ℕ) (moves : B → Moves) where
         PartsMove rules hook (one ∷ others) draft old files end new new_files
 
   -- The answer to a hook about a flow, by rules, recorded list, addons and files before and after: what the draft is when all parts of the
-  -- hook were asked, or one ended the order.
+  -- hook were asked, or one ended the order; or that the hook waits with that draft.
   pub record ChainAnswers (hook : Hook) (flow : Flow) (old_rules : Rules) (old : Movers B) (old_files : FilesMeaning)
       (new_rules : Rules) (new : Movers B) (new_files : FilesMeaning) (answer : Answer) : Type 0 where
     pub end : Draft
     pub moved : PartsMove old_rules hook (parts hook) (begun flow old_rules.stream) old old_files end new new_files
-    pub answered : answer ≡ answers.Reply (reply_of end)
+    pub answered : answer ≡ answer_by old_rules hook end
     pub rules : new_rules ≡ old_rules
 
   -- Parts in their order, of which one that was asked ran out of memory: what those before it, and it, did to files.
@@ -133,9 +170,12 @@ module _ {B : Type 0} (title state : B → List ℕ) (moves : B → Moves) where
         PartInTurn rules hook one draft old files after mid mid_files → PartsFail rules hook others after mid mid_files new_files →
         PartsFail rules hook (one ∷ others) draft old files new_files
 
-  -- What an answer to a hook about a flow that ran out of memory did to files.
-  abbrev pub ChainFails : Hook → Flow → Rules → Movers B → FilesMeaning → FilesMeaning → Type 0
-  ChainFails hook flow rules movers files new_files = PartsFail rules hook (parts hook) (begun flow rules.stream) movers files new_files
+  -- What an answer to a hook about a flow that ran out of memory did to files: a part ran out of memory; or none did, and judging the
+  -- filter of the flows that wait did, which touches no file.
+  pub data ChainFails (hook : Hook) (flow : Flow) (rules : Rules) (movers : Movers B) (files new_files : FilesMeaning) : Type 0 where
+    part_failed : PartsFail rules hook (parts hook) (begun flow rules.stream) movers files new_files → ChainFails hook flow rules movers files new_files
+    judging_failed : (end : Draft) (new : Movers B) → PartsMove rules hook (parts hook) (begun flow rules.stream) movers files end new new_files →
+        is_judged (intercept_of rules) hook end ≡ true → ChainFails hook flow rules movers files new_files
 
 module _ {B : Type 0} (title : B → List ℕ) where
   -- What taking the first addon of a name away makes of a chain.

@@ -1,4 +1,4 @@
--- Chains that change nothing: no rule, no recorded flow, and each addon's relation leaves every draft as it is.
+-- Chains that change nothing: no rule, no recorded flow, no flow that waits, and each addon's relation leaves every draft as it is.
 use Rattle.std.specs.Prelude.{◌≡◌, false, List, [], ◌∷◌, None}
 use Rattle.px_message.specs.declared.flow.Flow.{Flow}
 use Rattle.px_event.specs.declared.ask.Hook.{Hook}
@@ -11,7 +11,7 @@ use Rattle.px_addons.specs.Chain.{Movers}
 use Rattle.px_addons.specs.Moving.{KeepsDrafts, Moves}
 use Rattle.px_addons.specs.declared.rules.Rules.{Rules}
 
--- no rule, no wish, no recorded flow, and nothing is streamed
+-- no rule, no wish, no recorded flow, nothing is streamed, and no flow waits
 pub record NoRules (rules : Rules) : Type 0 where
   pub block : block_views rules.block ≡ []
   pub local : local_views rules.local ≡ []
@@ -22,6 +22,7 @@ pub record NoRules (rules : Rules) : Type 0 where
   pub anticomp : rules.anticomp ≡ false
   pub replay : rules.replay ≡ None
   pub stream : rules.stream ≡ None
+  pub intercept : rules.intercept ≡ None
 
 -- each of the addons leaves every draft as it is
 abbrev pub AllKeepDrafts : {B : Type 0} → (B → Moves) → List B → Type 0

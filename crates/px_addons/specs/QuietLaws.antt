@@ -1,5 +1,5 @@
 -- A chain that changes nothing answers so, leaves files as they are, and stays such a chain. One without map local rules reads nothing.
-use Rattle.std.proofs.Common.{◌≡◌, ℕ, List, [], Option, Some, None, refl, sym, ap, subst, ◌∙◌}
+use Rattle.std.proofs.Common.{◌≡◌, ℕ, option_map, List, [], Option, Some, None, refl, sym, ap, subst, ◌∙◌}
 use Rattle.std.proofs.lemmas.List.Elements.{All-nil}
 use Rattle.px_message.specs.declared.flow.Flow.{Flow}
 use Rattle.px_message.specs.declared.response.Response.{Response}
@@ -9,6 +9,7 @@ use Rattle.px_core.specs.Answers.{FilesMeaning}
 use Rattle.px_core.specs.declared.answerer.Answer.{Answer}
 use Rattle.px_core.specs.declared.answerer.Answer.TheVariants as answers
 use Rattle.px_core.specs.declared.answerer.Draft.{Draft}
+use Rattle.px_filter.specs.View.{expression}
 use Rattle.px_rule.proofs.LawLemmas.{headers_hold_nowhere}
 use Rattle.px_rule.specs.Body.{body_rules}
 use Rattle.px_rule.specs.Header.{header_rules}
@@ -23,7 +24,7 @@ use Rattle.px_addons.specs.Mapped.{MapsLocal, answered_by, moved, names_for}
 use Rattle.px_addons.specs.Moving.{KeepsDrafts, Moves}
 use Rattle.px_addons.specs.Parts.{content_of, is_of_response, made_by, parts}
 use Rattle.px_core.specs.Drafts.{reply_of}
-use Rattle.px_addons.specs.Chain.{Movers, AddonMoves, by_addon, past_addon, AddonsMove, no_addon, next_addon, ByRules, PartMoves, PartInTurn, by_part, past_part, PartsMove, no_part, next_part, PartFails, PartsFail, fails_here, fails_later, ChainFails, begun, ChainAnswers}
+use Rattle.px_addons.specs.Chain.{Movers, AddonMoves, by_addon, past_addon, AddonsMove, no_addon, next_addon, ByRules, PartMoves, PartInTurn, by_part, past_part, PartsMove, no_part, next_part, PartFails, PartsFail, fails_here, fails_later, ChainFails, part_failed, judging_failed, begun, ChainAnswers, answer_by, answer_if, waits}
 use Rattle.px_addons.specs.Quiet.{AllKeepDrafts, AreQuiet, ChangesNothing, NoRules, goes_on_unchanged}
 use Rattle.px_addons.specs.Replays.{Replays}
 use Rattle.px_addons.specs.declared.parts.Part.{Part}
@@ -46,6 +47,10 @@ no_rule_changes rules hook part.Anticomp draft none = rw none.anticomp refl
 no_rule_changes rules hook part.ServerReplay draft none = refl
 no_rule_changes rules hook part.ModifyBody draft none = ap (λ list. with_flow draft (body_rules (content_of hook) list draft.flow)) none.bodies
 no_rule_changes rules hook part.Addons draft none = refl
+
+-- without a filter of the flows that wait a draft is answered by its reply
+pub without_a_filter : (rules : Rules) (hook : Hook) (draft : Draft) → rules.intercept ≡ None → answer_by rules hook draft ≡ answers.Reply (reply_of draft)
+without_a_filter rules hook draft none = ap (λ filter. answer_if (waits (option_map expression filter) hook draft) draft) none
 
 -- ---- without map local rules
 
@@ -174,6 +179,7 @@ module _ {B : Type 0} (title state : B → List ℕ) (moves : B → Moves) where
         goes_on_unchanged hook flow answer
     answers_unchanged quiet given =
         given.answered
+        ∙ without_a_filter rules hook given.end quiet.no_rules.intercept
         ∙ ap (λ d. answers.Reply (reply_of d)) (parts_keep rules hook (parts hook) (begun flow rules.stream) given.end old new files new_files given.moved quiet.no_rules quiet.quiet).0
         ∙ ap (λ s. answers.Reply (reply_of (begun flow s))) quiet.no_rules.stream
 
@@ -184,4 +190,6 @@ module _ {B : Type 0} (title state : B → List ℕ) (moves : B → Moves) where
   -- and so does one that ran out of memory
   pub failures_leave : (hook : Hook) (flow : Flow) (rules : Rules) (old : Movers B) (files new_files : FilesMeaning) → local_views rules.local ≡ [] →
       ChainFails title state moves hook flow rules old files new_files → new_files ≡ files
-  failures_leave hook flow rules old files new_files none failed = failure_leaves rules hook (parts hook) (begun flow rules.stream) old files new_files failed none
+  failures_leave hook flow rules old files new_files none (part_failed failed) = failure_leaves rules hook (parts hook) (begun flow rules.stream) old files new_files failed none
+  failures_leave hook flow rules old files new_files none (judging_failed end new moved judged) =
+      parts_leave rules hook (parts hook) (begun flow rules.stream) end old new files new_files moved none

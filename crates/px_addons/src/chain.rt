@@ -20,8 +20,9 @@ use px_text::NoMemory;
 use std::alloc::Global;
 
 /// Rules, recorded flows and addons, which answer hooks: at each hook its parts in their order, until a verdict that is not Go ends it
-/// (`specs/Chain.antt`, `ChainAnswers`). The draft begins with the flow as it is asked about, the verdict Go and the rules' `stream`. No
-/// answer waits. Files are read for map local rules that match the flow, and for nothing else.
+/// (`specs/Chain.antt`, `ChainAnswers`). The draft begins with the flow as it is asked about, the verdict Go and the rules' `stream`. Where a
+/// request, a response or a WebSocket's message is whole, the parts let the flow go on, and the rules' `intercept` holds on the flow as they left
+/// it, the answer waits with the draft (`answer_by`). Files are read for map local rules that match the flow, and for nothing else.
 ///
 /// The rules never change. The recorded list is none of them here, since each whole request is asked of it and may use a place.
 #[derive(Drop)]
@@ -33,7 +34,7 @@ pub struct Chain {
 
 impl Chain {
     /// A chain of these rules and addons, the addons in the order of their list. Two may have one name. The recorded list of the rules is
-    /// taken out of them. Without rules and recorded list, and where each addon leaves every draft as it is, it changes nothing.
+    /// taken out of them. Without rules, recorded list and filter of what waits, and where each addon leaves every draft as it is, it changes nothing.
     pub fn new(rules: Rules, addons: Vec<Box<dyn Addon>>) -> Chain
         ensures rules { result.rules ≡ record rules { replay = None } }
         ensures replay { result.replay ≡ rules.replay }
@@ -93,7 +94,7 @@ impl Answerer for Chain {
             &mut draft,
             files,
         ) {
-            Ok(()) => Ok(Answer::Reply(draft.into_reply())),
+            Ok(()) => self.rules.answer_by(hook, draft),
             Err(e) => {
                 drop(draft);
                 Err(e)
@@ -242,7 +243,7 @@ fn place_of(addons: &[Box<dyn Addon>], name: &str) -> Option<usize>
 }
 
 // Whether the order goes on behind this verdict.
-fn is_going(verdict: &Verdict) -> bool
+pub(crate) fn is_going(verdict: &Verdict) -> bool
     ensures { result ≡ is_going verdict.now }
 {
     matches!(verdict, Verdict::Go)

@@ -1,6 +1,6 @@
 //! Laws of chains and addons. Each function does nothing; what it ensures is the law.
-ghost use Rattle.std.specs.Prelude.{◌≡◌, ◌≢◌, ◌==◌, ℕ, Bool, List, [], ◌∷◌, map, None, Some, Option, slice_get, if◌then◌else◌};
-ghost use Rattle.px_addons.specs.Chain.{AddonsMove, ChainAnswers, ChainFails, Movers, SameAddons, TwoInTurn, movers_of};
+ghost use Rattle.std.specs.Prelude.{◌≡◌, ◌≢◌, ◌==◌, ℕ, Bool, true, List, [], ◌∷◌, map, None, Some, Option, slice_get, if◌then◌else◌};
+ghost use Rattle.px_addons.specs.Chain.{AddonsMove, ChainAnswers, ChainFails, Movers, SameAddons, TwoInTurn, intercept_of, may_wait, movers_of};
 ghost use Rattle.px_addons.specs.Counter.{counted, counts};
 ghost use Rattle.px_addons.specs.Mapped.{ReadsOfRules};
 ghost use Rattle.px_addons.specs.Moving.{KeepsDrafts};
@@ -11,9 +11,12 @@ ghost use Rattle.px_core.specs.Answers.{AnswererState, FilesAfter, FilesMeaning}
 ghost use Rattle.px_core.specs.declared.answerer.Answer.{Answer};
 ghost use Rattle.px_core.specs.declared.answerer.Answer.TheVariants as answers;
 ghost use Rattle.px_core.specs.declared.answerer.Draft.{Draft};
+ghost use Rattle.px_core.specs.declared.answerer.Verdict.TheVariants as verdicts;
 ghost use Rattle.px_event.specs.declared.ask.Hook.{Hook as AskedHook};
 ghost use Rattle.px_event.specs.declared.ask.Hook.TheVariants as hooks;
 ghost use Rattle.px_event.specs.declared.reply.Reply.TheVariants as replies;
+ghost use Rattle.px_filter.specs.Expression.{Expression};
+ghost use Rattle.px_filter.specs.Holds.{holds};
 ghost use Rattle.px_map.specs.Block.{block_status};
 ghost use Rattle.px_map.specs.Responses.{internal_error, not_found};
 ghost use Rattle.px_map.specs.View.{block_views, local_views};
@@ -106,6 +109,26 @@ pub fn recorded_flows_come_first_at_a_whole_request(addon: &Box<dyn Addon>)
 pub fn each_whole_request_gets_the_least_place(addon: &Box<dyn Addon>)
     ensures { (how : KeyOptions) (reuse : Bool) (extra : Extra) (flows : List Flow) (made : List Given) (last : Option Replaying) →
         InTurn title state moves (Some (started how reuse extra flows)) made last → AreOfRecorded (started how reuse extra flows) made }
+{}
+
+/// Where a request, a response or a WebSocket's message is whole, all parts let the flow go on, and the filter of the flows that wait holds on the
+/// flow as they left it, the answer waits with that draft. An answer waits nowhere else, and with no other draft.
+pub fn a_flow_that_the_filter_takes_waits(addon: &Box<dyn Addon>)
+    ensures waits { (hook : AskedHook) (flow : Flow) (rules new_rules : Rules) (files new_files : FilesMeaning) (old new : Movers _) (answer : Answer) (filter : Expression) →
+        (given : ChainAnswers title state moves hook flow rules old files new_rules new new_files answer) →
+        may_wait hook ≡ true → given.end.verdict ≡ verdicts.Go → intercept_of rules ≡ Some filter → holds given.end.flow filter ≡ true → answer ≡ answers.Wait given.end }
+    ensures only { (hook : AskedHook) (flow : Flow) (rules new_rules : Rules) (files new_files : FilesMeaning) (old new : Movers _) (answer : Answer) (draft : Draft) →
+        (given : ChainAnswers title state moves hook flow rules old files new_rules new new_files answer) → answer ≡ answers.Wait draft →
+        (draft ≡ given.end) × (may_wait hook ≡ true) × (draft.verdict ≡ verdicts.Go)
+        × (filter : Expression) × (intercept_of rules ≡ Some filter) × (holds draft.flow filter ≡ true) }
+{}
+
+/// A chain without a filter of the flows that wait lets nothing wait; and an answer leaves the filter as it is.
+pub fn a_chain_without_a_filter_lets_nothing_wait(addon: &Box<dyn Addon>)
+    ensures nothing { (hook : AskedHook) (flow : Flow) (rules new_rules : Rules) (files new_files : FilesMeaning) (old new : Movers _) (answer : Answer) (draft : Draft) →
+        rules.intercept ≡ None → ChainAnswers title state moves hook flow rules old files new_rules new new_files answer → answer ≢ answers.Wait draft }
+    ensures stays { (hook : AskedHook) (flow : Flow) (rules new_rules : Rules) (files new_files : FilesMeaning) (old new : Movers _) (answer : Answer) →
+        ChainAnswers title state moves hook flow rules old files new_rules new new_files answer → new_rules.intercept ≡ rules.intercept }
 {}
 
 /// Of two addons the second is asked about the draft that the first left.

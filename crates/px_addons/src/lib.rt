@@ -29,16 +29,20 @@
 //! before (`specs/Chain.antt`, `AddonMoves`, `SameAddon`). The first verdict that is not Go ends the order: no part and no addon behind it
 //! is asked, and each of them is exactly as it was.
 //!
-//! So an answer is one relation between a hook, a flow, the rules, recorded list, addons and files before and after, and the reply
+//! Behind all parts, where a request, a response or a message of a WebSocket is whole and they let the flow go on, the filter of the flows that
+//! wait is judged on the flow as they left it: where it holds, the answer waits for an operator with that draft, and else it is the reply of
+//! the draft (`answer_by`).
+//!
+//! So an answer is one relation between a hook, a flow, the rules, recorded list, addons and files before and after, and the answer itself
 //! (`ChainAnswers`). It leaves nothing open but what the addons' own relations leave open. Rules at another hook, an addon that is skipped
 //! or asked twice, one that gets the flow as it was before the rules, a part that runs behind one that ended the order, a recorded flow that
 //! is used twice, or a read that no rule asks for: each is another relation. `Chain` is a px_core `Answerer` whose state is the chain itself; so that relation stands, hook by hook, in what
-//! px_core promises of every trace. Where memory runs out, `ChainFails` says which reads were made until then. So laws say of all
+//! px_core promises of every trace. Where memory runs out, of a part or as the filter is judged, `ChainFails` says which reads were made until then. So laws say of all
 //! answers, and of those that failed: a block rule that holds decides before all else, no file is read but those that map local rules name, and
 //! without such rules none is touched. And over all answers, one behind the other, each whole request gets the least recorded place with
 //! its key that no whole request before it got (`specs/ReplayRuns.antt`).
 //!
-//! A chain without rules and recorded list whose addons leave every draft as it is changes nothing (`specs/Quiet.antt`). It stays such a
+//! A chain without rules, recorded list and such a filter whose addons leave every draft as it is changes nothing (`specs/Quiet.antt`). It stays such a
 //! chain, and each of its answers lets the flow go on as it was asked about: so `Chain` is a px_core `Kind` too, and px_core's law says it
 //! of whole traces.
 //!
@@ -57,13 +61,15 @@ mod replaying;
 mod rules;
 #[cfg(test)]
 mod tests;
+mod waiting;
 
 pub use addon::Addon;
 pub use chain::Chain;
 pub use counter::FlowCounter;
 pub use laws::{
     a_block_rule_comes_first, a_chain_that_changes_nothing,
-    a_chain_without_map_local_reads_nothing, a_flow_counter_changes_no_draft,
+    a_chain_without_a_filter_lets_nothing_wait, a_chain_without_map_local_reads_nothing,
+    a_flow_counter_changes_no_draft, a_flow_that_the_filter_takes_waits,
     addons_see_what_those_before_did, an_answer_keeps_its_addons,
     each_whole_request_gets_the_least_place, map_local_answers_with_short_responses,
     map_local_reads_only_what_rules_name, recorded_flows_come_first_at_a_whole_request,

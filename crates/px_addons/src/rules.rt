@@ -9,6 +9,7 @@ ghost use Rattle.px_rule.specs.Requests.{uncached, uncoded};
 ghost use Rattle.px_rule.specs.View.{body_views, header_views};
 
 use px_event::Hook;
+use px_filter::Filter;
 use px_map::{BlockRules, LocalRules, RemoteRules};
 use px_message::{Fields, Flow, Request, Shared};
 use px_replay::Recorded;
@@ -37,10 +38,12 @@ pub struct Rules {
     pub replay: Option<Recorded>,
     /// Above how many bytes a body may be streamed; an addon may change it for one flow (mitmproxy's option `stream_large_bodies`).
     pub stream: Option<u64>,
+    /// Which flows wait for an operator where all else lets them go on; none says no flow (mitmproxy's option `intercept`).
+    pub intercept: Option<Filter>,
 }
 
 impl Rules {
-    /// No rule, no recorded flow, and nothing is streamed. It takes no memory.
+    /// No rule, no recorded flow, nothing is streamed, and no flow waits. It takes no memory.
     pub fn none(alloc: Global) -> Rules
         ensures block { block_views result.block ≡ [] }
         ensures local { local_views result.local ≡ [] }
@@ -51,6 +54,7 @@ impl Rules {
         ensures anticomp { result.anticomp ≡ false }
         ensures replay { result.replay ≡ None }
         ensures stream { result.stream ≡ None }
+        ensures intercept { result.intercept ≡ None }
         ensures none { NoRules result }
     {
         Rules {
@@ -63,6 +67,7 @@ impl Rules {
             anticomp: false,
             replay: None,
             stream: None,
+            intercept: None,
         }
     }
 

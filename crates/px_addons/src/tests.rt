@@ -2,6 +2,7 @@
 use crate::{Addon, Chain, FlowCounter, Numbering, Rules};
 use px_core::{Answer, Answerer};
 use px_event::{Hook, Reply};
+use px_filter::Filter;
 use px_message::{
     Body, Fields, Flow, FlowId, Host, Name, Path, Replayed, Request, Shared, Times, Version,
 };
@@ -91,5 +92,27 @@ fn addons_in_order_until_they_are_dropped(rt: HostRuntime) -> Result<(), Fail> {
     assert!(rt; !went(&mut chain, "numbering"));
     let third = ask(alloc, &mut chain)?;
     assert!(rt; third.is_empty());
+    Ok(())
+}
+
+// Whether the answer about a new request waits.
+fn waits<A: Answerer>(alloc: Global, answerer: &mut A, hook: Hook) -> Result<bool, Fail> {
+    let mut files = MemFiles::new(alloc, Vec::new(alloc), Vec::new(alloc));
+    let asked = flow(alloc, request(alloc)?)?;
+    let answer = answerer.answer(hook, asked, &mut files)?;
+    Ok(matches!(answer, Answer::Wait(_)))
+}
+
+#[test]
+fn a_whole_request_waits(rt: HostRuntime) -> Result<(), Fail> {
+    let alloc = rt.alloc();
+    let Ok(filter) = Filter::parse(alloc, "~m GET") else {
+        return Err("filter".into());
+    };
+    let mut rules = Rules::none(alloc);
+    rules.intercept = Some(filter);
+    let mut chain = Chain::new(rules, Vec::new(alloc));
+    assert!(rt; !waits(alloc, &mut chain, Hook::RequestHead)?);
+    assert!(rt; waits(alloc, &mut chain, Hook::RequestBody)?);
     Ok(())
 }

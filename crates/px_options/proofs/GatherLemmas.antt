@@ -24,7 +24,9 @@ settings_from s table = record {
   anticache = value_or lines.anticache s.anticache (get_member (name_of key.Anticache) table);
   anticomp = value_or lines.anticomp s.anticomp (get_member (name_of key.Anticomp) table);
   block_list = value_or lines.block_list s.block_list (get_member (name_of key.BlockList) table);
+  control = value_or lines.control s.control (get_member (name_of key.Control) table);
   events = value_or lines.events s.events (get_member (name_of key.Events) table);
+  intercept = value_or lines.intercept s.intercept (get_member (name_of key.Intercept) table);
   listen = value_or lines.listen s.listen (get_member (name_of key.Listen) table);
   map_local = value_or lines.map_local s.map_local (get_member (name_of key.MapLocal) table);
   map_remote = value_or lines.map_remote s.map_remote (get_member (name_of key.MapRemote) table);
@@ -88,7 +90,9 @@ named name found is =
     or_named (bytes_eq name (name_of key.Anticache)) key.Anticache found name _ (λ same. (bytes_eq-Decides _ _).0 same) is (λ e.
     or_named (bytes_eq name (name_of key.Anticomp)) key.Anticomp found name _ (λ same. (bytes_eq-Decides _ _).0 same) e (λ e.
     or_named (bytes_eq name (name_of key.BlockList)) key.BlockList found name _ (λ same. (bytes_eq-Decides _ _).0 same) e (λ e.
+    or_named (bytes_eq name (name_of key.Control)) key.Control found name _ (λ same. (bytes_eq-Decides _ _).0 same) e (λ e.
     or_named (bytes_eq name (name_of key.Events)) key.Events found name _ (λ same. (bytes_eq-Decides _ _).0 same) e (λ e.
+    or_named (bytes_eq name (name_of key.Intercept)) key.Intercept found name _ (λ same. (bytes_eq-Decides _ _).0 same) e (λ e.
     or_named (bytes_eq name (name_of key.Listen)) key.Listen found name _ (λ same. (bytes_eq-Decides _ _).0 same) e (λ e.
     or_named (bytes_eq name (name_of key.MapLocal)) key.MapLocal found name _ (λ same. (bytes_eq-Decides _ _).0 same) e (λ e.
     or_named (bytes_eq name (name_of key.MapRemote)) key.MapRemote found name _ (λ same. (bytes_eq-Decides _ _).0 same) e (λ e.
@@ -97,7 +101,7 @@ named name found is =
     or_named (bytes_eq name (name_of key.ModifyHeaders)) key.ModifyHeaders found name _ (λ same. (bytes_eq-Decides _ _).0 same) e (λ e.
     or_named (bytes_eq name (name_of key.SaveStreamFile)) key.SaveStreamFile found name _ (λ same. (bytes_eq-Decides _ _).0 same) e (λ e.
     or_named (bytes_eq name (name_of key.SaveStreamFilter)) key.SaveStreamFilter found name _ (λ same. (bytes_eq-Decides _ _).0 same) e (λ e.
-    named_replay name found e))))))))))))
+    named_replay name found e))))))))))))))
 
 -- one member more, by its key
 abbrev More : Option Key → Members → Data → Settings → List ℕ → Type 0
@@ -116,9 +120,15 @@ by_key (Some key.Anticomp) name d ms s is ih =
 by_key (Some key.BlockList) name d ms s is ih =
     subst (More (Some key.BlockList) ms d s) (sym (named name key.BlockList is)) (λ none.
     line_gathered lines.block_list (λ a s. record s { block_list = a }) s.block_list (name_of key.BlockList) d ms s (lines.block_list.reads d) refl none ih (λ a. refl) refl)
+by_key (Some key.Control) name d ms s is ih =
+    subst (More (Some key.Control) ms d s) (sym (named name key.Control is)) (λ none.
+    line_gathered lines.control (λ a s. record s { control = a }) s.control (name_of key.Control) d ms s (lines.control.reads d) refl none ih (λ a. refl) refl)
 by_key (Some key.Events) name d ms s is ih =
     subst (More (Some key.Events) ms d s) (sym (named name key.Events is)) (λ none.
     line_gathered lines.events (λ a s. record s { events = a }) s.events (name_of key.Events) d ms s (lines.events.reads d) refl none ih (λ a. refl) refl)
+by_key (Some key.Intercept) name d ms s is ih =
+    subst (More (Some key.Intercept) ms d s) (sym (named name key.Intercept is)) (λ none.
+    line_gathered lines.intercept (λ a s. record s { intercept = a }) s.intercept (name_of key.Intercept) d ms s (lines.intercept.reads d) refl none ih (λ a. refl) refl)
 by_key (Some key.Listen) name d ms s is ih =
     subst (More (Some key.Listen) ms d s) (sym (named name key.Listen is)) (λ none.
     line_gathered lines.listen (λ a s. record s { listen = a }) s.listen (name_of key.Listen) d ms s (lines.listen.reads d) refl none ih (λ a. refl) refl)

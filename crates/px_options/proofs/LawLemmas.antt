@@ -16,7 +16,7 @@ use Rattle.px_options.specs.Options.{IsNoTable, Says, Settings, first_refusal, o
 use Rattle.px_options.specs.Replay.{extra_in, paths_in}
 use Rattle.px_options.specs.Rules.{rule_and, rules_from, rules_of, texts_of, with_rule}
 use Rattle.px_options.specs.Save.{filter_in, or_bad_filter, path_in, path_of}
-use Rattle.px_options.specs.Values.{address_in, from_one, or_wrong}
+use Rattle.px_options.specs.Values.{Place, address, address_in, from_one, or_wrong, some_place}
 use Rattle.px_options.specs.declared.error.OptionsError.{OptionsError}
 use Rattle.px_options.specs.declared.error.OptionsError.TheVariants as error
 use Rattle.px_options.specs.declared.key.Key.{Key}
@@ -103,6 +103,10 @@ wrong_of_table : {A : Type 0} (key : Key) (o : Option A) → IfErr (or_wrong key
 wrong_of_table key None = refl
 wrong_of_table key (Some a) = tt
 
+some_of_table : (r : Result Place OptionsError) → IfErr r OfTable → IfErr (some_place r) OfTable
+some_of_table (Ok place) h = tt
+some_of_table (Err e) h = h
+
 bad_mode_of_table : (m : Option ModeIs) → IfErr (or_bad_mode m) OfTable
 bad_mode_of_table None = refl
 bad_mode_of_table (Some m) = tt
@@ -152,7 +156,9 @@ at_of_table : (k : Key) (d : Data) → IfSome (refusal_at k d) OfTable
 at_of_table key.Anticache d = why_of_table (lines.anticache.reads d) (wrong_of_table key.Anticache (as_bool d))
 at_of_table key.Anticomp d = why_of_table (lines.anticomp.reads d) (wrong_of_table key.Anticomp (as_bool d))
 at_of_table key.BlockList d = why_of_table (lines.block_list.reads d) (rules_of_table key.BlockList block_rule (texts_of (as_array d)))
+at_of_table key.Control d = why_of_table (lines.control.reads d) (some_of_table (address key.Control d) (wrong_of_table key.Control (address_in (as_str d))))
 at_of_table key.Events d = why_of_table (lines.events.reads d) (wrong_of_table key.Events (from_one (as_integer d)))
+at_of_table key.Intercept d = why_of_table (lines.intercept.reads d) (filter_in_of_table key.Intercept (as_str d))
 at_of_table key.Listen d = why_of_table (lines.listen.reads d) (wrong_of_table key.Listen (address_in (as_str d)))
 at_of_table key.MapLocal d = why_of_table (lines.map_local.reads d) (rules_of_table key.MapLocal body_rule (texts_of (as_array d)))
 at_of_table key.MapRemote d = why_of_table (lines.map_remote.reads d) (rules_of_table key.MapRemote body_rule (texts_of (as_array d)))

@@ -7,7 +7,9 @@ abbrev pub name_of : Key → List ℕ
 name_of key.Anticache = codes "anticache"
 name_of key.Anticomp = codes "anticomp"
 name_of key.BlockList = codes "block_list"
+name_of key.Control = codes "control"
 name_of key.Events = codes "events"
+name_of key.Intercept = codes "intercept"
 name_of key.Listen = codes "listen"
 name_of key.MapLocal = codes "map_local"
 name_of key.MapRemote = codes "map_remote"
@@ -48,7 +50,9 @@ key_of name =
     or_key key.Anticache name
     (or_key key.Anticomp name
     (or_key key.BlockList name
+    (or_key key.Control name
     (or_key key.Events name
+    (or_key key.Intercept name
     (or_key key.Listen name
     (or_key key.MapLocal name
     (or_key key.MapRemote name
@@ -57,4 +61,4 @@ key_of name =
     (or_key key.ModifyHeaders name
     (or_key key.SaveStreamFile name
     (or_key key.SaveStreamFilter name
-    (replay_key_of name))))))))))))
+    (replay_key_of name))))))))))))))

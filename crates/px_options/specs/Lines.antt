@@ -10,7 +10,7 @@ use Rattle.px_options.specs.Mode.{ModeIs, regular, mode as mode_text}
 use Rattle.px_options.specs.Replay.{extra, file_paths, texts}
 use Rattle.px_options.specs.Rules.{rules}
 use Rattle.px_options.specs.Save.{file_path, flow_filter}
-use Rattle.px_options.specs.Values.{Place, address, count, truth}
+use Rattle.px_options.specs.Values.{Place, address, count, some_address, truth}
 use Rattle.px_options.specs.declared.error.OptionsError.{OptionsError}
 use Rattle.px_options.specs.declared.key.Key.{Key}
 use Rattle.px_options.specs.declared.key.Key.TheVariants as key
@@ -35,8 +35,16 @@ anticomp = line key.Anticomp truth false
 abbrev pub block_list : Line (List BlockRule)
 block_list = line key.BlockList (rules block_rule) []
 
+-- without its key operators connect nowhere
+abbrev pub control : Line (Option Place)
+control = line key.Control some_address None
+
 abbrev pub events : Line ℕ
 events = line key.Events count 9223372036854775807
+
+-- without its key no flow waits
+abbrev pub intercept : Line (Option Expression)
+intercept = line key.Intercept flow_filter None
 
 abbrev pub listen : Line Place
 listen = line key.Listen address (codes "127.0.0.1", 8080)

@@ -22,7 +22,9 @@ pub record Settings : Type 0 where
   pub anticache : Bool
   pub anticomp : Bool
   pub block_list : List BlockRule
+  pub control : Option Place
   pub events : ℕ
+  pub intercept : Option Expression
   pub listen : Place
   pub map_local : List Rule
   pub map_remote : List Rule
@@ -46,7 +48,9 @@ defaults = record {
   anticache = lines.anticache.default;
   anticomp = lines.anticomp.default;
   block_list = lines.block_list.default;
+  control = lines.control.default;
   events = lines.events.default;
+  intercept = lines.intercept.default;
   listen = lines.listen.default;
   map_local = lines.map_local.default;
   map_remote = lines.map_remote.default;
@@ -74,7 +78,9 @@ abbrev pub refusal_at : Key → Data → Option OptionsError
 refusal_at key.Anticache d = why (lines.anticache.reads d)
 refusal_at key.Anticomp d = why (lines.anticomp.reads d)
 refusal_at key.BlockList d = why (lines.block_list.reads d)
+refusal_at key.Control d = why (lines.control.reads d)
 refusal_at key.Events d = why (lines.events.reads d)
+refusal_at key.Intercept d = why (lines.intercept.reads d)
 refusal_at key.Listen d = why (lines.listen.reads d)
 refusal_at key.MapLocal d = why (lines.map_local.reads d)
 refusal_at key.MapRemote d = why (lines.map_remote.reads d)
@@ -128,7 +134,9 @@ settings_of table = record {
   anticache = option_at lines.anticache table;
   anticomp = option_at lines.anticomp table;
   block_list = option_at lines.block_list table;
+  control = option_at lines.control table;
   events = option_at lines.events table;
+  intercept = option_at lines.intercept table;
   listen = option_at lines.listen table;
   map_local = option_at lines.map_local table;
   map_remote = option_at lines.map_remote table;

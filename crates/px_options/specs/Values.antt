@@ -39,3 +39,11 @@ address_in (Some text) = authority_form text
 -- a text that is a host, a colon and a port, as the target of CONNECT (RFC 9112 section 3.2.3)
 abbrev pub address : Key → Data → Result Place OptionsError
 address key d = or_wrong key (address_in (as_str d))
+
+abbrev pub some_place : Result Place OptionsError → Result (Option Place) OptionsError
+some_place (Ok place) = Ok (Some place)
+some_place (Err e) = Err e
+
+-- such a text, where the option may be none
+abbrev pub some_address : Key → Data → Result (Option Place) OptionsError
+some_address key d = some_place (address key d)

@@ -4,7 +4,7 @@ ghost use Rattle.px_message.specs.Target.{authority_form, form_of};
 ghost use Rattle.toml.specs.View.{view};
 ghost use Rattle.px_options.specs.Keys.{name_of};
 ghost use Rattle.px_options.specs.Parts.{authority_in};
-ghost use Rattle.px_options.specs.Values.{address};
+ghost use Rattle.px_options.specs.Values.{address, some_address};
 ghost use Rattle.px_options.specs.View.{place};
 ghost use Rattle.px_options.specs.declared.error.OptionsError.TheVariants as error;
 
@@ -24,6 +24,18 @@ pub(crate) fn read_address(alloc: Global, key: Key, value: &Value) -> Result<Add
         Some(text) => address_of(alloc, key, text.as_bytes()),
         None => Err(wrong_kind(alloc, key)),
     }
+}
+
+/// The address that a value is, of an option that may be none.
+pub(crate) fn read_some_address(
+    alloc: Global,
+    key: Key,
+    value: &Value,
+) -> Result<Address, OptionsError>
+    ensures ok { IfOk result (λ a. some_address key (view value.now) ≡ Ok (Some (place a))) }
+    ensures err { IfErr result (λ e. (e ≡ error.NoMemory) ⊎ (some_address key (view value.now) ≡ Err e)) }
+{
+    read_address(alloc, key, value)
 }
 
 // The address that a text is.

@@ -8,7 +8,9 @@ pub(crate) enum Key {
     Anticache,
     Anticomp,
     BlockList,
+    Control,
     Events,
+    Intercept,
     Listen,
     MapLocal,
     MapRemote,
@@ -35,7 +37,9 @@ pub(crate) fn name_of(key: Key) -> &'static [u8]
         Key::Anticache => b"anticache",
         Key::Anticomp => b"anticomp",
         Key::BlockList => b"block_list",
+        Key::Control => b"control",
         Key::Events => b"events",
+        Key::Intercept => b"intercept",
         Key::Listen => b"listen",
         Key::MapLocal => b"map_local",
         Key::MapRemote => b"map_remote",
@@ -68,8 +72,14 @@ pub(crate) fn key_of(name: &[u8]) -> Option<Key>
     if name == b"block_list".as_slice() {
         return Some(Key::BlockList);
     }
+    if name == b"control".as_slice() {
+        return Some(Key::Control);
+    }
     if name == b"events".as_slice() {
         return Some(Key::Events);
+    }
+    if name == b"intercept".as_slice() {
+        return Some(Key::Intercept);
     }
     if name == b"listen".as_slice() {
         return Some(Key::Listen);

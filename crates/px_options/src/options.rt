@@ -24,8 +24,12 @@ pub struct Options {
     pub anticomp: bool,
     /// Rules for flows that are answered with a status alone, or not at all (mitmproxy's option `block_list`).
     pub block_list: BlockRules,
+    /// Where operators connect; none says nowhere. mitmproxy has no such option.
+    pub control: Option<Address>,
     /// After how many heard things a run ends.
     pub events: u64,
+    /// Which flows wait for an operator; none says no flow (mitmproxy's option `intercept`).
+    pub intercept: Option<Filter>,
     /// Where the proxy listens for clients (mitmproxy's options `listen_host` and `listen_port`).
     pub listen: Address,
     /// Rules for flows that are answered with files (mitmproxy's option `map_local`).

@@ -6,7 +6,7 @@ ghost use Rattle.px_options.specs.View.{settings};
 ghost use Rattle.px_options.specs.declared.error.OptionsError.TheVariants as error;
 ghost use Rattle.px_options.specs.declared.key.Key.TheVariants as keys;
 
-use crate::address::read_address;
+use crate::address::{read_address, read_some_address};
 use crate::count::read_count;
 use crate::error::unknown_option;
 use crate::extra::read_extra;
@@ -45,7 +45,9 @@ fn put(alloc: Global, options: &mut Options, key: Key, value: &Value) -> Result<
         Key::Anticache => put_anticache(alloc, options, value),
         Key::Anticomp => put_anticomp(alloc, options, value),
         Key::BlockList => put_block_list(alloc, options, value),
+        Key::Control => put_control(alloc, options, value),
         Key::Events => put_events(alloc, options, value),
+        Key::Intercept => put_intercept(alloc, options, value),
         Key::Listen => put_listen(alloc, options, value),
         Key::MapLocal => put_map_local(alloc, options, value),
         Key::MapRemote => put_map_remote(alloc, options, value),
@@ -89,11 +91,27 @@ fn put_block_list(alloc: Global, options: &mut Options, value: &Value) -> Result
     Ok(())
 }
 
+fn put_control(alloc: Global, options: &mut Options, value: &Value) -> Result<(), OptionsError>
+    ensures ok { OnOk result (put keys.Control (view value.now) (settings options.old) ≡ Ok (settings options.new)) }
+    ensures err { IfErr result (λ e. (e ≡ error.NoMemory) ⊎ (put keys.Control (view value.now) (settings options.old) ≡ Err e)) }
+{
+    options.control = Some(read_some_address(alloc, Key::Control, value)?);
+    Ok(())
+}
+
 fn put_events(alloc: Global, options: &mut Options, value: &Value) -> Result<(), OptionsError>
     ensures ok { OnOk result (put keys.Events (view value.now) (settings options.old) ≡ Ok (settings options.new)) }
     ensures err { IfErr result (λ e. (e ≡ error.NoMemory) ⊎ (put keys.Events (view value.now) (settings options.old) ≡ Err e)) }
 {
     options.events = read_count(alloc, Key::Events, value)?;
+    Ok(())
+}
+
+fn put_intercept(alloc: Global, options: &mut Options, value: &Value) -> Result<(), OptionsError>
+    ensures ok { OnOk result (put keys.Intercept (view value.now) (settings options.old) ≡ Ok (settings options.new)) }
+    ensures err { IfErr result (λ e. (e ≡ error.NoMemory) ⊎ (put keys.Intercept (view value.now) (settings options.old) ≡ Err e)) }
+{
+    options.intercept = Some(read_filter(alloc, Key::Intercept, value)?);
     Ok(())
 }
 

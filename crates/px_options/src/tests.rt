@@ -36,7 +36,7 @@ fn why(cause: &RuleCause) -> &'static str {
 
 #[test]
 fn texts_are_options_or_refused(rt: HostRuntime) {
-    let rows: [(&[u8], &str); 30] = [
+    let rows: [(&[u8], &str); 36] = [
         (b"mode = \"reverse:http://h:81/\"", "options"),
         (b"mode = \"reverse:HTTP://[::1]\"", "options"),
         (b"mode = \"regular\"", "options"),
@@ -52,6 +52,12 @@ fn texts_are_options_or_refused(rt: HostRuntime) {
         (b"mode = \"socks\"\nlisten = \"h\"", "wrong"),
         (b"events = 0", "wrong"),
         (b"block_list = [\"/100\"]", "bad status"),
+        (b"control = \"127.0.0.1:9871\"", "options"),
+        (b"control = \"127.0.0.1\"", "wrong"),
+        (b"control = 9871", "wrong"),
+        (b"intercept = \"~m POST\"", "options"),
+        (b"intercept = \"~zz\"", "bad filter"),
+        (b"intercept = \"~zz\"\ncontrol = 1", "wrong"),
         (b"map_local = [\"/(/x\"]", "bad pattern"),
         (b"map_remote = [\"/a\"]", "bad spec"),
         (b"modify_body = [\"/(/\"]", "bad pattern"),
@@ -83,6 +89,7 @@ fn defaults_are_taken(rt: HostRuntime) {
     assert!(rt; options.listen.host.bytes() == b"127.0.0.1".as_slice());
     assert!(rt; !options.anticache && !options.anticomp);
     assert!(rt; options.save_stream_file.is_none() && options.save_stream_filter.is_none());
+    assert!(rt; options.control.is_none() && options.intercept.is_none());
     assert!(rt; options.mode == Mode::Regular);
 }
 

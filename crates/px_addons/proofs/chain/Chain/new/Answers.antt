@@ -13,6 +13,7 @@ returns-clause-quiet g c none keep = record {
     anticomp = none.anticomp;
     replay = c.take-replay.ensures.after;
     stream = none.stream;
+    intercept = none.intercept;
   };
   quiet = record { unrecorded = c.take-replay.ensures.value ∙ none.replay; keep = keep };
 }
