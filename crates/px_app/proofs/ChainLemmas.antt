@@ -1,39 +1,43 @@
--- What no answer of a chain does: it lets no hook wait, and touches no file.
-use Rattle.std.proofs.Common.{◌≡◌, ◌≤◌, ℕ, List, arith, refl, subst, sym}
-use Rattle.px_message.specs.declared.flow.Flow.{Flow}
-use Rattle.px_event.specs.declared.ask.Hook.{Hook}
-use Rattle.px_event.specs.declared.reply.Reply.{Reply}
-use Rattle.px_core.specs.declared.answerer.Answer.TheVariants as answer
-use Rattle.px_core.specs.declared.answerer.Draft.{Draft}
-use Rattle.px_core.specs.Answers.{FilesMeaning}
-use Rattle.px_addons.specs.Chain.{ChainAnswers, Movers}
+-- What no answer of a chain does: it lets no hook wait where no flow is to, and lessens no count of appends that failed.
+use Rattle.std.proofs.Common.{◌≡◌, ◌≤◌, ◌∙◌, ℕ, List, Option, Some, None, ap, arith, refl}
+use Rattle.std.specs.Prelude.{option_map}
+use Rattle.px_filter.specs.Expression.{Expression}
+use Rattle.px_filter.specs.declared.filter.Filter.{Filter}
+use Rattle.px_filter.specs.View.{expression}
+use Rattle.px_core.specs.Kind.{KeepsKind}
+use Rattle.px_addons.specs.Chain.{Movers}
 use Rattle.px_addons.specs.Moving.{Moves}
-use Rattle.px_addons.specs.Quiet.{NoRules}
 use Rattle.px_addons.specs.declared.rules.Rules.{Rules}
 use Rattle.px_addons.proofs.RunLemmas.{answers_by, fails_by, keeps_reads}
+use Rattle.px_addons.proofs.WaitLemmas.{nothing_waits}
 use Rattle.px_app.specs.Over.{KeepsLosses}
+use Rattle.px_app.proofs.AtOnceLemmas.{WaitsNot}
 
-no_wait : (draft : Draft) (reply : Reply) → answer.Wait draft ≡ answer.Reply reply → ⊥
-no_wait draft reply e = cc
+module _ {B S : Type 0} (title state : B → List ℕ) (moves : B → Moves) (rules_of : S → Rules) (movers_in : S → Movers B) where
+  -- no answer waits where no flow is to wait, and behind it none is to
+  pub chain_never_waits : KeepsKind (answers_by title state moves rules_of movers_in) (λ chain. (rules_of chain).intercept ≡ None) WaitsNot
+  chain_never_waits = record {
+    stays = λ hook flow old old_files new new_files given none answered. ap (λ (r : Rules). r.intercept) answered.rules ∙ none;
+    gives_so = λ hook flow old old_files new new_files given none answered draft waits.
+        nothing_waits (rules_of old) hook answered.end draft given none answered.answered waits;
+  }
 
-pub chain_never_waits : {B : Type 0} (title state : B → List ℕ) (moves : B → Moves) (hook : Hook) (flow : Flow) (old_rules : Rules) (old : Movers B) (old_files : FilesMeaning)
-    (new_rules : Rules) (new : Movers B) (new_files : FilesMeaning) (draft : Draft) →
-    ChainAnswers title state moves hook flow old_rules old old_files new_rules new new_files (answer.Wait draft) → ⊥
-chain_never_waits title state moves hook flow old_rules old old_files new_rules new new_files draft is = no_wait draft _ is.answered
+  same_losses : {old new : ℕ} → new ≡ old → old ≤ new
+  same_losses same = omega (arith, same)
 
--- the rules that a chain was made with are its own
-pub still_none : {rules made : Rules} → made ≡ rules → NoRules rules → NoRules made
-still_none {rules} {made} same none = subst (λ (r : Rules). NoRules r) (sym same) none
+  -- no answer lessens the count of appends that failed
+  pub chain_keeps_losses : KeepsLosses (answers_by title state moves rules_of movers_in) (fails_by title state moves rules_of movers_in)
+  chain_keeps_losses = record {
+    given_so = λ hook flow old old_files new new_files given is.
+        same_losses ((keeps_reads title state moves rules_of movers_in (rules_of old)).given_so hook flow old old_files new new_files given refl is).reads.losses;
+    failed_so = λ hook flow old old_files new_files is.
+        same_losses ((keeps_reads title state moves rules_of movers_in (rules_of old)).failed_so hook flow old old_files new_files refl is).reads.losses;
+  }
 
-same_losses : {old new : ℕ} → new ≡ old → old ≤ new
-same_losses same = omega (arith, same)
+-- options without a filter of the flows that wait are rules without one
+pub no_filter : (filter : Option Filter) → option_map expression filter ≡ None → filter ≡ None
+no_filter None none = refl
+no_filter (Some filter) none = absurd (let wrong : Some (expression filter) ≡ None = none in cc)
 
--- no answer lessens the count of appends that failed
-pub chain_keeps_losses : {B S : Type 0} (title state : B → List ℕ) (moves : B → Moves) (rules_of : S → Rules) (movers_in : S → Movers B) →
-    KeepsLosses (answers_by title state moves rules_of movers_in) (fails_by title state moves rules_of movers_in)
-chain_keeps_losses title state moves rules_of movers_in = record {
-  given_so = λ hook flow old old_files new new_files given is.
-      same_losses ((keeps_reads title state moves rules_of movers_in (rules_of old)).given_so hook flow old old_files new new_files given refl is).reads.losses;
-  failed_so = λ hook flow old old_files new_files is.
-      same_losses ((keeps_reads title state moves rules_of movers_in (rules_of old)).failed_so hook flow old old_files new_files refl is).reads.losses;
-}
+pub no_filter_by : (filter : Option Filter) (options : Option Expression) → option_map expression filter ≡ options → options ≡ None → filter ≡ None
+no_filter_by filter options same none = no_filter filter (same ∙ none)

@@ -37,6 +37,10 @@ not_ended_either status (inr is) ended = let wrong : NoMemory ≡ Ended = sym is
 pub rose_later : (first old new : ℕ) → old ≤ new → Rose first old → Rose first new
 rose_later first old new later rose = omega (arith, later, rose)
 
+-- a run that ended is not out of memory
+pub ended_not_lost : Ended ≢ NoMemory
+ended_not_lost is = cc
+
 -- nothing more is printed
 pub ends_still : (printing : Printing) (text : List ℕ) (start now new : Option (List ℕ)) (old later : ℕ) (status : Status) → line_of (code_of status) ≡ [] → new ≡ now → old ≤ later →
     (status ≡ Ended → printing ≡ Whole) → Has printing text start now → Ends printing (text ++ line_of (code_of status)) start new old later status

@@ -1,15 +1,26 @@
 -- Runs of generated flows.
-use Rattle.std.proofs.Common.{◌≡◌, ◌≢◌, ◌⊎◌, inl, inr, ℕ, List, [], Option, Some, None, refl, sym, ap, subst, arith}
+use Rattle.std.proofs.Common.{◌≡◌, ◌≢◌, ◌⊎◌, inl, inr, ℕ, true, List, [], Option, Some, None, refl, sym, ap, ◌∙◌, subst, arith}
 use Rattle.std.proofs.lemmas.List.{append-nil}
 use Rattle.px_event.specs.Trace.{Trace}
-use Rattle.px_core.specs.Answers.{Answering, Failing}
+use Rattle.px_core.specs.Answers.{Answering, Failing, FilesMeaning}
+use Rattle.px_core.specs.Kind.{KeepsKind}
 use Rattle.px_gen.specs.Heard.{Hears}
 use Rattle.px_gen.specs.Noted.{HasGrownByFront, noted, with_steps}
 use Rattle.px_options.specs.Options.{Settings}
 use Rattle.px_addons.specs.declared.rules.Rules.{Rules}
-use Rattle.px_app.specs.Generates.{Generates, generator_settings}
+use Rattle.px_stack.specs.Modes.{mode_due}
+use Rattle.px_app.specs.Generates.{Generated, Generates, generator_mode, generator_settings}
 use Rattle.px_app.specs.Opened.{AreRulesOf}
 use Rattle.px_app.specs.Outside.{Outside}
+use Rattle.px_app.specs.Over.{course_from}
+use Rattle.px_app.specs.Run.{IsRun}
+use Rattle.px_app.specs.Statuses.{ends_heard}
+use Rattle.px_app.specs.declared.printing.Printing.{Printing}
+use Rattle.px_app.specs.declared.status.Status.TheVariants.{Ended}
+use Rattle.px_app.proofs.AtOnceLemmas.{WaitsNot}
+use Rattle.px_app.proofs.DoorLemmas.{hears_plain, worked_plain}
+use Rattle.px_app.proofs.EndLemmas.{ended_not_lost}
+use Rattle.px_app.proofs.PromiseLemmas.{promises_of}
 use Rattle.px_app.proofs.ToldLemmas.{none_part}
 
 with_none : (trace : Option Trace) → trace ≡ with_steps trace []
@@ -31,10 +42,10 @@ not_printed : (status : ℕ) → status ≡ 8 → (failed : Type 0) (P : Type 0)
 not_printed status is failed P (inl zero) = absurd (omega arith)
 not_printed status is failed P (inr (other, quiet)) = absurd (other is)
 
-module _ {S : Type 0} {answers : Answering S} {fails : Failing S} {key : List ℕ} {IsChain : Settings → S → Type 0} {out : Type 0} where
+module _ {S : Type 0} {answers : Answering S} {drops : List ℕ → S → S → Type 0} {names : S → List (List ℕ)} {fails : Failing S} {key : List ℕ} {IsChain : Settings → S → Type 0} {out : Type 0} where
   -- memory ran out before anything was told
   pub nothing_told : (count : ℕ) (before after : Outside) → after.trace ≡ before.trace → after.listening ≡ before.listening → after.written ≡ before.written → after.noted ≡ before.noted →
-      after.files ≡ before.files → Generates answers fails key IsChain out count before after 8
+      after.files ≡ before.files → Generates answers drops names fails key IsChain out count before after 8
   nothing_told count before after trace listening written notes files = record {
     run = [];
     hears = none_heard count;
@@ -53,8 +64,8 @@ module _ {S : Type 0} {answers : Answering S} {fails : Failing S} {key : List �
   }
 
   -- the number is the one in the words
-  pub generates_at : {count other : ℕ} {before after : Outside} {status : ℕ} → count ≡ other → Generates answers fails key IsChain out count before after status → Generates answers fails key IsChain out other before after status
-  generates_at {before = before} {after = after} {status = status} same h = subst (λ n. Generates answers fails key IsChain out n before after status) same h
+  pub generates_at : {count other : ℕ} {before after : Outside} {status : ℕ} → count ≡ other → Generates answers drops names fails key IsChain out count before after status → Generates answers drops names fails key IsChain out other before after status
+  generates_at {before = before} {after = after} {status = status} same h = subst (λ n. Generates answers drops names fails key IsChain out n before after status) same h
 
 -- the rules of a chain, whose recorded list stands beside them
 pub rules_alone : (settings : Settings) (rules : Rules) → AreRulesOf settings rules → AreRulesOf settings (record rules { replay = None })
@@ -66,6 +77,7 @@ rules_alone settings rules are = record {
   bodies = are.bodies;
   anticache = are.anticache;
   anticomp = are.anticomp;
+  intercept = are.intercept;
   replay = refl;
   stream = are.stream;
 }
@@ -77,15 +89,24 @@ complete_by failed status (inr (inl seven)) lost quiet = absurd (quiet (lost sev
 complete_by failed status (inr (inr eight)) lost quiet = inr eight
 
 -- a run by one chain is one by a chain that is so
-pub generates_by : {S : Type 0} {answers : Answering S} {fails : Failing S} {key : List ℕ} {IsChain : Settings → S → Type 0} {out : Type 0} {count : ℕ} {before after : Outside} {status : ℕ} (chain : S) →
-    IsChain generator_settings chain → Generates answers fails key (λ settings other. other ≡ chain) out count before after status → Generates answers fails key IsChain out count before after status
-generates_by {S} {answers} {fails} {key} {IsChain} {out} {count} {before} {after} {status} chain so h = record {
+pub generates_by : {S : Type 0} {answers : Answering S} {drops : List ℕ → S → S → Type 0} {names : S → List (List ℕ)} {fails : Failing S} {key : List ℕ} {IsChain : Settings → S → Type 0} {out : Type 0} {count : ℕ} {before after : Outside} {status : ℕ} (chain : S) →
+    IsChain generator_settings chain → Generates answers drops names fails key (λ settings other. other ≡ chain) out count before after status → Generates answers drops names fails key IsChain out count before after status
+generates_by {S} {answers} {drops} {names} {fails} {key} {IsChain} {out} {count} {before} {after} {status} chain so h = record {
   run = h.run;
   hears = h.hears;
   ends = h.ends;
   by_chain = λ some.
       let by = h.by_chain some in
-      (by.0, by.1, subst (λ (s : S). IsChain generator_settings s) (sym by.2) so, by.3, by.4);
+      record {
+        chain = by.chain;
+        is_chain = subst (λ (s : S). IsChain generator_settings s) (sym by.is_chain) so;
+        trace = by.trace;
+        changes = by.changes;
+        operations = by.operations;
+        over = by.over;
+        promises = by.promises;
+        saves_none = by.saves_none;
+      };
   told = h.told;
   told_part = h.told_part;
   listening = h.listening;
@@ -97,3 +118,29 @@ generates_by {S} {answers} {fails} {key} {IsChain} {out} {count} {before} {after
   lost = h.lost;
   complete = h.complete;
 }
+
+module _ {S : Type 0} (answers : Answering S) (drops : List ℕ → S → S → Type 0) (names : S → List (List ℕ)) (fails : Failing S) (key : List ℕ) (chain : S) (files last : FilesMeaning) (budget : ℕ)
+    (printing : Printing) (told : Trace)
+    (run : IsRun answers drops names fails (mode_due generator_mode key) (record { own = chain; files = files }) None budget Ended printing last None None told) where
+  -- the end was heard
+  pub heard_to_end : (count : ℕ) → Hears count told → ends_heard told ≡ true
+  heard_to_end count hears =
+      let plain = worked_plain answers drops names (mode_due generator_mode key) _ told run.trace (course_from _ run.changes run.operations) run.over (run.worked_whole ended_not_lost) (hears_plain count told hears) in
+      plain.1 ∙ run.is_end.ended refl
+
+  -- such a run by this chain, which lets no flow wait
+  pub generated_so : (code : ℕ) (is : S → Type 0) → KeepsKind answers is WaitsNot → ((name : List ℕ) (old new : S) → is old → drops name old new → is new) → is chain →
+      Generated answers drops names fails key (λ settings other. other ≡ chain) files last code told
+  generated_so code is keeps stays so =
+      let reaches = run.reaches ended_not_lost in
+      record {
+        chain = chain;
+        is_chain = refl;
+        trace = run.trace;
+        changes = run.changes;
+        operations = run.operations;
+        over = run.over;
+        promises = promises_of answers drops names fails is keeps stays generator_settings.intercept generator_mode key _ None budget Ended printing last None None told code (λ other. ended_not_lost)
+            (λ none. so) run;
+        saves_none = (printing, reaches.placed, run.made, reaches.saved_so);
+      }

@@ -9,17 +9,16 @@ use Rattle.px_outside.specs.Files.{Appends, AppendsPart, Contents, SameContents,
 use Rattle.px_core.specs.declared.answerer.Answer.{Answer}
 use Rattle.px_core.specs.Answered.{Answers, LeavesFiles, Pending, at_change, at_first, at_hook, at_mark, at_other, at_release, at_reply}
 use Rattle.px_core.specs.Answers.{Answering, AnswererState, Failing, FilesMeaning}
-use Rattle.px_core.specs.Course.{AllAre, Change, Course, KeepsOwn, change}
+use Rattle.px_core.specs.Course.{AllAre, Change, Course, KeepsOwn, Operated, change}
 use Rattle.px_core.specs.Due.{Due}
 use Rattle.px_core.specs.Kind.{KeepsFiles}
 use Rattle.px_core.proofs.AnswerLemmas.{kept_after}
-use Rattle.px_core.proofs.CourseLemmas.{begins_so, last_is}
+use Rattle.px_core.proofs.CourseLemmas.{begins_so, last_is, made_are}
 use Rattle.px_app.specs.Grown.{AddsUp, AreOfFlows, Grown, GrowsBy, GrowsUnder, texts}
-use Rattle.px_app.specs.Over.{Goes, LeavesBehind, SavedOver, all_saved, course_from, goes_answer, goes_append, goes_none, is_broken, is_cut, left_by_answer, left_by_append, left_whole, nothing_yet, stays_cut}
+use Rattle.px_app.specs.Over.{Goes, LeavesBehind, SavedOver, all_saved, course_from, drops_one, goes_answer, goes_append, goes_drop, goes_none, is_broken, is_cut, left_by_answer, left_by_append, left_whole, nothing_yet, stays_cut}
 use Rattle.px_app.specs.Saved.{Append, Appending, BrokeAppending, IsMade, Piece, SavesTo, broke_at, broke_elsewhere, lost, none_made, one_made, piece_in, put}
 use Rattle.px_app.specs.declared.printing.Printing.{Printing}
 use Rattle.px_app.specs.declared.printing.Printing.TheVariants.{Whole, Failed}
-use Rattle.px_app.proofs.SaveLaws.{own_stays}
 use Rattle.px_app.proofs.TouchedLemmas.{saved_at}
 
 -- ---- lists
@@ -175,45 +174,49 @@ module _ {S : Type 0} (to : Option SavesTo) where
   -- the last change of a run that saves, and what was appended before and in it
   record LastOf (changes : List (Change S)) (one : Change S) (made : List Append) : Type 0 where
     reached : Printing
+    placed : List Trace
     so_far : List Append
     more : List Append
-    saved_so : SavedOver to reached changes so_far
+    saved_so : SavedOver to reached changes placed so_far
     joined : made ≡ so_far ++ more
     broke : BrokeAppending to one.old.files more one.new.files
 
   -- as the one that a constructor names
-  last_so : (reached : Printing) (changes was : List (Change S)) (one last : Change S) (so_far more made : List Append) → was ++ last ∷ [] ≡ changes ++ one ∷ [] →
-      SavedOver to reached was so_far → made ≡ so_far ++ more → BrokeAppending to last.old.files more last.new.files → LastOf changes one made
-  last_so reached changes was one last so_far more made split before joined broke =
+  last_so : (reached : Printing) (changes was : List (Change S)) (placed : List Trace) (one last : Change S) (so_far more made : List Append) → was ++ last ∷ [] ≡ changes ++ one ∷ [] →
+      SavedOver to reached was placed so_far → made ≡ so_far ++ more → BrokeAppending to last.old.files more last.new.files → LastOf changes one made
+  last_so reached changes was placed one last so_far more made split before joined broke =
       let same = same_end was changes last one split in
-      let P : List (Change S) → Type 0 = λ l. SavedOver to reached l so_far in
+      let P : List (Change S) → Type 0 = λ l. SavedOver to reached l placed so_far in
       let Q : Change S → Type 0 = λ c. BrokeAppending to c.old.files more c.new.files in
-      record { reached = reached; so_far = so_far; more = more; saved_so = subst P same.0 before; joined = joined; broke = subst Q same.1 broke }
+      record { reached = reached; placed = placed; so_far = so_far; more = more; saved_so = subst P same.0 before; joined = joined; broke = subst Q same.1 broke }
 
-  still_broke : (last : Change S) → last.new ≡ last.old → BrokeAppending to last.old.files [] last.new.files
+  still_broke : (last : Change S) → last.new.files ≡ last.old.files → BrokeAppending to last.old.files [] last.new.files
   still_broke last still =
-      let P : AnswererState S → Type 0 = λ s. BrokeAppending to last.old.files [] s.files in
-      let nothing : P last.old = broke_elsewhere none_made in
+      let P : FilesMeaning → Type 0 = λ files. BrokeAppending to last.old.files [] files in
+      let nothing : P last.old.files = broke_elsewhere none_made in
       subst P (sym still) nothing
 
-  last_saved : (reached : Printing) (changes whole : List (Change S)) (one : Change S) (made : List Append) → SavedOver to reached whole made → whole ≡ changes ++ one ∷ [] →
-      LastOf changes one made
-  last_saved reached changes whole one made nothing_yet split = no_end changes one split
-  last_saved reached changes whole one made (all_saved was next last so_far more all before own appends joined puts grown) split =
-      last_so Whole changes was one last so_far more made (sym grown ∙ split) before joined (broke_elsewhere appends)
-  last_saved reached changes whole one made (is_cut was next last so_far more all before own appends joined puts grown) split =
-      last_so Whole changes was one last so_far more made (sym grown ∙ split) before joined (broke_elsewhere appends)
-  last_saved reached changes whole one made (is_broken was next last so_far more all before own appends joined puts grown) split =
-      last_so Whole changes was one last so_far more made (sym grown ∙ split) before joined appends
-  last_saved reached changes whole one made (stays_cut was next last so_far before still grown) split =
-      last_so Failed changes was one last made [] made (sym grown ∙ split) before (sym (append-nil made)) (still_broke last still)
+  last_saved : (reached : Printing) (changes whole : List (Change S)) (placed : List Trace) (one : Change S) (made : List Append) → SavedOver to reached whole placed made →
+      whole ≡ changes ++ one ∷ [] → LastOf changes one made
+  last_saved reached changes whole placed one made nothing_yet split = no_end changes one split
+  last_saved reached changes whole placed one made (all_saved was next at next_at last so_far more all before own appends joined puts grown put_at) split =
+      last_so Whole changes was at one last so_far more made (sym grown ∙ split) before joined (broke_elsewhere appends)
+  last_saved reached changes whole placed one made (is_cut was next at next_at last so_far more all before own appends joined puts grown put_at) split =
+      last_so Whole changes was at one last so_far more made (sym grown ∙ split) before joined (broke_elsewhere appends)
+  last_saved reached changes whole placed one made (is_broken was next at next_at last so_far more all before own appends joined puts grown put_at) split =
+      last_so Whole changes was at one last so_far more made (sym grown ∙ split) before joined appends
+  last_saved reached changes whole placed one made (stays_cut was next at next_at last so_far before still grown put_at) split =
+      last_so Failed changes was at one last made [] made (sym grown ∙ split) before (sym (append-nil made)) (still_broke last (ap (λ s. s.files) still))
+  last_saved reached changes whole placed one made (drops_one far was next at last so_far before still grown) split =
+      last_so reached changes was placed one last made [] made (sym grown ∙ split) before (sym (append-nil made)) (still_broke last still)
 
-  none_saved : (reached : Printing) (changes : List (Change S)) (made : List Append) → SavedOver to reached changes made → changes ≡ [] → made ≡ []
-  none_saved reached changes made nothing_yet none = refl
-  none_saved reached changes made (all_saved was next last so_far more all before own appends joined puts grown) none = no_end was last (sym none ∙ grown)
-  none_saved reached changes made (is_cut was next last so_far more all before own appends joined puts grown) none = no_end was last (sym none ∙ grown)
-  none_saved reached changes made (is_broken was next last so_far more all before own appends joined puts grown) none = no_end was last (sym none ∙ grown)
-  none_saved reached changes made (stays_cut was next last so_far before still grown) none = no_end was last (sym none ∙ grown)
+  none_saved : (reached : Printing) (changes : List (Change S)) (placed : List Trace) (made : List Append) → SavedOver to reached changes placed made → changes ≡ [] → made ≡ []
+  none_saved reached changes placed made nothing_yet none = refl
+  none_saved reached changes placed made (all_saved was next at next_at last so_far more all before own appends joined puts grown put_at) none = no_end was last (sym none ∙ grown)
+  none_saved reached changes placed made (is_cut was next at next_at last so_far more all before own appends joined puts grown put_at) none = no_end was last (sym none ∙ grown)
+  none_saved reached changes placed made (is_broken was next at next_at last so_far more all before own appends joined puts grown put_at) none = no_end was last (sym none ∙ grown)
+  none_saved reached changes placed made (stays_cut was next at next_at last so_far before still grown put_at) none = no_end was last (sym none ∙ grown)
+  none_saved reached changes placed made (drops_one far was next at last so_far before still grown) none = no_end was last (sym none ∙ grown)
 
 -- the last of a list, and what is in front of it
 last_of_list : {A : Type 0} (x : A) (xs : List A) → (prefix : List A) × (last : A) × (x ∷ xs ≡ prefix ++ last ∷ [])
@@ -239,31 +242,36 @@ module _ {S : Type 0} (to : Option SavesTo) where
   -- the first changes of a run that saves, with the first of what it appended
   record FrontSaved (prefix : List (Change S)) (made : List Append) : Type 0 where
     reached : Printing
+    placed : List Trace
     so_far : List Append
     first : IsPrefixOf so_far made
-    saved_so : SavedOver to reached prefix so_far
+    saved_so : SavedOver to reached prefix placed so_far
 
   longer : (prefix : List (Change S)) (so_far more made : List Append) → made ≡ so_far ++ more → FrontSaved prefix so_far → FrontSaved prefix made
   longer prefix so_far more made joined f = record {
     reached = f.reached;
+    placed = f.placed;
     so_far = f.so_far;
     first = (f.first.0 ++ more, joined ∙ (ap (λ l. l ++ more) f.first.1 ∙ append_assoc f.so_far f.first.0 more));
     saved_so = f.saved_so;
   }
 
-  front_saved : (reached : Printing) (whole prefix later : List (Change S)) (made : List Append) → SavedOver to reached whole made → whole ≡ prefix ++ later → FrontSaved prefix made
-  front_saved reached whole prefix [] made saved split =
-      let P : List (Change S) → Type 0 = λ l. SavedOver to reached l made in
-      record { reached = reached; so_far = made; first = ([], sym (append-nil made)); saved_so = subst P (split ∙ append-nil prefix) saved }
-  front_saved reached whole prefix (x ∷ xs) made nothing_yet split = no_middle prefix x xs split
-  front_saved reached whole prefix (x ∷ xs) made (all_saved was next last so_far more all before own appends joined puts grown) split =
-      let rest = front_of_was prefix x xs was last (sym grown ∙ split) in longer prefix so_far more made joined (front_saved Whole was prefix rest.0 so_far before rest.1)
-  front_saved reached whole prefix (x ∷ xs) made (is_cut was next last so_far more all before own appends joined puts grown) split =
-      let rest = front_of_was prefix x xs was last (sym grown ∙ split) in longer prefix so_far more made joined (front_saved Whole was prefix rest.0 so_far before rest.1)
-  front_saved reached whole prefix (x ∷ xs) made (is_broken was next last so_far more all before own appends joined puts grown) split =
-      let rest = front_of_was prefix x xs was last (sym grown ∙ split) in longer prefix so_far more made joined (front_saved Whole was prefix rest.0 so_far before rest.1)
-  front_saved reached whole prefix (x ∷ xs) made (stays_cut was next last so_far before still grown) split =
-      let rest = front_of_was prefix x xs was last (sym grown ∙ split) in front_saved Failed was prefix rest.0 made before rest.1
+  front_saved : (reached : Printing) (whole prefix later : List (Change S)) (placed : List Trace) (made : List Append) → SavedOver to reached whole placed made → whole ≡ prefix ++ later →
+      FrontSaved prefix made
+  front_saved reached whole prefix [] placed made saved split =
+      let P : List (Change S) → Type 0 = λ l. SavedOver to reached l placed made in
+      record { reached = reached; placed = placed; so_far = made; first = ([], sym (append-nil made)); saved_so = subst P (split ∙ append-nil prefix) saved }
+  front_saved reached whole prefix (x ∷ xs) placed made nothing_yet split = no_middle prefix x xs split
+  front_saved reached whole prefix (x ∷ xs) placed made (all_saved was next at next_at last so_far more all before own appends joined puts grown put_at) split =
+      let rest = front_of_was prefix x xs was last (sym grown ∙ split) in longer prefix so_far more made joined (front_saved Whole was prefix rest.0 at so_far before rest.1)
+  front_saved reached whole prefix (x ∷ xs) placed made (is_cut was next at next_at last so_far more all before own appends joined puts grown put_at) split =
+      let rest = front_of_was prefix x xs was last (sym grown ∙ split) in longer prefix so_far more made joined (front_saved Whole was prefix rest.0 at so_far before rest.1)
+  front_saved reached whole prefix (x ∷ xs) placed made (is_broken was next at next_at last so_far more all before own appends joined puts grown put_at) split =
+      let rest = front_of_was prefix x xs was last (sym grown ∙ split) in longer prefix so_far more made joined (front_saved Whole was prefix rest.0 at so_far before rest.1)
+  front_saved reached whole prefix (x ∷ xs) placed made (stays_cut was next at next_at last so_far before still grown put_at) split =
+      let rest = front_of_was prefix x xs was last (sym grown ∙ split) in front_saved Failed was prefix rest.0 at made before rest.1
+  front_saved reached whole prefix (x ∷ xs) placed made (drops_one far was next at last so_far before still grown) split =
+      let rest = front_of_was prefix x xs was last (sym grown ∙ split) in front_saved reached was prefix rest.0 placed made before rest.1
 
 -- ---- a run
 
@@ -290,57 +298,62 @@ module _ {S : Type 0} (answers : Answering S) (fails : Failing S) (is : S → Ty
         (told_both to.path so_far more first.files.contents old.files.contents new.files.contents k.grown (broke_grows to old.files more new.files broke));
   }
 
-  grown_over : (due : Due) (course : Course S) (reached : Printing) (made : List Append) → is course.first.own → SavedOver (Some to) reached course.changes made →
-      (trace : Trace) (last : AnswererState S) (pending : Pending) → Answers answers due course trace last pending → GrownOver course.first last made
-  grown_over due course reached made so saved trace last pending (at_first c none no_operations) =
-      subst (λ l. GrownOver last last l) (sym (none_saved (Some to) reached course.changes made saved none)) (record { so = so; grown = told_none to.path last.files.contents })
-  grown_over due course reached made so saved whole last pending (at_hook c trace next old new was conv hook flow given before split free about marked answered) =
-      grown_one course.first old last made hook flow given answered (grown_over due course reached made so saved trace old was before)
-  grown_over due course reached made so saved whole last pending (at_reply c trace next now was conv ask reply before split is_given) =
-      grown_over due course reached made so saved trace last was before
-  grown_over due course reached made so saved whole last pending (at_other c trace next now was step before split quiet marked) =
-      grown_over due course reached made so saved trace last was before
-  grown_over due course reached made so saved whole last pending (at_change prefix next trace old new was before split) =
+  grown_over : (due : Due) (course : Course S) (reached : Printing) (placed : List Trace) (made : List Append) → is course.first.own → AllAre (KeepsOwn is) course.changes →
+      SavedOver (Some to) reached course.changes placed made → (trace : Trace) (last : AnswererState S) (pending : Pending) → Answers answers due course trace last pending → GrownOver course.first last made
+  grown_over due course reached placed made so own saved trace last pending (at_first c none no_operations) =
+      subst (λ l. GrownOver last last l) (sym (none_saved (Some to) reached course.changes placed made saved none)) (record { so = so; grown = told_none to.path last.files.contents })
+  grown_over due course reached placed made so own saved whole last pending (at_hook c trace next old new was conv hook flow given before split free about marked answered) =
+      grown_one course.first old last made hook flow given answered (grown_over due course reached placed made so own saved trace old was before)
+  grown_over due course reached placed made so own saved whole last pending (at_reply c trace next now was conv ask reply before split is_given) =
+      grown_over due course reached placed made so own saved trace last was before
+  grown_over due course reached placed made so own saved whole last pending (at_other c trace next now was step before split quiet marked) =
+      grown_over due course reached placed made so own saved trace last was before
+  grown_over due course reached placed made so own saved whole last pending (at_change prefix next trace old new was before split) =
       let one : Change S = change whole old last in
       let P : AnswererState S → Type 0 = λ state. is state.own in
       let Q : List (Change S) → Type 0 = AllAre (KeepsOwn is) in
       let M : AnswererState S → Type 0 = λ first. GrownOver first last made in
       let same = ap (λ c. c.first) split in
       let all = ap (λ c. c.changes) split in
-      let owns = last_is (KeepsOwn is) prefix.changes one (subst Q all (own_stays (Some to) is reached course.changes made saved)) in
-      let ended = last_saved (Some to) reached prefix.changes course.changes one made saved all in
-      let k = grown_over due prefix ended.reached ended.so_far (subst P same so) ended.saved_so whole old pending before in
+      let owns = last_is (KeepsOwn is) prefix.changes one (subst Q all own) in
+      let ended = last_saved (Some to) reached prefix.changes course.changes placed one made saved all in
+      let k = grown_over due prefix ended.reached ended.placed ended.so_far (subst P same so) owns.0 ended.saved_so whole old pending before in
       subst M (sym same) (grown_more prefix.first old last ended.so_far ended.more made ended.joined owns.1 ended.broke k)
-  grown_over due course reached made so saved whole last pending (at_mark prefix next trace now was id before split) =
+  grown_over due course reached placed made so own saved whole last pending (at_mark prefix next trace now was id before split) =
       let P : AnswererState S → Type 0 = λ state. is state.own in
-      let R : List (Change S) → Type 0 = λ l. SavedOver (Some to) reached l made in
+      let Q : List (Change S) → Type 0 = AllAre (KeepsOwn is) in
+      let R : List (Change S) → Type 0 = λ l. SavedOver (Some to) reached l placed made in
       let M : AnswererState S → Type 0 = λ first. GrownOver first last made in
       let same = ap (λ c. c.first) split in
-      subst M (sym same) (grown_over due prefix reached made (subst P same so) (subst R (ap (λ c. c.changes) split) saved) whole last pending before)
-  grown_over due course reached made so saved whole last pending (at_release prefix more trace next now was operation id hook draft before split_course for waits split) =
+      subst M (sym same) (grown_over due prefix reached placed made (subst P same so) (subst Q (ap (λ c. c.changes) split) own) (subst R (ap (λ c. c.changes) split) saved) whole last pending before)
+  grown_over due course reached placed made so own saved whole last pending (at_release prefix more trace next now was operation id hook draft before split_course for waits split) =
       let P : AnswererState S → Type 0 = λ state. is state.own in
-      let R : List (Change S) → Type 0 = λ l. SavedOver (Some to) reached l made in
+      let Q : List (Change S) → Type 0 = AllAre (KeepsOwn is) in
+      let R : List (Change S) → Type 0 = λ l. SavedOver (Some to) reached l placed made in
       let M : AnswererState S → Type 0 = λ first. GrownOver first last made in
       let same = ap (λ c. c.first) split_course in
-      subst M (sym same) (grown_over due prefix reached made (subst P same so) (subst R (ap (λ c. c.changes) split_course) saved) trace last was before)
+      subst M (sym same) (grown_over due prefix reached placed made (subst P same so) (subst Q (ap (λ c. c.changes) split_course) own) (subst R (ap (λ c. c.changes) split_course) saved) trace last was before)
 
   -- where all was said the file has grown by all that was appended
-  pub grown_leaving : (due : Due) (first : AnswererState S) (changes : List (Change S)) (reached : Printing) (made : List Append) (IsSaid : Type 0) (files : FilesMeaning) (trace : Trace) →
-      is first.own → SavedOver (Some to) reached changes made → LeavesFiles answers fails due (course_from first changes) IsSaid files trace → IsSaid →
+  pub grown_leaving : (due : Due) (first : AnswererState S) (changes : List (Change S)) (operations : List Operated) (reached : Printing) (placed : List Trace) (made : List Append) (IsSaid : Type 0)
+      (files : FilesMeaning) (trace : Trace) → is first.own → AllAre (KeepsOwn is) changes → SavedOver (Some to) reached changes placed made →
+      LeavesFiles answers fails due (course_from first changes operations) IsSaid files trace → IsSaid →
       Told (Grown to.path made) first.files.contents files.contents
-  grown_leaving due first changes reached made IsSaid files trace so saved leaves said =
+  grown_leaving due first changes operations reached placed made IsSaid files trace so own saved leaves said =
       let all = leaves.whole said in
       let P : Course S → Type 0 = λ c. Answers answers due c leaves.prefix leaves.last leaves.pending in
-      let k = grown_over due (course_from first changes) reached made so saved leaves.prefix leaves.last leaves.pending (subst P all.2 leaves.answered) in
+      let k = grown_over due (course_from first changes operations) reached placed made so own saved leaves.prefix leaves.last leaves.pending (subst P all.2 leaves.answered) in
       subst (λ f. Told (Grown to.path made) first.files.contents f.contents) (sym all.1) k.grown
 
   -- and else by the first of it
-  pub grown_in_part : (due : Due) (first : AnswererState S) (changes : List (Change S)) (reached : Printing) (made : List Append) (IsSaid : Type 0) (files : FilesMeaning) (trace : Trace) →
-      is first.own → SavedOver (Some to) reached changes made → LeavesFiles answers fails due (course_from first changes) IsSaid files trace →
+  pub grown_in_part : (due : Due) (first : AnswererState S) (changes : List (Change S)) (operations : List Operated) (reached : Printing) (placed : List Trace) (made : List Append) (IsSaid : Type 0)
+      (files : FilesMeaning) (trace : Trace) → is first.own → AllAre (KeepsOwn is) changes → SavedOver (Some to) reached changes placed made →
+      LeavesFiles answers fails due (course_from first changes operations) IsSaid files trace →
       (so_far : List Append) × IsPrefixOf so_far made × Told (Grown to.path so_far) first.files.contents files.contents
-  grown_in_part due first changes reached made IsSaid files trace so saved leaves =
-      let f = front_saved (Some to) reached changes leaves.made.changes leaves.front_of.later made saved leaves.front_of.split in
-      let k = grown_over due leaves.made f.reached f.so_far (begins_so is (course_from first changes) leaves.made leaves.front_of so) f.saved_so leaves.prefix leaves.last leaves.pending
+  grown_in_part due first changes operations reached placed made IsSaid files trace so own saved leaves =
+      let f = front_saved (Some to) reached changes leaves.made.changes leaves.front_of.later placed made saved leaves.front_of.split in
+      let k = grown_over due leaves.made f.reached f.placed f.so_far (begins_so is (course_from first changes operations) leaves.made leaves.front_of so)
+      (made_are (KeepsOwn is) (course_from first changes operations) leaves.made leaves.front_of own) f.saved_so leaves.prefix leaves.last leaves.pending
       leaves.answered in
       let P : AnswererState S → Type 0 = λ s. Told (Grown to.path f.so_far) s.files.contents files.contents in (
         f.so_far,
@@ -349,43 +362,53 @@ module _ {S : Type 0} (answers : Answering S) (fails : Failing S) (is : S → Ty
             (same_so leaves.last.files files (kept_after answers fails is goes keeps leaves.last files k.so leaves.after))),
       )
 
-  -- Answers and appends in turn leave it grown by appends of flows.
-  record GrownBy (first last : AnswererState S) : Type 0 where
-    made : List Append
-    of_flows : AreOfFlows (Some to) made
-    over : GrownOver first last made
+  grown_still : (first old new : AnswererState S) (made : List Append) → (is old.own → is new.own) → new.files ≡ old.files → GrownOver first old made → GrownOver first new made
+  grown_still first old new made own files k = record {
+    so = own k.so;
+    grown = subst (λ f. Told (Grown to.path made) first.files.contents f.contents) (sym files) k.grown;
+  }
 
-  grown_by : (first last : AnswererState S) → is first.own → Goes answers (Some to) first last → GrownBy first last
-  grown_by first last so goes_none = record { made = []; of_flows = tt; over = record { so = so; grown = told_none to.path first.files.contents } }
-  grown_by first last so (goes_answer old new hook flow given before answered) =
-      let k = grown_by first old so before in
-      record { made = k.made; of_flows = k.of_flows; over = grown_one first old last k.made hook flow given answered k.over }
-  grown_by first last so (goes_append old new more before own appends) =
-      let k = grown_by first old so before in
-      record {
-        made = k.made ++ more;
-        of_flows = of_flows_both (Some to) k.made more k.of_flows (appends_of_flows (Some to) old.files more last.files appends);
-        over = grown_more first old last k.made more (k.made ++ more) refl (λ old_so. subst is (sym own) old_so) (broke_elsewhere appends) k.over;
-      }
+  module _ (drops : List ℕ → S → S → Type 0) (stays : (name : List ℕ) (old new : S) → is old → drops name old new → is new) where
+    -- Answers, appends and addons that are taken away leave it grown by appends of flows.
+    record GrownBy (first last : AnswererState S) : Type 0 where
+      made : List Append
+      of_flows : AreOfFlows (Some to) made
+      over : GrownOver first last made
 
-  pub grown_behind : (first : AnswererState S) (files : FilesMeaning) → is first.own → LeavesBehind answers fails (Some to) first files →
-      (made : List Append) × AreOfFlows (Some to) made × Told (Grown to.path made) first.files.contents files.contents
-  grown_behind first files so (left_whole last before same) =
-      let k = grown_by first last so before in
-      (k.made, k.of_flows, subst (λ f. Told (Grown to.path k.made) first.files.contents f.contents) (sym same) k.over.grown)
-  grown_behind first files so (left_by_answer last hook flow before failed) =
-      let k = grown_by first last so before in (
-        k.made,
-        k.of_flows,
-        told_on to.path k.made first.files.contents last.files.contents files.contents k.over.grown
-            (same_so last.files files (keeps.failed_so hook flow last.own last.files files k.over.so failed)),
-      )
-  grown_behind first files so (left_by_append last more before broke) =
-      let k = grown_by first last so before in (
-        k.made ++ more,
-        of_flows_both (Some to) k.made more k.of_flows (broke_of_flows (Some to) last.files more files broke),
-        told_both to.path k.made more first.files.contents last.files.contents files.contents k.over.grown (broke_grows to last.files more files broke),
-      )
+    grown_by : (first last : AnswererState S) → is first.own → Goes answers drops (Some to) first last → GrownBy first last
+    grown_by first last so goes_none = record { made = []; of_flows = tt; over = record { so = so; grown = told_none to.path first.files.contents } }
+    grown_by first last so (goes_answer old new hook flow given before answered) =
+        let k = grown_by first old so before in
+        record { made = k.made; of_flows = k.of_flows; over = grown_one first old last k.made hook flow given answered k.over }
+    grown_by first last so (goes_append old new more before own appends) =
+        let k = grown_by first old so before in
+        record {
+          made = k.made ++ more;
+          of_flows = of_flows_both (Some to) k.made more k.of_flows (appends_of_flows (Some to) old.files more last.files appends);
+          over = grown_more first old last k.made more (k.made ++ more) refl (λ old_so. subst is (sym own) old_so) (broke_elsewhere appends) k.over;
+        }
+    grown_by first last so (goes_drop old new name before dropped files) =
+        let k = grown_by first old so before in
+        record { made = k.made; of_flows = k.of_flows; over = grown_still first old last k.made (λ old_so. stays name old.own last.own old_so dropped) files k.over }
+
+    pub grown_behind : (first : AnswererState S) (files : FilesMeaning) → is first.own → LeavesBehind answers drops fails (Some to) first files →
+        (made : List Append) × AreOfFlows (Some to) made × Told (Grown to.path made) first.files.contents files.contents
+    grown_behind first files so (left_whole last before same) =
+        let k = grown_by first last so before in
+        (k.made, k.of_flows, subst (λ f. Told (Grown to.path k.made) first.files.contents f.contents) (sym same) k.over.grown)
+    grown_behind first files so (left_by_answer last hook flow before failed) =
+        let k = grown_by first last so before in (
+          k.made,
+          k.of_flows,
+          told_on to.path k.made first.files.contents last.files.contents files.contents k.over.grown
+              (same_so last.files files (keeps.failed_so hook flow last.own last.files files k.over.so failed)),
+        )
+    grown_behind first files so (left_by_append last more before broke) =
+        let k = grown_by first last so before in (
+          k.made ++ more,
+          of_flows_both (Some to) k.made more k.of_flows (broke_of_flows (Some to) last.files more files broke),
+          told_both to.path k.made more first.files.contents last.files.contents files.contents k.over.grown (broke_grows to last.files more files broke),
+        )
 
 -- ---- where all that finished was saved
 

@@ -6,9 +6,11 @@ pub mod OpenLemmas
 pub mod SetupLemmas
 pub mod PrintLemmas
 pub mod SavedLemmas
+pub mod TurnLemmas
 pub mod RestLemmas
 pub mod GoesLemmas
 pub mod LossLemmas
+pub mod ChangeLemmas
 pub mod SaveLaws
 pub mod TouchedLemmas
 pub mod GrownLemmas
@@ -16,6 +18,8 @@ pub mod ListedLemmas
 pub mod OwnLemmas
 pub mod CountLemmas
 pub mod RunLemmas
+pub mod OperatorLemmas
+pub mod TurningLemmas
 pub mod AtOnceLemmas
 pub mod ChainLemmas
 pub mod StepLemmas
@@ -25,6 +29,9 @@ pub mod OutputLemmas
 pub mod ServerLemmas
 pub mod HttpServers
 pub mod StackServers
+pub mod DoorLemmas
+pub mod PromiseLemmas
+pub mod ServeLemmas
 pub mod GenerateLemmas
 pub mod FlowFileLemmas
 pub mod FlowsLemmas

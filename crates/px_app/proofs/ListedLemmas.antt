@@ -16,7 +16,7 @@ abbrev pub done_so_far : Option Trace → List Flow
 done_so_far None = []
 done_so_far (Some trace) = flat_map done_of trace
 
-done_heard : (trace : Trace) (moment : ℕ) (what : Heard) → flat_map done_of (trace ++ steps.Heard moment what ∷ []) ≡ flat_map done_of trace
+pub done_heard : (trace : Trace) (moment : ℕ) (what : Heard) → flat_map done_of (trace ++ steps.Heard moment what ∷ []) ≡ flat_map done_of trace
 done_heard trace moment what = flat_map-append done_of trace (steps.Heard moment what ∷ []) ∙ append-nil (flat_map done_of trace)
 
 -- what is heard finishes none

@@ -1,6 +1,7 @@
 -- What is read of the options file and of flow files, and what is told of it.
 use Rattle.std.proofs.Common.{◌≡◌, ◌⊎◌, inl, inr, ℕ, List, [], ◌∷◌, Result, Ok, Err, IfOk, IfErr, refl, sym, subst}
 use Rattle.px_message.specs.declared.flow.Flow.{Flow}
+use Rattle.px_event.specs.Trace.{Trace}
 use Rattle.px_outside.specs.Count.{Rose}
 use Rattle.px_outside.specs.declared.files.FileCall.{FileCall}
 use Rattle.px_outside.specs.declared.files.FileCall.TheVariants.{Read}
@@ -14,7 +15,7 @@ use Rattle.px_app.specs.Loaded.{Loaded, LoadsFiles, loaded, one_absent, one_bad,
 use Rattle.px_app.specs.Loading.{load_code, load_line, stop_of}
 use Rattle.px_app.specs.Opened.{IsNoOptions, IsNotOpened, Opened, nothing_read, absent, not_read, unjudged, refused, says, error_code, error_line, error_note}
 use Rattle.px_app.specs.Outside.{IsTold, Outside}
-use Rattle.px_app.specs.Serves.{RunsBy, RunsWith, ServesFile, Stops}
+use Rattle.px_app.specs.Serves.{RunsBy, RunsWith, Served, ServesFile, Stops}
 use Rattle.px_app.specs.declared.loading.LoadError.{LoadError}
 use Rattle.px_app.specs.declared.loading.LoadError.TheVariants as loads
 use Rattle.px_app.specs.declared.opening.OpenError.{OpenError}
@@ -35,11 +36,11 @@ pub err_judged : {T : Type 0} (result : Result T OpenError) (P Q : OpenError →
 err_judged (Ok t) P Q h f = tt
 err_judged (Err e) P Q h f = f e h
 
-module _ {S : Type 0} (answers : Answering S) (fails : Failing S) (key : List ℕ) (IsChain : Settings → List Flow → S → Type 0) (same net out save notes : Type 0) (path : List ℕ) (before after : Outside) (status : ℕ) where
+module _ {S : Type 0} (answers : Answering S) (drops : List ℕ → S → S → Type 0) (names : S → List (List ℕ)) (fails : Failing S) (key : List ℕ) (IsChain : Settings → List Flow → S → Type 0) (same net out save notes : Type 0) (path : List ℕ) (before after : Outside) (status : ℕ) where
   -- a run without options
   pub not_opened : (error : OpenError) → IsNotOpened path error (seen_of before.files) (seen_of after.files) → same → (status ≡ error_code error) ⊎ (status ≡ 8) →
       IsTold out status (error_line path error) before.written after.written → IsTold notes status (error_note error) before.noted after.noted →
-      (opened : Opened) × ServesFile answers fails key IsChain same net out save notes path opened before after status
+      (opened : Opened) × ServesFile answers drops names fails key IsChain same net out save notes path opened before after status
   not_opened errors.NotRead (inl made) is_same is printed noted =
       (absent, record { read = after.files; reads = made; runs = record { is = is; net = is_same; kept = refl; prints = printed; notes = noted } })
   not_opened errors.NotRead (inr made) is_same is printed noted =
@@ -53,24 +54,35 @@ module _ {S : Type 0} (answers : Answering S) (fails : Failing S) (key : List �
 
 -- ---- the run behind the files
 
-module _ {S : Type 0} (answers : Answering S) (fails : Failing S) (key : List ℕ) (IsChain : Settings → List Flow → S → Type 0) (same net out save notes : Type 0) (settings : Settings) where
+module _ {S : Type 0} (answers : Answering S) (drops : List ℕ → S → S → Type 0) (names : S → List (List ℕ)) (fails : Failing S) (key : List ℕ) (IsChain : Settings → List Flow → S → Type 0) (same net out save notes : Type 0) (settings : Settings) where
   stops_from : (code : ℕ) (line : List ℕ) (files read : FilesMeaning) (before after : Outside) (status : ℕ) → Stops same out notes code line [] read (record before { files = files }) after status →
       Stops same out notes code line [] read before after status
   stops_from code line files read before after status h = record { is = h.is; net = h.net; kept = h.kept; prints = h.prints; notes = h.notes }
 
   -- what files meant before is no part of what a run promises
-  runs_so : (what : Loaded) (files read : FilesMeaning) (before after : Outside) (status : ℕ) → RunsBy answers fails key IsChain same net out save notes settings what read (record before { files = files }) after status →
-      RunsBy answers fails key IsChain same net out save notes settings what read before after status
+  served_from : (chain : S) (files read : FilesMeaning) (before after : Outside) (status : ℕ) (told : Trace) →
+      Served answers drops names fails key out save settings chain read (record before { files = files }) after status told → Served answers drops names fails key out save settings chain read before after status told
+  served_from chain files read before after status told h = record {
+    trace = h.trace;
+    changes = h.changes;
+    operations = h.operations;
+    over = h.over;
+    promises = h.promises;
+    outputs = h.outputs;
+    ends = h.ends;
+    prints = h.prints;
+  }
+
+  runs_so : (what : Loaded) (files read : FilesMeaning) (before after : Outside) (status : ℕ) → RunsBy answers drops names fails key IsChain same net out save notes settings what read (record before { files = files }) after status →
+      RunsBy answers drops names fails key IsChain same net out save notes settings what read before after status
   runs_so (loaded flows) files read before after status (chain, so, h) = (
     chain,
     so,
     record {
-      promises = h.promises;
+      served = λ told empty tells. served_from chain files read before after status told (h.served told empty tells);
       files = h.files;
       listening = h.listening;
       causes = h.causes;
-      ends = h.ends;
-      prints = h.prints;
       notes = h.notes;
     },
   )
@@ -79,14 +91,14 @@ module _ {S : Type 0} (answers : Answering S) (fails : Failing S) (key : List �
   runs_so (one_bad path offset) files read before after status h = stops_from 4 (bad_flow_file path offset) files read before after status h
   runs_so unloaded files read before after status h = stops_from 8 [] files read before after status h
 
-  pub runs_from : (what : Loaded) (files read : FilesMeaning) (before after : Outside) (status : ℕ) → RunsWith answers fails key IsChain same net out save notes settings what read (record before { files = files }) after status →
-      RunsWith answers fails key IsChain same net out save notes settings what read before after status
+  pub runs_from : (what : Loaded) (files read : FilesMeaning) (before after : Outside) (status : ℕ) → RunsWith answers drops names fails key IsChain same net out save notes settings what read (record before { files = files }) after status →
+      RunsWith answers drops names fails key IsChain same net out save notes settings what read before after status
   runs_from what files read before after status h = record { so = runs_so what files read before after status h.so }
 
   -- a flow file that ends the run
   pub no_flows : (error : LoadError) (before after : Outside) (status : ℕ) → same → (status ≡ load_code error) ⊎ (status ≡ 8) →
       IsTold out status (load_line error) before.written after.written → IsTold notes status [] before.noted after.noted →
-      RunsWith answers fails key IsChain same net out save notes settings (stop_of error) after.files before after status
+      RunsWith answers drops names fails key IsChain same net out save notes settings (stop_of error) after.files before after status
   no_flows (loads.Absent path) before after status is_same is printed noted = record { so = record { is = is; net = is_same; kept = refl; prints = printed; notes = noted } }
   no_flows (loads.NotRead path) before after status is_same is printed noted = record { so = record { is = is; net = is_same; kept = refl; prints = printed; notes = noted } }
   no_flows (loads.BadPlace path offset) before after status is_same is printed noted = record { so = record { is = is; net = is_same; kept = refl; prints = printed; notes = noted } }
@@ -95,8 +107,8 @@ module _ {S : Type 0} (answers : Answering S) (fails : Failing S) (key : List �
   -- the run of these options, behind the read of their file
   pub opened_so : (path bytes : List ℕ) (calls : List FileCall) (what : Loaded) (mid read : FilesMeaning) (before after : Outside) (status : ℕ) →
       Made (Read path bytes ∷ []) (seen_of before.files) (seen_of mid) → Says bytes (Ok settings) → LoadsFiles settings.server_replay calls what → Made calls (seen_of mid) (seen_of read) →
-      RunsWith answers fails key IsChain same net out save notes settings what read (record before { files = mid }) after status →
-      (opened : Opened) × ServesFile answers fails key IsChain same net out save notes path opened before after status
+      RunsWith answers drops names fails key IsChain same net out save notes settings what read (record before { files = mid }) after status →
+      (opened : Opened) × ServesFile answers drops names fails key IsChain same net out save notes path opened before after status
   opened_so path bytes calls what mid read before after status made said loads more runs = (
     says bytes settings calls what,
     record {
@@ -119,8 +131,8 @@ with_flows settings calls flows paths what of_options loads (inr is) =
     subst P of_options (subst Q (sym is) (breaks_behind paths calls (loaded flows) flows loads refl))
 
 -- what failed since files were read failed in the run
-pub runs_since : {S : Type 0} (answers : Answering S) (fails : Failing S) (key : List ℕ) (IsChain : Settings → List Flow → S → Type 0) (same net out notes : Type 0) (settings : Settings) (what : Loaded) (read : FilesMeaning)
-    (before after : Outside) (status mid old new : ℕ) → mid ≡ old → RunsWith answers fails key IsChain same net out (Rose mid new) notes settings what read before after status →
-    RunsWith answers fails key IsChain same net out (Rose old new) notes settings what read before after status
-runs_since answers fails key IsChain same net out notes settings what read before after status mid old new is =
-    let P : ℕ → Type 0 = λ n. RunsWith answers fails key IsChain same net out (Rose n new) notes settings what read before after status in subst P is
+pub runs_since : {S : Type 0} (answers : Answering S) (drops : List ℕ → S → S → Type 0) (names : S → List (List ℕ)) (fails : Failing S) (key : List ℕ) (IsChain : Settings → List Flow → S → Type 0) (same net out notes : Type 0) (settings : Settings) (what : Loaded) (read : FilesMeaning)
+    (before after : Outside) (status mid old new : ℕ) → mid ≡ old → RunsWith answers drops names fails key IsChain same net out (Rose mid new) notes settings what read before after status →
+    RunsWith answers drops names fails key IsChain same net out (Rose old new) notes settings what read before after status
+runs_since answers drops names fails key IsChain same net out notes settings what read before after status mid old new is =
+    let P : ℕ → Type 0 = λ n. RunsWith answers drops names fails key IsChain same net out (Rose n new) notes settings what read before after status in subst P is

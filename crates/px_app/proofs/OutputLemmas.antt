@@ -25,9 +25,9 @@ first_later first old new later (inl rose) = inl (omega (arith, later, rose))
 first_later first old new later (inr q) = inr q
 
 -- by where the options have flows saved
-pub leaves_at : {S : Type 0} (answers : Answering S) (fails : Failing S) (first : AnswererState S) (files : FilesMeaning) {here there : Option SavesTo} → here ≡ there →
-    LeavesBehind answers fails here first files → LeavesBehind answers fails there first files
-leaves_at answers fails first files same = let P : Option SavesTo → Type 0 = λ to. LeavesBehind answers fails to first files in subst P same
+pub leaves_at : {S : Type 0} (answers : Answering S) (drops : List ℕ → S → S → Type 0) (fails : Failing S) (first : AnswererState S) (files : FilesMeaning) {here there : Option SavesTo} → here ≡ there →
+    LeavesBehind answers drops fails here first files → LeavesBehind answers drops fails there first files
+leaves_at answers drops fails first files same = let P : Option SavesTo → Type 0 = λ to. LeavesBehind answers drops fails to first files in subst P same
 
 pub outputs_at : {S : Type 0} (failed : Type 0) (changes : List (Change S)) (there : Option SavesTo) {here : Option SavesTo} (status : ℕ) (trace : Trace) (start mid now : Option (List ℕ)) → here ≡ there →
     (made : List Append) → ReachesPart here changes made trace start mid → (reached : Printing) → (status ≢ 8 → Reaches here reached changes made trace start mid) →

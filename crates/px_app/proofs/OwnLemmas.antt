@@ -1,7 +1,9 @@
--- Steps of the conversation that was heard last, and what is due by a conversation's own steps alone.
-use Rattle.std.proofs.Common.{◌≡◌, inl, inr, ℕ, Bool, true, false, cond, List, [], ◌∷◌, ◌++◌, Option, Some, None, refl, sym, ap, ◌∙◌, subst}
+-- Steps of the conversation that was heard last or behind what an operator said, and what is due by a conversation's own steps and by what operators said alone.
+use Rattle.std.proofs.Common.{◌≡◌, inl, inr, ℕ, Bool, true, false, cond, List, [], ◌∷◌, ◌++◌, Option, Some, None, refl, sym, ap, ◌∙◌, subst, append-nil}
 use Rattle.std.specs.Prelude.{◌==◌, is_some}
+use Rattle.std.proofs.lemmas.Bool.{eq-eqb}
 use Rattle.std.proofs.lemmas.Bool.Decides.{eqb_tells}
+use Rattle.std.proofs.lemmas.List.{append_assoc}
 use Rattle.px_message.specs.declared.address.Address.{Address}
 use Rattle.px_event.specs.declared.heard.Heard.{Heard}
 use Rattle.px_event.specs.declared.said.Said.{Said}
@@ -18,43 +20,56 @@ use Rattle.px_event.specs.Trace.{Trace, Always}
 use Rattle.px_event.specs.View.{seen_of}
 use Rattle.px_core.specs.declared.news.News.{News}
 use Rattle.px_core.specs.declared.news.News.TheVariants as news
+use Rattle.px_core.specs.Answers.{Answering, AnswererState}
 use Rattle.px_core.specs.Calls.{Calls, no_calls, addressed, is_connected, is_dialling, connected_by, dial_reply, moved, takes, hears_by, dials, calls_on, calls_from}
+use Rattle.px_core.specs.Course.{Course}
 use Rattle.px_core.specs.Due.{Due, due_at}
 use Rattle.px_core.specs.Held.{AllOf}
 use Rattle.px_core.specs.Run.{IsOfHeard}
-use Rattle.px_app.specs.Own.{number_of, OwnFrom, IsOwn, is_number, is_step_of, alone, IsIsolated}
+use Rattle.px_app.specs.Operators.{Word, nothing, says, leaves, word_of}
+use Rattle.px_app.specs.Own.{Actor, nobody, one, anybody, actor_of, actor_by, acts_behind, IsBy, OwnFrom, IsOwn, is_actor, is_step_of, alone_from, IsIsolated}
+use Rattle.px_app.specs.Worked.{Worked, WorkedPart, not_begun, one_worked, all_worked, breaks_in}
+use Rattle.px_app.proofs.TurnLemmas.{Adds, NoneHeard, breaks_adds, turns_adds}
 
-own_all : (conv : ℕ) (list : List Step) → AllOf conv list → OwnFrom (Some conv) list
-own_all conv [] all = tt
-own_all conv (steps.Heard moment what ∷ list) (here, all) = absurd here
-own_all conv (steps.Asked number ask ∷ list) (here, all) = (here, own_all conv list all)
-own_all conv (steps.Answered number ask reply ∷ list) (here, all) = (here, own_all conv list all)
-own_all conv (steps.Said number what ∷ list) (here, all) = (here, own_all conv list all)
-own_all conv (steps.Done flow ∷ list) (here, all) = (here, own_all conv list all)
+own_all : (trace : Trace) (conv : ℕ) (list : List Step) → AllOf conv list → OwnFrom trace (one conv) list
+own_all trace conv [] all = tt
+own_all trace conv (steps.Heard moment what ∷ list) (here, all) = absurd here
+own_all trace conv (steps.Asked number ask ∷ list) (here, all) = (here, own_all (trace ++ steps.Asked number ask ∷ []) conv list all)
+own_all trace conv (steps.Answered number ask reply ∷ list) (here, all) = (here, own_all (trace ++ steps.Answered number ask reply ∷ []) conv list all)
+own_all trace conv (steps.Said number what ∷ list) (here, all) = (here, own_all (trace ++ steps.Said number what ∷ []) conv list all)
+own_all trace conv (steps.Done flow ∷ list) (here, all) = (here, own_all (trace ++ steps.Done flow ∷ []) conv list all)
 
-own_of : (a : Option (ℕ × News)) (list : List Step) → ((conv : ℕ) (news : News) → a ≡ Some (conv, news) → AllOf conv list) → (a ≡ None → list ≡ []) → OwnFrom (number_of a) list
-own_of None list own none = let P : List Step → Type 0 = OwnFrom None in subst P (sym (none refl)) tt
-own_of (Some (conv, news)) list own none = own_all conv list (own conv news refl)
+own_of : (trace : Trace) (a : Option (ℕ × News)) (list : List Step) → ((conv : ℕ) (news : News) → a ≡ Some (conv, news) → AllOf conv list) → (a ≡ None → list ≡ []) → OwnFrom trace (actor_of a) list
+own_of trace None list own none = let P : List Step → Type 0 = OwnFrom trace nobody in subst P (sym (none refl)) tt
+own_of trace (Some (conv, news)) list own none = own_all trace conv list (own conv news refl)
 
--- steps that follow what was heard
-own_heard : (what : Heard) (list : List Step) → IsOfHeard what list → OwnFrom (number_of (addressed what)) list
-own_heard what list of = own_of (addressed what) list of.own of.none
+-- steps that follow what was heard of a conversation
+pub own_heard : (trace before : Trace) (what : Heard) (list : List Step) → word_of trace what ≡ nothing → IsOfHeard what list → OwnFrom before (acts_behind trace what) list
+own_heard trace before what list is of =
+    let P : Word → Type 0 = λ w. OwnFrom before (actor_by w (addressed what)) list in subst P (sym is) (own_of before (addressed what) list of.own of.none)
 
-own_behind : (last : Option ℕ) (trace : Trace) (moment : ℕ) (what : Heard) (list : List Step) → OwnFrom last trace → OwnFrom (number_of (addressed what)) list →
-    OwnFrom last (trace ++ steps.Heard moment what ∷ list)
-own_behind last [] moment what list own more = more
-own_behind last (steps.Heard m w ∷ trace) moment what list own more = own_behind (number_of (addressed w)) trace moment what list own more
-own_behind None (steps.Asked number ask ∷ trace) moment what list own more = absurd own
-own_behind None (steps.Answered number ask reply ∷ trace) moment what list own more = absurd own
-own_behind None (steps.Said number w ∷ trace) moment what list own more = absurd own
-own_behind None (steps.Done flow ∷ trace) moment what list own more = absurd own
-own_behind (Some conv) (steps.Asked number ask ∷ trace) moment what list (here, own) more = (here, own_behind (Some conv) trace moment what list own more)
-own_behind (Some conv) (steps.Answered number ask reply ∷ trace) moment what list (here, own) more = (here, own_behind (Some conv) trace moment what list own more)
-own_behind (Some conv) (steps.Said number w ∷ trace) moment what list (here, own) more = (here, own_behind (Some conv) trace moment what list own more)
-own_behind (Some conv) (steps.Done flow ∷ trace) moment what list (here, own) more = (here, own_behind (Some conv) trace moment what list own more)
+-- steps behind something heard are judged by it
+own_behind : (trace : Trace) (actor : Actor) (first : Trace) (moment : ℕ) (what : Heard) (list : List Step) (all : Trace) → trace ++ first ≡ all → OwnFrom trace actor first →
+    OwnFrom (all ++ steps.Heard moment what ∷ []) (acts_behind all what) list → OwnFrom trace actor (first ++ steps.Heard moment what ∷ list)
+own_behind trace actor [] moment what list all is own more =
+    let P : Trace → Type 0 = λ t. OwnFrom (t ++ steps.Heard moment what ∷ []) (acts_behind t what) list in subst P (sym is ∙ append-nil trace) more
+own_behind trace actor (steps.Heard m w ∷ first) moment what list all is own more =
+    own_behind (trace ++ steps.Heard m w ∷ []) (acts_behind trace w) first moment what list all (append_assoc trace (steps.Heard m w ∷ []) first ∙ is) own more
+own_behind trace actor (steps.Asked number ask ∷ first) moment what list all is (here, own) more =
+    (here, own_behind (trace ++ steps.Asked number ask ∷ []) actor first moment what list all (append_assoc trace (steps.Asked number ask ∷ []) first ∙ is) own more)
+own_behind trace actor (steps.Answered number ask reply ∷ first) moment what list all is (here, own) more =
+    (here, own_behind (trace ++ steps.Answered number ask reply ∷ []) actor first moment what list all (append_assoc trace (steps.Answered number ask reply ∷ []) first ∙ is) own more)
+own_behind trace actor (steps.Said number w ∷ first) moment what list all is (here, own) more =
+    (here, own_behind (trace ++ steps.Said number w ∷ []) actor first moment what list all (append_assoc trace (steps.Said number w ∷ []) first ∙ is) own more)
+own_behind trace actor (steps.Done flow ∷ first) moment what list all is (here, own) more =
+    (here, own_behind (trace ++ steps.Done flow ∷ []) actor first moment what list all (append_assoc trace (steps.Done flow ∷ []) first ∙ is) own more)
 
-pub own_next : (trace : Trace) (moment : ℕ) (what : Heard) (list : List Step) → IsOwn trace → IsOfHeard what list → IsOwn (trace ++ steps.Heard moment what ∷ list)
-own_next trace moment what list own of = own_behind None trace moment what list own (own_heard what list of)
+-- one thing heard more, with the steps that follow
+pub own_next : (trace : Trace) (moment : ℕ) (what : Heard) (list next : List Step) → next ≡ (trace ++ steps.Heard moment what ∷ []) ++ list → IsOwn trace →
+    OwnFrom (trace ++ steps.Heard moment what ∷ []) (acts_behind trace what) list → IsOwn next
+own_next trace moment what list next is own more =
+    let P : Trace → Type 0 = IsOwn in
+    subst P (sym (is ∙ append_assoc trace (steps.Heard moment what ∷ []) list)) (own_behind [] nobody trace moment what list trace refl own more)
 
 -- ---- what is due by a conversation's own steps
 
@@ -117,8 +132,9 @@ dials_alike (said.Close side) c d like = like
 dials_alike (said.Dial server address) c d like = record { peer = like.peer; dial = refl; connected = like.connected; moves = like.moves }
 
 -- a step of another conversation is left out, and one of this is kept
-alone_by : (conv : ℕ) (step : Step) (rest : Trace) (kept : Bool) → is_step_of conv step ≡ kept → alone conv (step ∷ rest) ≡ cond kept (step ∷ alone conv rest) (alone conv rest)
-alone_by conv step rest kept is = ap (λ (b : Bool). cond b (step ∷ alone conv rest) (alone conv rest)) is
+alone_by : (conv : ℕ) (trace : Trace) (step : Step) (rest : Trace) (kept : Bool) → is_step_of conv trace step ≡ kept →
+    alone_from conv trace (step ∷ rest) ≡ cond kept (step ∷ alone_from conv (trace ++ step ∷ []) rest) (alone_from conv (trace ++ step ∷ []) rest)
+alone_by conv trace step rest kept is = ap (λ (b : Bool). cond b (step ∷ alone_from conv (trace ++ step ∷ []) rest) (alone_from conv (trace ++ step ∷ []) rest)) is
 
 -- by what it is known what is due: where the client is, and the calls
 abbrev told : Option Address → List Move → Option Address × List Move
@@ -134,133 +150,190 @@ same_told c d peer moves = ap (λ (x : Option Address). told x c.moves) peer ∙
 abbrev SameMoves : ℕ → Calls → Calls → Trace → Trace → Type 0
 SameMoves conv c d all own = told_of (calls_from conv c all) ≡ told_of (calls_from conv d own)
 
--- the moment counts where the conversation was heard last
-abbrev AtOne : ℕ → Option ℕ → Calls → Calls → Type 0
-AtOne conv last c d = last ≡ Some conv → c.moment ≡ d.moment
-
-other_number : (conv number : ℕ) → (number == conv) ≡ false → Some number ≡ Some conv → ⊥
-other_number conv number apart same =
-    let n : number ≡ conv = cc in
-    elim (eqb_tells number conv) [
-      | inl t ↦ let wrong : true ≡ false = sym t.0 ∙ apart in cc
-      | inr f ↦ f.1 n
-    ]
+-- the moment counts where the conversation may act
+abbrev AtOne : ℕ → Actor → Calls → Calls → Type 0
+AtOne conv actor c d = is_actor conv actor ≡ true → c.moment ≡ d.moment
 
 number_is : (conv number : ℕ) → (number == conv) ≡ true → number ≡ conv
 number_is conv number is = elim (eqb_tells number conv) [ inl t ↦ t.1 | inr f ↦ absurd (let wrong : true ≡ false = sym is ∙ f.0 in cc) ]
 
 -- one step further, left out or kept
-drop_step : (conv : ℕ) (step : Step) (c next d : Calls) (rest : Trace) → calls_on conv c step ≡ next → is_step_of conv step ≡ false → SameMoves conv next d rest (alone conv rest) →
-    SameMoves conv c d (step ∷ rest) (alone conv (step ∷ rest))
-drop_step conv step c next d rest goes left same =
-    ap (λ (x : Calls). told_of (calls_from conv x rest)) goes ∙ (same ∙ ap (λ (l : Trace). told_of (calls_from conv d l)) (sym (alone_by conv step rest false left)))
+drop_step : (conv : ℕ) (trace : Trace) (step : Step) (c next d : Calls) (rest : Trace) → calls_on conv c step ≡ next → is_step_of conv trace step ≡ false →
+    SameMoves conv next d rest (alone_from conv (trace ++ step ∷ []) rest) → SameMoves conv c d (step ∷ rest) (alone_from conv trace (step ∷ rest))
+drop_step conv trace step c next d rest goes left same =
+    ap (λ (x : Calls). told_of (calls_from conv x rest)) goes ∙ (same ∙ ap (λ (l : Trace). told_of (calls_from conv d l)) (sym (alone_by conv trace step rest false left)))
 
-keep_step : (conv : ℕ) (step : Step) (c next d other : Calls) (rest : Trace) → calls_on conv c step ≡ next → calls_on conv d step ≡ other → is_step_of conv step ≡ true →
-    SameMoves conv next other rest (alone conv rest) → SameMoves conv c d (step ∷ rest) (alone conv (step ∷ rest))
-keep_step conv step c next d other rest goes on kept same =
+keep_step : (conv : ℕ) (trace : Trace) (step : Step) (c next d other : Calls) (rest : Trace) → calls_on conv c step ≡ next → calls_on conv d step ≡ other → is_step_of conv trace step ≡ true →
+    SameMoves conv next other rest (alone_from conv (trace ++ step ∷ []) rest) → SameMoves conv c d (step ∷ rest) (alone_from conv trace (step ∷ rest))
+keep_step conv trace step c next d other rest goes on kept same =
     ap (λ (x : Calls). told_of (calls_from conv x rest)) goes
     ∙ (same
-    ∙ (ap (λ (x : Calls). told_of (calls_from conv x (alone conv rest))) (sym on)
-    ∙ ap (λ (l : Trace). told_of (calls_from conv d l)) (sym (alone_by conv step rest true kept))))
+    ∙ (ap (λ (x : Calls). told_of (calls_from conv x (alone_from conv (trace ++ step ∷ []) rest))) (sym on)
+    ∙ ap (λ (l : Trace). told_of (calls_from conv d l)) (sym (alone_by conv trace step rest true kept))))
 
 later_alike : (moment : ℕ) (c d : Calls) → Alike c d → Alike (at_moment moment c) d
 later_alike moment c d like = record { peer = like.peer; dial = like.dial; connected = like.connected; moves = like.moves }
 
 -- what is said of the rest
-abbrev Goes : ℕ → Option ℕ → Trace → Type 0
-Goes conv last rest = (c d : Calls) → Alike c d → AtOne conv last c d → SameMoves conv c d rest (alone conv rest)
+abbrev Goes : ℕ → Trace → Actor → Trace → Type 0
+Goes conv trace actor rest = (c d : Calls) → Alike c d → AtOne conv actor c d → SameMoves conv c d rest (alone_from conv trace rest)
 
-heard_some : (conv : ℕ) (c d : Calls) (moment : ℕ) (what : Heard) (rest : Trace) (number : ℕ) (about : News) (mine : Bool) → (number == conv) ≡ mine → addressed what ≡ Some (number, about) →
-    Alike c d → Goes conv (Some number) rest → SameMoves conv c d (steps.Heard moment what ∷ rest) (alone conv (steps.Heard moment what ∷ rest))
-heard_some conv c d moment what rest number about true m is like go =
+-- where the conversation may not act its moment does not count
+no_moment : (conv number : ℕ) (c d : Calls) → (number == conv) ≡ false → AtOne conv (one number) c d
+no_moment conv number c d apart is = let wrong : true ≡ false = sym is ∙ apart in absurd (cc)
+
+acts_so : (conv : ℕ) (trace : Trace) (moment : ℕ) (what : Heard) (word : Word) → word_of trace what ≡ word → is_step_of conv trace (steps.Heard moment what) ≡ is_actor conv (actor_by word (addressed what))
+acts_so conv trace moment what word is = ap (λ (w : Word). is_actor conv (actor_by w (addressed what))) is
+
+heard_some : (conv : ℕ) (trace : Trace) (c d : Calls) (moment : ℕ) (what : Heard) (rest : Trace) (number : ℕ) (about : News) (mine : Bool) → (number == conv) ≡ mine →
+    addressed what ≡ Some (number, about) → word_of trace what ≡ nothing → Alike c d → Goes conv (trace ++ steps.Heard moment what ∷ []) (one number) rest →
+    SameMoves conv c d (steps.Heard moment what ∷ rest) (alone_from conv trace (steps.Heard moment what ∷ rest))
+heard_some conv trace c d moment what rest number about true m is quiet like go =
     let on : (x : Calls) → calls_on conv x (steps.Heard moment what) ≡ at_moment moment (takes moment x about) = λ x.
     ap (λ a. at_moment moment (hears_by conv moment x a)) is ∙ ap (λ (b : Bool). at_moment moment (cond b (takes moment x about) x)) m in
-    keep_step conv (steps.Heard moment what) c _ d _ rest (on c) (on d) (ap (λ a. is_number conv (number_of a)) is ∙ m)
+    keep_step conv trace (steps.Heard moment what) c _ d _ rest (on c) (on d) (acts_so conv trace moment what nothing quiet ∙ (ap (λ a. is_actor conv (actor_of a)) is ∙ m))
     (go _ _ (moment_alike moment moment _ _ (takes_alike moment c d about like)) (λ _. refl))
-heard_some conv c d moment what rest number about false m is like go =
+heard_some conv trace c d moment what rest number about false m is quiet like go =
     let on : calls_on conv c (steps.Heard moment what) ≡ at_moment moment c =
     ap (λ a. at_moment moment (hears_by conv moment c a)) is ∙ ap (λ (b : Bool). at_moment moment (cond b (takes moment c about) c)) m in
-    drop_step conv (steps.Heard moment what) c _ d rest on (ap (λ a. is_number conv (number_of a)) is ∙ m)
-    (go _ _ (later_alike moment c d like) (λ e. absurd (other_number conv number m e)))
+    drop_step conv trace (steps.Heard moment what) c _ d rest on (acts_so conv trace moment what nothing quiet ∙ (ap (λ a. is_actor conv (actor_of a)) is ∙ m))
+    (go _ _ (later_alike moment c d like) (no_moment conv number (at_moment moment c) d m))
 
-heard_by : (conv : ℕ) (c d : Calls) (moment : ℕ) (what : Heard) (rest : Trace) (a : Option (ℕ × News)) → addressed what ≡ a → Alike c d → Goes conv (number_of a) rest →
-    SameMoves conv c d (steps.Heard moment what ∷ rest) (alone conv (steps.Heard moment what ∷ rest))
-heard_by conv c d moment what rest None is like go =
-    drop_step conv (steps.Heard moment what) c _ d rest (ap (λ a. at_moment moment (hears_by conv moment c a)) is) (ap (λ a. is_number conv (number_of a)) is)
-    (go _ _ (later_alike moment c d like) (λ (e : None ≡ Some conv). absurd (cc)))
-heard_by conv c d moment what rest (Some (number, about)) is like go = heard_some conv c d moment what rest number about (number == conv) refl is like go
+heard_by : (conv : ℕ) (trace : Trace) (c d : Calls) (moment : ℕ) (what : Heard) (rest : Trace) (a : Option (ℕ × News)) → addressed what ≡ a → word_of trace what ≡ nothing → Alike c d →
+    Goes conv (trace ++ steps.Heard moment what ∷ []) (actor_of a) rest → SameMoves conv c d (steps.Heard moment what ∷ rest) (alone_from conv trace (steps.Heard moment what ∷ rest))
+heard_by conv trace c d moment what rest None is quiet like go =
+    drop_step conv trace (steps.Heard moment what) c _ d rest (ap (λ a. at_moment moment (hears_by conv moment c a)) is)
+    (acts_so conv trace moment what nothing quiet ∙ ap (λ a. is_actor conv (actor_of a)) is) (go _ _ (later_alike moment c d like) (λ (e : false ≡ true). absurd (cc)))
+heard_by conv trace c d moment what rest (Some (number, about)) is quiet like go = heard_some conv trace c d moment what rest number about (number == conv) refl is quiet like go
+
+-- what is heard is taken alike
+heard_alike : (conv moment : ℕ) (a : Option (ℕ × News)) (c d : Calls) → Alike c d → Alike (hears_by conv moment c a) (hears_by conv moment d a)
+heard_alike conv moment None c d like = like
+heard_alike conv moment (Some (number, about)) c d like = by (number == conv)
+  where
+    by : (mine : Bool) → Alike (cond mine (takes moment c about) c) (cond mine (takes moment d about) d)
+    by true = takes_alike moment c d about like
+    by false = like
+
+-- what an operator said is kept for each conversation
+heard_kept : (conv : ℕ) (trace : Trace) (c d : Calls) (moment : ℕ) (what : Heard) (rest : Trace) → acts_behind trace what ≡ anybody → Alike c d →
+    Goes conv (trace ++ steps.Heard moment what ∷ []) anybody rest → SameMoves conv c d (steps.Heard moment what ∷ rest) (alone_from conv trace (steps.Heard moment what ∷ rest))
+heard_kept conv trace c d moment what rest is like go =
+    keep_step conv trace (steps.Heard moment what) c _ d _ rest refl refl (ap (is_actor conv) is)
+    (go _ _ (moment_alike moment moment _ _ (heard_alike conv moment (addressed what) c d like)) (λ _. refl))
+
+heard_word : (conv : ℕ) (trace : Trace) (c d : Calls) (moment : ℕ) (what : Heard) (rest : Trace) (word : Word) → word_of trace what ≡ word → Alike c d →
+    Goes conv (trace ++ steps.Heard moment what ∷ []) (actor_by word (addressed what)) rest →
+    SameMoves conv c d (steps.Heard moment what ∷ rest) (alone_from conv trace (steps.Heard moment what ∷ rest))
+heard_word conv trace c d moment what rest nothing is like go = heard_by conv trace c d moment what rest (addressed what) refl is like go
+heard_word conv trace c d moment what rest (says by lines) is like go = heard_kept conv trace c d moment what rest (ap (λ (w : Word). actor_by w (addressed what)) is) like go
+heard_word conv trace c d moment what rest (leaves by) is like go = heard_kept conv trace c d moment what rest (ap (λ (w : Word). actor_by w (addressed what)) is) like go
 
 -- a step that is no call
-still : (conv : ℕ) (step : Step) (c d : Calls) (rest : Trace) (mine : Bool) → is_step_of conv step ≡ mine → ((x : Calls) → calls_on conv x step ≡ x) → SameMoves conv c d rest (alone conv rest) →
-    SameMoves conv c d (step ∷ rest) (alone conv (step ∷ rest))
-still conv step c d rest true m on same = keep_step conv step c c d d rest (on c) (on d) m same
-still conv step c d rest false m on same = drop_step conv step c c d rest (on c) m same
+still : (conv : ℕ) (trace : Trace) (step : Step) (c d : Calls) (rest : Trace) (mine : Bool) → is_step_of conv trace step ≡ mine → ((x : Calls) → calls_on conv x step ≡ x) →
+    SameMoves conv c d rest (alone_from conv (trace ++ step ∷ []) rest) → SameMoves conv c d (step ∷ rest) (alone_from conv trace (step ∷ rest))
+still conv trace step c d rest true m on same = keep_step conv trace step c c d d rest (on c) (on d) m same
+still conv trace step c d rest false m on same = drop_step conv trace step c c d rest (on c) m same
 
-replied_by : (conv last number : ℕ) (ask : Ask) (reply : Reply) (c d : Calls) (rest : Trace) (mine : Bool) → (number == conv) ≡ mine → number ≡ last → Alike c d → AtOne conv (Some last) c d →
-    Goes conv (Some last) rest → SameMoves conv c d (steps.Answered number ask reply ∷ rest) (alone conv (steps.Answered number ask reply ∷ rest))
-replied_by conv last number ask reply c d rest true m is like at go =
+-- a step of the conversation is one where it may act
+acts : (conv number : ℕ) (actor : Actor) (ask : Ask) (reply : Reply) → IsBy actor (steps.Answered number ask reply) → (number == conv) ≡ true → is_actor conv actor ≡ true
+acts conv number nobody ask reply here m = absurd here
+acts conv number (one last) ask reply here m = eq-eqb last conv (sym here ∙ number_is conv number m)
+acts conv number anybody ask reply here m = refl
+
+replied_by : (conv : ℕ) (trace : Trace) (actor : Actor) (number : ℕ) (ask : Ask) (reply : Reply) (c d : Calls) (rest : Trace) (mine : Bool) → (number == conv) ≡ mine →
+    IsBy actor (steps.Answered number ask reply) → Alike c d → AtOne conv actor c d → Goes conv (trace ++ steps.Answered number ask reply ∷ []) actor rest →
+    SameMoves conv c d (steps.Answered number ask reply ∷ rest) (alone_from conv trace (steps.Answered number ask reply ∷ rest))
+replied_by conv trace actor number ask reply c d rest true m is like at go =
     let on : (x : Calls) → calls_on conv x (steps.Answered number ask reply) ≡ moved (Replied x.moment reply) x = λ x. ap (λ (b : Bool). cond b (moved (Replied x.moment reply) x) x) m in
-    let same : c.moment ≡ d.moment = at (ap Some (sym is ∙ number_is conv number m)) in
-    keep_step conv (steps.Answered number ask reply) c _ d _ rest (on c) (on d) m
+    let same : c.moment ≡ d.moment = at (acts conv number actor ask reply is m) in
+    keep_step conv trace (steps.Answered number ask reply) c _ d _ rest (on c) (on d) m
     (go _ _ (record {
       peer = like.peer;
       dial = like.dial;
       connected = like.connected;
       moves = ap (λ l. l ++ Replied c.moment reply ∷ []) like.moves ∙ ap (λ n. d.moves ++ Replied n reply ∷ []) same;
     }) (λ e. at e))
-replied_by conv last number ask reply c d rest false m is like at go =
-    drop_step conv (steps.Answered number ask reply) c c d rest (ap (λ (b : Bool). cond b (moved (Replied c.moment reply) c) c) m) m (go c d like at)
+replied_by conv trace actor number ask reply c d rest false m is like at go =
+    drop_step conv trace (steps.Answered number ask reply) c c d rest (ap (λ (b : Bool). cond b (moved (Replied c.moment reply) c) c) m) m (go c d like at)
 
 dials_moment : (what : Said) (c : Calls) → (dials what c).moment ≡ c.moment
 dials_moment (said.Send side text) c = refl
 dials_moment (said.Close side) c = refl
 dials_moment (said.Dial server address) c = refl
 
-said_by : (conv last number : ℕ) (what : Said) (c d : Calls) (rest : Trace) (mine : Bool) → (number == conv) ≡ mine → Alike c d → AtOne conv (Some last) c d → Goes conv (Some last) rest →
-    SameMoves conv c d (steps.Said number what ∷ rest) (alone conv (steps.Said number what ∷ rest))
-said_by conv last number what c d rest true m like at go =
+said_by : (conv : ℕ) (trace : Trace) (actor : Actor) (number : ℕ) (what : Said) (c d : Calls) (rest : Trace) (mine : Bool) → (number == conv) ≡ mine → Alike c d → AtOne conv actor c d →
+    Goes conv (trace ++ steps.Said number what ∷ []) actor rest → SameMoves conv c d (steps.Said number what ∷ rest) (alone_from conv trace (steps.Said number what ∷ rest))
+said_by conv trace actor number what c d rest true m like at go =
     let on : (x : Calls) → calls_on conv x (steps.Said number what) ≡ dials what x = λ x. ap (λ (b : Bool). cond b (dials what x) x) m in
-    keep_step conv (steps.Said number what) c _ d _ rest (on c) (on d) m
+    keep_step conv trace (steps.Said number what) c _ d _ rest (on c) (on d) m
     (go _ _ (dials_alike what c d like) (λ e. dials_moment what c ∙ (at e ∙ sym (dials_moment what d))))
-said_by conv last number what c d rest false m like at go =
-    drop_step conv (steps.Said number what) c c d rest (ap (λ (b : Bool). cond b (dials what c) c) m) m (go c d like at)
+said_by conv trace actor number what c d rest false m like at go =
+    drop_step conv trace (steps.Said number what) c c d rest (ap (λ (b : Bool). cond b (dials what c) c) m) m (go c d like at)
 
-own_steps : (conv : ℕ) (last : Option ℕ) (trace : Trace) → OwnFrom last trace → Goes conv last trace
-own_steps conv last [] own c d like at = same_told c d like.peer like.moves
-own_steps conv last (steps.Heard moment what ∷ rest) own c d like at =
-    heard_by conv c d moment what rest (addressed what) refl like (own_steps conv (number_of (addressed what)) rest own)
-own_steps conv None (steps.Asked number ask ∷ rest) own c d like at = absurd own
-own_steps conv None (steps.Answered number ask reply ∷ rest) own c d like at = absurd own
-own_steps conv None (steps.Said number what ∷ rest) own c d like at = absurd own
-own_steps conv None (steps.Done flow ∷ rest) own c d like at = absurd own
-own_steps conv (Some last) (steps.Asked number ask ∷ rest) (here, own) c d like at =
-    still conv (steps.Asked number ask) c d rest (number == conv) refl (λ x. refl) (own_steps conv (Some last) rest own c d like at)
-own_steps conv (Some last) (steps.Answered number ask reply ∷ rest) (here, own) c d like at =
-    replied_by conv last number ask reply c d rest (number == conv) refl here like at (own_steps conv (Some last) rest own)
-own_steps conv (Some last) (steps.Said number what ∷ rest) (here, own) c d like at =
-    said_by conv last number what c d rest (number == conv) refl like at (own_steps conv (Some last) rest own)
-own_steps conv (Some last) (steps.Done flow ∷ rest) (here, own) c d like at =
-    still conv (steps.Done flow) c d rest (flow.id.conv == conv) refl (λ x. refl) (own_steps conv (Some last) rest own c d like at)
+own_steps : (conv : ℕ) (trace : Trace) (actor : Actor) (rest : Trace) → OwnFrom trace actor rest → Goes conv trace actor rest
+own_steps conv trace actor [] own c d like at = same_told c d like.peer like.moves
+own_steps conv trace actor (steps.Heard moment what ∷ rest) own c d like at =
+    heard_word conv trace c d moment what rest (word_of trace what) refl like (own_steps conv (trace ++ steps.Heard moment what ∷ []) (acts_behind trace what) rest own)
+own_steps conv trace actor (steps.Asked number ask ∷ rest) (here, own) c d like at =
+    still conv trace (steps.Asked number ask) c d rest (number == conv) refl (λ x. refl) (own_steps conv (trace ++ steps.Asked number ask ∷ []) actor rest own c d like at)
+own_steps conv trace actor (steps.Answered number ask reply ∷ rest) (here, own) c d like at =
+    replied_by conv trace actor number ask reply c d rest (number == conv) refl here like at (own_steps conv (trace ++ steps.Answered number ask reply ∷ []) actor rest own)
+own_steps conv trace actor (steps.Said number what ∷ rest) (here, own) c d like at =
+    said_by conv trace actor number what c d rest (number == conv) refl like at (own_steps conv (trace ++ steps.Said number what ∷ []) actor rest own)
+own_steps conv trace actor (steps.Done flow ∷ rest) (here, own) c d like at =
+    still conv trace (steps.Done flow) c d rest (flow.id.conv == conv) refl (λ x. refl) (own_steps conv (trace ++ steps.Done flow ∷ []) actor rest own c d like at)
 
-own_front : (last : Option ℕ) (prefix rest : Trace) → OwnFrom last (prefix ++ rest) → OwnFrom last prefix
-own_front last [] rest own = tt
-own_front last (steps.Heard moment what ∷ prefix) rest own = own_front (number_of (addressed what)) prefix rest own
-own_front None (steps.Asked number ask ∷ prefix) rest own = absurd own
-own_front None (steps.Answered number ask reply ∷ prefix) rest own = absurd own
-own_front None (steps.Said number what ∷ prefix) rest own = absurd own
-own_front None (steps.Done flow ∷ prefix) rest own = absurd own
-own_front (Some last) (steps.Asked number ask ∷ prefix) rest (here, own) = (here, own_front (Some last) prefix rest own)
-own_front (Some last) (steps.Answered number ask reply ∷ prefix) rest (here, own) = (here, own_front (Some last) prefix rest own)
-own_front (Some last) (steps.Said number what ∷ prefix) rest (here, own) = (here, own_front (Some last) prefix rest own)
-own_front (Some last) (steps.Done flow ∷ prefix) rest (here, own) = (here, own_front (Some last) prefix rest own)
+own_front : (trace : Trace) (actor : Actor) (prefix rest : Trace) → OwnFrom trace actor (prefix ++ rest) → OwnFrom trace actor prefix
+own_front trace actor [] rest own = tt
+own_front trace actor (steps.Heard moment what ∷ prefix) rest own = own_front (trace ++ steps.Heard moment what ∷ []) (acts_behind trace what) prefix rest own
+own_front trace actor (steps.Asked number ask ∷ prefix) rest (here, own) = (here, own_front (trace ++ steps.Asked number ask ∷ []) actor prefix rest own)
+own_front trace actor (steps.Answered number ask reply ∷ prefix) rest (here, own) = (here, own_front (trace ++ steps.Answered number ask reply ∷ []) actor prefix rest own)
+own_front trace actor (steps.Said number what ∷ prefix) rest (here, own) = (here, own_front (trace ++ steps.Said number what ∷ []) actor prefix rest own)
+own_front trace actor (steps.Done flow ∷ prefix) rest (here, own) = (here, own_front (trace ++ steps.Done flow ∷ []) actor prefix rest own)
 
 isolated_now : (due : Due) (trace : Trace) → IsOwn trace → IsIsolated due trace
 isolated_now due trace own conv view =
     let start : Alike no_calls no_calls = record { peer = refl; dial = refl; connected = refl; moves = refl } in
-    ap (λ (t : Option Address × List Move). seen_of view (due_at due conv t.0 t.1)) (own_steps conv None trace own no_calls no_calls start (λ (e : None ≡ Some conv). absurd (cc)))
+    ap (λ (t : Option Address × List Move). seen_of view (due_at due conv t.0 t.1)) (own_steps conv [] nobody trace own no_calls no_calls start (λ (e : false ≡ true). absurd (cc)))
 
 -- at every moment
 pub isolated : (due : Due) (trace : Trace) → IsOwn trace → Always (IsIsolated due) trace
 isolated due trace own = record {
-  at = λ prefix rest is. let P : Trace → Type 0 = IsOwn in isolated_now due prefix (own_front None prefix rest (subst P is own));
+  at = λ prefix rest is. let P : Trace → Type 0 = IsOwn in isolated_now due prefix (own_front [] nobody prefix rest (subst P is own));
 }
+
+-- ---- a run
+
+own_anybody : (trace : Trace) (list : List Step) → NoneHeard list → OwnFrom trace anybody list
+own_anybody trace [] none = tt
+own_anybody trace (steps.Heard moment what ∷ list) none = absurd none
+own_anybody trace (steps.Asked number ask ∷ list) none = (tt, own_anybody (trace ++ steps.Asked number ask ∷ []) list none)
+own_anybody trace (steps.Answered number ask reply ∷ list) none = (tt, own_anybody (trace ++ steps.Answered number ask reply ∷ []) list none)
+own_anybody trace (steps.Said number what ∷ list) none = (tt, own_anybody (trace ++ steps.Said number what ∷ []) list none)
+own_anybody trace (steps.Done flow ∷ list) none = (tt, own_anybody (trace ++ steps.Done flow ∷ []) list none)
+
+-- steps that follow what was heard, of whomever it is
+own_steps_of : (trace before : Trace) (what : Heard) (list : List Step) (word : Word) → word_of trace what ≡ word → (word_of trace what ≡ nothing → IsOfHeard what list) → NoneHeard list →
+    OwnFrom before (acts_behind trace what) list
+own_steps_of trace before what list nothing is of none = own_heard trace before what list is (of is)
+own_steps_of trace before what list (says conv lines) is of none =
+    let P : Word → Type 0 = λ w. OwnFrom before (actor_by w (addressed what)) list in subst P (sym is) (own_anybody before list none)
+own_steps_of trace before what list (leaves conv) is of none =
+    let P : Word → Type 0 = λ w. OwnFrom before (actor_by w (addressed what)) list in subst P (sym is) (own_anybody before list none)
+
+module _ {S : Type 0} (answers : Answering S) (drops : List ℕ → S → S → Type 0) (names : S → List (List ℕ)) (due : Due) (first : AnswererState S) where
+  adds_own : (trace : Trace) (course : Course S) (moment : ℕ) (what : Heard) (more : List Step) (next : Trace) (turned : Course S) → Adds drops trace course moment what more next turned → IsOwn trace → IsOwn next
+  adds_own trace course moment what more next turned a own =
+      own_next trace moment what a.added next a.is_next own (own_steps_of trace (trace ++ steps.Heard moment what ∷ []) what a.added (word_of trace what) refl a.own a.quiet)
+
+  own_worked : (told trace : Trace) (course : Course S) (over : Bool) → Worked answers drops names due first told trace course over → IsOwn trace
+  own_worked told trace course over not_begun = tt
+  own_worked told trace course over (one_worked before told_now behind next from turned saved moment what more is_over old new worked turns is same is_saved) =
+      adds_own behind from moment what more next turned (turns_adds answers drops names due behind from moment what more next turned is_over turns) (own_worked before behind from false worked)
+
+  -- also where it broke off
+  pub own_part : (told trace : Trace) (course : Course S) → WorkedPart answers drops names due first told trace course → IsOwn trace
+  own_part told trace course (all_worked before behind from over worked) = own_worked before behind from over worked
+  own_part told trace course (breaks_in before told_now behind next from broken moment what more worked breaks is) =
+      adds_own behind from moment what more next broken (breaks_adds answers drops names due behind from moment what more next broken breaks) (own_worked before behind from false worked)

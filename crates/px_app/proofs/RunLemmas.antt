@@ -5,14 +5,14 @@ use Rattle.rand_chacha.specs.ChaCha.{key_of}
 use Rattle.px_message.specs.declared.address.Address.{Address}
 use Rattle.px_message.proofs.AddressLemmas.{address_eq}
 use Rattle.px_event.specs.Layer.{Move}
-use Rattle.px_event.specs.Trace.{Trace}
+use Rattle.px_event.specs.Trace.{BeforeEachHeard, Trace}
 use Rattle.px_outside.specs.declared.net.NetError.{NetError}
 use Rattle.px_outside.specs.declared.net.NetError.TheVariants as net
 use Rattle.std.proofs.lemmas.List.{append-nil}
-use Rattle.px_core.specs.Answered.{Answers, IsAnswered, LeavesFiles, Pending}
+use Rattle.px_core.specs.Answered.{Answers, IsAnswered, LeavesFiles, Pending, RestsBy}
 use Rattle.px_core.specs.Answers.{Answering, AnswererState, Failing, FilesMeaning, after_answers, by_none}
-use Rattle.px_core.specs.Course.{Change, Course}
-use Rattle.px_core.specs.Due.{Due, IsServed, IsAllTold, OpenOnesWait}
+use Rattle.px_core.specs.Course.{Change, Course, Operated}
+use Rattle.px_core.specs.Due.{Due, IsServed, IsAllTold}
 use Rattle.px_core.proofs.AnsweredLemmas.{whole_front}
 use Rattle.px_core.proofs.ResultLemmas.{same_some}
 use Rattle.px_exchange.specs.declared.mode.Mode.{Mode}
@@ -23,10 +23,10 @@ use Rattle.px_options.specs.Mode.{regular, reverse, upstream}
 use Rattle.px_options.specs.Values.{Place}
 use Rattle.px_options.specs.View.{mode_view, place}
 use Rattle.px_app.specs.Over.{Reaches, course_from}
-use Rattle.px_app.specs.Own.{IsOwn}
 use Rattle.px_app.specs.Run.{BreaksOff, IsEnd, IsRun, Told}
 use Rattle.px_app.specs.Saved.{Append, SavesTo}
-use Rattle.px_app.specs.Statuses.{status_of, heard_count, ends_heard}
+use Rattle.px_app.specs.Statuses.{status_of, heard_count}
+use Rattle.px_app.specs.Worked.{Worked, all_worked}
 use Rattle.px_app.specs.declared.printing.Printing.{Printing}
 use Rattle.px_app.specs.declared.status.Status.{Status}
 use Rattle.px_app.specs.declared.status.Status.TheVariants.{Ended, NetFault, BudgetSpent, NoMemory}
@@ -68,19 +68,24 @@ leaves_part answers fails due course files trace W V leaves weaker = record {
   whole = λ v. leaves.whole (weaker v);
 }
 
-module _ {S : Type 0} (answers : Answering S) (fails : Failing S) (due : Due) (first : AnswererState S) (to : Option SavesTo) (budget : ℕ) (printing : Printing) (files : FilesMeaning)
-    (start now : Option (List ℕ)) (trace : Trace) (own : IsOwn trace) where
+module _ {S : Type 0} (answers : Answering S) (drops : List ℕ → S → S → Type 0) (names : S → List (List ℕ)) (fails : Failing S) (due : Due) (first : AnswererState S) (to : Option SavesTo) (budget : ℕ)
+    (printing : Printing) (files : FilesMeaning) (start now : Option (List ℕ)) (told : Trace) where
   -- out of memory, at any moment
-  pub memory_run : BreaksOff answers fails due first to files start now trace → IsRun answers fails due first to budget NoMemory printing files start now trace
+  pub memory_run : BreaksOff answers drops names fails due first to files start now told → IsRun answers drops names fails due first to budget NoMemory printing files start now told
   memory_run broken = record {
+    trace = broken.trace;
     changes = broken.changes;
+    operations = broken.operations;
+    over = false;
     made = broken.made;
+    worked = broken.worked;
+    worked_whole = λ other. absurd (other refl);
     served = broken.served;
     follows = broken.follows;
-    leaves = leaves_part answers fails due (course_from first broken.changes) files trace ⊥ (NoMemory ≢ NoMemory) broken.leaves (λ other. other refl);
+    leaves = leaves_part answers fails due (course_from first broken.changes broken.operations) files broken.trace ⊥ (NoMemory ≢ NoMemory) broken.leaves (λ other. other refl);
     whole = λ other. absurd (other refl);
-    waits = λ other. absurd (other refl);
-    own = own;
+    waits = broken.waits;
+    waits_whole = λ other. absurd (other refl);
     is_end = record {
       ended = λ (e : NoMemory ≡ Ended). absurd (cc);
       ends = λ is. inr refl;
@@ -92,58 +97,65 @@ module _ {S : Type 0} (answers : Answering S) (fails : Failing S) (due : Due) (f
     part = broken.part;
   }
 
-  module _ (changes : List (Change S)) (made : List Append) (served : IsServed answers due trace) (follows : IsAnswered answers due (course_from first changes) trace)
-      (leaves : (W : Type 0) → LeavesFiles answers fails due (course_from first changes) W files trace) (all : IsAllTold due trace) (waiting : OpenOnesWait answers due trace)
+  module _ (trace : Trace) (changes : List (Change S)) (operations : List Operated) (over : Bool) (made : List Append) (worked : Worked answers drops names due first told trace (course_from first changes operations) over)
+      (served : IsServed answers due trace) (follows : IsAnswered answers due (course_from first changes operations) trace)
+      (leaves : (W : Type 0) → LeavesFiles answers fails due (course_from first changes operations) W files trace) (all : IsAllTold due trace)
+      (waits : BeforeEachHeard (RestsBy answers due (course_from first changes operations)) trace) (waiting : RestsBy answers due (course_from first changes operations) trace)
       (reaches : Reaches to printing changes made trace start now) where
     -- with this status, which has its cause
-    run_by : (status : Status) → IsEnd budget status trace → IsRun answers fails due first to budget status printing files start now trace
+    run_by : (status : Status) → IsEnd budget status over told → IsRun answers drops names fails due first to budget status printing files start now told
     run_by status is_end = record {
+      trace = trace;
       changes = changes;
+      operations = operations;
+      over = over;
       made = made;
+      worked = all_worked told trace (course_from first changes operations) over worked;
+      worked_whole = λ _. worked;
       served = served;
       follows = follows;
       leaves = leaves (status ≢ NoMemory);
       whole = λ _. all;
-      waits = λ _. waiting;
-      own = own;
+      waits = waits;
+      waits_whole = λ _. waiting;
       is_end = is_end;
       reaches = λ _. reaches;
       part = part_of to printing changes made trace start now reaches;
     }
 
-    -- the end was heard
-    pub ended_run : ends_heard trace ≡ true → IsRun answers fails due first to budget Ended printing files start now trace
+    -- the run is over by what was heard
+    pub ended_run : over ≡ true → IsRun answers drops names fails due first to budget Ended printing files start now told
     ended_run last = run_by Ended (record {
       ended = λ _. last;
       ends = λ is. inl refl;
       count = λ (e : Ended ≡ BudgetSpent). absurd (cc);
       goes_on = λ (e : Ended ≡ BudgetSpent). absurd (cc);
-      spent = λ _ _ other. absurd (not_both (ends_heard trace) last other);
+      spent = λ _ _ other. absurd (not_both over last other);
     })
 
     -- the net failed, where more might be heard
-    fault_run : ends_heard trace ≡ false → (0 < budget → heard_count trace < budget) → IsRun answers fails due first to budget NetFault printing files start now trace
+    fault_run : over ≡ false → (0 < budget → heard_count told < budget) → IsRun answers drops names fails due first to budget NetFault printing files start now told
     fault_run goes_on below = run_by NetFault (record {
       ended = λ (e : NetFault ≡ Ended). absurd (cc);
-      ends = λ is. absurd (not_both (ends_heard trace) is goes_on);
+      ends = λ is. absurd (not_both over is goes_on);
       count = λ (e : NetFault ≡ BudgetSpent). absurd (cc);
       goes_on = λ (e : NetFault ≡ BudgetSpent). absurd (cc);
-      spent = λ some (e : heard_count trace ≡ budget) _. let less : heard_count trace < budget = below some in absurd (omega arith);
+      spent = λ some (e : heard_count told ≡ budget) _. let less : heard_count told < budget = below some in absurd (omega arith);
     })
 
     -- all that may be heard was heard
-    pub spent_run : ends_heard trace ≡ false → heard_count trace ≡ budget → IsRun answers fails due first to budget BudgetSpent printing files start now trace
+    pub spent_run : over ≡ false → heard_count told ≡ budget → IsRun answers drops names fails due first to budget BudgetSpent printing files start now told
     spent_run goes_on count = run_by BudgetSpent (record {
       ended = λ (e : BudgetSpent ≡ Ended). absurd (cc);
-      ends = λ is. absurd (not_both (ends_heard trace) is goes_on);
+      ends = λ is. absurd (not_both over is goes_on);
       count = λ _. count;
       goes_on = λ _. goes_on;
       spent = λ _ _ _. inl refl;
     })
 
     -- nothing was heard, for this error
-    pub error_run : (error : NetError) → ends_heard trace ≡ false → (0 < budget → heard_count trace < budget) →
-        IsRun answers fails due first to budget (status_of error) printing files start now trace
+    pub error_run : (error : NetError) → over ≡ false → (0 < budget → heard_count told < budget) →
+        IsRun answers drops names fails due first to budget (status_of error) printing files start now told
     error_run net.Fault goes_on below = fault_run goes_on below
     error_run net.NoMemory goes_on below = run_by NoMemory (record {
       ended = λ (e : NoMemory ≡ Ended). absurd (cc);
@@ -191,10 +203,10 @@ if_err_by (Ok _) Q P is f = tt
 if_err_by (Err status) Q P is f = f status is
 
 -- the status is that of the end
-pub ended_told : {S : Type 0} {answers : Answering S} {fails : Failing S} {due : Due} {first : AnswererState S} {to : Option SavesTo} {budget : ℕ} {printing : Printing} {files : FilesMeaning} {start now : Option (List ℕ)} {told : Option Trace} {status : Status} →
-    status ≡ Ended → Told (IsRun answers fails due first to budget status printing files start now) told → Told (IsRun answers fails due first to budget Ended printing files start now) told
-ended_told {S} {answers} {fails} {due} {first} {to} {budget} {printing} {files} {start} {now} {told} is run =
-    subst (λ (s : Status). Told (IsRun answers fails due first to budget s printing files start now) told) is run
+pub ended_told : {S : Type 0} {answers : Answering S} {drops : List ℕ → S → S → Type 0} {names : S → List (List ℕ)} {fails : Failing S} {due : Due} {first : AnswererState S} {to : Option SavesTo} {budget : ℕ} {printing : Printing} {files : FilesMeaning} {start now : Option (List ℕ)} {told : Option Trace} {status : Status} →
+    status ≡ Ended → Told (IsRun answers drops names fails due first to budget status printing files start now) told → Told (IsRun answers drops names fails due first to budget Ended printing files start now) told
+ended_told {S} {answers} {drops} {names} {fails} {due} {first} {to} {budget} {printing} {files} {start} {now} {told} is run =
+    subst (λ (s : Status). Told (IsRun answers drops names fails due first to budget s printing files start now) told) is run
 
 -- what is due of a maker's conversations is what is due in its mode with its key
 pub placed_due : (maker : Placed) (mode : Mode) (mask_key : List ℕ) → maker.mode ≡ mode → maker.mask_key ≡ mask_key → (conv : ℕ) (peer : Address) (moves : List Move) →
@@ -204,8 +216,8 @@ placed_due maker mode mask_key in_mode with_key conv peer moves =
     ∙ ap (λ (k : List ℕ). mode_due mode (key_of k) conv peer moves) with_key
 
 -- so it is in a mode that is the same
-pub in_mode : {S : Type 0} {answers : Answering S} {fails : Failing S} {first : AnswererState S} {to : Option SavesTo} {budget : ℕ} {printing : Printing} {files : FilesMeaning} {start now : Option (List ℕ)}
-    {told : Option Trace} {status : Status} (mode wanted : Mode) (key : List ℕ) → mode ≡ wanted → Told (IsRun answers fails (mode_due mode key) first to budget status printing files start now) told →
-    Told (IsRun answers fails (mode_due wanted key) first to budget status printing files start now) told
-in_mode {S} {answers} {fails} {first} {to} {budget} {printing} {files} {start} {now} {told} {status} mode wanted key is run =
-    subst (λ (m : Mode). Told (IsRun answers fails (mode_due m key) first to budget status printing files start now) told) is run
+pub in_mode : {S : Type 0} {answers : Answering S} {drops : List ℕ → S → S → Type 0} {names : S → List (List ℕ)} {fails : Failing S} {first : AnswererState S} {to : Option SavesTo} {budget : ℕ} {printing : Printing} {files : FilesMeaning} {start now : Option (List ℕ)}
+    {told : Option Trace} {status : Status} (mode wanted : Mode) (key : List ℕ) → mode ≡ wanted → Told (IsRun answers drops names fails (mode_due mode key) first to budget status printing files start now) told →
+    Told (IsRun answers drops names fails (mode_due wanted key) first to budget status printing files start now) told
+in_mode {S} {answers} {drops} {names} {fails} {first} {to} {budget} {printing} {files} {start} {now} {told} {status} mode wanted key is run =
+    subst (λ (m : Mode). Told (IsRun answers drops names fails (mode_due m key) first to budget status printing files start now) told) is run

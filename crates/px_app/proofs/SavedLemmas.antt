@@ -315,7 +315,7 @@ pub appends_keep : (to : Option SavesTo) (first : FilesMeaning) (made : List App
 appends_keep to first made now none_made = record { misses = refl; faults = refl; losses = le_refl first.losses }
 appends_keep to first made now (one_made so_far next one flow before after behind piece is grown) = kept_by one first before after (appends_keep to first so_far before behind) is
 
-broke_keeps : (to : Option SavesTo) (first : FilesMeaning) (made : List Append) (now : FilesMeaning) → BrokeAppending to first made now → KeepsCounts first now
+pub broke_keeps : (to : Option SavesTo) (first : FilesMeaning) (made : List Append) (now : FilesMeaning) → BrokeAppending to first made now → KeepsCounts first now
 broke_keeps to first made now (broke_elsewhere so_far) = appends_keep to first made now so_far
 broke_keeps to first made now (broke_at last piece flow so_far is kept) = kept_on first last now (appends_keep to first made last so_far) kept.misses kept.faults kept.losses
 

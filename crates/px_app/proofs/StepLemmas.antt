@@ -1,5 +1,5 @@
 -- One thing heard by a run of many conversations, by how it ended.
-use Rattle.std.proofs.Common.{◌≡◌, ◌⊎◌, inl, inr, ℕ, ◌+◌, ◌<◌, true, false, List, [], ◌∷◌, ◌++◌, Option, Some, None, Result, Ok, Err, refl, sym, ap, ◌∙◌, subst, append_assoc}
+use Rattle.std.proofs.Common.{◌≡◌, ◌≢◌, ◌⊎◌, inl, inr, ℕ, ◌+◌, ◌<◌, Bool, true, false, List, [], ◌∷◌, ◌++◌, Option, Some, None, Result, Ok, Err, refl, sym, ap, ◌∙◌, subst, append_assoc}
 use Rattle.std.specs.List.{flat_map}
 use Rattle.px_text.specs.declared.no_memory.NoMemory.{NoMemory as OutOfMemory}
 use Rattle.px_message.specs.declared.flow.Flow.{Flow}
@@ -10,242 +10,328 @@ use Rattle.px_event.specs.declared.heard.Heard.{Heard}
 use Rattle.px_event.specs.declared.step.Step.{Step}
 use Rattle.px_event.specs.declared.step.Step.TheVariants as steps
 use Rattle.px_event.specs.Layer.{Move, Standing}
-use Rattle.px_event.specs.Trace.{Trace}
+use Rattle.px_event.specs.Trace.{BeforeEachHeard, Trace}
 use Rattle.px_event.specs.View.{View, seen_of}
 use Rattle.px_outside.specs.declared.net.NetError.{NetError}
 use Rattle.px_outside.specs.declared.net.NetError.TheVariants as net
 use Rattle.px_core.specs.declared.router.Router.{Router}
-use Rattle.px_core.specs.Answered.{Answers, IsAnswered, LeavesFiles, Pending, nothing_pending, at_change, at_first, at_hook, at_mark, at_other, at_release, at_reply}
+use Rattle.px_core.specs.Answered.{Answers, IsAnswered, LeavesFiles, Pending, RestsBy, nothing_pending, at_change, at_first, at_hook, at_mark, at_other, at_release, at_reply}
 use Rattle.px_core.specs.Answers.{Answering, AnswererState, Failing, FilesMeaning}
-use Rattle.px_core.specs.Course.{Change, Course, begins_at, change, with_change}
+use Rattle.px_core.specs.Course.{Change, Course, IsFrontOf, Operated, begins_at, change, with_change}
 use Rattle.px_core.specs.Due.{Due, due_in, IsServed, IsAllTold, IsWithinDue, EndsMet, OpenOnesWait}
 use Rattle.px_core.specs.Hooks.{EndsInTurn}
 use Rattle.px_core.specs.declared.table.Table.{Table}
 use Rattle.px_core.specs.Router.{RouterStands, TableStands}
-use Rattle.px_core.specs.Run.{Tells, TellsOfHeard, done_of}
+use Rattle.px_core.specs.Run.{Tells, done_of}
 use Rattle.px_event.proofs.TraceLemmas.{always_empty, before_empty}
-use Rattle.px_core.proofs.AnsweredLemmas.{whole_front}
+use Rattle.px_core.proofs.AnsweredLemmas.{front_on, whole_front}
 use Rattle.px_core.proofs.CourseLemmas.{stands_changed}
 use Rattle.px_core.proofs.ResultLemmas.{same_some}
-use Rattle.px_core.proofs.RouteLemmas.{all_told, open_ones_wait}
+use Rattle.px_core.proofs.RouteLemmas.{all_told}
+use Rattle.px_core.proofs.StandsLemmas.{rests_by}
+use Rattle.px_app.specs.declared.operators.Operators.{Operators}
 use Rattle.px_app.specs.declared.printing.Printing.{Printing}
 use Rattle.px_app.specs.declared.printing.Printing.TheVariants.{Whole}
+use Rattle.px_app.specs.declared.saving.Saving.{Saving}
 use Rattle.px_app.specs.declared.status.Status.{Status}
 use Rattle.px_app.specs.declared.status.Status.TheVariants.{Ended, NetFault, BudgetSpent, NoMemory}
-use Rattle.px_app.specs.Over.{Goes, LeavesBehind, ReachesPart, course_from, finished_in, rests_of}
-use Rattle.px_app.specs.Own.{IsOwn}
+use Rattle.px_app.specs.Operating.{is_open, stand_in}
+use Rattle.px_app.specs.Over.{Goes, LeavesBehind, Reaches, ReachesPart, course_from, finished_in, rests_of}
 use Rattle.px_app.specs.Run.{BreaksOff, IsRun, Told, ToldNext}
 use Rattle.px_app.specs.Saved.{Puts, SavesTo, saves_to_of}
-use Rattle.px_app.specs.declared.saving.Saving.{Saving}
-use Rattle.px_app.specs.Serving.{IsSound, Rests, Stands, ToldTurn}
-use Rattle.px_app.specs.Statuses.{status_of, is_end, heard_count}
-use Rattle.px_app.proofs.CountLemmas.{next_told}
-use Rattle.px_app.proofs.RestLemmas.{breaks_next, part_more, reaches_first, reaches_next, rests_next}
+use Rattle.px_app.specs.Serving.{IsSound, Rests, ToldTurn, TurnBroke, Turned}
+use Rattle.px_app.specs.Statuses.{status_of, heard_count}
+use Rattle.px_app.specs.Worked.{Worked, WorkedPart, all_worked, breaks_in, not_begun, one_worked}
+use Rattle.px_app.proofs.CountLemmas.{count_next, done_both}
+use Rattle.px_app.proofs.RestLemmas.{before_by, before_next, breaks_next, part_more, reaches_drops, reaches_first, reaches_next, rests_next}
 use Rattle.px_app.proofs.RunLemmas.{leaves_all, memory_run, ended_run, spent_run, error_run}
-
--- no step follows at once
-pub own_empty : IsOwn []
-own_empty = tt
+use Rattle.px_app.proofs.TurnLemmas.{Adds, Grows, breaks_adds, changed_front, turns_adds}
 
 -- what is told of the trace holds of it
 told_of : (P : Trace → Type 0) (before after : Trace) (told : Option Trace) → told ≡ Some after → Tells P before told → P after
 told_of P before after told is tells = subst P (same_some (before ++ tells.more) after (sym tells.is ∙ is)) tells.holds
 
--- the trace that is told is one rest further
-rest_told : (trace : Trace) (moment : ℕ) (what : Heard) (told : Option Trace) (after : Trace) → told ≡ Some after → TellsOfHeard what (trace ++ steps.Heard moment what ∷ []) told →
-    rests_of after ≡ rests_of trace ++ after ∷ []
-rest_told trace moment what told after is of =
-    let P : Trace → Type 0 = λ t. rests_of t ≡ rests_of trace ++ t ∷ [] in
-    subst P (same_some ((trace ++ steps.Heard moment what ∷ []) ++ of.more) after (sym of.is ∙ is)) (rests_next trace moment what of.more of.own)
+-- a course is told by its parts
+course_is : {S : Type 0} (course : Course S) (first : AnswererState S) (changes : List (Change S)) (operations : List Operated) → course.first ≡ first → course.changes ≡ changes →
+    course.operations ≡ operations → course ≡ course_from first changes operations
+course_is course first changes operations begins changed operated =
+    ap (λ f. course_from f course.changes course.operations) begins
+    ∙ (ap (λ l. course_from first l course.operations) changed ∙ ap (λ l. course_from first changes l) operated)
+
+grown_is : {S : Type 0} (drops : List ℕ → S → S → Type 0) (first : AnswererState S) (changes : List (Change S)) (operations : List Operated) (turned : Course S) →
+    (g : Grows drops (course_from first changes operations) turned) → turned ≡ course_from first (changes ++ g.front_of.later) (operations ++ g.front_of.later_operations)
+grown_is drops first changes operations turned g =
+    course_is turned first (changes ++ g.front_of.later) (operations ++ g.front_of.later_operations) (sym g.front_of.same) g.front_of.split g.front_of.split_operations
+
+-- it rests so by a course that goes on
+rests_longer : {S : Type 0} (answers : Answering S) (due : Due) (course longer : Course S) (trace : Trace) → IsFrontOf longer course → RestsBy answers due course trace → RestsBy answers due longer trace
+rests_longer answers due course longer trace front r =
+    record { made = r.made; front_of = front_on longer course r.made front r.front_of; now = r.now; pending = r.pending; answered = r.answered; waits = r.waits }
 
 module _ {C S : Type 0} (standing : Standing C) (awaited : C → Option Ask) (number : C → ℕ) (made_due : C → List Move → List Command)
     (gave : (made state : C) (moves : List Move) (given : List Command) → standing made state moves given → (view : View) → seen_of view given ≡ seen_of view (made_due made moves))
     (grows : (made : C) (moves : List Move) (move : Move) (view : View) → IsPrefixOf (seen_of view (made_due made moves)) (seen_of view (made_due made (moves ++ move ∷ []))))
-    (answers : Answering S) (fails : Failing S) (due : Due) where
+    (answers : Answering S) (drops : List ℕ → S → S → Type 0) (names : S → List (List ℕ)) (fails : Failing S) (due : Due) where
   all : {course : Course S} {now : AnswererState S} (table : Table C) (trace : Trace) → TableStands standing awaited number made_due answers due course now table trace → IsAllTold due trace
   all table trace stands = all_told standing awaited number made_due gave grows answers due table trace stands
 
-  waits : {course : Course S} {now : AnswererState S} (table : Table C) (trace : Trace) → TableStands standing awaited number made_due answers due course now table trace → OpenOnesWait answers due trace
-  waits table trace stands = open_ones_wait standing awaited number made_due gave grows answers due table trace stands
+  waiting : {course : Course S} {now : AnswererState S} (table : Table C) (trace : Trace) → TableStands standing awaited number made_due answers due course now table trace → RestsBy answers due course trace
+  waiting table trace stands = rests_by standing awaited number made_due answers due table trace stands
 
-  over : {course : Course S} {now : AnswererState S} {table : Table C} {trace : Trace} → TableStands standing awaited number made_due answers due course now table trace → IsAnswered answers due course trace
-  over {course} {now} stands = record { made = course; front_of = whole_front course; last = now; pending = stands.pending; answered = stands.answered }
+  came_over : {course : Course S} {now : AnswererState S} {table : Table C} {trace : Trace} → TableStands standing awaited number made_due answers due course now table trace → IsAnswered answers due course trace
+  came_over {course} {now} stands = record { made = course; front_of = whole_front course; last = now; pending = stands.pending; answered = stands.answered }
 
   files_all : {course : Course S} {now : AnswererState S} {table : Table C} {trace : Trace} → TableStands standing awaited number made_due answers due course now table trace → (W : Type 0) →
       LeavesFiles answers fails due course W now.files trace
   files_all {course} {now} {table} {trace} stands W = leaves_all answers fails due course now stands.pending now.files trace stands.answered refl W
 
+  -- memory ran out within the step
+  pub tells_memory : {new_files : FilesMeaning} (first : AnswererState S) (to : Option SavesTo) (printing : Printing) (budget : ℕ) (start now : Option (List ℕ)) (told : Option Trace) →
+      Told (BreaksOff answers drops names fails due first to new_files start now) told → Told (IsRun answers drops names fails due first to budget NoMemory printing new_files start now) told
+  tells_memory {new_files} first to printing budget start now told broken = record {
+    trace = broken.trace;
+    tells = broken.tells;
+    holds = memory_run answers drops names fails due first to budget printing new_files start now broken.trace broken.holds;
+  }
+
   module _ {A : Type 0} {state : A → S} (first : AnswererState S) (to : Option SavesTo) where
-    -- the flows that a step finished were printed and saved
-    pub rests_on : {files mid_files new_files : FilesMeaning} (router new : Router C A) (was is : Printing) (start before now : Option (List ℕ)) (trace : Trace) (moment : ℕ) (what : Heard) (told : Option Trace)
-        (earlier flows : List Flow) → (r : Rests standing awaited number made_due answers state due first to files router was start before trace) →
-        Tells (RouterStands standing awaited number made_due answers state due (course_from first r.changes) mid_files new) (trace ++ steps.Heard moment what ∷ []) told →
-        TellsOfHeard what (trace ++ steps.Heard moment what ∷ []) told → earlier ≡ finished_in trace →
-        Tells (λ after. earlier ++ flows ≡ flat_map done_of after) (trace ++ steps.Heard moment what ∷ []) told → Puts to was flows (Ok is) mid_files new_files before now →
-        Tells (Rests standing awaited number made_due answers state due first to new_files new is start now) (trace ++ steps.Heard moment what ∷ []) told
-    rests_on {files} {mid_files} {new_files} router new was is start before now trace moment what told earlier flows r tells of is_earlier finished puts =
-        let heard = trace ++ steps.Heard moment what ∷ [] in
-        let after = heard ++ tells.more in
-        let old : AnswererState S = record { own = state new.answerer; files = mid_files } in
-        let next : AnswererState S = record { own = state new.answerer; files = new_files } in
-        let done = told_of (λ t. earlier ++ flows ≡ flat_map done_of t) heard after told tells.is finished in
-        let P : List Flow → Type 0 = λ l. l ++ flows ≡ flat_map done_of after in
-        record {
-          more = tells.more;
-          is = tells.is;
+    module _ {files : FilesMeaning} (router : Router C A) (operators : Operators) (was : Printing) (start before : Option (List ℕ)) (told : Trace) (moment : ℕ) (what : Heard)
+        (r : Rests standing awaited number made_due answers drops names state due first to files router operators was start before false told) where
+      -- before each thing heard up to here it rests by a course that goes on
+      waits_next : (more : List Step) (next : Trace) (turned longer : Course S) → Adds drops r.trace (course_from first r.changes r.operations) moment what more next turned → IsFrontOf longer turned →
+          BeforeEachHeard (RestsBy answers due longer) next
+      waits_next more next turned longer adds front =
+          let course = course_from first r.changes r.operations in
+          let later = front_on longer turned course front adds.grows.front_of in
+          before_next (RestsBy answers due longer) r.trace moment what adds.added next adds.is_next adds.quiet
+          (before_by (RestsBy answers due course) (RestsBy answers due longer) r.trace (λ prefix h. rests_longer answers due course longer prefix later h) r.waits)
+          (rests_longer answers due course longer r.trace later (waiting router.table r.trace r.stands))
+
+      -- it is one rest further
+      rest_next : (more : List Step) (next : Trace) (turned : Course S) → Adds drops r.trace (course_from first r.changes r.operations) moment what more next turned → rests_of next ≡ rests_of r.trace ++ next ∷ []
+      rest_next more next turned adds =
+          let P : Trace → Type 0 = λ t. rests_of t ≡ rests_of r.trace ++ t ∷ [] in
+          subst P (sym adds.is_next) (rests_next r.trace moment what adds.added adds.quiet)
+
+      -- what is told finishes the same flows
+      done_same : (more : List Step) (next : Trace) (turned : Course S) → Adds drops r.trace (course_from first r.changes r.operations) moment what more next turned →
+          finished_in ((told ++ steps.Heard moment what ∷ []) ++ more) ≡ finished_in next
+      done_same more next turned adds =
+          done_both told r.trace moment what more adds.added r.same_done adds.same_done ∙ ap finished_in (sym adds.is_next)
+
+      module _ {mid_files : FilesMeaning} (new_files : FilesMeaning) (new : Router C A) (new_operators : Operators) (over : Bool) (heard after : Option Trace) (earlier flows : List Flow)
+          (t : Turned standing awaited number made_due answers drops names state due mid_files new new_operators r.trace (course_from first r.changes r.operations) moment what over heard after)
+          (is_heard : heard ≡ Some (told ++ steps.Heard moment what ∷ [])) (is_earlier : earlier ≡ finished_in told)
+          (finished : Tells (λ told_now. earlier ++ flows ≡ flat_map done_of told_now) (told ++ steps.Heard moment what ∷ []) after) where
+        abbrev told_after : Trace
+        told_after = (told ++ steps.Heard moment what ∷ []) ++ t.more
+
+        abbrev old_state : AnswererState S
+        old_state = record { own = state new.answerer; files = mid_files }
+
+        abbrev new_state : AnswererState S
+        new_state = record { own = state new.answerer; files = new_files }
+
+        adds : Adds drops r.trace (course_from first r.changes r.operations) moment what t.more t.next t.turned
+        adds = turns_adds answers drops names due r.trace (course_from first r.changes r.operations) moment what t.more t.next t.turned over t.turns
+
+        abbrev turned_changes : List (Change S)
+        turned_changes = r.changes ++ adds.grows.front_of.later
+
+        abbrev all_changes : List (Change S)
+        all_changes = turned_changes ++ change t.next old_state new_state ∷ []
+
+        abbrev all_operations : List Operated
+        all_operations = r.operations ++ adds.grows.front_of.later_operations
+
+        turned_is : t.turned ≡ course_from first turned_changes all_operations
+        turned_is = grown_is drops first r.changes r.operations t.turned adds.grows
+
+        told_is : after ≡ Some told_after
+        told_is = t.tells (told ++ steps.Heard moment what ∷ []) is_heard
+
+        stands_next : RouterStands standing awaited number made_due answers state due (course_from first all_changes all_operations) new_files new t.next
+        stands_next =
+            let P : Course S → Type 0 = λ c. RouterStands standing awaited number made_due answers state due c mid_files new t.next in
+            stands_changed standing awaited number made_due answers due (course_from first turned_changes all_operations) old_state new_state new.table t.next (subst P turned_is t.stands)
+
+        saved_is : course_from first all_changes all_operations ≡ with_change t.turned t.next old_state new_state
+        saved_is = ap (λ c. with_change c t.next old_state new_state) (sym turned_is)
+
+        worked_next : Worked answers drops names due first told_after t.next (course_from first all_changes all_operations) over
+        worked_next = one_worked told told_after r.trace t.next (course_from first r.changes r.operations) t.turned (course_from first all_changes all_operations) moment what t.more over old_state new_state
+            r.worked t.turns refl refl saved_is
+
+        waits_after : BeforeEachHeard (RestsBy answers due (course_from first all_changes all_operations)) t.next
+        waits_after = waits_next t.more t.next t.turned (course_from first all_changes all_operations) adds
+            (changed_front drops t.turned (course_from first all_changes all_operations) t.next old_state new_state saved_is)
+
+        finished_next : finished_in r.trace ++ flows ≡ finished_in t.next
+        finished_next =
+            let P : List Flow → Type 0 = λ l. l ++ flows ≡ finished_in told_after in
+            subst P (is_earlier ∙ r.same_done) (told_of (λ told_now. earlier ++ flows ≡ flat_map done_of told_now) (told ++ steps.Heard moment what ∷ []) told_after after told_is finished)
+            ∙ done_same t.more t.next t.turned adds
+
+        reaches_turned : Reaches to was turned_changes r.made r.trace start before
+        reaches_turned = reaches_drops drops to was r.changes adds.grows.front_of.later r.made r.trace start before r.reaches adds.grows.all_drops
+
+        -- the flows that it finished were printed and saved
+        pub rests_on : (is : Printing) (now : Option (List ℕ)) → Puts to was flows (Ok is) mid_files new_files before now →
+            ToldNext (Rests standing awaited number made_due answers drops names state due first to new_files new new_operators is start now over) told after
+        rests_on is now puts = record {
+          after = told_after;
+          tells = told_is;
+          count = count_next told moment what t.more adds.quiet_told;
           holds = record {
-            changes = r.changes ++ change after old next ∷ [];
+            trace = t.next;
+            changes = all_changes;
+            operations = all_operations;
             made = r.made ++ puts.made;
-            stands = stands_changed standing awaited number made_due answers due (course_from first r.changes) old next new.table after tells.holds;
-            own = (next_told trace moment what told after tells.is of).own r.own;
-            reaches = reaches_next to r.changes r.made trace after flows start before now old next refl (subst P is_earlier done) (rest_told trace moment what told after tells.is of) was is r.reaches puts;
+            stands = stands_next;
+            worked = worked_next;
+            waits = waits_after;
+            operators_stand = t.operators_stand;
+            same_done = done_same t.more t.next t.turned adds;
+            reaches = reaches_next to turned_changes r.made r.trace t.next flows start before now old_state new_state refl finished_next (rest_next t.more t.next t.turned adds) was is reaches_turned puts;
           };
         }
 
-    -- memory ran out while they were printed and saved
-    pub breaks_on : {files mid_files new_files : FilesMeaning} (router new : Router C A) (was : Printing) (e : OutOfMemory) (start before now : Option (List ℕ)) (trace : Trace) (moment : ℕ) (what : Heard) (told : Option Trace)
-        (earlier flows : List Flow) → (r : Rests standing awaited number made_due answers state due first to files router was start before trace) →
-        Tells (RouterStands standing awaited number made_due answers state due (course_from first r.changes) mid_files new) (trace ++ steps.Heard moment what ∷ []) told →
-        TellsOfHeard what (trace ++ steps.Heard moment what ∷ []) told → earlier ≡ finished_in trace →
-        Tells (λ after. earlier ++ flows ≡ flat_map done_of after) (trace ++ steps.Heard moment what ∷ []) told → Puts to was flows (Err e) mid_files new_files before now →
-        Tells (BreaksOff answers fails due first to new_files start now) (trace ++ steps.Heard moment what ∷ []) told
-    breaks_on {files} {mid_files} {new_files} router new was e start before now trace moment what told earlier flows r tells of is_earlier finished puts =
-        let heard = trace ++ steps.Heard moment what ∷ [] in
-        let after = heard ++ tells.more in
-        let old : AnswererState S = record { own = state new.answerer; files = mid_files } in
-        let next : AnswererState S = record { own = state new.answerer; files = new_files } in
-        let done = told_of (λ t. earlier ++ flows ≡ flat_map done_of t) heard after told tells.is finished in
-        let P : List Flow → Type 0 = λ l. l ++ flows ≡ flat_map done_of after in
-        let stands = stands_changed standing awaited number made_due answers due (course_from first r.changes) old next new.table after tells.holds in
-        record {
-          more = tells.more;
-          is = tells.is;
+        -- memory ran out while they were printed and saved
+        pub breaks_on : (e : OutOfMemory) (now : Option (List ℕ)) → Puts to was flows (Err e) mid_files new_files before now →
+            Told (BreaksOff answers drops names fails due first to new_files start now) after
+        breaks_on e now puts = record {
+          trace = told_after;
+          tells = told_is;
           holds = record {
-            changes = r.changes ++ change after old next ∷ [];
+            trace = t.next;
+            changes = all_changes;
+            operations = all_operations;
             made = r.made ++ puts.made;
-            served = stands.served;
-            follows = over stands;
-            leaves = files_all stands ⊥;
-            part = breaks_next to r.changes r.made trace after flows start before now old next refl (subst P is_earlier done) (rest_told trace moment what told after tells.is of) was e r.reaches puts;
+            worked = all_worked told_after t.next (course_from first all_changes all_operations) over worked_next;
+            served = stands_next.served;
+            follows = came_over stands_next;
+            leaves = files_all stands_next ⊥;
+            waits = waits_after;
+            part = breaks_next to turned_changes r.made r.trace t.next flows start before now old_state new_state refl finished_next (rest_next t.more t.next t.turned adds) was e reaches_turned puts;
           };
         }
 
-    -- memory ran out within the step, and nothing of it was printed
-    pub breaks_within : {files new_files : FilesMeaning} (router : Router C A) (was : Printing) (start before now : Option (List ℕ)) (trace : Trace) (moment : ℕ) (what : Heard) (told : Option Trace) →
-        (r : Rests standing awaited number made_due answers state due first to files router was start before trace) → now ≡ before →
-        Tells (IsServed answers due) (trace ++ steps.Heard moment what ∷ []) told → TellsOfHeard what (trace ++ steps.Heard moment what ∷ []) told →
-        Tells (IsAnswered answers due (course_from first r.changes)) (trace ++ steps.Heard moment what ∷ []) told →
-        Tells (LeavesFiles answers fails due (course_from first r.changes) ⊥ new_files) (trace ++ steps.Heard moment what ∷ []) told →
-        Tells (BreaksOff answers fails due first to new_files start now) (trace ++ steps.Heard moment what ∷ []) told
-    breaks_within {files} {new_files} router was start before now trace moment what told r same tells of follows leaves =
-        let heard = trace ++ steps.Heard moment what ∷ [] in
-        let after = heard ++ tells.more in
-        let P : Option (List ℕ) → Type 0 = λ o. ReachesPart to r.changes r.made after start o in
-        record {
-          more = tells.more;
-          is = tells.is;
-          holds = record {
-            changes = r.changes;
-            made = r.made;
-            served = tells.holds;
-            follows = told_of (IsAnswered answers due (course_from first r.changes)) heard after told tells.is follows;
-            leaves = told_of (LeavesFiles answers fails due (course_from first r.changes) ⊥ new_files) heard after told tells.is leaves;
-            part = subst P (sym same) (part_more to was r.changes r.made trace (steps.Heard moment what ∷ tells.more) after start before r.reaches
-                (append_assoc trace (steps.Heard moment what ∷ []) tells.more) (rest_told trace moment what told after tells.is of));
-          };
-        }
+      -- memory ran out within it, and nothing of it was printed
+      pub breaks_within : {new_files : FilesMeaning} (now : Option (List ℕ)) (after : Option Trace) → now ≡ before →
+          TurnBroke answers drops names fails due r.trace (course_from first r.changes r.operations) moment what (told ++ steps.Heard moment what ∷ []) after new_files →
+          Told (BreaksOff answers drops names fails due first to new_files start now) after
+      breaks_within {new_files} now after same b =
+          let course = course_from first r.changes r.operations in
+          let told_after = (told ++ steps.Heard moment what ∷ []) ++ b.more in
+          let adds = breaks_adds answers drops names due r.trace course moment what b.more b.next b.broken b.breaks in
+          let later = adds.grows.front_of.later in
+          let made = course_from first (r.changes ++ later) (r.operations ++ adds.grows.front_of.later_operations) in
+          let is : b.broken ≡ made = grown_is drops first r.changes r.operations b.broken adds.grows in
+          let reaches = reaches_drops drops to was r.changes later r.made r.trace start before r.reaches adds.grows.all_drops in
+          let Worked_so : Course S → Type 0 = λ c. WorkedPart answers drops names due first told_after b.next c in
+          let Follows : Course S → Type 0 = λ c. IsAnswered answers due c b.next in
+          let Leaves : Course S → Type 0 = λ c. LeavesFiles answers fails due c ⊥ new_files b.next in
+          let Waits : Course S → Type 0 = λ c. BeforeEachHeard (RestsBy answers due c) b.next in
+          let Part : Option (List ℕ) → Type 0 = λ o. ReachesPart to (r.changes ++ later) r.made b.next start o in
+          record {
+            trace = told_after;
+            tells = b.is;
+            holds = record {
+              trace = b.next;
+              changes = r.changes ++ later;
+              operations = r.operations ++ adds.grows.front_of.later_operations;
+              made = r.made;
+              worked = subst Worked_so is (breaks_in told told_after r.trace b.next course b.broken moment what b.more r.worked b.breaks refl);
+              served = b.served;
+              follows = subst Follows is b.follows;
+              leaves = subst Leaves is b.leaves;
+              waits = subst Waits is (waits_next b.more b.next b.broken b.broken adds (whole_front b.broken));
+              part = subst Part (sym same) (part_more to was (r.changes ++ later) r.made r.trace (steps.Heard moment what ∷ adds.added) b.next start before reaches
+                  (adds.is_next ∙ append_assoc r.trace (steps.Heard moment what ∷ []) adds.added) (rest_next b.more b.next b.broken adds));
+            };
+          }
 
     -- ---- how a turn ends
 
     -- nothing was heard
-    pub tells_error : {files : FilesMeaning} (router : Router C A) (printing : Printing) (budget : ℕ) (start now : Option (List ℕ)) (trace : Trace) (error : NetError) (status : Status) (told : Option Trace) →
-        Stands standing awaited number made_due answers state due first to files router printing start now trace → told ≡ Some trace → heard_count trace < budget → status ≡ status_of error →
-        Told (IsRun answers fails due first to budget status printing files start now) told
-    tells_error {files} router printing budget start now trace error status told stands is below same =
-        let r = stands.at_rest in
-        record {
-          trace = trace;
-          tells = is;
-          holds = let P : Status → Type 0 = λ s. IsRun answers fails due first to budget s printing files start now trace in
-              subst P (sym same) (error_run answers fails due first to budget printing files start now trace r.own r.changes r.made r.stands.served (over r.stands) (files_all r.stands)
-              (all router.table trace r.stands) (waits router.table trace r.stands) r.reaches error stands.goes_on (λ _. below));
-        }
+    pub tells_error : {files : FilesMeaning} (router : Router C A) (operators : Operators) (printing : Printing) (budget : ℕ) (start now : Option (List ℕ)) (trace : Trace) (error : NetError) (status : Status)
+        (told : Option Trace) → Rests standing awaited number made_due answers drops names state due first to files router operators printing start now false trace → told ≡ Some trace →
+        heard_count trace < budget → status ≡ status_of error → Told (IsRun answers drops names fails due first to budget status printing files start now) told
+    tells_error {files} router operators printing budget start now trace error status told r is below same = record {
+      trace = trace;
+      tells = is;
+      holds = let P : Status → Type 0 = λ s. IsRun answers drops names fails due first to budget s printing files start now trace in
+          subst P (sym same) (error_run answers drops names fails due first to budget printing files start now trace r.trace r.changes r.operations false r.made r.worked r.stands.served (came_over r.stands)
+          (files_all r.stands) (all router.table r.trace r.stands) r.waits (waiting router.table r.trace r.stands) r.reaches error refl (λ _. below));
+    }
 
-    -- memory ran out within the step
-    pub tells_memory : {files new_files : FilesMeaning} (router : Router C A) (was printing : Printing) (budget : ℕ) (start before now : Option (List ℕ)) (trace : Trace) (moment : ℕ) (what : Heard) (told : Option Trace) →
-        Stands standing awaited number made_due answers state due first to files router was start before trace → TellsOfHeard what (trace ++ steps.Heard moment what ∷ []) told →
-        Tells (BreaksOff answers fails due first to new_files start now) (trace ++ steps.Heard moment what ∷ []) told →
-        Told (IsRun answers fails due first to budget NoMemory printing new_files start now) told
-    tells_memory {files} {new_files} router was printing budget start before now trace moment what told stands of tells =
-        let after = (trace ++ steps.Heard moment what ∷ []) ++ tells.more in
+    -- the run is over
+    pub tells_ended : {new_files : FilesMeaning} (new : Router C A) (operators : Operators) (printing : Printing) (budget : ℕ) (start now : Option (List ℕ)) (over : Bool) (trace : Trace) (told : Option Trace) →
+        over ≡ true → ToldNext (Rests standing awaited number made_due answers drops names state due first to new_files new operators printing start now over) trace told →
+        Told (IsRun answers drops names fails due first to budget Ended printing new_files start now) told
+    tells_ended {new_files} new operators printing budget start now over trace told last next =
+        let r = next.holds in
         record {
-          trace = after;
-          tells = tells.is;
-          holds = memory_run answers fails due first to budget printing new_files start now after ((next_told trace moment what told after tells.is of).own stands.at_rest.own) tells.holds;
-        }
-
-    -- the end was heard
-    pub tells_ended : {files new_files : FilesMeaning} (router new : Router C A) (was printing : Printing) (budget : ℕ) (start before now : Option (List ℕ)) (trace : Trace) (moment : ℕ) (what : Heard) (told : Option Trace) →
-        Stands standing awaited number made_due answers state due first to files router was start before trace → is_end what ≡ true →
-        Tells (Rests standing awaited number made_due answers state due first to new_files new printing start now) (trace ++ steps.Heard moment what ∷ []) told →
-        TellsOfHeard what (trace ++ steps.Heard moment what ∷ []) told → Told (IsRun answers fails due first to budget Ended printing new_files start now) told
-    tells_ended {files} {new_files} router new was printing budget start before now trace moment what told stands last tells of =
-        let after = (trace ++ steps.Heard moment what ∷ []) ++ tells.more in
-        let r = tells.holds in
-        record {
-          trace = after;
-          tells = tells.is;
-          holds = ended_run answers fails due first to budget printing new_files start now after r.own r.changes r.made r.stands.served (over r.stands) (files_all r.stands)
-              (all new.table after r.stands) (waits new.table after r.stands) r.reaches ((next_told trace moment what told after tells.is of).ends ∙ last);
+          trace = next.after;
+          tells = next.tells;
+          holds = ended_run answers drops names fails due first to budget printing new_files start now next.after r.trace r.changes r.operations over r.made r.worked r.stands.served (came_over r.stands)
+              (files_all r.stands) (all new.table r.trace r.stands) r.waits (waiting new.table r.trace r.stands) r.reaches last;
         }
 
     -- the run goes on
-    pub goes_next : {files new_files : FilesMeaning} (router new : Router C A) (was printing : Printing) (start before now : Option (List ℕ)) (trace : Trace) (moment : ℕ) (what : Heard) (told : Option Trace) →
-        Stands standing awaited number made_due answers state due first to files router was start before trace → is_end what ≡ false →
-        Tells (Rests standing awaited number made_due answers state due first to new_files new printing start now) (trace ++ steps.Heard moment what ∷ []) told →
-        TellsOfHeard what (trace ++ steps.Heard moment what ∷ []) told →
-        ToldNext (Stands standing awaited number made_due answers state due first to new_files new printing start now) trace told
-    goes_next router new was printing start before now trace moment what told stands other tells of =
-        let after = (trace ++ steps.Heard moment what ∷ []) ++ tells.more in
-        let next = next_told trace moment what told after tells.is of in
-        record { after = after; tells = tells.is; count = next.count; holds = record { at_rest = tells.holds; goes_on = next.ends ∙ other } }
+    pub goes_next : {new_files : FilesMeaning} (new : Router C A) (operators : Operators) (printing : Printing) (start now : Option (List ℕ)) (over : Bool) (trace : Trace) (told : Option Trace) → over ≡ false →
+        ToldNext (Rests standing awaited number made_due answers drops names state due first to new_files new operators printing start now over) trace told →
+        ToldNext (Rests standing awaited number made_due answers drops names state due first to new_files new operators printing start now false) trace told
+    goes_next {new_files} new operators printing start now over trace told other =
+        let P : Bool → Type 0 = λ b. ToldNext (Rests standing awaited number made_due answers drops names state due first to new_files new operators printing start now b) trace told in subst P other
 
     -- one turn more
-    pub next_turn : {files new_files : FilesMeaning} (router new : Router C A) (was printing : Printing) (start mid now : Option (List ℕ)) (count : ℕ) (before after : Option Trace) →
-        ToldTurn standing awaited number made_due answers state due first to files router was start mid count before →
-        ((trace : Trace) → Stands standing awaited number made_due answers state due first to files router was start mid trace → before ≡ Some trace →
-        ToldNext (Stands standing awaited number made_due answers state due first to new_files new printing start now) trace after) →
-        ToldTurn standing awaited number made_due answers state due first to new_files new printing start now (count + 1) after
-    next_turn router new was printing start mid now count before after turn step =
+    pub next_turn : {files new_files : FilesMeaning} (router new : Router C A) (operators new_operators : Operators) (was printing : Printing) (start mid now : Option (List ℕ)) (count : ℕ) (before after : Option Trace) →
+        ToldTurn standing awaited number made_due answers drops names state due first to files router operators was start mid count before →
+        ((trace : Trace) → Rests standing awaited number made_due answers drops names state due first to files router operators was start mid false trace → before ≡ Some trace →
+        ToldNext (Rests standing awaited number made_due answers drops names state due first to new_files new new_operators printing start now false) trace after) →
+        ToldTurn standing awaited number made_due answers drops names state due first to new_files new new_operators printing start now (count + 1) after
+    next_turn router new operators new_operators was printing start mid now count before after turn step =
         let next = step turn.trace turn.stands turn.tells in
         record { trace = next.after; tells = next.tells; stands = next.holds; counts = next.count ∙ ap (λ (n : ℕ). n + 1) turn.counts }
 
     -- all that may be heard was heard
-    pub tells_spent : {files : FilesMeaning} (router : Router C A) (printing : Printing) (start now : Option (List ℕ)) (budget count : ℕ) (told : Option Trace) →
-        ToldTurn standing awaited number made_due answers state due first to files router printing start now count told → count ≡ budget →
-        Told (IsRun answers fails due first to budget BudgetSpent printing files start now) told
-    tells_spent {files} router printing start now budget count told turn is =
-        let r = turn.stands.at_rest in
+    pub tells_spent : {files : FilesMeaning} (router : Router C A) (operators : Operators) (printing : Printing) (start now : Option (List ℕ)) (budget count : ℕ) (told : Option Trace) →
+        ToldTurn standing awaited number made_due answers drops names state due first to files router operators printing start now count told → count ≡ budget →
+        Told (IsRun answers drops names fails due first to budget BudgetSpent printing files start now) told
+    tells_spent {files} router operators printing start now budget count told turn is =
+        let r = turn.stands in
         record {
           trace = turn.trace;
           tells = turn.tells;
-          holds = spent_run answers fails due first to budget printing files start now turn.trace r.own r.changes r.made r.stands.served (over r.stands) (files_all r.stands)
-              (all router.table turn.trace r.stands) (waits router.table turn.trace r.stands) r.reaches turn.stands.goes_on (turn.counts ∙ is);
+          holds = spent_run answers drops names fails due first to budget printing files start now turn.trace r.trace r.changes r.operations false r.made r.worked r.stands.served (came_over r.stands)
+              (files_all r.stands) (all router.table r.trace r.stands) r.waits (waiting router.table r.trace r.stands) r.reaches refl (turn.counts ∙ is);
         }
 
     -- nothing was heard yet
-    pub first_turn : {files : FilesMeaning} (router : Router C A) (printing : Printing) (start now : Option (List ℕ)) (told : Option Trace) →
-        Rests standing awaited number made_due answers state due first to files router printing start now [] → told ≡ Some [] →
-        ToldTurn standing awaited number made_due answers state due first to files router printing start now 0 told
-    first_turn router printing start now told rests is = record { trace = []; tells = is; stands = record { at_rest = rests; goes_on = refl }; counts = refl }
+    pub first_turn : {files : FilesMeaning} (router : Router C A) (operators : Operators) (printing : Printing) (start now : Option (List ℕ)) (told : Option Trace) →
+        Rests standing awaited number made_due answers drops names state due first to files router operators printing start now false [] → told ≡ Some [] →
+        ToldTurn standing awaited number made_due answers drops names state due first to files router operators printing start now 0 told
+    first_turn router operators printing start now told rests is = record { trace = []; tells = is; stands = rests; counts = refl }
 
 -- nothing was heard, printed or saved yet
 pub rests_first : {C : Type 0} (standing : Standing C) (awaited : C → Option Ask) (number : C → ℕ) (made_due : C → List Move → List Command) {S : Type 0} (answers : Answering S)
-    {A : Type 0} (state : A → S) (due : Due) (first : AnswererState S) (to : Option SavesTo) (files : FilesMeaning) (router : Router C A) (start : Option (List ℕ)) →
-    RouterStands standing awaited number made_due answers state due (begins_at first) files router [] →
-    Rests standing awaited number made_due answers state due first to files router Whole start start []
-rests_first standing awaited number made_due answers state due first to files router start stands =
-    record { changes = []; made = []; stands = stands; own = tt; reaches = reaches_first to start }
+    (drops : List ℕ → S → S → Type 0) (names : S → List (List ℕ)) {A : Type 0} (state : A → S) (due : Due) (first : AnswererState S) (to : Option SavesTo) (files : FilesMeaning) (router : Router C A)
+    (operators : Operators) (start : Option (List ℕ)) → RouterStands standing awaited number made_due answers state due (begins_at first) files router [] →
+    ((conv : ℕ) → stand_in operators conv ≡ None) → ((conv : ℕ) → is_open operators conv ≢ true) →
+    Rests standing awaited number made_due answers drops names state due first to files router operators Whole start start false []
+rests_first standing awaited number made_due answers drops names state due first to files router operators start stands none none_open = record {
+  trace = [];
+  changes = [];
+  operations = [];
+  made = [];
+  stands = stands;
+  worked = not_begun;
+  waits = before_empty (RestsBy answers due (begins_at first));
+  operators_stand = λ _. record { at = λ conv fresh. none conv; go_on = λ conv opened. absurd (none_open conv opened) };
+  same_done = refl;
+  reaches = reaches_first to start;
+}
 
 no_step : (prefix : Trace) (step : Step) → [] ≡ prefix ++ step ∷ [] → ⊥
 no_step [] step e = cc
@@ -268,29 +354,39 @@ empty_answered answers due first =
 pub empty_told : (due : Due) → IsAllTold due []
 empty_told due conv view told = refl
 
-pub empty_waits : {S : Type 0} (answers : Answering S) (due : Due) → OpenOnesWait answers due []
-empty_waits answers due conv ask is = absurd (let no : None ≡ Some ask = is in cc)
+-- no hook is open
+empty_rests : {S : Type 0} (answers : Answering S) (due : Due) (first : AnswererState S) → RestsBy answers due (begins_at first) []
+empty_rests answers due first = record {
+  made = begins_at first;
+  front_of = whole_front (begins_at first);
+  now = first;
+  pending = nothing_pending;
+  answered = at_first (begins_at first) refl refl;
+  waits = λ conv ask is. absurd (let no : None ≡ Some ask = is in cc);
+}
 
 -- so nothing was answered
 pub empty_leaves : {S : Type 0} (answers : Answering S) (fails : Failing S) (due : Due) (first : AnswererState S) (W : Type 0) → LeavesFiles answers fails due (begins_at first) W first.files []
 empty_leaves answers fails due first W = leaves_all answers fails due (begins_at first) first nothing_pending first.files [] (at_first (begins_at first) refl refl) refl W
 
 -- the network does not listen, or memory ran out before anything was heard
-pub error_first : {S : Type 0} (answers : Answering S) (fails : Failing S) (due : Due) (first : AnswererState S) (to : Option SavesTo) (budget : ℕ) (start : Option (List ℕ)) (error : NetError) (status : Status)
-    (told : Option Trace) → told ≡ Some [] → status ≡ status_of error → Told (IsRun answers fails due first to budget status Whole first.files start start) told
-error_first answers fails due first to budget start error status told is same = record {
+pub error_first : {S : Type 0} (answers : Answering S) (drops : List ℕ → S → S → Type 0) (names : S → List (List ℕ)) (fails : Failing S) (due : Due) (first : AnswererState S) (to : Option SavesTo)
+    (budget : ℕ) (start : Option (List ℕ)) (error : NetError) (status : Status) (told : Option Trace) → told ≡ Some [] → status ≡ status_of error →
+    Told (IsRun answers drops names fails due first to budget status Whole first.files start start) told
+error_first answers drops names fails due first to budget start error status told is same = record {
   trace = [];
   tells = is;
-  holds = let P : Status → Type 0 = λ s. IsRun answers fails due first to budget s Whole first.files start start [] in
-      subst P (sym same) (error_run answers fails due first to budget Whole first.files start start [] tt [] [] (empty_served answers due) (empty_answered answers due first) (empty_leaves answers fails due first)
-      (empty_told due) (empty_waits answers due) (reaches_first to start) error refl (λ some. some));
+  holds = let P : Status → Type 0 = λ s. IsRun answers drops names fails due first to budget s Whole first.files start start [] in
+      subst P (sym same) (error_run answers drops names fails due first to budget Whole first.files start start [] [] [] [] false [] not_begun (empty_served answers due) (empty_answered answers due first)
+      (empty_leaves answers fails due first) (empty_told due) (before_empty (RestsBy answers due (begins_at first))) (empty_rests answers due first) (reaches_first to start) error refl (λ some. some));
 }
 
 -- so it is where a run did not begin
-pub begun_first : {S : Type 0} (answers : Answering S) (fails : Failing S) (due : Due) (first : AnswererState S) (to : Option SavesTo) (budget : ℕ) (start : Option (List ℕ)) (status : Status)
-    (told : Option Trace) → told ≡ Some [] → (status ≡ NetFault) ⊎ (status ≡ NoMemory) → Told (IsRun answers fails due first to budget status Whole first.files start start) told
-begun_first answers fails due first to budget start status told is (inl fault) = error_first answers fails due first to budget start net.Fault status told is fault
-begun_first answers fails due first to budget start status told is (inr memory) = error_first answers fails due first to budget start net.NoMemory status told is memory
+pub begun_first : {S : Type 0} (answers : Answering S) (drops : List ℕ → S → S → Type 0) (names : S → List (List ℕ)) (fails : Failing S) (due : Due) (first : AnswererState S) (to : Option SavesTo)
+    (budget : ℕ) (start : Option (List ℕ)) (status : Status) (told : Option Trace) → told ≡ Some [] → (status ≡ NetFault) ⊎ (status ≡ NoMemory) →
+    Told (IsRun answers drops names fails due first to budget status Whole first.files start start) told
+begun_first answers drops names fails due first to budget start status told is (inl fault) = error_first answers drops names fails due first to budget start net.Fault status told is fault
+begun_first answers drops names fails due first to budget start status told is (inr memory) = error_first answers drops names fails due first to budget start net.NoMemory status told is memory
 
 -- what was printed and saved, by what the state had before
 pub puts_here : (lent : Option Saving) (mid here : Option Saving) (between was : Printing) (flows : List Flow) (result : Result Printing OutOfMemory) (old new : FilesMeaning) (before after : Option (List ℕ)) →
@@ -302,45 +398,45 @@ puts_here lent mid here between was flows result old new before after is_mid is_
 
 -- it stands for something where files changed
 pub sound_changed : {C : Type 0} (standing : Standing C) (awaited : C → Option Ask) (number : C → ℕ) (made_due : C → List Move → List Command) {S : Type 0} (answers : Answering S)
-    {A : Type 0} (state : A → S) (made : Due) (old new : FilesMeaning) (router : Router C A) → IsSound standing awaited number made_due answers state made old router →
-    IsSound standing awaited number made_due answers state made new router
-sound_changed {C} standing awaited number made_due {S} answers state made old new router (due, course, trace, owes, s) =
+    (drops : List ℕ → S → S → Type 0) (names : S → List (List ℕ)) {A : Type 0} (state : A → S) (made : Due) (old new : FilesMeaning) (router : Router C A) →
+    IsSound standing awaited number made_due answers drops names state made old router → IsSound standing awaited number made_due answers drops names state made new router
+sound_changed {C} standing awaited number made_due {S} answers drops names state made old new router (due, course, trace, owes, s) =
     let was : AnswererState S = record { own = state router.answerer; files = old } in
     let now : AnswererState S = record { own = state router.answerer; files = new } in
     (due, with_change course trace was now, trace, owes, stands_changed standing awaited number made_due answers due course was now router.table trace s)
 
 -- where flows are saved does not change from turn to turn
 pub next_saving : {C : Type 0} (standing : Standing C) (awaited : C → Option Ask) (number : C → ℕ) (made_due : C → List Move → List Command) {S : Type 0} (answers : Answering S)
-    {A : Type 0} (state : A → S) (due : Due) (first : AnswererState S) {here there : Option Saving} → here ≡ there → (files new_files : FilesMeaning) (router new : Router C A) (was is : Printing)
-    (start mid now : Option (List ℕ)) (trace : Trace) (told : Option Trace) →
-    (Stands standing awaited number made_due answers state due first (saves_to_of here) files router was start mid trace →
-    ToldNext (Stands standing awaited number made_due answers state due first (saves_to_of here) new_files new is start now) trace told) →
-    Stands standing awaited number made_due answers state due first (saves_to_of there) files router was start mid trace →
-    ToldNext (Stands standing awaited number made_due answers state due first (saves_to_of there) new_files new is start now) trace told
-next_saving standing awaited number made_due answers state due first same files new_files router new was is start mid now trace told step =
-    let P : Option Saving → Type 0 = λ s. Stands standing awaited number made_due answers state due first (saves_to_of s) files router was start mid trace →
-    ToldNext (Stands standing awaited number made_due answers state due first (saves_to_of s) new_files new is start now) trace told in
+    (drops : List ℕ → S → S → Type 0) (names : S → List (List ℕ)) {A : Type 0} (state : A → S) (due : Due) (first : AnswererState S) {here there : Option Saving} → here ≡ there →
+    (files new_files : FilesMeaning) (router new : Router C A) (operators new_operators : Operators) (was is : Printing) (start mid now : Option (List ℕ)) (trace : Trace) (told : Option Trace) →
+    (Rests standing awaited number made_due answers drops names state due first (saves_to_of here) files router operators was start mid false trace →
+    ToldNext (Rests standing awaited number made_due answers drops names state due first (saves_to_of here) new_files new new_operators is start now false) trace told) →
+    Rests standing awaited number made_due answers drops names state due first (saves_to_of there) files router operators was start mid false trace →
+    ToldNext (Rests standing awaited number made_due answers drops names state due first (saves_to_of there) new_files new new_operators is start now false) trace told
+next_saving standing awaited number made_due answers drops names state due first same files new_files router new operators new_operators was is start mid now trace told step =
+    let P : Option Saving → Type 0 = λ s. Rests standing awaited number made_due answers drops names state due first (saves_to_of s) files router operators was start mid false trace →
+    ToldNext (Rests standing awaited number made_due answers drops names state due first (saves_to_of s) new_files new new_operators is start now false) trace told in
     subst P same step
 
-pub err_saving : {C : Type 0} (standing : Standing C) (awaited : C → Option Ask) (number : C → ℕ) (made_due : C → List Move → List Command) {S : Type 0} (answers : Answering S) (fails : Failing S)
-    {A : Type 0} (state : A → S) (due : Due) (first : AnswererState S) {here there : Option Saving} → here ≡ there → (files new_files : FilesMeaning) (budget : ℕ) (status : Status) (router : Router C A) (was is : Printing)
-    (start mid now : Option (List ℕ)) (trace : Trace) (told : Option Trace) →
-    (Stands standing awaited number made_due answers state due first (saves_to_of here) files router was start mid trace →
-    Told (IsRun answers fails due first (saves_to_of here) budget status is new_files start now) told) →
-    Stands standing awaited number made_due answers state due first (saves_to_of there) files router was start mid trace →
-    Told (IsRun answers fails due first (saves_to_of there) budget status is new_files start now) told
-err_saving standing awaited number made_due answers fails state due first same files new_files budget status router was is start mid now trace told step =
-    let P : Option Saving → Type 0 = λ s. Stands standing awaited number made_due answers state due first (saves_to_of s) files router was start mid trace →
-    Told (IsRun answers fails due first (saves_to_of s) budget status is new_files start now) told in
+pub err_saving : {C : Type 0} (standing : Standing C) (awaited : C → Option Ask) (number : C → ℕ) (made_due : C → List Move → List Command) {S : Type 0} (answers : Answering S)
+    (drops : List ℕ → S → S → Type 0) (names : S → List (List ℕ)) (fails : Failing S) {A : Type 0} (state : A → S) (due : Due) (first : AnswererState S) {here there : Option Saving} → here ≡ there →
+    (files new_files : FilesMeaning) (budget : ℕ) (status : Status) (router : Router C A) (operators : Operators) (was is : Printing) (start mid now : Option (List ℕ)) (trace : Trace) (told : Option Trace) →
+    (Rests standing awaited number made_due answers drops names state due first (saves_to_of here) files router operators was start mid false trace →
+    Told (IsRun answers drops names fails due first (saves_to_of here) budget status is new_files start now) told) →
+    Rests standing awaited number made_due answers drops names state due first (saves_to_of there) files router operators was start mid false trace →
+    Told (IsRun answers drops names fails due first (saves_to_of there) budget status is new_files start now) told
+err_saving standing awaited number made_due answers drops names fails state due first same files new_files budget status router operators was is start mid now trace told step =
+    let P : Option Saving → Type 0 = λ s. Rests standing awaited number made_due answers drops names state due first (saves_to_of s) files router operators was start mid false trace →
+    Told (IsRun answers drops names fails due first (saves_to_of s) budget status is new_files start now) told in
     subst P same step
 
-pub leaves_saving : {S : Type 0} (answers : Answering S) (fails : Failing S) (first : AnswererState S) (files : FilesMeaning) {here there : Option Saving} → here ≡ there →
-    LeavesBehind answers fails (saves_to_of here) first files → LeavesBehind answers fails (saves_to_of there) first files
-leaves_saving answers fails first files same = let P : Option Saving → Type 0 = λ s. LeavesBehind answers fails (saves_to_of s) first files in subst P same
+pub leaves_saving : {S : Type 0} (answers : Answering S) (drops : List ℕ → S → S → Type 0) (fails : Failing S) (first : AnswererState S) (files : FilesMeaning) {here there : Option Saving} → here ≡ there →
+    LeavesBehind answers drops fails (saves_to_of here) first files → LeavesBehind answers drops fails (saves_to_of there) first files
+leaves_saving answers drops fails first files same = let P : Option Saving → Type 0 = λ s. LeavesBehind answers drops fails (saves_to_of s) first files in subst P same
 
-pub goes_saving : {S : Type 0} (answers : Answering S) (first last : AnswererState S) {here there : Option Saving} → here ≡ there →
-    Goes answers (saves_to_of here) first last → Goes answers (saves_to_of there) first last
-goes_saving answers first last same = let P : Option Saving → Type 0 = λ s. Goes answers (saves_to_of s) first last in subst P same
+pub goes_saving : {S : Type 0} (answers : Answering S) (drops : List ℕ → S → S → Type 0) (first last : AnswererState S) {here there : Option Saving} → here ≡ there →
+    Goes answers drops (saves_to_of here) first last → Goes answers drops (saves_to_of there) first last
+goes_saving answers drops first last same = let P : Option Saving → Type 0 = λ s. Goes answers drops (saves_to_of s) first last in subst P same
 
 no_change : {S : Type 0} (changes : List (Change S)) (one : Change S) → [] ≡ changes ++ one ∷ [] → ⊥
 no_change [] one e = cc
@@ -368,13 +464,14 @@ state_first standing awaited number made_due answers state due first files route
     ap (λ s. s.own) (answers_none answers due (begins_at (record { own = first; files = files })) (record { own = state router.answerer; files = files }) stands.pending [] stands.answered refl refl)
 
 -- where flows are saved is what the run was given
-pub run_saving : {S : Type 0} (answers : Answering S) (fails : Failing S) (due : Due) (first : AnswererState S) (budget : ℕ) (status : Status) (printing : Printing) (files : FilesMeaning)
-    (start now : Option (List ℕ)) (told : Option Trace) {here there : Option Saving} → here ≡ there → Told (IsRun answers fails due first (saves_to_of here) budget status printing files start now) told →
-    Told (IsRun answers fails due first (saves_to_of there) budget status printing files start now) told
-run_saving answers fails due first budget status printing files start now told same =
-    let P : Option Saving → Type 0 = λ s. Told (IsRun answers fails due first (saves_to_of s) budget status printing files start now) told in subst P same
+pub run_saving : {S : Type 0} (answers : Answering S) (drops : List ℕ → S → S → Type 0) (names : S → List (List ℕ)) (fails : Failing S) (due : Due) (first : AnswererState S) (budget : ℕ) (status : Status)
+    (printing : Printing) (files : FilesMeaning) (start now : Option (List ℕ)) (told : Option Trace) {here there : Option Saving} → here ≡ there →
+    Told (IsRun answers drops names fails due first (saves_to_of here) budget status printing files start now) told →
+    Told (IsRun answers drops names fails due first (saves_to_of there) budget status printing files start now) told
+run_saving answers drops names fails due first budget status printing files start now told same =
+    let P : Option Saving → Type 0 = λ s. Told (IsRun answers drops names fails due first (saves_to_of s) budget status printing files start now) told in subst P same
 
 -- and the state that it began from
-pub leaves_from : {S : Type 0} (answers : Answering S) (fails : Failing S) (to : Option SavesTo) (own other : S) (files last : FilesMeaning) → own ≡ other →
-    LeavesBehind answers fails to (record { own = own; files = files }) last → LeavesBehind answers fails to (record { own = other; files = files }) last
-leaves_from {S} answers fails to own other files last same = let P : S → Type 0 = λ s. LeavesBehind answers fails to (record { own = s; files = files }) last in subst P same
+pub leaves_from : {S : Type 0} (answers : Answering S) (drops : List ℕ → S → S → Type 0) (fails : Failing S) (to : Option SavesTo) (own other : S) (files last : FilesMeaning) → own ≡ other →
+    LeavesBehind answers drops fails to (record { own = own; files = files }) last → LeavesBehind answers drops fails to (record { own = other; files = files }) last
+leaves_from {S} answers drops fails to own other files last same = let P : S → Type 0 = λ s. LeavesBehind answers drops fails to (record { own = s; files = files }) last in subst P same

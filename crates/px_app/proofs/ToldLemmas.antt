@@ -35,8 +35,8 @@ pub told_nothing : (failed : Type 0) (status : ℕ) (start now : Option (List �
 told_nothing failed status start now whole = told_by failed status [] start now (inl whole)
 
 -- where it listens
-pub listens_there : (place : List ℕ × ℕ) (listening : Listening) (text : List ℕ) → ListensAt place listening → where_listening listening text ≡ text
-listens_there place listening text there = let P : Listening → Type 0 = λ l. where_listening l text ≡ text in subst P (sym there.here) refl
+pub listens_there : (place : List ℕ × ℕ) (control : Option (List ℕ × ℕ)) (listening : Listening) (text : List ℕ) → ListensAt place control listening → where_listening listening text ≡ text
+listens_there place control listening text there = let P : Listening → Type 0 = λ l. where_listening l text ≡ text in subst P (sym there.here) refl
 
 eight_is : (status : Status) → code_of status ≡ 8 → status ≡ NoMemory
 eight_is Ended e = absurd (omega arith)
@@ -64,8 +64,8 @@ begun_not failed_is status listening text start now (inr memory) deaf same =
     subst P (sym memory) (told_none failed_is (where_listening listening text) start now same)
 
 -- a run that listens told where, or the sink failed
-pub begun_told : (failed_is : Type 0) (status : ℕ) (place : List ℕ × ℕ) (old listening : Listening) (text : List ℕ) (start now : Option (List ℕ)) → ListensAt place old → listening ≡ old →
+pub begun_told : (failed_is : Type 0) (status : ℕ) (place : List ℕ × ℕ) (control : Option (List ℕ × ℕ)) (old listening : Listening) (text : List ℕ) (start now : Option (List ℕ)) → ListensAt place control old → listening ≡ old →
     Writes text start now ⊎ (failed_is × WritesPart text start now) → IsTold failed_is status (where_listening listening text) start now
-begun_told failed_is status place old listening text start now there same told =
+begun_told failed_is status place control old listening text start now there same told =
     let P : List ℕ → Type 0 = λ t. IsTold failed_is status t start now in
-    subst P (sym (ap (λ l. where_listening l text) same ∙ listens_there place old text there)) (told_by failed_is status text start now told)
+    subst P (sym (ap (λ l. where_listening l text) same ∙ listens_there place control old text there)) (told_by failed_is status text start now told)

@@ -8,7 +8,7 @@ use Rattle.px_outside.specs.declared.files.FileCall.TheVariants.{Read, Missed, R
 use Rattle.px_rule.specs.Rule.{Rule}
 use Rattle.px_core.specs.Answered.{LeavesFiles}
 use Rattle.px_core.specs.Answers.{Answering, AnswererState, Failing, FilesMeaning}
-use Rattle.px_core.specs.Course.{Change}
+use Rattle.px_core.specs.Course.{AllAre, Change, KeepsOwn, Operated}
 use Rattle.px_core.specs.Due.{Due}
 use Rattle.px_core.specs.Kind.{KeepsFiles}
 use Rattle.px_core.proofs.AnswerLemmas.{kept_leaving}
@@ -17,12 +17,13 @@ use Rattle.px_map.specs.Within.{IsOfRule, ReadsOnly}
 use Rattle.px_map.proofs.ReadsLemmas.{lists_none, lists_one, made_both, rose_none}
 use Rattle.px_addons.specs.Mapped.{ReadsOfRules}
 use Rattle.px_addons.proofs.FilesLemmas.{reads_none}
-use Rattle.px_app.specs.Over.{Goes, LeavesBehind, SavedOver, course_from, goes_answer, goes_append, goes_none, left_by_answer, left_by_append, left_whole}
+use Rattle.px_app.specs.Over.{LeavesBehind, SavedOver, course_from}
 use Rattle.px_app.specs.Saved.{Append, Appending, BrokeAppending, IsMade, Piece, SavesTo, broke_at, broke_elsewhere, is_taken, lost, none_made, one_made, piece_at, piece_in, pieces_of, put, texts_of}
 use Rattle.px_app.specs.Touched.{AllStandBut, CallsOnly, IsSavedAt, SameBut, TouchesOnly}
 use Rattle.px_app.specs.declared.printing.Printing.{Printing}
 use Rattle.px_app.proofs.SavedLemmas.{none_appended, none_broke}
-use Rattle.px_app.proofs.SaveLaws.{changes_move, own_stays}
+use Rattle.px_app.proofs.GoesLemmas.{gone_behind}
+use Rattle.px_app.proofs.SaveLaws.{changes_move}
 
 -- ---- calls, and contents
 
@@ -221,44 +222,18 @@ module _ (rules : List Rule) (to : Option SavesTo) where
         losses = kept.losses;
       })
 
--- ---- answers and appends
+-- ---- over a trace
 
 module _ {S : Type 0} (answers : Answering S) (fails : Failing S) (is : S → Type 0) (goes : FilesMeaning → FilesMeaning → Type 0) (keeps : KeepsFiles answers fails is goes)
     (to : Option SavesTo) (by_appends : (first : FilesMeaning) (made : List Append) (now : FilesMeaning) → Appending to first made now → goes first now)
     (by_broken : (first : FilesMeaning) (made : List Append) (now : FilesMeaning) → BrokeAppending to first made now → goes first now) where
-  -- what is kept of answers and appends in turn
-  record GoneBy (first last : AnswererState S) : Type 0 where
-    so : is last.own
-    goes_so : goes first.files last.files
-
-  gone_by : (first last : AnswererState S) → is first.own → Goes answers to first last → GoneBy first last
-  gone_by first last so goes_none = record { so = so; goes_so = keeps.same first.files }
-  gone_by first last so (goes_answer old new hook flow given before answered) =
-      let k = gone_by first old so before in
-      record {
-        so = keeps.stays hook flow old.own old.files last.own last.files given k.so answered;
-        goes_so = keeps.on first.files old.files last.files k.goes_so (keeps.given_so hook flow old.own old.files last.own last.files given k.so answered);
-      }
-  gone_by first last so (goes_append old new made before own appends) =
-      let k = gone_by first old so before in
-      record { so = subst is (sym own) k.so; goes_so = keeps.on first.files old.files last.files k.goes_so (by_appends old.files made last.files appends) }
-
-  -- from a state that is so files change as the relation says
-  pub gone_behind : (first : AnswererState S) (files : FilesMeaning) → is first.own → LeavesBehind answers fails to first files → goes first.files files
-  gone_behind first files so (left_whole last before same) = subst (goes first.files) (sym same) ((gone_by first last so before).goes_so)
-  gone_behind first files so (left_by_answer last hook flow before failed) =
-      let k = gone_by first last so before in
-      keeps.on first.files last.files files k.goes_so (keeps.failed_so hook flow last.own last.files files k.so failed)
-  gone_behind first files so (left_by_append last made before broke) =
-      let k = gone_by first last so before in
-      keeps.on first.files last.files files k.goes_so (by_broken last.files made files broke)
-
-  -- and so they do over a trace
-  pub gone_leaving : (due : Due) (first : AnswererState S) (changes : List (Change S)) (reached : Printing) (made : List Append) (Whole : Type 0) (files : FilesMeaning) (trace : Trace) →
-      is first.own → SavedOver to reached changes made → LeavesFiles answers fails due (course_from first changes) Whole files trace → goes first.files files
-  gone_leaving due first changes reached made Whole files trace so saved leaves =
-      kept_leaving answers fails is goes keeps due (course_from first changes) Whole files trace so (own_stays to is reached changes made saved)
-      (changes_move to goes keeps.same by_appends by_broken reached changes made saved) leaves
+  -- where each change keeps the own state so, files change as the relation says
+  pub gone_leaving : (due : Due) (first : AnswererState S) (changes : List (Change S)) (operations : List Operated) (reached : Printing) (placed : List Trace) (made : List Append) (Whole : Type 0)
+      (files : FilesMeaning) (trace : Trace) → is first.own → AllAre (KeepsOwn is) changes → SavedOver to reached changes placed made →
+      LeavesFiles answers fails due (course_from first changes operations) Whole files trace → goes first.files files
+  gone_leaving due first changes operations reached placed made Whole files trace so own saved leaves =
+      kept_leaving answers fails is goes keeps due (course_from first changes operations) Whole files trace so own
+      (changes_move to goes keeps.same by_appends by_broken reached changes placed made saved) leaves
 
 module _ {S : Type 0} (answers : Answering S) (fails : Failing S) (is : S → Type 0) (rules : List Rule) (keeps : KeepsFiles answers fails is (ReadsOfRules rules)) where
   -- what reads only touches only what it reads
@@ -272,24 +247,24 @@ module _ {S : Type 0} (answers : Answering S) (fails : Failing S) (is : S → Ty
     failed_so = λ hook flow old old_files new_files so failed. touches_reads rules to old_files new_files (keeps.failed_so hook flow old old_files new_files so failed);
   }
 
-  pub touches_behind : (to : Option SavesTo) (first : AnswererState S) (files : FilesMeaning) → is first.own → LeavesBehind answers fails to first files →
-      TouchesOnly rules to first.files files
-  touches_behind to first files so left =
-      gone_behind answers fails is (TouchesOnly rules to) (keeps_touches to) to (touches_appends rules to) (touches_broke rules to) first files so left
+  pub touches_behind : (drops : List ℕ → S → S → Type 0) → ((name : List ℕ) (old new : S) → is old → drops name old new → is new) → (to : Option SavesTo) (first : AnswererState S)
+      (files : FilesMeaning) → is first.own → LeavesBehind answers drops fails to first files → TouchesOnly rules to first.files files
+  touches_behind drops stays to first files so left =
+      gone_behind answers drops fails is (TouchesOnly rules to) (keeps_touches to) stays to (touches_appends rules to) (touches_broke rules to) first files so left
 
-  pub touches_leaving : (to : Option SavesTo) (due : Due) (first : AnswererState S) (changes : List (Change S)) (reached : Printing) (made : List Append) (Whole : Type 0)
-      (files : FilesMeaning) (trace : Trace) → is first.own → SavedOver to reached changes made → LeavesFiles answers fails due (course_from first changes) Whole files trace →
-      TouchesOnly rules to first.files files
-  touches_leaving to due first changes reached made Whole files trace so saved leaves =
-      gone_leaving answers fails is (TouchesOnly rules to) (keeps_touches to) to (touches_appends rules to) (touches_broke rules to) due first changes reached made Whole files
-      trace so saved leaves
+  pub touches_leaving : (to : Option SavesTo) (due : Due) (first : AnswererState S) (changes : List (Change S)) (operations : List Operated) (reached : Printing)
+      (placed : List Trace) (made : List Append) (Whole : Type 0) (files : FilesMeaning) (trace : Trace) → is first.own → AllAre (KeepsOwn is) changes →
+      SavedOver to reached changes placed made → LeavesFiles answers fails due (course_from first changes operations) Whole files trace → TouchesOnly rules to first.files files
+  touches_leaving to due first changes operations reached placed made Whole files trace so own saved leaves =
+      gone_leaving answers fails is (TouchesOnly rules to) (keeps_touches to) to (touches_appends rules to) (touches_broke rules to) due first changes operations reached placed made
+      Whole files trace so own saved leaves
 
   -- without a save file it only reads
-  pub reads_leaving : (due : Due) (first : AnswererState S) (changes : List (Change S)) (reached : Printing) (made : List Append) (Whole : Type 0) (files : FilesMeaning)
-      (trace : Trace) → is first.own → SavedOver None reached changes made → LeavesFiles answers fails due (course_from first changes) Whole files trace →
-      ReadsOfRules rules first.files files
-  reads_leaving due first changes reached made Whole files trace so saved leaves =
+  pub reads_leaving : (due : Due) (first : AnswererState S) (changes : List (Change S)) (operations : List Operated) (reached : Printing) (placed : List Trace) (made : List Append)
+      (Whole : Type 0) (files : FilesMeaning) (trace : Trace) → is first.own → AllAre (KeepsOwn is) changes → SavedOver None reached changes placed made →
+      LeavesFiles answers fails due (course_from first changes operations) Whole files trace → ReadsOfRules rules first.files files
+  reads_leaving due first changes operations reached placed made Whole files trace so own saved leaves =
       gone_leaving answers fails is (ReadsOfRules rules) keeps None
       (λ first made now appends. reads_none rules first now (none_appended first made now appends).1)
       (λ first made now broke. reads_none rules first now (none_broke first made now broke).1)
-      due first changes reached made Whole files trace so saved leaves
+      due first changes operations reached placed made Whole files trace so own saved leaves

@@ -1,9 +1,9 @@
 -- What a run promises with the words `gen N`.
-use Rattle.std.specs.Prelude.{◌≡◌, ◌≢◌, ◌⊎◌, ℕ, true, List, [], None}
+use Rattle.std.specs.Prelude.{◌≡◌, ◌≢◌, ◌⊎◌, ℕ, Bool, true, List, [], None}
 use Rattle.px_event.specs.Trace.{Trace}
 use Rattle.px_outside.specs.Sink.{Writes, WritesPart}
-use Rattle.px_core.specs.Answers.{Answering, Failing}
-use Rattle.px_core.specs.Course.{Change}
+use Rattle.px_core.specs.Answers.{Answering, Failing, FilesMeaning}
+use Rattle.px_core.specs.Course.{Change, Operated}
 use Rattle.px_exchange.specs.declared.mode.Mode.{Mode}
 use Rattle.px_exchange.specs.declared.mode.Mode.TheVariants as modes
 use Rattle.px_gen.specs.Counts.{counts_in, counts_text}
@@ -31,7 +31,9 @@ generator_settings = record {
   anticache = lines.anticache.default;
   anticomp = lines.anticomp.default;
   block_list = lines.block_list.default;
+  control = lines.control.default;
   events = lines.events.default;
+  intercept = lines.intercept.default;
   listen = lines.listen.default;
   map_local = lines.map_local.default;
   map_remote = lines.map_remote.default;
@@ -52,18 +54,29 @@ generator_settings = record {
 
 -- no change appended anything, so each left all as it was
 abbrev pub SavesNone : {S : Type 0} → List (Change S) → Type 0
-SavesNone changes = (reached : Printing) × (made : List Append) × SavedOver None reached changes made
+SavesNone changes = (reached : Printing) × (placed : List Trace) × (made : List Append) × SavedOver None reached changes placed made
+
+-- every peer got what was due to it, and nothing was saved
+pub record Generated {S : Type 0} (answers : Answering S) (drops : List ℕ → S → S → Type 0) (names : S → List (List ℕ)) (fails : Failing S) (key : List ℕ) (IsChain : Settings → S → Type 0)
+    (files last : FilesMeaning) (status : ℕ) (told : Trace) : Type 0 where
+  pub chain : S
+  pub is_chain : IsChain generator_settings chain
+  pub trace : Trace
+  pub changes : List (Change S)
+  pub operations : List Operated
+  pub over : Bool
+  pub promises : Promises answers drops names fails generator_settings.intercept generator_mode key (record { own = chain; files = files }) changes operations last status over told trace
+  pub saves_none : SavesNone changes
 
 -- A run of so many generated flows, with this key of masks, over a network in memory. Another network was told what was asked, answered and finished in it,
 -- and its counts were printed.
-pub record Generates {S : Type 0} (answers : Answering S) (fails : Failing S) (key : List ℕ) (IsChain : Settings → S → Type 0) (out_failed : Type 0) (count : ℕ) (before after : Outside) (status : ℕ) : Type 0 where
+pub record Generates {S : Type 0} (answers : Answering S) (drops : List ℕ → S → S → Type 0) (names : S → List (List ℕ)) (fails : Failing S) (key : List ℕ) (IsChain : Settings → S → Type 0) (out_failed : Type 0) (count : ℕ) (before after : Outside) (status : ℕ) : Type 0 where
   -- the run, in which what was heard begins the script; it was heard to its end, unless out of memory
   pub run : Trace
   pub hears : Hears count run
   pub ends : status ≢ 8 → ends_heard run ≡ true
   -- where it began, every peer got what was due to it, and nothing was saved
-  pub by_chain : run ≢ [] → (chain : S) × (changes : List (Change S)) × IsChain generator_settings chain
-      × Promises answers fails generator_mode key (record { own = chain; files = before.files }) changes after.files status run × SavesNone changes
+  pub by_chain : run ≢ [] → Generated answers drops names fails key IsChain before.files after.files status run
   -- what was told, and nothing else is asked of that network
   pub told : status ≢ 8 → after.trace ≡ with_steps before.trace (noted run)
   pub told_part : HasGrownByFront (noted run) before.trace after.trace

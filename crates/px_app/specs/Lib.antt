@@ -13,6 +13,9 @@ pub mod Over
 pub mod Touched
 pub mod Grown
 pub mod Own
+pub mod Operators
+pub mod Operating
+pub mod Worked
 pub mod Servers
 pub mod Run
 pub mod Promises

@@ -1,5 +1,6 @@
 -- What came of the start of a run: of its options file, and of the flow files that it names.
-use Rattle.std.specs.Prelude.{◌≡◌, ◌⊎◌, ℕ, List, [], ◌∷◌, Option, Some, None}
+use Rattle.std.specs.Prelude.{◌≡◌, ◌⊎◌, ℕ, List, [], ◌∷◌, Option, Some, None, option_map}
+use Rattle.px_filter.specs.View.{expression}
 use Rattle.px_message.specs.declared.flow.Flow.{Flow}
 use Rattle.px_outside.specs.declared.files.FileCall.{FileCall}
 use Rattle.px_outside.specs.declared.files.FileCall.TheVariants.{Read, Missed, ReadFailed}
@@ -49,6 +50,7 @@ pub record AreRulesOf (settings : Settings) (rules : Rules) : Type 0 where
   pub bodies : body_views rules.bodies ≡ settings.modify_body
   pub anticache : rules.anticache ≡ settings.anticache
   pub anticomp : rules.anticomp ≡ settings.anticomp
+  pub intercept : option_map expression rules.intercept ≡ settings.intercept
   pub replay : rules.replay ≡ None
   pub stream : rules.stream ≡ None
 

@@ -1,10 +1,10 @@
 -- What a run promises with the words `serve OPTIONS`, by what came of its start.
-use Rattle.std.specs.Prelude.{◌≡◌, ◌≢◌, ◌⊎◌, ℕ, List, [], Option, Some, None, Ok}
+use Rattle.std.specs.Prelude.{◌≡◌, ◌≢◌, ◌⊎◌, ℕ, Bool, List, [], Option, Some, None, Ok}
 use Rattle.px_message.specs.declared.flow.Flow.{Flow}
 use Rattle.px_event.specs.Trace.{Trace}
 use Rattle.px_outside.specs.Net.{Listening, idle, failed, at}
 use Rattle.px_core.specs.Answers.{Answering, Failing, FilesMeaning}
-use Rattle.px_core.specs.Course.{Change}
+use Rattle.px_core.specs.Course.{Change, Operated}
 use Rattle.px_exchange.specs.declared.mode.Mode.{Mode}
 use Rattle.px_filter.specs.Expression.{Expression}
 use Rattle.px_map.specs.Reads.{Made}
@@ -44,28 +44,41 @@ pub record Stops (net_is_same out_failed notes_failed : Type 0) (code : ℕ) (li
   pub prints : IsTold out_failed status line before.written after.written
   pub notes : IsTold notes_failed status note before.noted after.noted
 
--- A run that served as these options say, with this key of masks, whose hooks this chain answered, and that began with these files.
-pub record Serves {S : Type 0} (answers : Answering S) (fails : Failing S) (key : List ℕ) (net_failed out_failed save_failed notes_failed : Type 0) (settings : Settings) (chain : S) (read : FilesMeaning) (before after : Outside) (status : ℕ) : Type 0 where
-  -- every peer gets what is due to it in the mode of the options with this key, and each hook is answered once, at once, by the chain alone; and what is printed and saved
-  pub promises : (mode : Mode) (trace : Trace) → settings.mode ≡ mode_view mode → before.trace ≡ Some [] → after.trace ≡ Some trace →
-      (changes : List (Change S)) × Promises answers fails mode key (record { own = chain; files = read }) changes after.files status trace
-      × Outputs (out_failed ⊎ save_failed) (saves_of settings) changes status trace before.written after.written
+-- What was told of a run that served as these options say, with this key of masks, whose hooks this chain answered, and that began with these files.
+pub record Served {S : Type 0} (answers : Answering S) (drops : List ℕ → S → S → Type 0) (names : S → List (List ℕ)) (fails : Failing S) (key : List ℕ) (out_failed save_failed : Type 0) (settings : Settings)
+    (chain : S) (read : FilesMeaning) (before after : Outside) (status : ℕ) (told : Trace) : Type 0 where
+  pub trace : Trace
+  pub changes : List (Change S)
+  pub operations : List Operated
+  pub over : Bool
+  -- every peer gets what is due to it in the mode of the options with this key, operators are answered, and each hook is answered once, by the chain alone or by an operator where
+  -- `intercept` is set; and what is printed and saved
+  pub promises : (mode : Mode) → settings.mode ≡ mode_view mode →
+      Promises answers drops names fails settings.intercept mode key (record { own = chain; files = read }) changes operations after.files status over told trace
+  pub outputs : Outputs (out_failed ⊎ save_failed) (saves_of settings) changes status trace before.written after.written
+  -- the causes of the status in what was told
+  pub ends : EndsSo settings.events status over told
+  -- what is printed
+  pub prints : Prints (out_failed ⊎ save_failed) status trace before.written after.written
+
+-- A run that served so.
+pub record Serves {S : Type 0} (answers : Answering S) (drops : List ℕ → S → S → Type 0) (names : S → List (List ℕ)) (fails : Failing S) (key : List ℕ) (net_failed out_failed save_failed notes_failed : Type 0)
+    (settings : Settings) (chain : S) (read : FilesMeaning) (before after : Outside) (status : ℕ) : Type 0 where
+  pub served : (told : Trace) → before.trace ≡ Some [] → after.trace ≡ Some told → Served answers drops names fails key out_failed save_failed settings chain read before after status told
   -- no file is read but by the chain's answers, none is appended to but where flows are saved, and none is changed else
-  pub files : LeavesBehind answers fails (saves_of settings) (record { own = chain; files = read }) after.files
+  pub files : LeavesBehind answers drops fails (saves_of settings) (record { own = chain; files = read }) after.files
   -- it listens before anything is heard
-  pub listening : (trace : Trace) → before.trace ≡ Some [] → after.trace ≡ Some trace → trace ≢ [] → ListensAt settings.listen after.listening
-  -- the causes of the status: in what is outside, and in the trace
+  pub listening : (trace : Trace) → before.trace ≡ Some [] → after.trace ≡ Some trace → trace ≢ [] → ListensAt settings.listen settings.control after.listening
+  -- the causes of the status in what is outside
   pub causes : HasCause net_failed (out_failed ⊎ save_failed) status
-  pub ends : (trace : Trace) → before.trace ≡ Some [] → after.trace ≡ Some trace → EndsSo settings.events status trace
-  -- what is printed, and the note of where it listens
-  pub prints : (trace : Trace) → before.trace ≡ Some [] → after.trace ≡ Some trace → Prints (out_failed ⊎ save_failed) status trace before.written after.written
+  -- the note of where it listens
   pub notes : IsTold notes_failed status (where_listening after.listening (start_note settings.listen settings.mode)) before.noted after.noted
 
-module _ {S : Type 0} (answers : Answering S) (fails : Failing S) (key : List ℕ) (IsChain : Settings → List Flow → S → Type 0) (net_is_same net_failed out_failed save_failed notes_failed : Type 0) where
+module _ {S : Type 0} (answers : Answering S) (drops : List ℕ → S → S → Type 0) (names : S → List (List ℕ)) (fails : Failing S) (key : List ℕ) (IsChain : Settings → List Flow → S → Type 0) (net_is_same net_failed out_failed save_failed notes_failed : Type 0) where
   -- the run of these options by what came of the flow files that they name, with the files as the reads left them
   abbrev pub RunsBy : Settings → Loaded → FilesMeaning → Outside → Outside → ℕ → Type 0
   RunsBy settings (loaded flows) read before after status =
-      (chain : S) × IsChain settings flows chain × Serves answers fails key net_failed out_failed save_failed notes_failed settings chain read before after status
+      (chain : S) × IsChain settings flows chain × Serves answers drops names fails key net_failed out_failed save_failed notes_failed settings chain read before after status
   RunsBy settings (one_absent path) read before after status = Stops net_is_same out_failed notes_failed 3 (cannot_read path) [] read before after status
   RunsBy settings (one_unread path) read before after status = Stops net_is_same out_failed notes_failed 3 (cannot_read path) [] read before after status
   RunsBy settings (one_bad path offset) read before after status = Stops net_is_same out_failed notes_failed 4 (bad_flow_file path offset) [] read before after status

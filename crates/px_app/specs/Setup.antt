@@ -1,5 +1,5 @@
 -- What a run serves by, by its options and by the flows of the files that they name.
-use Rattle.std.specs.Prelude.{◌≡◌, List, None}
+use Rattle.std.specs.Prelude.{◌≡◌, List, None, option_map}
 use Rattle.px_message.specs.declared.flow.Flow.{Flow}
 use Rattle.px_options.specs.Options.{Settings}
 use Rattle.px_options.specs.View.{mode_view, place}
@@ -12,6 +12,7 @@ pub record IsSetupOf (settings : Settings) (flows : List Flow) (setup : Setup) :
   pub rules : AreRulesOf settings (record setup.rules { replay = None })
   pub replay : setup.rules.replay ≡ replay_of settings flows
   pub listen : place setup.listen ≡ settings.listen
+  pub control : option_map place setup.control ≡ settings.control
   pub mode : mode_view setup.mode ≡ settings.mode
   pub saving : saves_to_of setup.saving ≡ saves_of settings
   pub events : setup.events ≡ settings.events

@@ -6,7 +6,7 @@ ghost use Rattle.std.specs.Prelude.{◌≡◌, ◌≢◌, ◌≤◌, ◌⊎◌, 
 ghost use Rattle.rand_chacha.specs.ChaCha.{key_of};
 ghost use Rattle.px_outside.specs.Count.{Rose};
 ghost use Rattle.px_outside.specs.Sink.{Writes, WritesPart};
-ghost use Rattle.px_core.specs.Answers.{FilesAfter, files_meaning};
+ghost use Rattle.px_core.specs.Answers.{files_meaning};
 ghost use Rattle.px_gen.specs.Script.{script as script_of};
 ghost use Rattle.px_map.specs.View.{local_views};
 ghost use Rattle.px_gen.specs.Counts.{counts_in, counts_text as text_of_counts};
@@ -15,6 +15,7 @@ ghost use Rattle.px_stack.specs.Modes.{mode_due};
 ghost use Rattle.px_app.specs.Generates.{Generates, generator_mode, generator_settings};
 ghost use Rattle.px_app.specs.Opened.{AreRulesOf};
 ghost use Rattle.px_app.specs.Outside.{outside};
+ghost use Rattle.px_app.specs.Over.{LeavesBehind};
 ghost use Rattle.px_app.specs.Run.{IsRun, Told};
 
 use crate::printing::Printing;
@@ -48,7 +49,7 @@ pub(crate) fn generate<N: Net, F: Files, S: Sink, T: Sink>(
     mask_key: [u8; 32],
 ) -> u8
     requires small { count ≤ 10000 }
-    ensures { Generates ⟦<Chain as Answerer>⟧.answers ⟦<Chain as Answerer>⟧.fails (key_of mask_key) (λ settings chain. AreRulesOf settings chain.rules × (chain.replay ≡ None) × (chain.addons.items ≡ [])) (Rose (S.faults out.old) (S.faults out.new)) count
+    ensures { Generates ⟦<Chain as Answerer>⟧.answers ⟦<Chain as Answerer>⟧.drops ⟦<Chain as Answerer>⟧.names ⟦<Chain as Answerer>⟧.fails (key_of mask_key) (λ settings chain. AreRulesOf settings chain.rules × (chain.replay ≡ None) × (chain.addons.items ≡ [])) (Rose (S.faults out.old) (S.faults out.new)) count
         (outside N.trace N.listening F.contents F.calls F.misses F.faults F.losses S.written T.written net.old files.old out.old notes.now)
         (outside N.trace N.listening F.contents F.calls F.misses F.faults F.losses S.written T.written net.new files.new out.new notes.now) result }
 {
@@ -60,7 +61,7 @@ pub(crate) fn generate<N: Net, F: Files, S: Sink, T: Sink>(
     run_script::<Brand, N, F, S, T>(alloc, count, chain, mask_key, net, files, out, notes)
 }
 
-// The same, by this chain, which reads no file.
+// The same, by this chain, which reads no file and lets no flow wait.
 fn run_script<K: Scripted, N: Net, F: Files, S: Sink, T: Sink>(
     alloc: Global,
     count: u64,
@@ -74,7 +75,8 @@ fn run_script<K: Scripted, N: Net, F: Files, S: Sink, T: Sink>(
     requires small { count ≤ 10000 }
     requires count { K.count ≡ count }
     requires local { local_views chain.rules.local ≡ [] }
-    ensures { Generates ⟦<Chain as Answerer>⟧.answers ⟦<Chain as Answerer>⟧.fails (key_of mask_key) (λ settings other. other ≡ chain) (Rose (S.faults out.old) (S.faults out.new)) count
+    requires intercept { chain.rules.intercept ≡ None }
+    ensures { Generates ⟦<Chain as Answerer>⟧.answers ⟦<Chain as Answerer>⟧.drops ⟦<Chain as Answerer>⟧.names ⟦<Chain as Answerer>⟧.fails (key_of mask_key) (λ settings other. other ≡ chain) (Rose (S.faults out.old) (S.faults out.new)) count
         (outside N.trace N.listening F.contents F.calls F.misses F.faults F.losses S.written T.written net.old files.old out.old notes.now)
         (outside N.trace N.listening F.contents F.calls F.misses F.faults F.losses S.written T.written net.new files.new out.new notes.now) result }
 {
@@ -98,8 +100,8 @@ fn serve_generated<K: Scripted, F: Files>(
     generated: &mut Generated<K>,
     files: &mut F,
 ) -> Result<(), NoMemory>
-    ensures ok { ⟦<Generated<K> as Net>⟧.trace generated.old ≡ Some [] → OnOk result ((printing : Printing) × Told (IsRun ⟦<Chain as Answerer>⟧.answers ⟦<Chain as Answerer>⟧.fails (mode_due mode (key_of mask_key)) (record { own = chain; files = files_meaning F.contents F.calls F.misses F.faults F.losses files.old }) None 18446744073709551615 Status.Ended printing (files_meaning F.contents F.calls F.misses F.faults F.losses files.new) None None) (⟦<Generated<K> as Net>⟧.trace generated.new)) }
-    ensures files { FilesAfter ⟦<Chain as Answerer>⟧.answers ⟦<Chain as Answerer>⟧.fails (record { own = chain; files = files_meaning F.contents F.calls F.misses F.faults F.losses files.old }) (files_meaning F.contents F.calls F.misses F.faults F.losses files.new) }
+    ensures ok { ⟦<Generated<K> as Net>⟧.trace generated.old ≡ Some [] → OnOk result ((printing : Printing) × Told (IsRun ⟦<Chain as Answerer>⟧.answers ⟦<Chain as Answerer>⟧.drops ⟦<Chain as Answerer>⟧.names ⟦<Chain as Answerer>⟧.fails (mode_due mode (key_of mask_key)) (record { own = chain; files = files_meaning F.contents F.calls F.misses F.faults F.losses files.old }) None 18446744073709551615 Status.Ended printing (files_meaning F.contents F.calls F.misses F.faults F.losses files.new) None None) (⟦<Generated<K> as Net>⟧.trace generated.new)) }
+    ensures files { LeavesBehind ⟦<Chain as Answerer>⟧.answers ⟦<Chain as Answerer>⟧.drops ⟦<Chain as Answerer>⟧.fails None (record { own = chain; files = files_meaning F.contents F.calls F.misses F.faults F.losses files.old }) (files_meaning F.contents F.calls F.misses F.faults F.losses files.new) }
 {
     let maker = Gates::new(alloc, Placed::new(alloc, mode, mask_key));
     let mut serving = Serving::<Conv, Chain, Gates<Placed>>::new(alloc, chain, maker, None);

@@ -1,14 +1,15 @@
 //! What follows of every run from the promises of its trace. Each is a function with nothing to do: its contract is the law.
 
 ghost use Rattle.px_exchange.specs.declared.mode.Mode.{Mode};
-ghost use Rattle.std.specs.Prelude.{◌≡◌, ◌≢◌, ℕ, List, map, None, Option, Some};
+ghost use Rattle.std.specs.Prelude.{◌≡◌, ◌≢◌, ℕ, Bool, List, map, None, Option, Some};
 ghost use Rattle.px_text.specs.Prefix.{IsPrefixOf};
 ghost use Rattle.px_message.specs.declared.flow.Flow.{Flow};
 ghost use Rattle.px_event.specs.Trace.{Trace, Always};
 ghost use Rattle.px_outside.specs.Files.{Told};
 ghost use Rattle.px_outside.specs.declared.files.FileCall.{FileCall};
 ghost use Rattle.px_core.specs.Answers.{FilesMeaning};
-ghost use Rattle.px_core.specs.Course.{Change};
+ghost use Rattle.px_core.specs.Course.{Change, Operated};
+ghost use Rattle.px_filter.specs.Expression.{Expression};
 ghost use Rattle.px_core.specs.Due.{Due, IsWithinDue};
 ghost use Rattle.px_core.specs.Kind.{EndsOfKind};
 ghost use Rattle.px_core.specs.Ordered.{IsInOrder};
@@ -39,19 +40,26 @@ pub fn no_hook_is_asked_behind_its_end()
     ensures { (mode : Mode) (key : List ℕ) (trace : Trace) → IsWithinDue (mode_due mode key) trace → IsInOrder trace }
 {}
 
-/// Where each step is of the conversation that was heard last, at every moment what is due to a conversation is what is due by its
-/// own steps alone, with all that others heard and said left out.
+/// Where each step is of the conversation that was heard last, or follows from what an operator said, at every moment what is due to a conversation is what is due by its
+/// own steps and by what operators said alone, with all that others heard and said left out.
 pub fn conversations_do_not_touch_each_other()
     ensures { (due : Due) (trace : Trace) → IsOwn trace → Always (IsIsolated due) trace }
+{}
+
+/// In each run each step is of the conversation that was heard last, or follows from what an operator said.
+pub fn each_step_is_its_own(chain: &Chain)
+    ensures { (mode : Mode) (key : List ℕ) (files last : FilesMeaning) (intercept : Option Expression) (changes : List (Change ⟦<Chain as Answerer>⟧.State)) (operations : List Operated) (status : ℕ) (over : Bool) (told trace : Trace) →
+        Promises ⟦<Chain as Answerer>⟧.answers ⟦<Chain as Answerer>⟧.drops ⟦<Chain as Answerer>⟧.names ⟦<Chain as Answerer>⟧.fails intercept mode key (record { own = chain.now; files = files }) changes operations last status over told trace →
+        IsOwn trace }
 {}
 
 /// Where a run's chain has no rules and each of its addons leaves every draft as it is, nothing is changed, killed or streamed: each
 /// answer goes on with the flow that was due when its hook was asked. So it is whatever is saved.
 pub fn addons_that_leave_drafts_change_nothing(chain: &Chain)
-    ensures { (mode : Mode) (key : List ℕ) (files last : FilesMeaning) (to : Option SavesTo) (changes : List (Change ⟦<Chain as Answerer>⟧.State)) (made : List Append) (reached : Printing) (status : ℕ) (trace : Trace) →
+    ensures { (mode : Mode) (key : List ℕ) (files last : FilesMeaning) (intercept : Option Expression) (changes : List (Change ⟦<Chain as Answerer>⟧.State)) (operations : List Operated) (status : ℕ) (over : Bool) (told trace : Trace) →
         ⟦<Chain as Kind>⟧.is_so chain.now →
-        Promises ⟦<Chain as Answerer>⟧.answers ⟦<Chain as Answerer>⟧.fails mode key (record { own = chain.now; files = files }) changes last status trace →
-        SavedOver to reached changes made → Always (EndsOfKind goes_on_unchanged (mode_due mode key)) trace }
+        Promises ⟦<Chain as Answerer>⟧.answers ⟦<Chain as Answerer>⟧.drops ⟦<Chain as Answerer>⟧.names ⟦<Chain as Answerer>⟧.fails intercept mode key (record { own = chain.now; files = files }) changes operations last status over told trace →
+        Always (EndsOfKind goes_on_unchanged (mode_due mode key)) trace }
 {}
 
 /// Behind its start, where the options file and then the flow files of `server_replay` are read
@@ -60,12 +68,12 @@ pub fn addons_that_leave_drafts_change_nothing(chain: &Chain)
 /// segment is `..` and which does not begin with a slash. What stands under each path but that one is what stood there, and a read of it gave
 /// that. Where no flows are saved, each call is such a read, and no file is changed.
 pub fn a_run_touches_only_what_options_name(chain: &Chain)
-    ensures touches { (mode : Mode) (key : List ℕ) (files last : FilesMeaning) (to : Option SavesTo) (changes : List (Change ⟦<Chain as Answerer>⟧.State)) (made : List Append) (reached : Printing) (status : ℕ) (trace : Trace) →
-        Promises ⟦<Chain as Answerer>⟧.answers ⟦<Chain as Answerer>⟧.fails mode key (record { own = chain.now; files = files }) changes last status trace →
-        SavedOver to reached changes made → TouchesOnly (local_views chain.now.rules.local) to files last }
-    ensures unsaved { (mode : Mode) (key : List ℕ) (files last : FilesMeaning) (changes : List (Change ⟦<Chain as Answerer>⟧.State)) (made : List Append) (reached : Printing) (status : ℕ) (trace : Trace) →
-        Promises ⟦<Chain as Answerer>⟧.answers ⟦<Chain as Answerer>⟧.fails mode key (record { own = chain.now; files = files }) changes last status trace →
-        SavedOver None reached changes made → ReadsOfRules (local_views chain.now.rules.local) files last }
+    ensures touches { (mode : Mode) (key : List ℕ) (files last : FilesMeaning) (to : Option SavesTo) (intercept : Option Expression) (changes : List (Change ⟦<Chain as Answerer>⟧.State)) (operations : List Operated) (placed : List Trace) (made : List Append) (reached : Printing) (status : ℕ) (over : Bool) (told trace : Trace) →
+        Promises ⟦<Chain as Answerer>⟧.answers ⟦<Chain as Answerer>⟧.drops ⟦<Chain as Answerer>⟧.names ⟦<Chain as Answerer>⟧.fails intercept mode key (record { own = chain.now; files = files }) changes operations last status over told trace →
+        SavedOver to reached changes placed made → TouchesOnly (local_views chain.now.rules.local) to files last }
+    ensures unsaved { (mode : Mode) (key : List ℕ) (files last : FilesMeaning) (intercept : Option Expression) (changes : List (Change ⟦<Chain as Answerer>⟧.State)) (operations : List Operated) (placed : List Trace) (made : List Append) (reached : Printing) (status : ℕ) (over : Bool) (told trace : Trace) →
+        Promises ⟦<Chain as Answerer>⟧.answers ⟦<Chain as Answerer>⟧.drops ⟦<Chain as Answerer>⟧.names ⟦<Chain as Answerer>⟧.fails intercept mode key (record { own = chain.now; files = files }) changes operations last status over told trace →
+        SavedOver None reached changes placed made → ReadsOfRules (local_views chain.now.rules.local) files last }
 {}
 
 /// At the start of a run the flow files of `server_replay` are read in their order, each as often as it is named and no other file: the reads are of the first of the
@@ -80,14 +88,14 @@ pub fn the_files_of_server_replay_are_read_in_order()
 /// of the appends. And where the run printed and saved all, it is what stood there with the texts of the flows behind it that finished and are to
 /// be saved, in their order.
 pub fn what_is_saved_stands_behind_what_stood_there(chain: &Chain)
-    ensures part { (mode : Mode) (key : List ℕ) (files last : FilesMeaning) (to : SavesTo) (changes : List (Change ⟦<Chain as Answerer>⟧.State)) (made : List Append) (reached : Printing) (status : ℕ) (trace : Trace) →
-        Promises ⟦<Chain as Answerer>⟧.answers ⟦<Chain as Answerer>⟧.fails mode key (record { own = chain.now; files = files }) changes last status trace →
-        SavedOver (Some to) reached changes made → (so_far : List Append) × IsPrefixOf so_far made × Told (Grown to.path so_far) files.contents last.contents }
-    ensures whole { (mode : Mode) (key : List ℕ) (files last : FilesMeaning) (to : SavesTo) (changes : List (Change ⟦<Chain as Answerer>⟧.State)) (made : List Append) (reached : Printing) (status : ℕ) (trace : Trace) →
-        Promises ⟦<Chain as Answerer>⟧.answers ⟦<Chain as Answerer>⟧.fails mode key (record { own = chain.now; files = files }) changes last status trace →
-        SavedOver (Some to) reached changes made → status ≢ 8 → Told (Grown to.path made) files.contents last.contents }
-    ensures all { (mode : Mode) (key : List ℕ) (files last : FilesMeaning) (to : SavesTo) (changes : List (Change ⟦<Chain as Answerer>⟧.State)) (made : List Append) (status : ℕ) (trace : Trace) (start now : Option (List ℕ)) →
-        Promises ⟦<Chain as Answerer>⟧.answers ⟦<Chain as Answerer>⟧.fails mode key (record { own = chain.now; files = files }) changes last status trace →
+    ensures part { (mode : Mode) (key : List ℕ) (files last : FilesMeaning) (to : SavesTo) (intercept : Option Expression) (changes : List (Change ⟦<Chain as Answerer>⟧.State)) (operations : List Operated) (placed : List Trace) (made : List Append) (reached : Printing) (status : ℕ) (over : Bool) (told trace : Trace) →
+        Promises ⟦<Chain as Answerer>⟧.answers ⟦<Chain as Answerer>⟧.drops ⟦<Chain as Answerer>⟧.names ⟦<Chain as Answerer>⟧.fails intercept mode key (record { own = chain.now; files = files }) changes operations last status over told trace →
+        SavedOver (Some to) reached changes placed made → (so_far : List Append) × IsPrefixOf so_far made × Told (Grown to.path so_far) files.contents last.contents }
+    ensures whole { (mode : Mode) (key : List ℕ) (files last : FilesMeaning) (to : SavesTo) (intercept : Option Expression) (changes : List (Change ⟦<Chain as Answerer>⟧.State)) (operations : List Operated) (placed : List Trace) (made : List Append) (reached : Printing) (status : ℕ) (over : Bool) (told trace : Trace) →
+        Promises ⟦<Chain as Answerer>⟧.answers ⟦<Chain as Answerer>⟧.drops ⟦<Chain as Answerer>⟧.names ⟦<Chain as Answerer>⟧.fails intercept mode key (record { own = chain.now; files = files }) changes operations last status over told trace →
+        SavedOver (Some to) reached changes placed made → status ≢ 8 → Told (Grown to.path made) files.contents last.contents }
+    ensures all { (mode : Mode) (key : List ℕ) (files last : FilesMeaning) (to : SavesTo) (intercept : Option Expression) (changes : List (Change ⟦<Chain as Answerer>⟧.State)) (operations : List Operated) (made : List Append) (status : ℕ) (over : Bool) (told trace : Trace) (start now : Option (List ℕ)) →
+        Promises ⟦<Chain as Answerer>⟧.answers ⟦<Chain as Answerer>⟧.drops ⟦<Chain as Answerer>⟧.names ⟦<Chain as Answerer>⟧.fails intercept mode key (record { own = chain.now; files = files }) changes operations last status over told trace →
         Reaches (Some to) Printing.Whole changes made trace start now → status ≢ 8 →
         Told (GrowsUnder to.path (texts (saved (Some to) (finished_in trace)))) files.contents last.contents }
 {}

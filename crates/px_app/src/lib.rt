@@ -10,6 +10,7 @@ mod generate;
 pub mod laws;
 mod loading;
 mod opening;
+mod operators;
 mod printing;
 mod program;
 mod saving;
@@ -18,6 +19,7 @@ mod serving;
 mod setup;
 mod status;
 mod stop;
+mod turning;
 mod words;
 
 pub use program::run;

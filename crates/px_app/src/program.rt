@@ -65,9 +65,11 @@ const USAGE: &str = "usage: mitm serve OPTIONS | flows FILE FILTER | gen N\n";
 /// and prints the line of each on which the filter holds. `gen N` runs N generated flows over a network in memory, tells `net` what was
 /// asked, answered and finished, and prints three counts.
 ///
-/// The status is 0 at the net's end, or where the flows of a file or the counts are printed; 1 where the words have no form; 2 where the
+/// Where the options name a place for operators (`control`), it listens there too, and each whole line of such a connection is obeyed and answered.
+///
+/// The status is 0 at the net's end or where an operator ends the run, or where the flows of a file or the counts are printed; 1 where the words have no form; 2 where the
 /// options file is none, or the filter; 3 where a file was not read; 4 at a place of a file of flows that has none; 5 where the net
-/// failed; 6 where as many things were heard as the options allow and the last was not the end; 7 where a line was not printed whole and
+/// failed; 6 where as many things were heard as the options allow and the last did not end the run; 7 where a line was not printed whole and
 /// else it were 0, or while the flows of a file were printed; 8 where memory ran out. The lines of 1 to 6 are printed behind those of the
 /// flows; where a rule or a filter is refused, a note shows its text with a mark under the place. After a write to `out` that failed nothing
 /// more is printed, and a run that serves goes on to its end; a sink that fails to take a status's line, or a note, changes no status.
@@ -84,7 +86,7 @@ pub fn run<N: Net, F: Files, S: Sink, T: Sink>(
     requires idle { N.listening net.old ≡ idle }
 
     // With the words `serve OPTIONS`: the files are read, and the run is as what came of that says.
-    ensures serves { (path : List ℕ) → IsServe (map string_bytes words.now) path → (opened : Opened) × ServesFile ⟦<Chain as Answerer>⟧.answers ⟦<Chain as Answerer>⟧.fails (key_of mask_key)
+    ensures serves { (path : List ℕ) → IsServe (map string_bytes words.now) path → (opened : Opened) × ServesFile ⟦<Chain as Answerer>⟧.answers ⟦<Chain as Answerer>⟧.drops ⟦<Chain as Answerer>⟧.names ⟦<Chain as Answerer>⟧.fails (key_of mask_key)
         (λ settings flows chain. AreRulesOf settings chain.rules × (chain.replay ≡ replay_of settings flows) × (chain.addons ≡ addons)) (net.new ≡ net.old) (Rose (N.faults net.old) (N.faults net.new)) (Rose (S.faults out.old) (S.faults out.new)) (Rose (F.losses files.old) (F.losses files.new)) (Rose (T.faults notes.old) (T.faults notes.new)) path opened
         (outside N.trace N.listening F.contents F.calls F.misses F.faults F.losses S.written T.written net.old files.old out.old notes.old)
         (outside N.trace N.listening F.contents F.calls F.misses F.faults F.losses S.written T.written net.new files.new out.new notes.new) result }
@@ -95,7 +97,7 @@ pub fn run<N: Net, F: Files, S: Sink, T: Sink>(
         (outside N.trace N.listening F.contents F.calls F.misses F.faults F.losses S.written T.written net.new files.new out.new notes.new) result }
 
     // With the words `gen N`: the run of so many generated flows.
-    ensures generates { (count : ℕ) → IsGen (map string_bytes words.now) count → Generates ⟦<Chain as Answerer>⟧.answers ⟦<Chain as Answerer>⟧.fails (key_of mask_key)
+    ensures generates { (count : ℕ) → IsGen (map string_bytes words.now) count → Generates ⟦<Chain as Answerer>⟧.answers ⟦<Chain as Answerer>⟧.drops ⟦<Chain as Answerer>⟧.names ⟦<Chain as Answerer>⟧.fails (key_of mask_key)
         (λ settings chain. AreRulesOf settings chain.rules × (chain.replay ≡ None) × (chain.addons.items ≡ [])) (Rose (S.faults out.old) (S.faults out.new)) count
         (outside N.trace N.listening F.contents F.calls F.misses F.faults F.losses S.written T.written net.old files.old out.old notes.old)
         (outside N.trace N.listening F.contents F.calls F.misses F.faults F.losses S.written T.written net.new files.new out.new notes.new) result }
@@ -132,7 +134,7 @@ fn serve_file<N: Net, F: Files, S: Sink, T: Sink>(
     mask_key: [u8; 32],
 ) -> u8
     requires idle { N.listening net.old ≡ idle }
-    ensures { (opened : Opened) × ServesFile ⟦<Chain as Answerer>⟧.answers ⟦<Chain as Answerer>⟧.fails (key_of mask_key)
+    ensures { (opened : Opened) × ServesFile ⟦<Chain as Answerer>⟧.answers ⟦<Chain as Answerer>⟧.drops ⟦<Chain as Answerer>⟧.names ⟦<Chain as Answerer>⟧.fails (key_of mask_key)
         (λ settings flows chain. AreRulesOf settings chain.rules × (chain.replay ≡ replay_of settings flows) × (chain.addons ≡ addons)) (net.new ≡ net.old) (Rose (N.faults net.old) (N.faults net.new)) (Rose (S.faults out.old) (S.faults out.new)) (Rose (F.losses files.old) (F.losses files.new)) (Rose (T.faults notes.old) (T.faults notes.new)) path.now opened
         (outside N.trace N.listening F.contents F.calls F.misses F.faults F.losses S.written T.written net.old files.old out.old notes.old)
         (outside N.trace N.listening F.contents F.calls F.misses F.faults F.losses S.written T.written net.new files.new out.new notes.new) result }
@@ -204,7 +206,7 @@ fn serve_options<N: Net, F: Files, S: Sink, T: Sink>(
     requires idle { N.listening net.old ≡ idle }
     ensures { (calls : List FileCall) × (what : Loaded) × (read : FilesMeaning) × LoadsFiles (settings options).server_replay calls what
         × Made calls (seen F.contents F.calls F.misses F.faults F.losses files.old) (seen_of read)
-        × RunsWith ⟦<Chain as Answerer>⟧.answers ⟦<Chain as Answerer>⟧.fails (key_of mask_key)
+        × RunsWith ⟦<Chain as Answerer>⟧.answers ⟦<Chain as Answerer>⟧.drops ⟦<Chain as Answerer>⟧.names ⟦<Chain as Answerer>⟧.fails (key_of mask_key)
         (λ settings flows chain. AreRulesOf settings chain.rules × (chain.replay ≡ replay_of settings flows) × (chain.addons ≡ addons)) (net.new ≡ net.old) (Rose (N.faults net.old) (N.faults net.new)) (Rose (S.faults out.old) (S.faults out.new)) (Rose (F.losses files.old) (F.losses files.new)) (Rose (T.faults notes.old) (T.faults notes.new)) (settings options) what read
         (outside N.trace N.listening F.contents F.calls F.misses F.faults F.losses S.written T.written net.old files.old out.old notes.old)
         (outside N.trace N.listening F.contents F.calls F.misses F.faults F.losses S.written T.written net.new files.new out.new notes.new) result }
@@ -235,7 +237,7 @@ fn serve_flows<N: Net, F: Files, S: Sink, T: Sink>(
     mask_key: [u8; 32],
 ) -> u8
     requires idle { N.listening net.old ≡ idle }
-    ensures { (what : Loaded) × ((what ≡ loaded flows.items) ⊎ (what ≡ unloaded)) × RunsWith ⟦<Chain as Answerer>⟧.answers ⟦<Chain as Answerer>⟧.fails (key_of mask_key)
+    ensures { (what : Loaded) × ((what ≡ loaded flows.items) ⊎ (what ≡ unloaded)) × RunsWith ⟦<Chain as Answerer>⟧.answers ⟦<Chain as Answerer>⟧.drops ⟦<Chain as Answerer>⟧.names ⟦<Chain as Answerer>⟧.fails (key_of mask_key)
         (λ settings flows chain. AreRulesOf settings chain.rules × (chain.replay ≡ replay_of settings flows) × (chain.addons ≡ addons)) (net.new ≡ net.old) (Rose (N.faults net.old) (N.faults net.new)) (Rose (S.faults out.old) (S.faults out.new)) (Rose (F.losses files.old) (F.losses files.new)) (Rose (T.faults notes.old) (T.faults notes.new)) (settings options) what (files_meaning F.contents F.calls F.misses F.faults F.losses files.old)
         (outside N.trace N.listening F.contents F.calls F.misses F.faults F.losses S.written T.written net.old files.old out.old notes.old)
         (outside N.trace N.listening F.contents F.calls F.misses F.faults F.losses S.written T.written net.new files.new out.new notes.new) result }
@@ -262,7 +264,7 @@ fn serve_setup<N: Net, F: Files, S: Sink, T: Sink>(
 ) -> u8
     requires idle { N.listening net.old ≡ idle }
     ensures { (settings : Settings) (flows : List RecordedFlow) → IsSetupOf settings flows setup → (chain : ⟦<Chain as Answerer>⟧.State)
-        × (AreRulesOf settings chain.rules × (chain.replay ≡ replay_of settings flows) × (chain.addons ≡ addons)) × Serves ⟦<Chain as Answerer>⟧.answers ⟦<Chain as Answerer>⟧.fails (key_of mask_key)
+        × (AreRulesOf settings chain.rules × (chain.replay ≡ replay_of settings flows) × (chain.addons ≡ addons)) × Serves ⟦<Chain as Answerer>⟧.answers ⟦<Chain as Answerer>⟧.drops ⟦<Chain as Answerer>⟧.names ⟦<Chain as Answerer>⟧.fails (key_of mask_key)
         (Rose (N.faults net.old) (N.faults net.new)) (Rose (S.faults out.old) (S.faults out.new)) (Rose (F.losses files.old) (F.losses files.new)) (Rose (T.faults notes.old) (T.faults notes.new)) settings chain (files_meaning F.contents F.calls F.misses F.faults F.losses files.old)
         (outside N.trace N.listening F.contents F.calls F.misses F.faults F.losses S.written T.written net.old files.old out.old notes.old)
         (outside N.trace N.listening F.contents F.calls F.misses F.faults F.losses S.written T.written net.new files.new out.new notes.new) result }
@@ -270,13 +272,25 @@ fn serve_setup<N: Net, F: Files, S: Sink, T: Sink>(
     let Setup {
         rules,
         listen,
+        control,
         mode,
         saving,
         events,
     } = setup;
     let chain = Chain::new(rules, addons);
     let ending = serve(
-        alloc, &listen, mode, mask_key, chain, saving, net, files, out, notes, events,
+        alloc,
+        &listen,
+        control.as_ref(),
+        mode,
+        mask_key,
+        chain,
+        saving,
+        net,
+        files,
+        out,
+        notes,
+        events,
     );
     end(out, ending).code()
 }

@@ -25,6 +25,8 @@ pub(crate) struct Setup {
     pub(crate) rules: Rules,
     /// Where it listens for clients.
     pub(crate) listen: Address,
+    /// Where it listens for operators, if anywhere.
+    pub(crate) control: Option<Address>,
     /// Where requests go.
     pub(crate) mode: Mode,
     /// Where finished flows are saved, and which.
@@ -42,7 +44,9 @@ pub(crate) fn setup_of(alloc: Global, options: Options, flows: Vec<Flow>) -> Res
         anticache,
         anticomp,
         block_list,
+        control,
         events,
+        intercept,
         listen,
         map_local,
         map_remote,
@@ -84,12 +88,14 @@ pub(crate) fn setup_of(alloc: Global, options: Options, flows: Vec<Flow>) -> Res
         anticache,
         anticomp,
         replay,
+        intercept,
         stream: None,
     };
     let saving = saving_of(save_stream_file, save_stream_filter);
     Ok(Setup {
         rules,
         listen,
+        control,
         mode,
         saving,
         events,

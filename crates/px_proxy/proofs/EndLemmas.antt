@@ -1,6 +1,6 @@
 -- How a run over a wire that tells its calls ends: lines fail where the wire failed, or where they asked in vain; the end is
 -- never heard.
-use Rattle.std.proofs.Common.{◌≡◌, ◌∙◌, ◌⊎◌, inl, inr, ℕ, ◌+◌, ◌-◌, ◌^◌, ◌<◌, Bool, true, false, min, refl, sym, arith, subst, List, [], ◌∷◌, Option}
+use Rattle.std.proofs.Common.{◌≡◌, ◌⊎◌, inl, inr, ℕ, ◌+◌, ◌-◌, ◌^◌, ◌<◌, Bool, true, false, min, refl, sym, arith, subst, List, [], ◌∷◌, Option}
 use Rattle.std.specs.Prelude.{nat_lt}
 use Rattle.std.proofs.lemmas.Bool.{ltb-true, ltb-false}
 use Rattle.px_outside.specs.Count.{Rose}
@@ -52,21 +52,19 @@ causes_by net cause sink status h by = record {
   complete = λ still printed. h.complete (λ failed. still (by failed)) printed;
 }
 
-module _ {S : Type 0} (answers : Answering S) (fails : Failing S) (key : List ℕ) (IsChain : Settings → List Flow → S → Type 0) (same net cause out save notes : Type 0) (by : net → cause) where
+module _ {S : Type 0} (answers : Answering S) (drops : List ℕ → S → S → Type 0) (names : S → List (List ℕ)) (fails : Failing S) (key : List ℕ) (IsChain : Settings → List Flow → S → Type 0) (same net cause out save notes : Type 0) (by : net → cause) where
   serves_by : (settings : Settings) (chain : S) (read : FilesMeaning) (before after : Outside) (status : ℕ) →
-      Serves answers fails key net out save notes settings chain read before after status → Serves answers fails key cause out save notes settings chain read before after status
+      Serves answers drops names fails key net out save notes settings chain read before after status → Serves answers drops names fails key cause out save notes settings chain read before after status
   serves_by settings chain read before after status h = record {
-    promises = h.promises;
+    served = h.served;
     files = h.files;
     listening = h.listening;
     causes = causes_by net cause (out ⊎ save) status h.causes by;
-    ends = h.ends;
-    prints = h.prints;
     notes = h.notes;
   }
 
   with_by : (settings : Settings) (what : Loaded) (read : FilesMeaning) (before after : Outside) (status : ℕ) →
-      RunsWith answers fails key IsChain same net out save notes settings what read before after status → RunsWith answers fails key IsChain same cause out save notes settings what read before after status
+      RunsWith answers drops names fails key IsChain same net out save notes settings what read before after status → RunsWith answers drops names fails key IsChain same cause out save notes settings what read before after status
   with_by settings (loaded flows) read before after status h = record { so = (h.so.0, h.so.1, serves_by settings h.so.0 read before after status h.so.2) }
   with_by settings (one_absent path) read before after status h = record { so = h.so }
   with_by settings (one_unread path) read before after status h = record { so = h.so }
@@ -74,7 +72,7 @@ module _ {S : Type 0} (answers : Answering S) (fails : Failing S) (key : List �
   with_by settings unloaded read before after status h = record { so = h.so }
 
   runs_by : (path : List ℕ) (opened : Opened) (read : FilesMeaning) (before after : Outside) (status : ℕ) →
-      RunsOn answers fails key IsChain same net out save notes path opened read before after status → RunsOn answers fails key IsChain same cause out save notes path opened read before after status
+      RunsOn answers drops names fails key IsChain same net out save notes path opened read before after status → RunsOn answers drops names fails key IsChain same cause out save notes path opened read before after status
   runs_by path nothing_read read before after status h = h
   runs_by path absent read before after status h = h
   runs_by path not_read read before after status h = h
@@ -84,7 +82,7 @@ module _ {S : Type 0} (answers : Answering S) (fails : Failing S) (key : List �
 
   -- the same of a run
   pub file_by : (path : List ℕ) (opened : Opened) (before after : Outside) (status : ℕ) →
-      ServesFile answers fails key IsChain same net out save notes path opened before after status → ServesFile answers fails key IsChain same cause out save notes path opened before after status
+      ServesFile answers drops names fails key IsChain same net out save notes path opened before after status → ServesFile answers drops names fails key IsChain same cause out save notes path opened before after status
   file_by path opened before after status h = record { read = h.read; reads = h.reads; runs = runs_by path opened h.read before after status h.runs }
 
 -- ---- the end
@@ -107,7 +105,7 @@ noted l (steps.Done flow) may = refl
 dialled : (address : Address) (step : Step) → MayDial address step → ends_by false step ≡ false
 dialled address step may = let P : Step → Type 0 = λ s. ends_by false s ≡ false in subst P (sym may.2) refl
 
-pub never_ends : (l : Ledger) (list : Calls) → ObeysFrom l list → ends_from false (steps_of list) ≡ false
+never_ends : (l : Ledger) (list : Calls) → ObeysFrom l list → ends_from false (steps_of list) ≡ false
 never_ends l [] obeys = refl
 never_ends l (calls.Told moment what ∷ list) obeys = never_ends (after l (calls.Told moment what)) list obeys.1
 never_ends l (calls.NotReady ∷ list) obeys = never_ends l list obeys.1
@@ -126,6 +124,6 @@ never_ends l (calls.GetEnded slot ∷ list) obeys = never_ends (after l (calls.G
 never_ends l (calls.GetBroke slot ∷ list) obeys = never_ends (after l (calls.GetBroke slot)) list obeys.1
 never_ends l (calls.Shut slot ∷ list) obeys = never_ends (after l (calls.Shut slot)) list obeys.1
 
--- so a run over these calls did not hear it
-pub not_ended : (list : Calls) → Obeys list → ends_heard (steps_of list) ≡ true → ⊥
-not_ended list obeys ends = let e : false ≡ true = sym (never_ends no_ledger list obeys) ∙ ends in cc
+-- so a run over these calls does not hear it
+pub not_ended : (list : Calls) → Obeys list → ends_heard (steps_of list) ≡ false
+not_ended list obeys = never_ends no_ledger list obeys

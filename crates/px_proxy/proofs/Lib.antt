@@ -1,6 +1,8 @@
+pub mod BesideLemmas
 pub mod CallLemmas
 pub mod DialLemmas
 pub mod EndLemmas
+pub mod QuitLemmas
 pub mod RunLemmas
 pub mod SentLemmas
 pub mod ChainLemmas

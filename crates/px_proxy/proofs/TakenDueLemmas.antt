@@ -1,5 +1,5 @@
 -- What a wire took begins what is due: what was sent begins it, nothing is sent to a side that was not opened, and so the wire
--- took for each side what was sent to it.
+-- took for each side what was sent to it. What is due is by the steps of conversations, beside which operators were answered.
 use Rattle.std.proofs.Common.{◌≡◌, ◌∙◌, inl, inr, ℕ, ◌≤◌, false, refl, ap, sym, subst, arith, List, [], ◌∷◌, ◌++◌, length, Option, Some, None}
 use Rattle.std.proofs.lemmas.List.{append-nil, append_assoc}
 use Rattle.px_text.specs.Prefix.{IsPrefixOf}
@@ -11,11 +11,12 @@ use Rattle.px_event.specs.declared.side.Side.{Side}
 use Rattle.px_event.specs.declared.side.Side.TheVariants.{Client, Server}
 use Rattle.px_event.specs.declared.step.Step.TheVariants as steps
 use Rattle.px_event.specs.Layer.{Move}
-use Rattle.px_event.specs.Trace.{Trace, Always}
+use Rattle.px_event.specs.Trace.{Trace, Always, sent}
 use Rattle.px_event.specs.View.{Atom, bytes_in, line, seen_of, seen_in}
+use Rattle.px_event.proofs.Growth.{prefix_trans}
 use Rattle.px_event.proofs.LineLemmas.{bytes_begin}
-use Rattle.px_core.specs.Calls.{calls}
-use Rattle.px_core.specs.Due.{Due, due_at, due_in, IsWithinDue, EndsMet}
+use Rattle.px_core.specs.Calls.{Calls as CallsOf, calls}
+use Rattle.px_core.specs.Due.{Due, due_at, due_by, due_in, IsWithinDue, EndsMet}
 use Rattle.px_core.specs.Answers.{Answering, FilesMeaning}
 use Rattle.px_core.specs.Drafts.{ComesTo}
 use Rattle.px_core.specs.Unmarked.{all_unmarked}
@@ -24,10 +25,11 @@ use Rattle.px_core.specs.declared.answerer.Answer.TheVariants as answer
 use Rattle.px_core.proofs.UnmarkedLemmas.{bytes_unmarked}
 use Rattle.px_app.specs.Servers.{dialled_in, CountsServers}
 use Rattle.px_chain.specs.Silent.{connects, connections, NoAnswer}
-use Rattle.px_proxy.specs.TakenDue.{TakesWhatIsDue, AlwaysTakesWhatIsDue}
+use Rattle.px_proxy.specs.TakenDue.{TakesWhatIsDue, AlwaysTakesWhatIsDue, is_operators}
 use Rattle.px_proxy.proofs.SentLemmas.{seen_is_sent}
 use Rattle.px_proxy.proofs.DialLemmas.{dials_once, not_dialled}
 use Rattle.px_proxy.proofs.ChainLemmas.{no_verdict_connects}
+use Rattle.px_proxy.proofs.BesideLemmas.{Beside, always_beside, beside_calls, beside_counts, beside_front, beside_sends, beside_sent}
 use Rattle.px_proxy.proofs.CallLemmas.{NoDialAnswered, connections_most, not_begun}
 use Rattle.px_wire.specs.Calls.{Calls, steps_of}
 use Rattle.px_wire.specs.Rules.{Obeys}
@@ -104,22 +106,43 @@ module _ {S : Type 0} (answers : Answering S) (none_connects : ConnectsNone answ
 
   -- ---- what was taken
 
-  taken_due : (list : Calls) → Obeys list → Always CountsServers (steps_of list) → Always (EndsMet answers due) (steps_of list) → Always (IsWithinDue due) (steps_of list) → TakesWhatIsDue due list
-  taken_due list obeys counts going within conv side =
-      let taken = taken_is_sent list obeys (always_sends (steps_of list) counts going within) (dials_once (steps_of list) counts) conv side in
-      let told = bytes_within (seen_in (line side) conv (steps_of list)) (due_in due (line side) conv (steps_of list)) (always_all (IsWithinDue due) (steps_of list) within conv (line side) tt) in
-      let seen : bytes_in (seen_in (line side) conv (steps_of list)) ≡ taken_for conv side list ++ taken.0 = seen_is_sent side conv (steps_of list) ∙ taken.1 in
-      (taken.0 ++ told.0, told.1 ∙ (ap (λ (l : List ℕ). l ++ told.0) seen ∙ append_assoc (taken_for conv side list) taken.0 told.0))
+  -- what is due by the steps that are told is what is due by those of conversations
+  due_beside : (told trace : Trace) → Beside [] told trace → (conv : ℕ) (side : Side) → bytes_in (due_in due (line side) conv told) ≡ bytes_in (due_in due (line side) conv trace)
+  due_beside told trace b conv side = ap (λ (c : CallsOf). bytes_in (seen_of (line side) (due_by due conv c))) (beside_calls conv [] told trace b)
 
-  -- what the wire took for each side begins what is due to it, after each call
-  pub always_taken : (list : Calls) → Obeys list → Always CountsServers (steps_of list) → Always (EndsMet answers due) (steps_of list) → Always (IsWithinDue due) (steps_of list) → AlwaysTakesWhatIsDue due list
-  always_taken list obeys counts going within prefix rest is =
+  -- what was sent to a number that is no operator's begins what is due
+  sent_due : (told trace : Trace) → Beside [] told trace → IsWithinDue due trace → (conv : ℕ) (side : Side) → is_operators conv told ≡ false →
+      IsPrefixOf (sent told conv side) (bytes_in (due_in due (line side) conv told))
+  sent_due told trace b within conv side never =
+      let seen : bytes_in (seen_in (line side) conv trace) ≡ sent told conv side = seen_is_sent side conv trace ∙ sym (beside_sent conv side told trace never b) in
+      let P : List ℕ → Type 0 = λ l. IsPrefixOf l (bytes_in (due_in due (line side) conv told)) in
+      let Q : List ℕ → Type 0 = λ l. IsPrefixOf (bytes_in (seen_in (line side) conv trace)) l in
+      subst P seen (subst Q (sym (due_beside told trace b conv side)) (bytes_within (seen_in (line side) conv trace) (due_in due (line side) conv trace) (within conv (line side) tt)))
+
+  taken_due : (list : Calls) (trace : Trace) → Obeys list → Beside [] (steps_of list) trace → Always CountsServers trace → Always (EndsMet answers due) trace → Always (IsWithinDue due) trace →
+      TakesWhatIsDue due list
+  taken_due list trace obeys b counts going within =
+      let counted = always_beside CountsServers CountsServers beside_counts (steps_of list) trace b counts in
+      let opened = always_beside SendsToOpened SendsToOpened beside_sends (steps_of list) trace b (always_sends trace counts going within) in
+      let taken = taken_is_sent list obeys opened (dials_once (steps_of list) counted) in
+      record {
+        as_sent = taken;
+        as_due = λ conv side never. prefix_trans (taken_for conv side list) (sent (steps_of list) conv side) (bytes_in (due_in due (line side) conv (steps_of list))) (taken conv side)
+            (sent_due (steps_of list) trace b (always_all (IsWithinDue due) trace within) conv side never);
+      }
+
+  -- so the wire took for each side, after each call
+  pub always_taken : (list : Calls) (trace : Trace) → Obeys list → Beside [] (steps_of list) trace → Always CountsServers trace → Always (EndsMet answers due) trace → Always (IsWithinDue due) trace →
+      AlwaysTakesWhatIsDue due list
+  always_taken list trace obeys b counts going within prefix rest is =
       let joined : steps_of list ≡ steps_of prefix ++ steps_of rest = ap steps_of is ∙ steps_joined prefix rest in
       let O : Calls → Type 0 = Obeys in
+      let B : Trace → Type 0 = λ t. Beside [] t trace in
+      let f = beside_front [] (steps_of prefix) (steps_of rest) trace (subst B joined b) in
       let C : Trace → Type 0 = Always CountsServers in
       let G : Trace → Type 0 = Always (EndsMet answers due) in
       let W : Trace → Type 0 = Always (IsWithinDue due) in
-      taken_due prefix (front_obeys prefix rest (subst O is obeys))
-      (front_always CountsServers (steps_of prefix) (steps_of rest) (subst C joined counts))
-      (front_always (EndsMet answers due) (steps_of prefix) (steps_of rest) (subst G joined going))
-      (front_always (IsWithinDue due) (steps_of prefix) (steps_of rest) (subst W joined within))
+      taken_due prefix f.front (front_obeys prefix rest (subst O is obeys)) f.beside
+      (front_always CountsServers f.front f.later (subst C f.is counts))
+      (front_always (EndsMet answers due) f.front f.later (subst G f.is going))
+      (front_always (IsWithinDue due) f.front f.later (subst W f.is within))

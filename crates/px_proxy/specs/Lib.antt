@@ -1,2 +1,3 @@
+pub mod Quits
 pub mod TakenDue
 pub mod Failed

@@ -1,9 +1,14 @@
--- What a wire took, against what is due.
-use Rattle.std.specs.Prelude.{◌≡◌, ℕ, List, [], ◌++◌, Option, Some}
+-- What a wire took, against what was sent and what is due.
+use Rattle.std.specs.Prelude.{◌≡◌, ◌⊎◌, ℕ, ◌==◌, Bool, false, List, [], ◌++◌, Option, Some}
+use Rattle.std.specs.List.{list_any}
 use Rattle.px_text.specs.Prefix.{IsPrefixOf}
 use Rattle.px_event.specs.Trace.{Trace}
 use Rattle.px_event.specs.View.{bytes_in, line}
+use Rattle.px_event.specs.declared.heard.Heard.TheVariants as heard
+use Rattle.px_event.specs.declared.side.Door.TheVariants.{Control}
 use Rattle.px_event.specs.declared.side.Side.{Side}
+use Rattle.px_event.specs.declared.step.Step.{Step}
+use Rattle.px_event.specs.declared.step.Step.TheVariants as steps
 use Rattle.px_core.specs.Due.{Due, due_in}
 use Rattle.px_exchange.specs.declared.mode.Mode.{Mode}
 use Rattle.px_stack.specs.Modes.{mode_due}
@@ -11,27 +16,44 @@ use Rattle.px_options.specs.View.{mode_view}
 use Rattle.px_app.specs.Loaded.{loaded, one_absent, one_bad, one_unread, unloaded}
 use Rattle.px_app.specs.Opened.{Opened, nothing_read, absent, not_read, unjudged, refused, says}
 use Rattle.px_wire.specs.Calls.{Calls, steps_of}
-use Rattle.px_wire.specs.Taken.{taken_for}
+use Rattle.px_wire.specs.Taken.{TakesWhatWasSent, taken_for}
+use Rattle.px_proxy.specs.Quits.{QuitsLast}
 
--- what the wire took for each side begins the bytes of what is due to it by the steps that the calls tell
-abbrev pub TakesWhatIsDue : Due → Calls → Type 0
-TakesWhatIsDue due list = (conv : ℕ) (side : Side) → IsPrefixOf (taken_for conv side list) (bytes_in (due_in due (line side) conv (steps_of list)))
+-- the step accepts a connection of this number at the control door
+abbrev pub accepts_operator : ℕ → Step → Bool
+accepts_operator conv (steps.Heard moment (heard.Accepted number Control peer)) = number == conv
+accepts_operator conv _ = false
+
+-- an operator's number: its connection was accepted at the control door
+abbrev pub is_operators : ℕ → Trace → Bool
+is_operators conv trace = list_any (accepts_operator conv) trace
+
+-- What the wire took for each side begins what was sent to it, as what operators are answered. Of each number that is no operator's it begins the bytes of what is due
+-- to the side by the steps that the calls tell.
+pub record TakesWhatIsDue (due : Due) (list : Calls) : Type 0 where
+  pub as_sent : TakesWhatWasSent list
+  pub as_due : (conv : ℕ) (side : Side) → is_operators conv (steps_of list) ≡ false → IsPrefixOf (taken_for conv side list) (bytes_in (due_in due (line side) conv (steps_of list)))
 
 -- so it is at every moment: after each of the calls
 abbrev pub AlwaysTakesWhatIsDue : Due → Calls → Type 0
 AlwaysTakesWhatIsDue due list = (prefix : Calls) (rest : Calls) → list ≡ prefix ++ rest → TakesWhatIsDue due prefix
 
+-- the wire took what is due, and the statuses of an end came only of an operator's order
+pub record WiredSo (due : Due) (status : ℕ) (list : Calls) : Type 0 where
+  pub takes : AlwaysTakesWhatIsDue due list
+  pub quits : (status ≡ 0) ⊎ (status ≡ 7) → QuitsLast (steps_of list)
+
 -- Where a run's start came to that, and the wire, which had told no step before, made these calls: what it took is what is due by the
 -- options, with this key of masks.
-abbrev pub IsTakenBy : List ℕ → Opened → Option Trace → Option Calls → Type 0
-IsTakenBy key nothing_read steps told = Unit {0}
-IsTakenBy key absent steps told = Unit {0}
-IsTakenBy key not_read steps told = Unit {0}
-IsTakenBy key (unjudged bytes) steps told = Unit {0}
-IsTakenBy key (refused bytes why) steps told = Unit {0}
-IsTakenBy key (says bytes settings reads (one_absent path)) steps told = Unit {0}
-IsTakenBy key (says bytes settings reads (one_unread path)) steps told = Unit {0}
-IsTakenBy key (says bytes settings reads (one_bad path offset)) steps told = Unit {0}
-IsTakenBy key (says bytes settings reads unloaded) steps told = Unit {0}
-IsTakenBy key (says bytes settings reads (loaded flows)) steps told =
-    (mode : Mode) (list : Calls) → settings.mode ≡ mode_view mode → steps ≡ Some [] → told ≡ Some list → AlwaysTakesWhatIsDue (mode_due mode key) list
+abbrev pub IsWiredBy : List ℕ → Opened → ℕ → Option Trace → Option Calls → Type 0
+IsWiredBy key nothing_read status steps told = Unit {0}
+IsWiredBy key absent status steps told = Unit {0}
+IsWiredBy key not_read status steps told = Unit {0}
+IsWiredBy key (unjudged bytes) status steps told = Unit {0}
+IsWiredBy key (refused bytes why) status steps told = Unit {0}
+IsWiredBy key (says bytes settings reads (one_absent path)) status steps told = Unit {0}
+IsWiredBy key (says bytes settings reads (one_unread path)) status steps told = Unit {0}
+IsWiredBy key (says bytes settings reads (one_bad path offset)) status steps told = Unit {0}
+IsWiredBy key (says bytes settings reads unloaded) status steps told = Unit {0}
+IsWiredBy key (says bytes settings reads (loaded flows)) status steps told =
+    (mode : Mode) (list : Calls) → settings.mode ≡ mode_view mode → steps ≡ Some [] → told ≡ Some list → WiredSo (mode_due mode key) status list

@@ -1,5 +1,5 @@
 //! The program with lines over a wire as its network.
-ghost use Rattle.std.specs.Prelude.{◌≡◌, ◌≢◌, ℕ, List, [], None, Some, map};
+ghost use Rattle.std.specs.Prelude.{◌≡◌, ℕ, false, List, [], None, Some, map};
 ghost use Rattle.std.specs.String.{string_bytes};
 ghost use Rattle.rand_chacha.specs.ChaCha.{key_of};
 ghost use Rattle.px_outside.specs.Count.{Rose};
@@ -11,11 +11,12 @@ ghost use Rattle.px_app.specs.Lines.{usage};
 ghost use Rattle.px_app.specs.Opened.{AreRulesOf, Opened, replay_of};
 ghost use Rattle.px_app.specs.Outside.{outside};
 ghost use Rattle.px_app.specs.Serves.{ServesFile, Stops};
+ghost use Rattle.px_app.specs.Statuses.{ends_heard};
 ghost use Rattle.px_app.specs.Words.{HasNoForm, IsFlows, IsGen, IsServe};
 ghost use Rattle.px_wire.specs.Calls.{Calls, steps_of};
 ghost use Rattle.px_wire.specs.Rules.{Obeys};
 ghost use Rattle.px_proxy.specs.Failed.{LinesFailed};
-ghost use Rattle.px_proxy.specs.TakenDue.{IsTakenBy};
+ghost use Rattle.px_proxy.specs.TakenDue.{IsWiredBy};
 
 use px_addons::{Addon, Chain};
 use px_core::Answerer;
@@ -24,7 +25,7 @@ use px_wire::{Lines, Wire};
 use std::alloc::Global;
 
 /// Runs the program with these words over these lines; the words, the statuses and what is printed are those of `px_app::run`.
-/// What the wire took for each side is at every moment a beginning of what is due to it, however the wire cut it.
+/// What the wire took for each side is at every moment a beginning of what was sent to it, and for the sides of conversations of what is due to them, however the wire cut it.
 pub fn run<W: Wire, F: Files, S: Sink, T: Sink>(
     alloc: Global,
     words: &[String],
@@ -38,12 +39,12 @@ pub fn run<W: Wire, F: Files, S: Sink, T: Sink>(
     requires idle { W.listening lines.old.wire ≡ idle }
 
     // With the words `serve OPTIONS`: the files are read, and the run is as what came of that says. What the wire took for each side begins
-    // what is due to it, after each of its calls.
-    ensures serves { (path : List ℕ) → IsServe (map string_bytes words.now) path → (opened : Opened) × ServesFile ⟦<Chain as Answerer>⟧.answers ⟦<Chain as Answerer>⟧.fails (key_of mask_key)
+    // what was sent to it and, but for operators, what is due to it, after each of its calls; and the run is ended by an operator's order alone.
+    ensures serves { (path : List ℕ) → IsServe (map string_bytes words.now) path → (opened : Opened) × ServesFile ⟦<Chain as Answerer>⟧.answers ⟦<Chain as Answerer>⟧.drops ⟦<Chain as Answerer>⟧.names ⟦<Chain as Answerer>⟧.fails (key_of mask_key)
         (λ settings flows chain. AreRulesOf settings chain.rules × (chain.replay ≡ replay_of settings flows) × (chain.addons ≡ addons)) (lines.new ≡ lines.old) (LinesFailed (W.faults lines.old.wire) lines.old.faults (W.faults lines.new.wire) lines.new.faults (W.calls lines.new.wire)) (Rose (S.faults out.old) (S.faults out.new)) (Rose (F.losses files.old) (F.losses files.new)) (Rose (T.faults notes.old) (T.faults notes.new)) path opened
         (outside W.steps W.listening F.contents F.calls F.misses F.faults F.losses S.written T.written lines.old.wire files.old out.old notes.old)
         (outside W.steps W.listening F.contents F.calls F.misses F.faults F.losses S.written T.written lines.new.wire files.new out.new notes.new) result
-        × IsTakenBy (key_of mask_key) opened (W.steps lines.old.wire) (W.calls lines.new.wire) }
+        × IsWiredBy (key_of mask_key) opened result (W.steps lines.old.wire) (W.calls lines.new.wire) }
 
     // With the words `flows FILE FILTER`: the lines of the file's flows.
     ensures lists { (path text : List ℕ) → IsFlows (map string_bytes words.now) path text → (what : Fetched) × ListsFile (lines.new ≡ lines.old) (Rose (S.faults out.old) (S.faults out.new)) (Rose (T.faults notes.old) (T.faults notes.new)) path text what
@@ -51,7 +52,7 @@ pub fn run<W: Wire, F: Files, S: Sink, T: Sink>(
         (outside W.steps W.listening F.contents F.calls F.misses F.faults F.losses S.written T.written lines.new.wire files.new out.new notes.new) result }
 
     // With the words `gen N`: the run of so many generated flows.
-    ensures generates { (count : ℕ) → IsGen (map string_bytes words.now) count → Generates ⟦<Chain as Answerer>⟧.answers ⟦<Chain as Answerer>⟧.fails (key_of mask_key)
+    ensures generates { (count : ℕ) → IsGen (map string_bytes words.now) count → Generates ⟦<Chain as Answerer>⟧.answers ⟦<Chain as Answerer>⟧.drops ⟦<Chain as Answerer>⟧.names ⟦<Chain as Answerer>⟧.fails (key_of mask_key)
         (λ settings chain. AreRulesOf settings chain.rules × (chain.replay ≡ None) × (chain.addons.items ≡ [])) (Rose (S.faults out.old) (S.faults out.new)) count
         (outside W.steps W.listening F.contents F.calls F.misses F.faults F.losses S.written T.written lines.old.wire files.old out.old notes.old)
         (outside W.steps W.listening F.contents F.calls F.misses F.faults F.losses S.written T.written lines.new.wire files.new out.new notes.new) result }
@@ -66,8 +67,8 @@ pub fn run<W: Wire, F: Files, S: Sink, T: Sink>(
     ensures obeys { (list : Calls) → W.calls lines.new.wire ≡ Some list → Obeys list }
     ensures steps { (list : Calls) → W.calls lines.new.wire ≡ Some list → W.steps lines.new.wire ≡ Some (steps_of list) }
 
-    // Where the calls are told the end is never heard, so the statuses of an end do not come of serving.
-    ensures endless { (path : List ℕ) (list : Calls) → IsServe (map string_bytes words.now) path → W.steps lines.old.wire ≡ Some [] → W.calls lines.new.wire ≡ Some list → (result ≢ 0) × (result ≢ 7) }
+    // Where the calls are told the end is never heard.
+    ensures endless { (list : Calls) → W.calls lines.new.wire ≡ Some list → ends_heard (steps_of list) ≡ false }
 {
     let status = px_app::run(alloc, words, lines, files, out, notes, addons, mask_key);
     let _kept = lines.wire();

@@ -2,6 +2,7 @@ use Rattle.std.proofs.Common.{◌∙◌, ap, refl, sym, subst}
 use Rattle.px_addons.specs.declared.rules.Rules.{Rules}
 use Rattle.px_app.specs.Generates.{generator_settings}
 use Rattle.px_app.specs.Opened.{AreRulesOf}
+use Rattle.px_app.proofs.ChainLemmas.{no_filter}
 use Rattle.px_app.proofs.GenerateLemmas.{generates_by, nothing_told, rules_alone}
 use Rattle.px_app.proofs.generate.generate.Goals as goal
 
@@ -9,11 +10,9 @@ pub returns-in_default : goal.returns-in_default
 returns-in_default g c = nothing_told c.args.count _ _ refl refl refl refl refl
 
 pub run_script-requires : goal.run_script-requires
-run_script-requires g c = record {
-  small = c.requires.small;
-  count = refl;
-  local = (subst (λ (r : Rules). AreRulesOf generator_settings r) (sym c.new-chain.ensures.rules) (rules_alone generator_settings c.in-Ok.rules c.in-Ok.ensures)).local;
-}
+run_script-requires g c =
+    let rules = subst (λ (r : Rules). AreRulesOf generator_settings r) (sym c.new-chain.ensures.rules) (rules_alone generator_settings c.in-Ok.rules c.in-Ok.ensures) in
+    record { small = c.requires.small; count = refl; local = rules.local; intercept = no_filter c.new-chain.result.rules.intercept rules.intercept }
 
 pub returns : goal.returns
 returns g c =

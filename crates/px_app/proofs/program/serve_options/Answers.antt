@@ -16,7 +16,7 @@ returns-in-Ok g c =
       mid,
       with_flows (settings c.args.options) came.0 c.in-Ok.flows.items _ run.0 c.as_slice.ensures came.1 run.1,
       came.2,
-      runs_since _ _ _ _ _ _ _ _ _ _ _ _ _ _ _ _ _ came.2.losses (runs_from _ _ _ _ _ _ _ _ _ _ run.0 mid mid _ _ _ run.2),
+      runs_since _ _ _ _ _ _ _ _ _ _ _ _ _ _ _ _ _ _ _ came.2.losses (runs_from _ _ _ _ _ _ _ _ _ _ _ _ run.0 mid mid _ _ _ run.2),
     )
 
 pub returns-in-Err : goal.returns-in-Err
@@ -28,5 +28,5 @@ returns-in-Err g c =
       files_meaning g.F.Files.contents g.F.Files.calls g.F.Files.misses g.F.Files.faults g.F.Files.losses c.load_flows.new.files,
       subst P c.as_slice.ensures came.1,
       came.2,
-      no_flows _ _ _ _ _ _ _ _ _ _ c.in-Err.error _ _ _ refl c.refuse_load-status.ensures.status c.refuse_load-status.ensures.prints c.refuse_load-status.ensures.notes,
+      no_flows _ _ _ _ _ _ _ _ _ _ _ _ c.in-Err.error _ _ _ refl c.refuse_load-status.ensures.status c.refuse_load-status.ensures.prints c.refuse_load-status.ensures.notes,
     )

@@ -1,4 +1,4 @@
-use Rattle.std.proofs.Common.{◌∙◌, Err, [], ap, refl, le_refl}
+use Rattle.std.proofs.Common.{◌∙◌, Err, ap, refl, le_refl}
 use Rattle.rand_chacha.specs.ChaCha.{key_of}
 use Rattle.px_stack.specs.declared.placed.Placed.{Placed}
 use Rattle.px_stack.specs.Modes.{mode_due}
@@ -15,10 +15,10 @@ use Rattle.px_app.proofs.serve.serve.Goals as goal
 
 pub returns-in-Err-clause-run : goal.returns-in-Err-clause-run
 returns-in-Err-clause-run g c = λ empty.
-    begun_first g.A.Answerer.answers g.A.Answerer.fails (mode_due c.args.mode (key_of c.args.mask_key)) _ (saves_to_of c.args.saving) c.args.budget _ c.in-Err.status _ (c.in-Err.ensures.trace ∙ empty) c.in-Err.ensures.err
+    begun_first g.A.Answerer.answers g.A.Answerer.drops g.A.Answerer.names g.A.Answerer.fails (mode_due c.args.mode (key_of c.args.mask_key)) _ (saves_to_of c.args.saving) c.args.budget _ c.in-Err.status _ (c.in-Err.ensures.trace ∙ empty) c.in-Err.ensures.err
 
 pub returns-in-Err-clause-files : goal.returns-in-Err-clause-files
-returns-in-Err-clause-files g c = leaves_whole g.A.Answerer.answers g.A.Answerer.fails (saves_to_of c.args.saving) _ _ goes_none
+returns-in-Err-clause-files g c = leaves_whole g.A.Answerer.answers g.A.Answerer.drops g.A.Answerer.fails (saves_to_of c.args.saving) _ _ goes_none
 
 pub serve_all-status-requires : goal.serve_all-status-requires
 serve_all-status-requires g c =
@@ -27,7 +27,7 @@ serve_all-status-requires g c =
     let files = files_meaning g.F.Files.contents g.F.Files.calls g.F.Files.misses g.F.Files.faults g.F.Files.losses c.args.files.now in
     let first : AnswererState g.A.Answerer.State = record { own = g.A.Answerer.state c.args.answerer; files = files } in
     let rests = c.new-serving.ensures.rests due files (g.S.Sink.written c.args.out.now) in
-    record { losses = c.requires.losses; sound = (due, course_from first rests.changes, [], (λ conv peer moves. refl), rests.stands) }
+    record { losses = c.requires.losses; sound = (due, course_from first rests.changes rests.operations, rests.trace, (λ conv peer moves. refl), rests.stands) }
 
 pub returns-clause-run : goal.returns-clause-run
 returns-clause-run g c = λ empty.
@@ -37,7 +37,7 @@ returns-clause-run g c = λ empty.
     let due = mode_due c.args.mode (key_of c.args.mask_key) in
     let files = files_meaning g.F.Files.contents g.F.Files.calls g.F.Files.misses g.F.Files.faults g.F.Files.losses c.args.files.now in
     let start = g.S.Sink.written c.args.out.now in
-    run_saving g.A.Answerer.answers g.A.Answerer.fails due _ c.args.budget _ _ _ start _ _ c.new-serving.ensures.saving
+    run_saving g.A.Answerer.answers g.A.Answerer.drops g.A.Answerer.names g.A.Answerer.fails due _ c.args.budget _ _ _ start _ _ c.new-serving.ensures.saving
     (c.serve_all-status.ensures.run due _ start (placed_due c.new-serving.result.maker.layers c.args.mode c.args.mask_key in_mode with_key)
     (c.new-serving.ensures.rests due files start) (c.in_default.ensures.trace ∙ empty))
 
@@ -52,8 +52,8 @@ returns-in-Err-clause-notes g c =
 
 pub returns-clause-files : goal.returns-clause-files
 returns-clause-files g c =
-    leaves_from g.A.Answerer.answers g.A.Answerer.fails (saves_to_of c.args.saving) _ _ _ _ c.new-serving.ensures.answerer
-    (leaves_saving g.A.Answerer.answers g.A.Answerer.fails _ _ c.new-serving.ensures.saving c.serve_all-status.ensures.files)
+    leaves_from g.A.Answerer.answers g.A.Answerer.drops g.A.Answerer.fails (saves_to_of c.args.saving) _ _ _ _ c.new-serving.ensures.answerer
+    (leaves_saving g.A.Answerer.answers g.A.Answerer.drops g.A.Answerer.fails _ _ c.new-serving.ensures.saving c.serve_all-status.ensures.files)
 
 pub returns-clause-notes : goal.returns-clause-notes
-returns-clause-notes g c = begun_told _ _ _ _ _ _ _ _ c.in_default.ensures.listening c.serve_all-status.ensures.listening c.in_default.ensures.told
+returns-clause-notes g c = begun_told _ _ _ _ _ _ _ _ _ c.in_default.ensures.listening c.serve_all-status.ensures.listening c.in_default.ensures.told

@@ -11,35 +11,35 @@ use Rattle.px_app.proofs.StepLemmas.{tells_error, tells_memory, tells_ended, goe
 use Rattle.px_app.proofs.serving.Serving.hear.Goals as goal
 
 pub returns-in_err-moment-clause-err : goal.returns-in_err-moment-clause-err
-returns-in_err-moment-clause-err g c = λ due first start trace budget owes stands told below.
+returns-in_err-moment-clause-err g c = λ due first start trace budget owes rests told below.
     if_err_by c.from_residual.result _ _ c.from_residual.ensures.1
-    (λ status same. tells_error g.C.Conversation.stands g.C.Conversation.awaited g.C.Conversation.number g.C.Owes.due g.met.C.Owes.gave g.C.Owes.grows g.A.Answerer.answers g.A.Answerer.fails due first
-    (saves_to_of c.args.self.now.saving) c.args.self.now.router c.args.self.now.printing budget start _ trace _ status _ stands (c.in_err-moment.ensures.err ∙ told) below same)
+    (λ status same. tells_error g.C.Conversation.stands g.C.Conversation.awaited g.C.Conversation.number g.C.Owes.due g.met.C.Owes.gave g.C.Owes.grows g.A.Answerer.answers g.A.Answerer.drops g.A.Answerer.names
+    g.A.Answerer.fails due first (saves_to_of c.args.self.now.saving) c.args.self.now.router c.args.self.now.operators c.args.self.now.printing budget start _ trace _ status _ rests
+    (c.in_err-moment.ensures.err ∙ told) below same)
 
-pub returns-in_err-take-clause-err : goal.returns-in_err-take-clause-err
-returns-in_err-take-clause-err g c = λ due first start trace budget owes stands told below.
+pub returns-in_err-over-clause-err : goal.returns-in_err-over-clause-err
+returns-in_err-over-clause-err g c = λ due first start trace budget owes rests told below.
     let heard = adds_told _ _ _ trace told c.in_ok-moment.ensures.heard in
     let now = files_meaning g.F.Files.contents g.F.Files.calls g.F.Files.misses g.F.Files.faults g.F.Files.losses c.take.new.files in
-    let P : Status → Type 0 = λ status. Told (IsRun g.A.Answerer.answers g.A.Answerer.fails due first (saves_to_of c.args.self.now.saving) budget status c.take.new.self.printing now start (g.S.Sink.written c.take.new.out)) (g.N.Net.trace c.take.new.net) in
-    if_err_by c.from_residual-in_err-take.result _ _ c.from_residual-in_err-take.ensures.1
+    let P : Status → Type 0 = λ status. Told (IsRun g.A.Answerer.answers g.A.Answerer.drops g.A.Answerer.names g.A.Answerer.fails due first (saves_to_of c.args.self.now.saving) budget status c.take.new.self.printing now start (g.S.Sink.written c.take.new.out)) (g.N.Net.trace c.take.new.net) in
+    if_err_by c.from_residual-in_err-over.result _ _ c.from_residual-in_err-over.ensures.1
     (λ status same. subst P (sym same)
-    (tells_memory g.C.Conversation.stands g.C.Conversation.awaited g.C.Conversation.number g.C.Owes.due g.met.C.Owes.gave g.C.Owes.grows g.A.Answerer.answers g.A.Answerer.fails due first
-    (saves_to_of c.args.self.now.saving) c.args.self.now.router c.args.self.now.printing c.take.new.self.printing budget start _ _ trace c.in_ok-moment.moment c.in_ok-moment.heard _ stands (c.in_err-take.ensures.own _ heard)
-    (c.in_err-take.ensures.err due first start trace owes stands.at_rest heard)))
+    (tells_memory g.C.Conversation.stands g.C.Conversation.awaited g.C.Conversation.number g.C.Owes.due g.met.C.Owes.gave g.C.Owes.grows g.A.Answerer.answers g.A.Answerer.drops g.A.Answerer.names
+    g.A.Answerer.fails due first (saves_to_of c.args.self.now.saving) c.take.new.self.printing budget start _ _ (c.in_err-over.ensures.err due first start trace owes rests heard)))
 
-pub returns-then-ends-clause-err : goal.returns-then-ends-clause-err
-returns-then-ends-clause-err g c = λ due first start trace budget owes stands told below.
+pub returns-then-over-clause-err : goal.returns-then-over-clause-err
+returns-then-over-clause-err g c = λ due first start trace budget owes rests told below.
     let heard = adds_told _ _ _ trace told c.in_ok-moment.ensures.heard in
-    tells_ended g.C.Conversation.stands g.C.Conversation.awaited g.C.Conversation.number g.C.Owes.due g.met.C.Owes.gave g.C.Owes.grows g.A.Answerer.answers g.A.Answerer.fails due first
-    (saves_to_of c.args.self.now.saving) c.args.self.now.router c.take.new.self.router c.args.self.now.printing c.take.new.self.printing budget start _ _ trace c.in_ok-moment.moment c.in_ok-moment.heard _ stands
-    (sym c.is_end-ends.ensures ∙ c.if-ends.true) (c.in_ok-take.ensures.ok due first start trace owes stands.at_rest heard) (c.in_ok-take.ensures.own _ heard)
+    tells_ended g.C.Conversation.stands g.C.Conversation.awaited g.C.Conversation.number g.C.Owes.due g.met.C.Owes.gave g.C.Owes.grows g.A.Answerer.answers g.A.Answerer.drops g.A.Answerer.names
+    g.A.Answerer.fails due first (saves_to_of c.args.self.now.saving) c.take.new.self.router c.take.new.self.operators c.take.new.self.printing budget start _ _ trace _
+    c.if-over.true (c.in_ok-over.ensures.ok due first start trace owes rests heard)
 
-pub returns-else-ends-clause-ok : goal.returns-else-ends-clause-ok
-returns-else-ends-clause-ok g c = λ due first start trace owes stands told.
+pub returns-else-over-clause-ok : goal.returns-else-over-clause-ok
+returns-else-over-clause-ok g c = λ due first start trace owes rests told.
     let heard = adds_told _ _ _ trace told c.in_ok-moment.ensures.heard in
-    goes_next g.C.Conversation.stands g.C.Conversation.awaited g.C.Conversation.number g.C.Owes.due g.met.C.Owes.gave g.C.Owes.grows g.A.Answerer.answers g.A.Answerer.fails due first
-    (saves_to_of c.args.self.now.saving) c.args.self.now.router c.take.new.self.router c.args.self.now.printing c.take.new.self.printing start _ _ trace c.in_ok-moment.moment c.in_ok-moment.heard _ stands
-    (sym c.is_end-ends.ensures ∙ c.if-ends.false) (c.in_ok-take.ensures.ok due first start trace owes stands.at_rest heard) (c.in_ok-take.ensures.own _ heard)
+    goes_next g.C.Conversation.stands g.C.Conversation.awaited g.C.Conversation.number g.C.Owes.due g.met.C.Owes.gave g.C.Owes.grows g.A.Answerer.answers g.A.Answerer.drops g.A.Answerer.names
+    g.A.Answerer.fails due first (saves_to_of c.args.self.now.saving) c.take.new.self.router c.take.new.self.operators c.take.new.self.printing start _ _ trace _
+    c.if-over.false (c.in_ok-over.ensures.ok due first start trace owes rests heard)
 
 pub returns-in_err-moment-clause-files : goal.returns-in_err-moment-clause-files
-returns-in_err-moment-clause-files g c = leaves_whole g.A.Answerer.answers g.A.Answerer.fails (saves_to_of c.args.self.now.saving) _ _ goes_none
+returns-in_err-moment-clause-files g c = leaves_whole g.A.Answerer.answers g.A.Answerer.drops g.A.Answerer.fails (saves_to_of c.args.self.now.saving) _ _ goes_none

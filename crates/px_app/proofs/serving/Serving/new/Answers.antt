@@ -6,8 +6,8 @@ use Rattle.px_app.proofs.serving.Serving.new.Goals as goal
 
 pub returns-clause-rests : goal.returns-clause-rests
 returns-clause-rests g c = λ due files start.
-    rests_first g.C.Conversation.stands g.C.Conversation.awaited g.C.Conversation.number g.C.Owes.due g.A.Answerer.answers g.A.Answerer.state due _ (saves_to_of c.args.saving) files _ start
-    (c.new.ensures.stands due files)
+    rests_first g.C.Conversation.stands g.C.Conversation.awaited g.C.Conversation.number g.C.Owes.due g.A.Answerer.answers g.A.Answerer.drops g.A.Answerer.names g.A.Answerer.state due _
+    (saves_to_of c.args.saving) files _ _ start (c.new.ensures.stands due files) c.new-2.ensures.none c.new-2.ensures.none_open
 
 pub returns-clause-answerer : goal.returns-clause-answerer
 returns-clause-answerer g c =
