@@ -14,6 +14,7 @@ import time
 from busy_cases import BUSY_CASES
 from example_cases import examples
 from mode_cases import MODE_CASES
+from operator_cases import OPERATOR_CASES
 from option_cases import OPTION_CASES
 from page_cases import PAGE_CASES
 from replay_cases import REPLAY_CASES
@@ -200,6 +201,12 @@ CASES = [
     case_bytes_behind_the_last_request, case_big_download, case_big_upload, case_many_at_once,
 ]
 
+# The cases that have a run of their own.
+OWN_CASES = [
+    *BUSY_CASES, *OPTION_CASES, *MODE_CASES, *TUNNEL_CASES, *UPSTREAM_CASES, *WEBSOCKET_CASES, *PAGE_CASES, *SAVING_CASES, *REPLAY_CASES,
+    *OPERATOR_CASES,
+]
+
 # The cases whose lines come in no order.
 UNORDERED = {case_many_at_once}
 
@@ -282,7 +289,7 @@ def main():
     tally = Tally(sys.argv[1:])
     with Origin() as origin:
         try_with_one_run(tally, origin)
-        for case in BUSY_CASES + OPTION_CASES + MODE_CASES + TUNNEL_CASES + UPSTREAM_CASES + WEBSOCKET_CASES + PAGE_CASES + SAVING_CASES + REPLAY_CASES:
+        for case in OWN_CASES:
             tally.try_case(name_of(case), case)
     for name, case in examples():
         tally.try_case(name, case)

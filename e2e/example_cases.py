@@ -1,5 +1,6 @@
-"""Tries what the README and the comments of the options files in examples/ say: the commands behind `$`, each in a terminal of its
-own, and the lines that they show. Servers are started where they stand, and what `mitm` shows is compared when it is ended."""
+"""Tries what the README, docs/operator.md and the comments of the options files in examples/ say: the commands behind `$`, each in a
+terminal of its own, and the lines that they show. Servers are started where they stand, and what `mitm` shows is compared when it is ended;
+what a command with `&` behind it shows, when all others have ended."""
 import glob
 import os
 import re
@@ -10,7 +11,10 @@ import sys
 import tempfile
 import time
 
-from tools import MITM, PROXY, TOP, Skipped, Started, lines_of, listens, same, wait_for
+from tools import MITM, PROXY, TOP, Skipped, Started, connected, lines_of, listens, same, wait_for
+
+# Commands that change nothing, and so are asked again until they show their lines: what they ask about may take a moment.
+ASKING = ("echo list |", "echo show ")
 
 
 class Server(Started):
@@ -28,6 +32,25 @@ class Server(Started):
 
     def lines(self):
         return lines_of(self.noted) + lines_of(self.shown)
+
+
+class Behind(Started):
+    """A command that ends when another one has it end. A client's connection is there once it is started, so that connections are numbered in
+    this order."""
+
+    def __init__(self, command, shown):
+        self.command, self.shown = command, shown
+
+    def start(self):
+        before = connected(PROXY[1])
+        self.out = tempfile.TemporaryFile()
+        self.process = subprocess.Popen(["bash", "-c", self.command], cwd=TOP, stdin=subprocess.DEVNULL, stdout=self.out)
+        wait_for(lambda: connected(PROXY[1]) > before or self.process.poll() is not None, f"{self.command} to connect")
+
+    def end(self):
+        """Compares what it has shown, once it has ended."""
+        wait_for(lambda: self.process.poll() is not None, f"the end of {self.command}")
+        same((self.command, lines_of(self.out)), (self.command, self.shown))
 
 
 def commands(text, margin):
@@ -57,12 +80,18 @@ def try_commands(text, margin):
     """Starts the servers, runs the other commands in turn, and compares what is shown. A `mitm` is ended where the next one is started."""
     if shutil.which("curl") is None:
         raise Skipped("curl is missing")
-    started, tried = [], 0
+    if " nc -N " in text and not has_nc():
+        raise Skipped("nc with -N is missing (the package netcat-openbsd of Debian)")
+    started, behind, tried = [], [], 0
     try:
         for command, shown in commands(text, margin):
             server = server_of(command)
+            if command.endswith(" &"):
+                behind.append(Behind(command.removesuffix(" &"), shown))
+                behind[-1].start()
+                continue
             if server is None:
-                same((command, run_command(command)), (command, shown))
+                same((command, run_command(command, shown)), (command, shown))
                 continue
             if server.words[0] == MITM:
                 tried += 1
@@ -70,10 +99,22 @@ def try_commands(text, margin):
             started.append((server, shown))
             server.start()
         assert tried > 0, "no command starts mitm"
+        for one in behind:
+            one.end()
         end_mitm(started)
     finally:
+        for one in behind:
+            one.stop()
         for server, _ in reversed(started):
             server.stop()
+
+
+def has_nc():
+    """Whether there is an nc that closes its side at the end of its input."""
+    if shutil.which("nc") is None:
+        return False
+    told = subprocess.run(["nc", "-h"], stdin=subprocess.DEVNULL, capture_output=True)
+    return re.search(rb"\[-\w*N|-N\b", told.stdout + told.stderr) is not None
 
 
 def end_mitm(started):
@@ -85,11 +126,16 @@ def end_mitm(started):
         started.remove((server, shown))
 
 
-def run_command(command):
+def run_command(command, wanted):
     """The lines that a command shows, where `./mitm` is the program under test."""
     words = re.sub(r"^\./mitm ", lambda _: shlex.quote(MITM) + " ", command)
-    done = subprocess.run(["bash", "-c", words], cwd=TOP, stdin=subprocess.DEVNULL, capture_output=True, timeout=60)
-    return [shown.rstrip("\r") for shown in done.stdout.decode().splitlines()]
+    end = time.time() + 5
+    while True:
+        done = subprocess.run(["bash", "-c", words], cwd=TOP, stdin=subprocess.DEVNULL, capture_output=True, timeout=60)
+        shown = [line.rstrip("\r") for line in done.stdout.decode().splitlines()]
+        if shown == wanted or not command.startswith(ASKING) or time.time() > end:
+            return shown
+        time.sleep(0.1)
 
 
 def has_all(lines, wanted):
@@ -101,8 +147,9 @@ def examples():
     found = []
     for path in sorted(glob.glob(os.path.join(TOP, "examples", "*.toml"))):
         found.append((f"example {os.path.basename(path).removesuffix('.toml')}", lambda path=path: try_commands(text_of(path), "#     ")))
-    for name, title in (("the README's first use", "Run it"), ("the README's saved flows", "Save flows")):
+    for name, title in (("the README's first use", "Run it"), ("the README's saved flows", "Save flows"), ("the README's held flow", "Hold flows")):
         found.append((name, lambda title=title: try_commands(part_of_readme(title), "    ")))
+    found.append(("an operator's walk", lambda: try_commands(text_of(os.path.join(TOP, "docs", "operator.md")), "    ")))
     return found
 
 

@@ -27,8 +27,8 @@ def picture(width):
     return b"\x89PNG\r\n\x1a\n" + part(b"IHDR", head) + part(b"IDAT", points) + part(b"IEND", b"")
 
 
-def page_mitm():
-    return Mitm(OPTIONS, files={"files/dot.png": picture(7)})
+def page_mitm(options=""):
+    return Mitm(OPTIONS + options, files={"files/dot.png": picture(7)})
 
 
 def case_page_by_curl():

@@ -45,10 +45,19 @@ def raise_limit():
 
 def listens(port):
     """Whether a socket listens at this port of 127.0.0.1, by the system's list."""
+    return count_sockets(port, "0A") > 0
+
+
+def connected(port):
+    """How many sockets of this port of 127.0.0.1 are connected, whether the program accepted them yet or not."""
+    return count_sockets(port, "01")
+
+
+def count_sockets(port, state):
     wanted = "0100007F:%04X" % port
     with open("/proc/net/tcp") as table:
         rows = [line.split() for line in table]
-    return any(row[1] == wanted and row[3] == "0A" for row in rows)
+    return sum(row[1] == wanted and row[3] == state for row in rows)
 
 
 def wait_for(test, what, seconds=10):
