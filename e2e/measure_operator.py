@@ -45,7 +45,7 @@ def listing(operator):
 
 
 def measure(count):
-    """A row: the costs with so many flows held; what is let go on and killed is chosen at random, a tenth of the flows each; then all."""
+    """A row: the costs with so many flows held; what is let go on and killed is chosen at random, a twentieth of the flows each; then all others are killed."""
     with Operated("~q") as mitm, Operator() as operator:
         proxy = Proxy(mitm.process.pid, mitm.port)
         before = proxy.peak_megabytes()
@@ -58,7 +58,7 @@ def measure(count):
         resumed = each(operator, "resume", names[:some], "ok")
         killed = each(operator, "kill", names[some:2 * some], "ok")
         began = proxy.cpu_seconds()
-        rest = each(operator, "resume", names[2 * some:], "ok")
+        rest = each(operator, "kill", names[2 * some:], "ok")
         wait_for(lambda: operator.flows() == {}, "all flows to end", 120)
         cpu = 1e6 * (proxy.cpu_seconds() - began) / (count - 2 * some)
         for client in clients:
@@ -69,10 +69,10 @@ def measure(count):
 def main():
     raise_loopback()
     raise_limit()
-    print("| flows held | `list` | `show` | `resume` | `kill` | `resume` of all others | CPU for each of these, with its flow | memory for each |")
+    print("| flows held | `list` | `show` | `resume` | `kill` | `kill` of all others | CPU for each of these, with its flow | memory for each |")
     print("|---|---|---|---|---|---|---|---|", flush=True)
-    with Origin():
-        for count in COUNTS:
+    for count in COUNTS:
+        with Origin():
             print(measure(count), flush=True)
 
 
