@@ -35,7 +35,7 @@ pub fn begin(
             conv: terms.conv,
             index,
         },
-        client: terms.client.clone()?,
+        client: client_of(alloc, terms)?,
         server: None,
         request,
         response: None,
@@ -51,6 +51,16 @@ pub fn begin(
         websocket: false,
         message: None,
     })
+}
+
+// Where the client is, to be shared by the copies of a flow.
+fn client_of(alloc: Global, terms: &Terms) -> Result<Option<Shared<Address>>, NoMemory>
+    ensures { IfOk result (λ client. client ≡ terms.now.client) }
+{
+    match &terms.client {
+        None => Ok(None),
+        Some(address) => Ok(Some(Shared::new(alloc, address.try_clone()?)?)),
+    }
 }
 
 /// The flow with this request in place of its own.
@@ -72,7 +82,7 @@ pub fn with_response(flow: Flow, response: Shared<Response>) -> Flow
 }
 
 /// The flow with the server that it uses.
-pub fn with_server(flow: Flow, server: Address) -> Flow
+pub fn with_server(flow: Flow, server: Shared<Address>) -> Flow
     ensures { result ≡ record flow { server = Some server } }
 {
     let mut flow = flow;
@@ -199,10 +209,11 @@ pub fn with_error(now: Now, flow: Flow, message: &[u8]) -> Result<Flow, NoMemory
     ensures { IfOk result (λ told. told ≡ with_error flow message.now now.moment) }
 {
     let mut flow = flow;
-    flow.error = Some(FlowError {
+    let error = FlowError {
         msg: Bytes::copied(now.alloc, message)?,
         moment: now.moment,
-    });
+    };
+    flow.error = Some(Shared::new(now.alloc, error)?);
     Ok(flow)
 }
 

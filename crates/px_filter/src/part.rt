@@ -54,7 +54,7 @@ fn bodies_have(seeker: &mut Seeker<'_>, flow: &Flow) -> bool
     }
     match &flow.message {
         None => false,
-        Some(message) => seeker.found(message.payload.as_slice()),
+        Some(message) => seeker.found(message.get().payload.as_slice()),
     }
 }
 
@@ -66,7 +66,8 @@ fn request_body_has(seeker: &mut Seeker<'_>, flow: &Flow) -> bool
     }
     match &flow.message {
         None => false,
-        Some(message) => message.from_client && seeker.found(message.payload.as_slice()),
+        Some(message) => message.get().from_client
+            && seeker.found(message.get().payload.as_slice()),
     }
 }
 
@@ -78,7 +79,8 @@ fn response_body_has(seeker: &mut Seeker<'_>, flow: &Flow) -> bool
     }
     match &flow.message {
         None => false,
-        Some(message) => !message.from_client && seeker.found(message.payload.as_slice()),
+        Some(message) => !message.get().from_client
+            && seeker.found(message.get().payload.as_slice()),
     }
 }
 
@@ -95,14 +97,14 @@ fn body_has(seeker: &mut Seeker<'_>, response: &Option<Shared<Response>>) -> boo
 // `host:port`
 fn address_has(
     seeker: &mut Seeker<'_>,
-    address: &Option<Address>,
+    address: &Option<Shared<Address>>,
     alloc: Global,
 ) -> Result<bool, NoMemory>
     ensures { IfOk result (λ answer. answer ≡ list_any (found seeker.old) (specs.address_of address.now)) }
 {
     match address {
         None => Ok(false),
-        Some(address) => Ok(seeker.found(address_text(alloc, address)?.as_slice())),
+        Some(address) => Ok(seeker.found(address_text(alloc, address.get())?.as_slice())),
     }
 }
 

@@ -11,7 +11,7 @@ use crate::find::{blob_in, dict_in, find, two_in};
 use crate::message::{bytes_at, host_of};
 use crate::simple::{moment_at, read_port};
 use crate::{FlowFileError, Key};
-use px_message::{Address, FlowError};
+use px_message::{Address, FlowError, Shared};
 use px_tnet::{Tnet, TnetDict};
 use std::alloc::Global;
 
@@ -20,7 +20,7 @@ pub(crate) fn end_at(
     alloc: Global,
     dict: &TnetDict,
     key: Key,
-) -> Result<Option<Address>, FlowFileError>
+) -> Result<Option<Shared<Address>>, FlowFileError>
     ensures ok { IfOk result (λ r. ReadsAt key (or_null (dictionary specs.end_table)) (pairs_view (paired dict.now)) r) }
     ensures err { IfErr result (λ e. (e ≡ error.NoMemory)
         ⊎ RefusesAt key (or_null (dictionary specs.end_table)) (pairs_view (paired dict.now)) e) }
@@ -28,13 +28,13 @@ pub(crate) fn end_at(
     read_end(alloc, key, find(dict, key)?)
 }
 
-fn read_end(alloc: Global, key: Key, tree: &Tnet) -> Result<Option<Address>, FlowFileError>
+fn read_end(alloc: Global, key: Key, tree: &Tnet) -> Result<Option<Shared<Address>>, FlowFileError>
     ensures ok { IfOk result (λ r. (or_null (dictionary specs.end_table)).Reads (view tree.now) r) }
     ensures err { IfErr result (λ e. (e ≡ error.NoMemory) ⊎ (or_null (dictionary specs.end_table)).Refuses key (view tree.now) e) }
 {
     match tree {
         Tnet::Null => Ok(None),
-        tree => Ok(Some(read_address(alloc, dict_in(key, tree)?)?)),
+        tree => Ok(Some(Shared::new(alloc, read_address(alloc, dict_in(key, tree)?)?)?)),
     }
 }
 
@@ -61,21 +61,28 @@ fn read_place(alloc: Global, key: Key, tree: &Tnet) -> Result<Address, FlowFileE
 }
 
 /// What ended the flow, or nothing.
-pub(crate) fn error_at(dict: &TnetDict) -> Result<Option<FlowError>, FlowFileError>
+pub(crate) fn error_at(
+    alloc: Global,
+    dict: &TnetDict,
+) -> Result<Option<Shared<FlowError>>, FlowFileError>
     ensures ok { IfOk result (λ r. ReadsAt key.Error (or_null (dictionary specs.error_table)) (pairs_view (paired dict.now)) r) }
     ensures err { IfErr result (λ e. (e ≡ error.NoMemory)
         ⊎ RefusesAt key.Error (or_null (dictionary specs.error_table)) (pairs_view (paired dict.now)) e) }
 {
-    read_optional_error(Key::Error, find(dict, Key::Error)?)
+    read_optional_error(alloc, Key::Error, find(dict, Key::Error)?)
 }
 
-fn read_optional_error(key: Key, tree: &Tnet) -> Result<Option<FlowError>, FlowFileError>
+fn read_optional_error(
+    alloc: Global,
+    key: Key,
+    tree: &Tnet,
+) -> Result<Option<Shared<FlowError>>, FlowFileError>
     ensures ok { IfOk result (λ r. (or_null (dictionary specs.error_table)).Reads (view tree.now) r) }
     ensures err { IfErr result (λ e. (e ≡ error.NoMemory) ⊎ (or_null (dictionary specs.error_table)).Refuses key (view tree.now) e) }
 {
     match tree {
         Tnet::Null => Ok(None),
-        tree => Ok(Some(read_error(dict_in(key, tree)?)?)),
+        tree => Ok(Some(Shared::new(alloc, read_error(dict_in(key, tree)?)?)?)),
     }
 }
 

@@ -30,7 +30,7 @@ pub(crate) fn flow_in(alloc: Global, dict: &TnetDict) -> Result<Flow, FlowFileEr
     let server = end_at(alloc, dict, Key::ServerConn);
     let request = request_at(alloc, dict);
     let response = response_at(alloc, dict);
-    let error = error_at(dict);
+    let error = error_at(alloc, dict);
     let replayed = replay_at(dict);
     let marked = truth_at(dict, Key::Marked);
     let websocket = truth_at(dict, Key::Websocket);
@@ -54,14 +54,14 @@ type Parts = (
         (
             FlowId,
             (
-                Option<Address>,
+                Option<Shared<Address>>,
                 (
-                    Option<Address>,
+                    Option<Shared<Address>>,
                     (
                         Asked,
                         (
                             Option<Answered>,
-                            (Option<FlowError>, (Replayed, (bool, (bool, ())))),
+                            (Option<Shared<FlowError>>, (Replayed, (bool, (bool, ())))),
                         ),
                     ),
                 ),

@@ -28,11 +28,11 @@ fn is_id(id: FlowId)
     let _ = id.index;
 }
 
-fn is_end(end: &Option<Address>)
+fn is_end(end: &Option<Shared<Address>>)
     ensures { (or_null (dictionary end_table)).Good end.now }
 {
     if let Some(address) = end {
-        is_place(address);
+        is_place(address.get());
     }
 }
 

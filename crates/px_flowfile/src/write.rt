@@ -110,7 +110,7 @@ fn put_end(
     alloc: Global,
     pairs: &mut Vec<(TnetKey, Tnet)>,
     key: Key,
-    end: &Option<Address>,
+    end: &Option<Shared<Address>>,
 ) -> Result<(), NoMemory>
     ensures { OnOk result ((more : Pairs) → joined (pairs_view pairs.new.items) more
         ≡ joined (pairs_view pairs.old.items) (one_pair (text_key key) ((or_null (dictionary end_table)).write end.now) more)) }

@@ -15,7 +15,7 @@ use crate::put::{
     dict_tree, put, put_blob, put_moment, put_number, put_optional_moment, put_version,
 };
 use crate::put_message::{put_content, put_headers, put_trailers, two_trees};
-use px_message::{Address, FlowError, Request, Response};
+use px_message::{Address, FlowError, Request, Response, Shared};
 use px_text::{Bytes, NoMemory};
 use px_tnet::{Tnet, TnetKey};
 use std::alloc::Global;
@@ -95,11 +95,11 @@ fn put_response(
 }
 
 /// The tree of what ended a flow, or nothing.
-pub(crate) fn error_tree(alloc: Global, error: &Option<FlowError>) -> Result<Tnet, NoMemory>
+pub(crate) fn error_tree(alloc: Global, error: &Option<Shared<FlowError>>) -> Result<Tnet, NoMemory>
     ensures { IfOk result (λ t. view t ≡ (or_null (dictionary error_table)).write error.now) }
 {
     match error {
-        Some(error) => told_tree(alloc, error),
+        Some(error) => told_tree(alloc, error.get()),
         None => Ok(Tnet::Null),
     }
 }
@@ -126,11 +126,11 @@ fn put_error(
 }
 
 /// The tree of where a client or a server is, or nothing.
-pub(crate) fn end_tree(alloc: Global, end: &Option<Address>) -> Result<Tnet, NoMemory>
+pub(crate) fn end_tree(alloc: Global, end: &Option<Shared<Address>>) -> Result<Tnet, NoMemory>
     ensures { IfOk result (λ t. view t ≡ (or_null (dictionary end_table)).write end.now) }
 {
     match end {
-        Some(address) => address_tree(alloc, address),
+        Some(address) => address_tree(alloc, address.get()),
         None => Ok(Tnet::Null),
     }
 }

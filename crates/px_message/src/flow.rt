@@ -48,24 +48,25 @@ pub struct WsMessage {
 
 /// A request with its response, its error, its moments and what the proxy knows of it
 /// (mitmproxy's manual, "mitmproxy.http").
+///
+/// Its larger parts are shared by the copies of the flow, so that it is small where it is handed on: see `Shared` for how one is changed.
 #[derive(Debug, Drop, PartialEq, Eq)]
 pub struct Flow {
     pub id: FlowId,
     /// Where the client is; none in a client replay.
-    pub client: Option<Address>,
+    pub client: Option<Shared<Address>>,
     /// The address that was dialled, from when the flow begins to use that side.
-    pub server: Option<Address>,
-    /// Copies of the flow share it; so with the response.
+    pub server: Option<Shared<Address>>,
     pub request: Shared<Request>,
     pub response: Option<Shared<Response>>,
-    pub error: Option<FlowError>,
+    pub error: Option<Shared<FlowError>>,
     pub times: Times,
     pub replayed: Replayed,
     /// Whether an operator marked it.
     pub marked: bool,
     /// Whether it was upgraded to a WebSocket.
     pub websocket: bool,
-    pub message: Option<WsMessage>,
+    pub message: Option<Shared<WsMessage>>,
 }
 
 impl Clone for FlowError {

@@ -68,7 +68,7 @@ fn change_flow(alloc: Global, flow: &mut Flow, part: &str) -> Result<(), RowErro
         "client" => put_client(alloc, flow, text),
         "server" => put_server(alloc, flow, text),
         "message" => put_message(alloc, flow, text),
-        _ => change_plainly(flow, what, text),
+        _ => change_plainly(alloc, flow, what, text),
     }
 }
 
@@ -93,17 +93,17 @@ fn put_response(alloc: Global, flow: &mut Flow, text: &str) -> Result<(), RowErr
 
 fn put_error(alloc: Global, flow: &mut Flow, text: &str) -> Result<(), RowError> {
     let msg = Bytes::new(unescape(alloc, text)?)?;
-    flow.error = Some(FlowError { msg, moment: 0 });
+    flow.error = Some(Shared::new(alloc, FlowError { msg, moment: 0 })?);
     Ok(())
 }
 
 fn put_client(alloc: Global, flow: &mut Flow, text: &str) -> Result<(), RowError> {
-    flow.client = Some(address_of(alloc, text)?);
+    flow.client = Some(Shared::new(alloc, address_of(alloc, text)?)?);
     Ok(())
 }
 
 fn put_server(alloc: Global, flow: &mut Flow, text: &str) -> Result<(), RowError> {
-    flow.server = Some(address_of(alloc, text)?);
+    flow.server = Some(Shared::new(alloc, address_of(alloc, text)?)?);
     Ok(())
 }
 
@@ -126,15 +126,16 @@ fn put_message(alloc: Global, flow: &mut Flow, text: &str) -> Result<(), RowErro
         _ => return Err(RowError::Bad),
     };
     let payload = Bytes::new(unescape(alloc, text)?)?;
-    flow.message = Some(WsMessage {
+    let message = WsMessage {
         from_client,
         text: false,
         payload,
-    });
+    };
+    flow.message = Some(Shared::new(alloc, message)?);
     Ok(())
 }
 
-fn change_plainly(flow: &mut Flow, what: &str, text: &str) -> Result<(), RowError> {
+fn change_plainly(alloc: Global, flow: &mut Flow, what: &str, text: &str) -> Result<(), RowError> {
     match (what, text) {
         ("marked", "") => flow.marked = true,
         ("websocket", "") => flow.websocket = true,
@@ -142,16 +143,19 @@ fn change_plainly(flow: &mut Flow, what: &str, text: &str) -> Result<(), RowErro
         ("replayed", "response") => flow.replayed = Replayed::Response,
         ("id", text) => flow.id = id_of(text)?,
         ("moments", text) => flow.times = times_of(text)?,
-        ("error-moment", text) => put_error_moment(flow, number_of(text)?),
+        ("error-moment", text) => put_error_moment(alloc, flow, number_of(text)?)?,
         _ => return Err(RowError::Bad),
     }
     Ok(())
 }
 
-fn put_error_moment(flow: &mut Flow, moment: u64) {
-    if let Some(error) = &mut flow.error {
-        error.moment = moment;
-    }
+fn put_error_moment(alloc: Global, flow: &mut Flow, moment: u64) -> Result<(), RowError> {
+    let Some(error) = &flow.error else {
+        return Ok(());
+    };
+    let msg = error.get().msg.try_clone()?;
+    flow.error = Some(Shared::new(alloc, FlowError { msg, moment })?);
+    Ok(())
 }
 
 // `7.12`

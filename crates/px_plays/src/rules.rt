@@ -178,7 +178,7 @@ fn show_bytes(out: &mut String, flow: &Flow, place: Place) -> Result<(), RowErro
     match (place, &flow.response, &flow.message) {
         (Place::Request, _, _) => write_escaped(out, flow.request.get().body.bytes()),
         (Place::Response, Some(response), _) => write_escaped(out, response.get().body.bytes()),
-        (Place::Message, _, Some(message)) => write_escaped(out, message.payload.as_slice()),
+        (Place::Message, _, Some(message)) => write_escaped(out, message.get().payload.as_slice()),
         _ => show_nothing(out),
     }
 }

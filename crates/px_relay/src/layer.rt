@@ -24,7 +24,7 @@ use crate::phase::{Held, Phase};
 use crate::sender::Sender;
 use px_event::{Ask, Command, Event, Hook, Reply, Rests, Side};
 use px_frame::{Frame, FrameFault};
-use px_message::{Flow, FlowError, WsMessage};
+use px_message::{Flow, FlowError, Shared, WsMessage};
 use px_text::{Bytes, NoMemory};
 use std::alloc::Global;
 use std::mem;
@@ -403,20 +403,22 @@ fn sent_payload<'a>(message: &'a Gathered, reply: &'a Reply) -> &'a [u8]
     let Some(changed) = &flow.message else {
         return message.payload.as_slice();
     };
-    if message.refuses(changed.payload.as_slice()) {
+    let changed = changed.get().payload.as_slice();
+    if message.refuses(changed) {
         return message.payload.as_slice();
     }
-    changed.payload.as_slice()
+    changed
 }
 
 fn killed_copy(alloc: Global, flow: &Flow, moment: u64) -> Result<Flow, NoMemory>
     ensures { IfOk result (λ copy. copy ≡ killed flow.now moment) }
 {
     let mut copy = flow.try_clone()?;
-    copy.error = Some(FlowError {
+    let error = FlowError {
         msg: Bytes::copied(alloc, b"killed")?,
         moment,
-    });
+    };
+    copy.error = Some(Shared::new(alloc, error)?);
     Ok(copy)
 }
 
@@ -633,11 +635,12 @@ impl WsLayer {
         ensures { IfOk result (λ copy. copy ≡ with_message self.now.flow from message.now) }
     {
         let mut copy = self.flow.try_clone()?;
-        copy.message = Some(WsMessage {
+        let message = WsMessage {
             from_client: from.is_client(),
             text: message.text,
             payload: message.payload.try_clone()?,
-        });
+        };
+        copy.message = Some(Shared::new(self.alloc, message)?);
         Ok(copy)
     }
 }

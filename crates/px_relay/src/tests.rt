@@ -94,11 +94,12 @@ fn answer(layer: &mut WsLayer, reply: &Reply, out: &mut Vec<Command>) -> Result<
 /// Go, with this text in place of the message.
 fn changed(alloc: Global, flow: &Flow, text: &str) -> Result<Reply, NoMemory> {
     let mut flow = flow.try_clone()?;
-    flow.message = Some(WsMessage {
+    let message = WsMessage {
         from_client: false,
         text: true,
         payload: Bytes::copied(alloc, text.as_bytes())?,
-    });
+    };
+    flow.message = Some(Shared::new(alloc, message)?);
     Ok(Reply::Go { flow, stream: None })
 }
 

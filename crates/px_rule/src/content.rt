@@ -1,9 +1,9 @@
 //! The bytes of a flow that body rules change.
 ghost use Rattle.std.specs.Prelude.{◌≡◌, option_map, IfOk, OnOk, OnErr};
-ghost use Rattle.px_rule.specs.Body.{content_in, response_with, with_content};
+ghost use Rattle.px_rule.specs.Body.{content_in, message_with, response_with, with_content};
 ghost use Rattle.px_rule.specs.declared.content.Content.TheVariants as contents;
 
-use px_message::{Body, Flow, Request, Response, Shared};
+use px_message::{Body, Flow, Request, Response, Shared, WsMessage};
 use px_text::{Bytes, NoMemory};
 use std::alloc::Global;
 
@@ -29,7 +29,7 @@ pub(crate) fn content_of(flow: &Flow, content: Content) -> Option<&[u8]>
             None => None,
         },
         Content::Message => match &flow.message {
-            Some(message) => Some(message.payload.as_slice()),
+            Some(message) => Some(message.get().payload.as_slice()),
             None => None,
         },
     }
@@ -48,10 +48,7 @@ pub(crate) fn put_content(
     match content {
         Content::Request => put_request(alloc, flow, bytes),
         Content::Response => put_response(alloc, flow, bytes),
-        Content::Message => {
-            put_message(flow, bytes);
-            Ok(())
-        }
+        Content::Message => put_message(alloc, flow, bytes),
     }
 }
 
@@ -108,10 +105,27 @@ fn share_response(
     Ok(Some(shared))
 }
 
-fn put_message(flow: &mut Flow, bytes: Bytes)
-    ensures { flow.new ≡ with_content contents.Message (λ _. bytes) flow.old }
+fn put_message(alloc: Global, flow: &mut Flow, bytes: Bytes) -> Result<(), NoMemory>
+    ensures put { OnOk result (flow.new ≡ with_content contents.Message (λ _. bytes) flow.old) }
+    ensures unchanged { OnErr result (flow.new ≡ flow.old) }
 {
-    if let Some(message) = &mut flow.message {
-        message.payload = bytes;
-    }
+    flow.message = share_message(alloc, &flow.message, bytes)?;
+    Ok(())
+}
+
+// A message with another payload, where there is one.
+fn share_message(
+    alloc: Global,
+    message: &Option<Shared<WsMessage>>,
+    bytes: Bytes,
+) -> Result<Option<Shared<WsMessage>>, NoMemory>
+    ensures { IfOk result (λ shared. shared ≡ option_map (message_with (λ _. bytes)) message.now) }
+{
+    let Some(message) = message else {
+        return Ok(None);
+    };
+    let mut changed = message.get().try_clone()?;
+    changed.payload = bytes;
+    let shared = Shared::new(alloc, changed)?;
+    Ok(Some(shared))
 }

@@ -79,12 +79,12 @@ fn push_size(response: &Response, line: &mut Vec<u8>) -> Result<(), NoMemory>
     push_decimal(line, response.body.bytes().len() as u64)
 }
 
-fn push_error(error: &Option<FlowError>, line: &mut Vec<u8>) -> Result<(), NoMemory>
+fn push_error(error: &Option<Shared<FlowError>>, line: &mut Vec<u8>) -> Result<(), NoMemory>
     ensures { OnOk result (line.new.items ≡ line.old.items ++ error_text error.now) }
 {
     if let Some(error) = error {
         line.extend_from_slice(b" error: ")?;
-        line.extend_from_slice(error.msg.as_slice())?;
+        line.extend_from_slice(error.get().msg.as_slice())?;
     }
     Ok(())
 }

@@ -60,12 +60,12 @@ fn code_value(response: &Option<Shared<Response>>) -> Value
     }
 }
 
-fn error_value(alloc: Global, error: &Option<FlowError>) -> Result<Value, NoMemory>
+fn error_value(alloc: Global, error: &Option<Shared<FlowError>>) -> Result<Value, NoMemory>
     ensures { IfOk result (λ value. view value ≡ error_value error.now) }
 {
     match error {
         None => Ok(Value::Null),
-        Some(error) => text_value(alloc, error.msg.as_slice()),
+        Some(error) => text_value(alloc, error.get().msg.as_slice()),
     }
 }
 

@@ -80,6 +80,10 @@ fn flow(
         Some(response) => Some(Shared::new(alloc, response)?),
         None => None,
     };
+    let error = match error {
+        Some(error) => Some(Shared::new(alloc, error)?),
+        None => None,
+    };
     Ok(Flow {
         id: FlowId { conv: 7, index: 12 },
         client: None,
