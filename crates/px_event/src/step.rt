@@ -10,6 +10,8 @@ use px_text::NoMemory;
 pub enum Step {
     /// This was heard, at this moment in microseconds since 1970.
     Heard { moment: u64, heard: Heard },
+    /// A conversation without a client began, with no one heard.
+    Begun { conv: u32 },
     /// A hook of the conversation was asked.
     Asked { conv: u32, ask: Ask },
     /// The hook was answered.

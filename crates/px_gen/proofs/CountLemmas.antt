@@ -29,6 +29,7 @@ of_test given false same = absurd (cc)
 
 of_step : (conv : ℕ) (step : Step) → IsOfOne conv step → by_said client_bytes step ≡ length (bytes_to Client (said_in conv step))
 of_step conv (steps.Heard moment heard) one = refl
+of_step conv (steps.Begun other) one = refl
 of_step conv (steps.Asked other ask) one = refl
 of_step conv (steps.Answered other ask reply) one = refl
 of_step conv (steps.Said other given) one = of_test given (other == conv) (same_number other conv one)

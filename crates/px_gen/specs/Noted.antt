@@ -1,4 +1,4 @@
--- The steps of a run that are noted: what is asked, what is answered, and the ends of flows.
+-- The steps of a run that are noted: the beginnings of conversations without a client, what is asked, what is answered, and the ends of flows.
 use Rattle.std.specs.Prelude.{◌≡◌, Bool, true, false, List, ◌++◌, Option, Some, None}
 use Rattle.std.specs.List.{filter}
 use Rattle.px_text.specs.Prefix.{IsPrefixOf}
@@ -6,8 +6,9 @@ use Rattle.px_event.specs.declared.step.Step.{Step}
 use Rattle.px_event.specs.declared.step.Step.TheVariants as steps
 use Rattle.px_event.specs.Trace.{Trace}
 
--- an ask, an answer or the end of a flow
+-- a beginning, an ask, an answer or the end of a flow
 abbrev pub is_noted : Step → Bool
+is_noted (steps.Begun conv) = true
 is_noted (steps.Asked conv ask) = true
 is_noted (steps.Answered conv ask reply) = true
 is_noted (steps.Done flow) = true

@@ -32,12 +32,12 @@ fn note_one<N: Net>(net: &mut N, step: &Step) -> Result<(), NoMemory>
     net.note(step)
 }
 
-// Whether the step is an ask, an answer or the end of a flow.
+// Whether the step is a beginning, an ask, an answer or the end of a flow.
 fn is_noted(step: &Step) -> bool
     ensures { result ≡ is_noted step.now }
 {
     match step {
-        Step::Asked { .. } | Step::Answered { .. } | Step::Done { .. } => true,
+        Step::Begun { .. } | Step::Asked { .. } | Step::Answered { .. } | Step::Done { .. } => true,
         Step::Heard { .. } | Step::Said { .. } => false,
     }
 }

@@ -19,8 +19,9 @@ pub data Listening : Type 0 where
   -- at the door for clients, and at that for operators where there is one
   at : (proxy : Address) (control : Option Address) → Listening
 
--- a step that is noted and not said: an ask, an answer or the end of a flow
+-- a step that is noted and not said: the beginning of a conversation without a client, an ask, an answer or the end of a flow
 abbrev pub IsNote : Step → Type 0
+IsNote (steps.Begun conv) = Unit {0}
 IsNote (steps.Asked conv ask) = Unit {0}
 IsNote (steps.Answered conv ask reply) = Unit {0}
 IsNote (steps.Done flow) = Unit {0}

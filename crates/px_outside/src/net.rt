@@ -76,8 +76,8 @@ pub trait Net {
         ensures listening { listening self.new ≡ listening self.old }
         ensures faults { faults self.new ≡ faults self.old };
 
-    /// Notes a step that is neither heard nor said: an ask, an answer or the end of a flow. After an error nothing was
-    /// noted.
+    /// Notes a step that is neither heard nor said: the beginning of a conversation without a client, an ask, an answer or the
+    /// end of a flow. After an error nothing was noted.
     fn note(&mut self, step: &Step) -> Result<(), NoMemory>
         requires note { IsNote step.now }
         ensures noted { OnOk result (Adds (trace self.old) (trace self.new) step.now) }

@@ -1,5 +1,6 @@
 //! Runs of the implementations in memory, each through its trait: which calls fail, what they give, what they leave.
 ghost use Rattle.std.specs.Prelude.{◌≢◌};
+ghost use Rattle.px_outside.specs.Net.{IsNote};
 
 use crate::{
     FileCall, FileError, Files, MemFiles, Net, NetError, ScriptNet, Sink, SinkError, VecSink,
@@ -198,6 +199,18 @@ fn a_script_is_heard_and_its_end_repeated(rt: HostRuntime) -> Result<(), Fail> {
     Ok(())
 }
 
+// The step in which a hook of conversation 1 is answered with its end.
+fn killed(ask: Ask) -> Step
+    ensures { IsNote result }
+{
+    let reply = Reply::Kill;
+    Step::Answered {
+        conv: 1,
+        ask,
+        reply,
+    }
+}
+
 #[test]
 fn what_is_said_is_kept_for_each_side(rt: HostRuntime) -> Result<(), Fail> {
     let alloc = rt.alloc();
@@ -215,13 +228,7 @@ fn what_is_said_is_kept_for_each_side(rt: HostRuntime) -> Result<(), Fail> {
     let hook = Hook::RequestHead;
     let ask = Ask::Hook { flow: 0, hook };
     assert_eq!(rt; net.note(&Step::Asked { conv: 1, ask }), Ok(()));
-    let reply = Reply::Kill;
-    let answered = Step::Answered {
-        conv: 1,
-        ask,
-        reply: reply.try_clone()?,
-    };
-    assert_eq!(rt; net.note(&answered), Ok(()));
+    assert_eq!(rt; net.note(&killed(ask)), Ok(()));
     let rows: [(u32, Side, &[u8]); 6] = [
         (1, first, b"abcd"),
         (1, client, b"y."),
@@ -238,14 +245,7 @@ fn what_is_said_is_kept_for_each_side(rt: HostRuntime) -> Result<(), Fail> {
     assert_eq!(rt; next_of(&mut net), Ok((0, Heard::End)));
     let trace = net.trace();
     assert_eq!(rt; trace.len(), 8);
-    assert!(rt;
-        trace[6]
-            == Step::Answered {
-                conv: 1,
-                ask,
-                reply
-            }
-    );
+    assert!(rt; trace[6] == killed(ask));
     Ok(())
 }
 

@@ -65,6 +65,7 @@ module _ (owed : Option Heard) (endpoints : List Endpoint) (accepted moment : �
 
   -- what is neither heard nor said
   pub noted : (step : Step) → IsNote step → Stands idle owed endpoints accepted moment (list ++ calls.Noted step ∷ [])
+  noted (steps.Begun conv) is = noted_as (steps.Begun conv) tt refl
   noted (steps.Asked conv ask) is = noted_as (steps.Asked conv ask) tt refl
   noted (steps.Answered conv ask reply) is = noted_as (steps.Answered conv ask reply) tt refl
   noted (steps.Done flow) is = noted_as (steps.Done flow) tt refl

@@ -384,6 +384,7 @@ hears_step conv side ended trace l moment heard.End allowed h =
 notes_step : (conv : ℕ) (side : Side) (ended : List ℕ) (trace : Trace) (l : Ledger) (step : Step) → Allowed l (calls.Noted step)
     → Holds conv side ended trace l → Holds conv side ended (trace ++ step ∷ []) (after l (calls.Noted step))
 notes_step conv side ended trace l (steps.Heard moment what) allowed h = hears_step conv side ended trace l moment what allowed h
+notes_step conv side ended trace l (steps.Begun number) allowed h = stepped conv side ended trace l (steps.Begun number) refl (λ n last. absurd (let e : false ≡ true = last in cc)) h
 notes_step conv side ended trace l (steps.Asked number ask) allowed h = stepped conv side ended trace l (steps.Asked number ask) refl (λ n last. absurd (let e : false ≡ true = last in cc)) h
 notes_step conv side ended trace l (steps.Answered number ask reply) allowed h =
     stepped conv side ended trace l (steps.Answered number ask reply) refl (λ n last. absurd (let e : false ≡ true = last in cc)) h
