@@ -1,5 +1,5 @@
 -- The answerer over a trace, some steps further.
-use Rattle.std.proofs.Common.{◌≡◌, ◌≢◌, inl, inr, ℕ, Bool, true, false, ◌==◌, ◌&&◌, ◌||◌, List, [], ◌∷◌, ◌++◌, map, Option, Some, None, refl, ap, sym, ◌∙◌, subst, append_assoc}
+use Rattle.std.proofs.Common.{◌≡◌, ◌≢◌, inl, inr, ℕ, Bool, false, ◌==◌, ◌&&◌, ◌||◌, List, [], ◌∷◌, ◌++◌, map, Option, Some, None, refl, ap, sym, ◌∙◌, subst, append_assoc}
 use Rattle.std.proofs.lemmas.List.{append-nil}
 use Rattle.std.specs.List.{list_any}
 use Rattle.std.specs.Prelude.{if◌then◌else◌}
@@ -35,7 +35,7 @@ use Rattle.px_core.specs.Held.{step_of, IsOf, AllOf, asked_from, IsAbout, waitin
 use Rattle.px_core.specs.Hooks.{hook_on, open_hook, AsksInTurn}
 use Rattle.px_core.proofs.CallLemmas.{calls_more, same_number, told_calls, told_own}
 use Rattle.px_core.proofs.HookLemmas.{asked_same, hook_more, hook_asked, hook_answered, turn_on}
-use Rattle.px_core.proofs.UnmarkedLemmas.{IsMarkedOn, AllMarkedOn}
+use Rattle.px_core.proofs.UnmarkedLemmas.{AllMarkedOn}
 
 pub pending_here : (conv : ℕ) (given : Option GivenTo) (before : ℕ → Option GivenTo) → with_given conv given before conv ≡ given
 pending_here conv given before = rw (same_number conv) refl
@@ -46,6 +46,7 @@ pending_other conv other given before apart =
 
 quiet_on : (conv : ℕ) (hook : Option Ask) (step : Step) → IsNoAnswer step → hook_on conv hook step ≡ hook
 quiet_on conv hook (steps.Heard moment heard) quiet = refl
+quiet_on conv hook (steps.Begun number) quiet = refl
 quiet_on conv hook (steps.Asked number ask) quiet = absurd quiet
 quiet_on conv hook (steps.Answered number ask reply) quiet = absurd quiet
 quiet_on conv hook (steps.Said number what) quiet = refl
@@ -189,6 +190,7 @@ with_other conv index other place what f apart = let no : (conv == other) ≡ fa
 
 behind_same : (step : Step) (other place : ℕ) (f g : ℕ → ℕ → Option Flow) → f other place ≡ g other place → shown_behind step f other place ≡ shown_behind step g other place
 behind_same (steps.Heard moment heard) other place f g same = same
+behind_same (steps.Begun conv) other place f g same = same
 behind_same (steps.Asked conv ask) other place f g same = same
 behind_same (steps.Answered conv ask reply) other place f g same = same
 behind_same (steps.Said conv what) other place f g same = same
@@ -216,6 +218,7 @@ FinishesOwn conv _ = Unit {0}
 
 finishes_own : (conv : ℕ) (step : Step) → IsOf conv step → FinishesOwn conv step
 finishes_own conv (steps.Heard moment heard) of = tt
+finishes_own conv (steps.Begun number) of = tt
 finishes_own conv (steps.Asked number ask) of = tt
 finishes_own conv (steps.Answered number ask reply) of = tt
 finishes_own conv (steps.Said number what) of = tt
@@ -223,6 +226,7 @@ finishes_own conv (steps.Done flow) of = of
 
 behind_other : (conv : ℕ) (step : Step) (other place : ℕ) (f : ℕ → ℕ → Option Flow) → FinishesOwn conv step → conv ≢ other → shown_behind step f other place ≡ f other place
 behind_other conv (steps.Heard moment heard) other place f own apart = refl
+behind_other conv (steps.Begun number) other place f own apart = refl
 behind_other conv (steps.Asked number ask) other place f own apart = refl
 behind_other conv (steps.Answered number ask reply) other place f own apart = refl
 behind_other conv (steps.Said number what) other place f own apart = refl

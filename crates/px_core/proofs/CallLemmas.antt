@@ -34,6 +34,7 @@ same_number n = eq-eqb n n refl
 -- a step of another conversation
 pub other_calls : (conv other : ℕ) (c : Calls) (step : Step) → IsOf conv step → conv ≢ other → calls_on other c step ≡ c
 other_calls conv other c (steps.Heard moment heard) is apart = absurd is
+other_calls conv other c (steps.Begun number) is apart = absurd is
 other_calls conv other c (steps.Asked number ask) is apart = refl
 other_calls conv other c (steps.Answered number ask reply) is apart =
     let no : (number == other) ≡ false = ne_eqb number other (λ same. apart (sym is ∙ same)) in rw no refl
@@ -43,6 +44,7 @@ other_calls conv other c (steps.Done flow) is apart = refl
 
 pub other_seen : (view : View) (conv other : ℕ) (step : Step) → IsOf conv step → conv ≢ other → step_atoms view other step ≡ []
 other_seen view conv other (steps.Heard moment heard) is apart = absurd is
+other_seen view conv other (steps.Begun number) is apart = absurd is
 other_seen view conv other (steps.Asked number ask) is apart = by view
   where
     no : (number == other) ≡ false

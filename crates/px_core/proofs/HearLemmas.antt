@@ -119,7 +119,7 @@ gives_end standing awaited conv move server before after given is named goes one
 
 module _ {C : Type 0} (standing : Standing C) (awaited : C → Option Ask) (number : C → ℕ) (made_due : C → List Move → List Command) where
   -- a call was taken
-  taken_stands : (due : Due) (conv : ℕ) (peer : Address) (moment : ℕ) (move : Move) (dial : Option ℕ) (servers : ℕ → Bool) (before after : Held C) (trace next : Trace) (given : List Command) →
+  taken_stands : (due : Due) (conv : ℕ) (peer : Option Address) (moment : ℕ) (move : Move) (dial : Option ℕ) (servers : ℕ → Bool) (before after : Held C) (trace next : Trace) (given : List Command) →
       (w : Stood standing awaited number made_due due conv peer before.conversation trace) → IsOneOn conv peer moment move dial servers trace next →
       Gives standing awaited move dial before.conversation after.conversation given → standing w.made after.conversation (calls_of conv next) (w.given ++ given)
   taken_stands due conv peer moment move dial servers before after trace next given w on gives =
@@ -129,7 +129,7 @@ module _ {C : Type 0} (standing : Standing C) (awaited : C → Option Ask) (numb
       subst P (sym on.moves) (subst Q all (gives.goes.stands w.made (calls_of conv trace) w.given w.stands))
 
   -- and its commands are still to be told
-  taken_within : (due : Due) (conv : ℕ) (peer : Address) (moment : ℕ) (move : Move) (dial : Option ℕ) (servers : ℕ → Bool) (before after : Held C) (trace next : Trace) (given : List Command) →
+  taken_within : (due : Due) (conv : ℕ) (peer : Option Address) (moment : ℕ) (move : Move) (dial : Option ℕ) (servers : ℕ → Bool) (before after : Held C) (trace next : Trace) (given : List Command) →
       Stood standing awaited number made_due due conv peer before.conversation trace → IsOneOn conv peer moment move dial servers trace next → number after.conversation ≡ conv →
       Gives standing awaited move dial before.conversation after.conversation given → ((n : ℕ) → servers n ≡ has after.connected n) →
       Within standing awaited number made_due due conv after next given
@@ -155,7 +155,7 @@ module _ {C : Type 0} (standing : Standing C) (awaited : C → Option Ask) (numb
   module _ {S : Type 0} (answers : Answering S) where
     -- where the call's commands ask nothing, a hook that was awaited goes on to wait with its draft
     drafted_taken : (gave : (made state : C) (moves : List Move) (given : List Command) → standing made state moves given →
-        (view : View) → seen_of view given ≡ seen_of view (made_due made moves)) (due : Due) (conv : ℕ) (peer : Address) (moment : ℕ) (move : Move)
+        (view : View) → seen_of view given ≡ seen_of view (made_due made moves)) (due : Due) (conv : ℕ) (peer : Option Address) (moment : ℕ) (move : Move)
         (dial : Option ℕ) (servers : ℕ → Bool) (before after : Held C) (trace next : Trace) (given : List Command) →
         Stood standing awaited number made_due due conv peer before.conversation trace → IsOneOn conv peer moment move dial servers trace next →
         Gives standing awaited move dial before.conversation after.conversation given → after.draft ≡ before.draft →
@@ -212,7 +212,7 @@ module _ {C : Type 0} (standing : Standing C) (awaited : C → Option Ask) (numb
 
     -- news that are no call
     pub ignored : (conv moment : ℕ) (what : News) (held : Held C) (shown : Flows) {state : AnswererState S} (out : List Step) →
-        ((c : Calls) (peer : Address) → c.peer ≡ Some peer → AreServers (has held.connected) c.connected → c.dial ≡ dial_of (awaited held.conversation) → takes moment c what ≡ c) → IsSettled awaited held →
+        ((c : Calls) (peer : Option Address) → c.peer ≡ Some peer → AreServers (has held.connected) c.connected → c.dial ≡ dial_of (awaited held.conversation) → takes moment c what ≡ c) → IsSettled awaited held →
         Hears standing awaited number made_due answers conv moment what held held shown shown state state out out
     ignored conv moment what held shown {state} out nothing settled = record {
       more = [];
@@ -250,7 +250,7 @@ module _ {C : Type 0} (standing : Standing C) (awaited : C → Option Ask) (numb
 
     -- news that are a call
     pub taken : (conv moment : ℕ) (what : News) (move : Move) (dial : Option ℕ) (servers : ℕ → Bool) (before after : Held C) (shown new_shown : Flows) {old new : AnswererState S} (out new_out : List Step) →
-        ((c : Calls) (peer : Address) → c.peer ≡ Some peer → AreServers (has before.connected) c.connected → c.dial ≡ dial_of (awaited before.conversation) →
+        ((c : Calls) (peer : Option Address) → c.peer ≡ Some peer → AreServers (has before.connected) c.connected → c.dial ≡ dial_of (awaited before.conversation) →
         (takes moment c what).moves ≡ c.moves ++ move ∷ [] × ((takes moment c what).peer ≡ Some peer) × ((takes moment c what).dial ≡ dial) × AreServers servers (takes moment c what).connected) →
         Takes standing awaited number made_due answers conv moment move dial servers before after shown new_shown old new out new_out →
         Hears standing awaited number made_due answers conv moment what before after shown new_shown old new out new_out
@@ -275,15 +275,15 @@ module _ {C : Type 0} (standing : Standing C) (awaited : C → Option Ask) (numb
     }
 
 -- what each news takes
-pub takes_begun : (moment : ℕ) (c : Calls) (peer at : Address) → c.peer ≡ Some peer → takes moment c (news.Begun at) ≡ c
+pub takes_begun : (moment : ℕ) (c : Calls) (peer : Option Address) (at : Address) → c.peer ≡ Some peer → takes moment c (news.Begun at) ≡ c
 takes_begun moment c peer at is = rw is refl
 
-pub takes_not_connected : (moment : ℕ) (c : Calls) (peer : Address) (side : Side) (event : Event) (servers : ℕ → Bool) → c.peer ≡ Some peer → AreServers servers c.connected → is_side side servers ≡ false →
+pub takes_not_connected : (moment : ℕ) (c : Calls) (peer : Option Address) (side : Side) (event : Event) (servers : ℕ → Bool) → c.peer ≡ Some peer → AreServers servers c.connected → is_side side servers ≡ false →
     takes moment c (news.Event side event) ≡ c
 takes_not_connected moment c peer side event servers begun are not =
     let none : is_connected side c.connected ≡ false = side_connected side servers c.connected are ∙ not in rw (begun, none) refl
 
-pub takes_connected : (moment : ℕ) (c : Calls) (peer : Address) (side : Side) (event : Event) (servers : ℕ → Bool) → c.peer ≡ Some peer → AreServers servers c.connected → is_side side servers ≡ true →
+pub takes_connected : (moment : ℕ) (c : Calls) (peer : Option Address) (side : Side) (event : Event) (servers : ℕ → Bool) → c.peer ≡ Some peer → AreServers servers c.connected → is_side side servers ≡ true →
     takes moment c (news.Event side event) ≡ moved (Took moment event) c
 takes_connected moment c peer side event servers begun are is =
     let one : is_connected side c.connected ≡ true = side_connected side servers c.connected are ∙ is in rw (begun, one) refl

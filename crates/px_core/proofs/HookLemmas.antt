@@ -46,6 +46,7 @@ hook_asked conv trace ask = hook_more conv trace (steps.Asked conv ask) ∙ (rw 
 -- a step of another conversation
 other_hook : (conv other : ℕ) (hook : Option Ask) (step : Step) → IsOf conv step → conv ≢ other → hook_on other hook step ≡ hook
 other_hook conv other hook (steps.Heard moment heard) is apart = absurd is
+other_hook conv other hook (steps.Begun number) is apart = absurd is
 other_hook conv other hook (steps.Asked number ask) is apart =
     let no : (number == other) ≡ false = ne_eqb number other (λ same. apart (sym is ∙ same)) in rw no refl
 other_hook conv other hook (steps.Answered number ask reply) is apart =

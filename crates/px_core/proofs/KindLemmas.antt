@@ -12,9 +12,7 @@ use Rattle.px_event.specs.Trace.{Trace, Always}
 use Rattle.px_event.proofs.TraceLemmas.{always_empty, always_more}
 use Rattle.px_core.specs.declared.answerer.Answer.{Answer}
 use Rattle.px_core.specs.declared.answerer.Answer.TheVariants as answer
-use Rattle.px_message.specs.declared.flow.FlowId.{FlowId}
 use Rattle.px_core.specs.declared.answerer.Draft.{Draft}
-use Rattle.px_core.specs.declared.operation.Operation.{Operation}
 use Rattle.px_core.specs.Drafts.{ComesTo, released_by}
 use Rattle.px_core.specs.Answered.{GivenTo, Pending, RestsBy, with_given, with_pending, with_asked, IsNoAnswer, Answers, at_first, at_hook, at_reply, at_other, at_change, at_mark, at_release}
 use Rattle.px_core.specs.Answers.{Answering, AnswererState}
@@ -23,7 +21,7 @@ use Rattle.px_core.specs.Due.{Due, IsAskedLast}
 use Rattle.px_core.specs.Hooks.{IsAllAnswered, open_hook}
 use Rattle.px_core.specs.Kind.{KeepsKind, LeavesAlone, AllLeaveAlone, IsOfKind, EndsOfKind}
 use Rattle.px_core.proofs.CourseLemmas.{begins_so, last_is, made_are}
-use Rattle.px_core.proofs.AnsweredLemmas.{comes_released, operated_front, pending_here, pending_other}
+use Rattle.px_core.proofs.AnsweredLemmas.{comes_released, pending_here, pending_other}
 use Rattle.px_core.proofs.ServedLemmas.{last_step}
 
 alone_more : (conv : ℕ) (trace : Trace) (step : Step) → AllLeaveAlone conv trace → LeavesAlone conv step → AllLeaveAlone conv (trace ++ step ∷ [])
@@ -32,6 +30,7 @@ alone_more conv (s ∷ trace) step (first, all) here = (first, alone_more conv t
 
 quiet_alone : (conv : ℕ) (step : Step) → IsNoAnswer step → LeavesAlone conv step
 quiet_alone conv (steps.Heard moment heard) quiet = tt
+quiet_alone conv (steps.Begun number) quiet = tt
 quiet_alone conv (steps.Asked number ask) quiet = absurd quiet
 quiet_alone conv (steps.Answered number ask reply) quiet = absurd quiet
 quiet_alone conv (steps.Said number what) quiet = tt
@@ -82,6 +81,7 @@ module _ (gives : Hook → Flow → Answer → Type 0) (due : Due) where
 
   quiet_so : (trace : Trace) (step : Step) → IsNoAnswer step → IsSo trace step
   quiet_so trace (steps.Heard moment heard) quiet = tt
+  quiet_so trace (steps.Begun number) quiet = tt
   quiet_so trace (steps.Asked number ask) quiet = tt
   quiet_so trace (steps.Answered number ask reply) quiet = absurd quiet
   quiet_so trace (steps.Said number what) quiet = tt

@@ -1,5 +1,7 @@
 pub mod AddonLemmas
 pub mod AnswerLemmas
+pub mod BegunLemmas
+pub mod BegunRunLemmas
 pub mod AnsweredLemmas
 pub mod CourseLemmas
 pub mod FlowsLemmas

@@ -64,6 +64,7 @@ hidden_if false was = refl
 
 behind_live : (conv index : ℕ) (step : Step) (shown : ℕ → ℕ → Option Flow) → IsNoAnswer step → is_some (shown_behind step shown conv index) ≡ live_on conv index (is_some (shown conv index)) step
 behind_live conv index (steps.Heard moment heard) shown quiet = refl
+behind_live conv index (steps.Begun number) shown quiet = refl
 behind_live conv index (steps.Asked number ask) shown quiet = absurd quiet
 behind_live conv index (steps.Answered number ask reply) shown quiet = absurd quiet
 behind_live conv index (steps.Said number what) shown quiet = refl
@@ -106,6 +107,7 @@ unasked number conv false other atom e = refl
 
 never_on : (conv index : ℕ) (step : Step) → step_atoms questions conv step ≡ [] → live_on conv index false step ≡ false
 never_on conv index (steps.Heard moment heard) none = refl
+never_on conv index (steps.Begun number) none = refl
 never_on conv index (steps.Asked number (asks.Hook flow hook)) none = unasked number conv (number == conv) (flow == index) _ none
 never_on conv index (steps.Asked number (asks.Dial server)) none = refl
 never_on conv index (steps.Answered number ask reply) none = refl

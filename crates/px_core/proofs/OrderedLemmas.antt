@@ -95,14 +95,14 @@ ordered_marked (dialled server address ∷ l) ordered = ordered_marked l ordered
 ordered_marked (about ask flow ∷ l) ordered = ordered_marked l ordered
 
 -- what is within what is due is in order
-pub in_order : (due : Due) → ((conv : ℕ) (peer : Address) (moves : List Move) → AsksBeforeEnds (due conv peer moves)) →
+pub in_order : (due : Due) → ((conv : ℕ) (peer : Option Address) (moves : List Move) → AsksBeforeEnds (due conv peer moves)) →
     (trace : Trace) → IsWithinDue due trace → IsInOrder trace
 in_order due ordered trace within conv =
     let prefix = within conv course tt in
     let P : List Atom → Type 0 = HooksBeforeEnds in
     ordered_marked (seen_in course conv trace) (ordered_front (all_unmarked (seen_in course conv trace)) prefix.0 (subst P prefix.1 (here (calls conv trace).peer)))
   where
-    here : (at : Option Address) → HooksBeforeEnds (all_unmarked (seen_of course (due_at due conv at (calls_of conv trace))))
+    here : (at : Option (Option Address)) → HooksBeforeEnds (all_unmarked (seen_of course (due_at due conv at (calls_of conv trace))))
     here None = tt
     here (Some peer) =
         ordered_unmarked (seen_of course (due conv peer (calls_of conv trace))) (hooks_ordered (due conv peer (calls_of conv trace)) (ordered conv peer (calls_of conv trace)))

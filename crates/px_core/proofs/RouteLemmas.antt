@@ -18,9 +18,8 @@ use Rattle.px_event.specs.declared.step.Step.TheVariants as steps
 use Rattle.px_event.specs.Layer.{Move, Took, Standing}
 use Rattle.px_event.specs.Trace.{Trace}
 use Rattle.px_event.specs.View.{View, Atom, flows, IsTold, seen_of, seen_in}
-use Rattle.px_event.proofs.TraceLemmas.{always_empty, always_more, before_empty, before_heard}
+use Rattle.px_event.proofs.TraceLemmas.{always_empty, always_more, before_empty, before_heard, before_other}
 use Rattle.px_core.specs.declared.answerer.Draft.{Draft}
-use Rattle.px_message.specs.declared.flow.Flow.{Flow}
 use Rattle.px_core.specs.declared.flows.Flows.{Flows}
 use Rattle.px_core.specs.declared.held.Held.{Held}
 use Rattle.px_core.specs.declared.news.News.{News}
@@ -31,7 +30,7 @@ use Rattle.px_core.specs.declared.table.Table.{Table}
 use Rattle.px_core.specs.Answered.{nothing_pending, at_first, at_other}
 use Rattle.px_core.specs.Answers.{Answering, AnswererState}
 use Rattle.px_core.specs.Course.{Course, Operated, begins_at, is_marked}
-use Rattle.px_core.specs.Calls.{Calls, calls, calls_of, takes, moved, addressed, is_connected, is_dialling, dial_ends}
+use Rattle.px_core.specs.Calls.{Calls, begins, calls, calls_of, takes, moved, addressed, is_connected, is_dialling, dial_ends}
 use Rattle.px_core.specs.Due.{Due, due_at, due_by, due_in, IsWithinDue, IsAllTold, EndsMet, Waits, OpenOnesWait, IsServed}
 use Rattle.px_core.specs.Held.{AllOf, Kept, ShowsOthers, dial_of, kept_of, waiting, Follows, Hears, Takes}
 use Rattle.px_core.specs.Live.{shown_in}
@@ -40,6 +39,7 @@ use Rattle.px_core.specs.Hooks.{open_hook, hook_of, EndsInTurn}
 use Rattle.px_core.specs.Router.{Found, unknown, over, lost, live, found_at, found_by, place_of, found, draft_of, KeepsMarks, PutsPlace, IsUnknown, IsOver, IsLive, StandsIn, TableStands, IsTabled, HearsAt, Hands, Admits, Routes, IsAtKey}
 use Rattle.px_core.specs.Runs.{has}
 use Rattle.px_core.proofs.AnsweredLemmas.{follows_heard}
+use Rattle.px_core.proofs.BegunLemmas.{calls_begun, calls_begun_other, follows_begun, hook_begun, no_answer_begun, no_heard_begun, seen_begun}
 use Rattle.px_core.proofs.UnmarkedLemmas.{unmarked_prefix}
 use Rattle.px_core.proofs.CallLemmas.{others_calls, others_seen}
 use Rattle.px_core.proofs.HearLemmas.{seen_heard, calls_heard, calls_heard_other, calls_heard_none}
@@ -84,6 +84,19 @@ other_same conv other moment trace more heard what is all apart =
     (λ view told. others_seen view conv other (trace ++ steps.Heard moment heard ∷ []) more all apart ∙ seen_heard view other trace moment heard)
     (others_hook conv other (trace ++ steps.Heard moment heard ∷ []) more all apart ∙ hook_heard other trace moment heard)
 
+begun_same : (conv other : ℕ) (trace more : Trace) → AllOf conv more → conv ≢ other → Same other trace ((trace ++ steps.Begun conv ∷ []) ++ more)
+begun_same conv other trace more all apart =
+    let there : Trace = trace ++ steps.Begun conv ∷ [] in
+    let on : calls other (there ++ more) ≡ calls other trace = others_calls conv other there more all apart ∙ calls_begun_other other conv trace apart in
+    record {
+      moves = ap (λ (c : Calls). c.moves) on;
+      peer = ap (λ (c : Calls). c.peer) on;
+      dial = ap (λ (c : Calls). c.dial) on;
+      connected = ap (λ (c : Calls). c.connected) on;
+      sees = λ view told. others_seen view conv other there more all apart ∙ seen_begun view other conv trace;
+      hook = others_hook conv other there more all apart ∙ hook_begun other conv trace;
+    }
+
 none_same : (conv moment : ℕ) (trace : Trace) (heard : Heard) → addressed heard ≡ None → Same conv trace (trace ++ steps.Heard moment heard ∷ [])
 none_same conv moment trace heard is =
     same_by conv moment trace (trace ++ steps.Heard moment heard ∷ []) (calls_heard_none conv trace moment heard is) (λ view told. seen_heard view conv trace moment heard)
@@ -92,14 +105,17 @@ none_same conv moment trace heard is =
 -- at most one call is new, and its client stays where it is
 abbrev IsGrown : Calls → Calls → Type 0
 IsGrown before after =
-    ((after.moves ≡ before.moves) ⊎ ((move : Move) × (after.moves ≡ before.moves ++ move ∷ []))) × ((peer : Address) → before.peer ≡ Some peer → after.peer ≡ Some peer)
+    ((after.moves ≡ before.moves) ⊎ ((move : Move) × (after.moves ≡ before.moves ++ move ∷ []))) × ((peer : Option Address) → before.peer ≡ Some peer → after.peer ≡ Some peer)
 
-takes_grown : (moment : ℕ) (c : Calls) (what : News) → IsGrown c (takes moment c what)
-takes_grown moment c (news.Begun at) = by (is_some c.peer) refl
+begins_grown : (moment : ℕ) (at : Option Address) (c : Calls) → IsGrown c (begins moment at c)
+begins_grown moment at c = by (is_some c.peer) refl
   where
     by : (b : Bool) → is_some c.peer ≡ b → IsGrown c (if b then c else record c { peer = Some at; moves = c.moves ++ Took moment events.Begun ∷ [] })
     by true some = (inl refl, λ peer is. is)
     by false none = (inr (_, refl), λ peer is. absurd (let no : true ≡ false = sym (ap is_some is) ∙ none in cc))
+
+takes_grown : (moment : ℕ) (c : Calls) (what : News) → IsGrown c (takes moment c what)
+takes_grown moment c (news.Begun at) = begins_grown moment (Some at) c
 takes_grown moment c (news.Event side event) = by (is_some c.peer) (is_connected side c.connected)
   where
     by : (b d : Bool) → IsGrown c (if b then (if d then moved (Took moment event) c else c) else c)
@@ -130,6 +146,18 @@ heard_grown conv trace moment heard = by (addressed heard) refl
     by : (a : Option (ℕ × News)) → addressed heard ≡ a → IsGrown (calls conv trace) (calls conv (trace ++ steps.Heard moment heard ∷ []))
     by None is = subst P (sym (calls_heard_none conv trace moment heard is)) (inl refl, λ peer is. is)
     by (Some (number, what)) is = of number what is (eqb_tells number conv)
+
+begun_grown : (conv number : ℕ) (trace : Trace) → IsGrown (calls conv trace) (calls conv (trace ++ steps.Begun number ∷ []))
+begun_grown conv number trace = by (eqb_tells number conv)
+  where
+    P : Calls → Type 0
+    P = IsGrown (calls conv trace)
+
+    by : ((number == conv) ≡ true) × (number ≡ conv) ⊎ ((number == conv) ≡ false) × (number ≢ conv) → IsGrown (calls conv trace) (calls conv (trace ++ steps.Begun number ∷ []))
+    by (inl same) =
+        let Q : ℕ → Type 0 = λ n. IsGrown (calls conv trace) (calls conv (trace ++ steps.Begun n ∷ [])) in
+        subst Q (sym same.1) (subst P (sym (calls_begun conv trace)) (begins_grown (calls conv trace).moment None (calls conv trace)))
+    by (inr apart) = subst P (sym (calls_begun_other conv number trace apart.1)) (inl refl, λ peer is. is)
 
 no_answer_heard : (moment conv : ℕ) (heard : Heard) (ask : Ask) (reply : Reply) → steps.Answered conv ask reply ≡ steps.Heard moment heard → ⊥
 no_answer_heard moment conv heard ask reply e = cc
@@ -322,6 +350,19 @@ module _ {C : Type 0} (standing : Standing C) (awaited : C → Option Ask) (numb
       waits = before_heard (OpenOnesWait answers due) trace moment heard stands.served.waits (open_ones_wait due table trace stands);
     }
 
+    -- nor does a beginning
+    pub begun_served : (due : Due) {course : Course S} {now : AnswererState S} (table : Table C) (trace : Trace) (conv_begun : ℕ) → TableStands standing awaited number made_due answers due course now table trace →
+        IsServed answers due (trace ++ steps.Begun conv_begun ∷ [])
+    begun_served due table trace conv_begun stands = record {
+      within = always_more (IsWithinDue due) trace (steps.Begun conv_begun) stands.served.within
+          (λ conv view told. next_within due conv trace (trace ++ steps.Begun conv_begun ∷ []) (found table conv) (stands.at conv) (begun_grown conv conv_begun trace) view told (seen_begun view conv conv_begun trace));
+      told = before_other (IsAllTold due) trace (steps.Begun conv_begun) (no_heard_begun conv_begun) stands.served.told;
+      met = always_more (EndsMet answers due) trace (steps.Begun conv_begun) stands.served.met
+          (λ prefix conv ask reply e. absurd (no_answer_begun conv_begun conv ask reply (last_step trace prefix (steps.Begun conv_begun) (steps.Answered conv ask reply) e).1));
+      turns = always_more EndsInTurn trace (steps.Begun conv_begun) stands.served.turns (ends_in_turn trace (steps.Begun conv_begun) tt);
+      waits = before_other (OpenOnesWait answers due) trace (steps.Begun conv_begun) (no_heard_begun conv_begun) stands.served.waits;
+    }
+
     -- marks that are the same are kept
     keeps_same : (before after : List Operated) (conv : ℕ) (x : Found (Held C)) → ((index : ℕ) → is_marked after conv index ≡ is_marked before conv index) → KeepsMarks before conv x → KeepsMarks after conv x
     keeps_same before after conv unknown same kept = λ index. same index ∙ kept index
@@ -493,13 +534,13 @@ module _ {C : Type 0} (standing : Standing C) (awaited : C → Option Ask) (numb
             let P : Found (Held C) → Type 0 = StandsIn standing awaited number made_due answers due conv trace in
             let w : IsUnknown conv trace = subst P was (stands.at conv) in
             let on = calls_heard conv trace moment heard (news.Begun peer) is in
-            let took : takes moment (calls conv trace) (news.Begun peer) ≡ record (calls conv trace) { peer = Some peer; moves = calls_of conv trace ++ Took moment events.Begun ∷ [] } = rw w.begun refl in
+            let took : takes moment (calls conv trace) (news.Begun peer) ≡ record (calls conv trace) { peer = Some (Some peer); moves = calls_of conv trace ++ Took moment events.Begun ∷ [] } = rw w.begun refl in
             let Q : C → Type 0 = λ s. standing conversation s (calls_of conv trace) [] in
             let R : List Move → Type 0 = λ l. standing conversation conversation l [] in
             let none : awaited held.conversation ≡ None = ap awaited same ∙ free in
             let U : Found (Held C) → Type 0 = KeepsMarks course.operations conv in
             let marked : KeepsMarks {C = C} course.operations conv unknown = subst U was (stands.marks conv) in
-            let next = t.takes due course stands.pending peer trace (trace ++ steps.Heard moment heard ∷ [])
+            let next = t.takes due course stands.pending (Some peer) trace (trace ++ steps.Heard moment heard ∷ [])
             (record {
               made = conversation;
               given = [];
@@ -529,6 +570,51 @@ module _ {C : Type 0} (standing : Standing C) (awaited : C → Option Ask) (numb
             heard_stands due conv moment (news.Begun peer) before after (kept_of conv new_held after.flows) trace t.more heard is t.own others t.others stands
             (here_stands due conv new_held ((trace ++ steps.Heard moment heard ∷ []) ++ t.more) (found after conv) there_now there) next.1 next.3
             (draft_in due conv new_held ((trace ++ steps.Heard moment heard ∷ []) ++ t.more) (found after conv) there_now there)
+            (marks_in course.operations conv new_held (found after conv) there next.3.marks) (λ index. refl);
+        alone = λ due course trace is_now owes stands.
+            let next_trace : Trace = trace ++ steps.Begun conv ∷ [] in
+            let P : Found (Held C) → Type 0 = StandsIn standing awaited number made_due answers due conv trace in
+            let w : IsUnknown conv trace = subst P was (stands.at conv) in
+            let on = calls_begun conv trace in
+            let took : begins (calls conv trace).moment None (calls conv trace)
+            ≡ record (calls conv trace) { peer = Some None; moves = calls_of conv trace ++ Took (calls conv trace).moment events.Begun ∷ [] } = rw w.begun refl in
+            let Q : C → Type 0 = λ s. standing conversation s (calls_of conv trace) [] in
+            let R : List Move → Type 0 = λ l. standing conversation conversation l [] in
+            let none : awaited held.conversation ≡ None = ap awaited same ∙ free in
+            let U : Found (Held C) → Type 0 = KeepsMarks course.operations conv in
+            let marked : KeepsMarks {C = C} course.operations conv unknown = subst U was (stands.marks conv) in
+            let next = t.takes due course stands.pending None trace next_trace
+            (record {
+              made = conversation;
+              given = [];
+              earlier = [];
+              alike = refl;
+              stands = subst Q (sym same) (subst R (sym w.moves) fresh);
+              owes = owes;
+              tells = λ view told. sym (w.sees view told);
+              hook = w.hook ∙ sym (ap hook_of none);
+              there = λ ask waits. absurd (let no : None ≡ Some ask = sym (ap hook_of none) ∙ waits in cc);
+            })
+            (λ flow hook waits. absurd (let no : None ≡ Some (asks.Hook flow hook) = sym none ∙ waits in cc))
+            (record {
+              moves = ap (λ (c : Calls). c.moves) on ∙ (ap (λ (c : Calls). c.moves) took ∙ ap (λ m. calls_of conv trace ++ Took m events.Begun ∷ []) (is_now conv));
+              begun = ap (λ (c : Calls). c.peer) on ∙ ap (λ (c : Calls). c.peer) took;
+              dials = ap (λ (c : Calls). c.dial) on ∙ (ap (λ (c : Calls). c.dial) took ∙ w.dial);
+              connected = servers_along (has []) _ _ (ap (λ (c : Calls). c.connected) on ∙ (ap (λ (c : Calls). c.connected) took ∙ w.connected)) (λ n. refl);
+              now = ap (λ (c : Calls). c.moment) on ∙ (ap (λ (c : Calls). c.moment) took ∙ is_now conv);
+              sees = λ view told. seen_begun view conv conv trace;
+              hook = hook_begun conv conv trace;
+            })
+            (begun_served due before trace conv stands)
+            (follows_begun answers due course stands.pending conv conv (kept_of conv held before.flows) old trace
+            (table_follows due conv before (kept_of conv held before.flows) trace stands (ap draft_of was ∙ sym no_draft)
+            (λ index. marked index ∙ sym (ap (λ r. has r index) no_marks)) (λ index. refl))) in
+            let there_now : IsLive standing awaited number made_due answers due conv new_held (next_trace ++ t.more) =
+            record { within = next.0; settled = t.settled; drafted = next.2 } in
+            next_stands due conv before after (kept_of conv new_held after.flows) trace (next_trace ++ t.more) (λ other apart. begun_same conv other trace t.more t.own apart)
+            others (λ other index apart. refl) t.others stands
+            (here_stands due conv new_held (next_trace ++ t.more) (found after conv) there_now there) next.1 next.3
+            (draft_in due conv new_held (next_trace ++ t.more) (found after conv) there_now there)
             (marks_in course.operations conv new_held (found after conv) there next.3.marks) (λ index. refl);
       }
 
@@ -630,6 +716,7 @@ module _ {C : Type 0} (standing : Standing C) (awaited : C → Option Ask) (numb
       own = r.own;
       others = r.others;
       stands = r.stands;
+      alone = r.alone;
     }
 
     -- no two numbers share a key

@@ -32,6 +32,7 @@ use Rattle.px_core.specs.Run.{begun_by, done_of, Tells, IsTellable, AllTellable,
 -- steps of a conversation are said or noted
 tellable_one : (conv : ℕ) (step : Step) → IsOf conv step → IsTellable step
 tellable_one conv (steps.Heard moment what) of = of
+tellable_one conv (steps.Begun number) of = absurd of
 tellable_one conv (steps.Asked number ask) of = tt
 tellable_one conv (steps.Answered number ask reply) of = tt
 tellable_one conv (steps.Said number what) of = tt
@@ -54,7 +55,7 @@ served_front answers due trace rest served = record {
 module _ {C : Type 0} (standing : Standing C) (awaited : C → Option Ask) (number : C → ℕ) (made_due : C → List Move → List Command) {S : Type 0} (answers : Answering S) where
   pub admitted : (conv moment : ℕ) (conversation : C) (before after : Table C) {old new : AnswererState S} (empty given : List Step) → empty ≡ [] →
       Admits standing awaited number made_due answers conv moment conversation before after old new empty given →
-      (due : Due) (course : Course S) (trace : Trace) (what : Heard) (peer : Address) → addressed what ≡ Some (conv, news.Begun peer) → ((moves : List Move) → made_due conversation moves ≡ due conv peer moves) →
+      (due : Due) (course : Course S) (trace : Trace) (what : Heard) (peer : Address) → addressed what ≡ Some (conv, news.Begun peer) → ((moves : List Move) → made_due conversation moves ≡ due conv (Some peer) moves) →
       TableStands standing awaited number made_due answers due course old before trace →
       TableStands standing awaited number made_due answers due course new after ((trace ++ steps.Heard moment what ∷ []) ++ given)
   admitted conv moment conversation before after {old} {new} empty given none a due course trace what peer is owes stands =

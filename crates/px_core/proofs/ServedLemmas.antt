@@ -21,7 +21,7 @@ use Rattle.px_core.specs.Answers.{Answering}
 use Rattle.px_core.specs.Calls.{Calls, calls, calls_of}
 use Rattle.px_core.specs.Conversation.{IsNamed, AllNamed}
 use Rattle.px_core.specs.Due.{Due, due_at, due_by, due_in, IsWithinDue, IsAllTold, IsMet, EndsMet, OpenOnesWait, IsServed}
-use Rattle.px_core.specs.Held.{step_of, IsOf, AllOf, dial_by, dial_from, Within}
+use Rattle.px_core.specs.Held.{step_of, IsOf, dial_by, dial_from, Within}
 use Rattle.px_core.specs.Hooks.{IsInTurn, EndsInTurn, hook_of}
 use Rattle.px_core.specs.Runs.{has}
 use Rattle.px_core.specs.Unmarked.{all_unmarked, none_marked}
@@ -65,7 +65,7 @@ no_heard : (conv : ℕ) (step : Step) → IsOf conv step → (moment : ℕ) (hea
 no_heard conv step of moment heard is = let P : Step → Type 0 = IsOf conv in let no : ⊥ = subst P is of in no
 
 -- what is due where its client is there
-pub due_there : (due : Due) (conv : ℕ) (trace : Trace) (peer : Address) → (calls conv trace).peer ≡ Some peer → (view : View) →
+pub due_there : (due : Due) (conv : ℕ) (trace : Trace) (peer : Option Address) → (calls conv trace).peer ≡ Some peer → (view : View) →
     due_in due view conv trace ≡ seen_of view (due conv peer (calls_of conv trace))
 due_there due conv trace peer is view = ap (λ at. seen_of view (due_at due conv at (calls_of conv trace))) is
 

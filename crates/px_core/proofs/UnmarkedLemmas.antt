@@ -7,12 +7,11 @@ use Rattle.px_text.specs.Prefix.{IsPrefixOf}
 use Rattle.px_event.specs.declared.ask.Ask.{Ask}
 use Rattle.px_event.specs.declared.command.Command.{Command}
 use Rattle.px_event.specs.declared.command.Command.TheVariants as commands
-use Rattle.px_event.specs.declared.side.Side.{Side}
 use Rattle.px_event.specs.Layer.{asks_in}
 use Rattle.px_event.specs.Trace.{is_same_side}
-use Rattle.px_event.specs.View.{View, Atom, line, questions, course, flows, byte, close, asked, dialled, done, about, byte_in, bytes_in, seen_of, command_atoms}
+use Rattle.px_event.specs.View.{View, Atom, line, questions, course, flows, byte, close, asked, dialled, done, about, bytes_in, seen_of, command_atoms}
 use Rattle.px_core.specs.Conversation.{AllNamed}
-use Rattle.px_core.specs.Held.{dial_by, dial_from}
+use Rattle.px_core.specs.Held.{dial_from}
 use Rattle.px_core.specs.Hooks.{AsksInTurn}
 use Rattle.px_core.specs.Unmarked.{unmarked_atom, all_unmarked, mark_on, all_marked, none_marked}
 

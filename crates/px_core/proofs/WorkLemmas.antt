@@ -22,9 +22,8 @@ use Rattle.px_core.specs.declared.held.Question.{Question}
 use Rattle.px_core.specs.Answers.{Answering, AnswererState}
 use Rattle.px_core.specs.Calls.{Calls, calls, calls_of, calls_on, moved}
 use Rattle.px_core.specs.Conversation.{AllNamed}
-use Rattle.px_core.specs.Drafts.{ComesTo, answers_for, released_by}
+use Rattle.px_core.specs.Drafts.{ComesTo, released_by}
 use Rattle.px_core.specs.declared.operation.Operation.{Operation}
-use Rattle.px_core.specs.declared.operation.Operation.TheVariants as operations
 use Rattle.px_core.specs.Answered.{Pending}
 use Rattle.px_core.specs.Course.{Course, with_operation}
 use Rattle.px_core.specs.Due.{Due, due_by, due_in, IsMet, IsServed, Waits}
@@ -36,7 +35,7 @@ use Rattle.px_core.specs.Unmarked.{unmarked, all_unmarked, all_marked, mark_on, 
 use Rattle.px_core.proofs.AnsweredLemmas.{all_own, comes_released, told_other, told_same, follows_told, follows_wait, follows_reply, follows_release}
 use Rattle.px_core.proofs.AskLemmas.{asks_one, dial_now, quiet, IsTheQuestion}
 use Rattle.px_core.proofs.CallLemmas.{calls_more, seen_more, same_number, told_calls}
-use Rattle.px_core.proofs.HookLemmas.{asked_same, hook_answered, one_turn, kept_on}
+use Rattle.px_core.proofs.HookLemmas.{hook_answered, one_turn, kept_on}
 use Rattle.px_core.proofs.ServedLemmas.{due_is, within_due, told_all, served_step, ends_met}
 use Rattle.px_core.proofs.ResultLemmas.{same_some}
 use Rattle.px_core.proofs.SideLemmas.{servers_along, servers_same}

@@ -23,8 +23,8 @@ use Rattle.px_core.specs.declared.news.News.TheVariants as news
 
 -- what is known of a conversation from the steps so far
 pub record Calls : Type 0 where
-  -- where its client is, once it has begun
-  pub peer : Option Address
+  -- where its client is, if it has one, once it has begun
+  pub peer : Option (Option Address)
   -- the moment of what was heard last, of any conversation; 0 before
   pub moment : ℕ
   -- the server of the dial that was said and is not answered
@@ -80,10 +80,14 @@ abbrev pub dial_ends : ℕ → ℕ → Bool → Calls → Calls
 dial_ends moment server ok c =
     record c { dial = None; connected = connected_by server ok c.connected; moves = c.moves ++ Replied moment (dial_reply ok) ∷ [] }
 
+-- it begins, once, with a client there or without one
+abbrev pub begins : ℕ → Option Address → Calls → Calls
+begins moment at c = if is_some c.peer then c else record c { peer = Some at; moves = c.moves ++ Took moment events.Begun ∷ [] }
+
 -- What the conversation takes of the news, at a moment. It begins once. An event of a side counts where it has begun and
 -- the side is the client or is connected. The end of a dial counts where that dial was said and not answered.
 abbrev pub takes : ℕ → Calls → News → Calls
-takes moment c (news.Begun peer) = if is_some c.peer then c else record c { peer = Some peer; moves = c.moves ++ Took moment events.Begun ∷ [] }
+takes moment c (news.Begun peer) = begins moment (Some peer) c
 takes moment c (news.Event side event) = if is_some c.peer then (if is_connected side c.connected then moved (Took moment event) c else c) else c
 takes moment c (news.Dialled server ok) = if is_dialling server c.dial then dial_ends moment server ok c else c
 
@@ -100,10 +104,11 @@ abbrev pub dials : Said → Calls → Calls
 dials (said.Dial server address) c = record c { dial = Some server }
 dials _ c = c
 
--- One step more. What is heard sets the moment; an answer of the conversation's is a reply at the moment of what was heard
--- last; a dial that is said to it awaits its end. No other step is a call.
+-- One step more. What is heard sets the moment; a conversation without a client begins, and an answer of the conversation's is a reply,
+-- at the moment of what was heard last; a dial that is said to it awaits its end. No other step is a call.
 abbrev pub calls_on : ℕ → Calls → Step → Calls
 calls_on conv c (steps.Heard moment what) = record (hears conv moment c what) { moment = moment }
+calls_on conv c (steps.Begun number) = if number == conv then begins c.moment None c else c
 calls_on conv c (steps.Answered number ask reply) = if number == conv then moved (Replied c.moment reply) c else c
 calls_on conv c (steps.Said number what) = if number == conv then dials what c else c
 calls_on conv c _ = c

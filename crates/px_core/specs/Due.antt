@@ -21,12 +21,12 @@ use Rattle.px_core.specs.Drafts.{ComesTo}
 use Rattle.px_core.specs.Hooks.{open_hook, EndsInTurn}
 use Rattle.px_core.specs.Unmarked.{unmarked, all_unmarked}
 
--- what is due in the conversation of each number, by where its client is and by its calls
+-- what is due in the conversation of each number, by where its client is, if it has one, and by its calls
 abbrev pub Due : Type 0
-Due = ℕ → Address → List Move → List Command
+Due = ℕ → Option Address → List Move → List Command
 
 -- in a conversation whose client is there; nothing is due in one that has not begun
-abbrev pub due_at : Due → ℕ → Option Address → List Move → List Command
+abbrev pub due_at : Due → ℕ → Option (Option Address) → List Move → List Command
 due_at due conv None moves = []
 due_at due conv (Some peer) moves = due conv peer moves
 

@@ -64,6 +64,7 @@ step_of conv (commands.Done flow) = steps.Done flow
 -- a step of the conversation of this number
 abbrev pub IsOf : ℕ → Step → Type 0
 IsOf conv (steps.Heard moment heard) = ⊥
+IsOf conv (steps.Begun number) = ⊥
 IsOf conv (steps.Asked number ask) = number ≡ conv
 IsOf conv (steps.Answered number ask reply) = number ≡ conv
 IsOf conv (steps.Said number what) = number ≡ conv
@@ -260,7 +261,7 @@ pub record Gives {C : Type 0} (standing : Standing C) (awaited : C → Option As
 
 -- The trace goes on by one call of the conversation, whose client is there, at this moment; then this dial awaits its end,
 -- and these servers are connected. No view has more of it, and no hook is asked or answered.
-pub record IsOneOn (conv : ℕ) (peer : Address) (moment : ℕ) (move : Move) (dial : Option ℕ) (servers : ℕ → Bool) (trace next : Trace) : Type 0 where
+pub record IsOneOn (conv : ℕ) (peer : Option Address) (moment : ℕ) (move : Move) (dial : Option ℕ) (servers : ℕ → Bool) (trace next : Trace) : Type 0 where
   pub moves : calls_of conv next ≡ calls_of conv trace ++ move ∷ []
   pub begun : (calls conv next).peer ≡ Some peer
   pub dials : (calls conv next).dial ≡ dial
@@ -279,7 +280,7 @@ module _ {C : Type 0} (standing : Standing C) (awaited : C → Option Ask) (numb
   -- are still to be told.
   pub record Within (due : Due) (conv : ℕ) (held : Held C) (trace : Trace) (rest : List Command) : Type 0 where
     pub made : C
-    pub peer : Address
+    pub peer : Option Address
     pub given : List Command
     pub earlier : List Command
     pub stands : standing made held.conversation (calls_of conv trace) given
@@ -294,7 +295,7 @@ module _ {C : Type 0} (standing : Standing C) (awaited : C → Option Ask) (numb
 
   -- The conversation, whose client is there, stands for its calls in the trace, and gave what the trace has of it. The hook
   -- that it awaits is open, and only one that has begun awaits one.
-  pub record Stood (due : Due) (conv : ℕ) (peer : Address) (state : C) (trace : Trace) : Type 0 where
+  pub record Stood (due : Due) (conv : ℕ) (peer : Option Address) (state : C) (trace : Trace) : Type 0 where
     pub made : C
     pub given : List Command
     pub earlier : List Command
@@ -344,7 +345,7 @@ module _ {C : Type 0} (standing : Standing C) (awaited : C → Option Ask) (numb
       pub more : List Step
       pub grown : new_out ≡ out ++ more
       pub own : AllOf conv more
-      pub takes : (due : Due) (course : Course S) (pending : Pending) (peer : Address) (trace next : Trace) → Stood due conv peer before.conversation trace →
+      pub takes : (due : Due) (course : Course S) (pending : Pending) (peer : Option Address) (trace next : Trace) → Stood due conv peer before.conversation trace →
           IsDrafted awaited answers due conv before trace → IsOneOn conv peer moment move dial servers trace next → IsServed answers due next →
           Follows answers due course pending conv (kept_of conv before shown) old next →
           Within due conv after (next ++ more) [] × IsServed answers due (next ++ more) × IsDrafted awaited answers due conv after (next ++ more)

@@ -14,9 +14,7 @@ use Rattle.px_event.specs.declared.step.Step.TheVariants as steps
 use Rattle.px_event.specs.Layer.{Move, Standing, IsSound}
 use Rattle.px_event.specs.Trace.{Trace}
 use Rattle.px_event.specs.View.{View, IsTold, seen_of, seen_in}
-use Rattle.px_message.specs.declared.flow.FlowId.{FlowId}
 use Rattle.px_core.specs.declared.answerer.Draft.{Draft}
-use Rattle.px_core.specs.declared.flows.Flows.{Flows}
 use Rattle.px_core.specs.declared.held.Held.{Held}
 use Rattle.px_core.specs.declared.operation.Operation.{Operation}
 use Rattle.px_core.specs.declared.operation.Operation.TheVariants as operations
@@ -34,7 +32,7 @@ use Rattle.px_core.specs.Answers.{Answering, AnswererState, ByAnswers, FilesMean
 use Rattle.px_core.specs.Course.{Course, Operated, is_marked, with_change, with_operation}
 use Rattle.px_core.specs.Calls.{calls, calls_of, addressed}
 use Rattle.px_core.specs.Due.{Due, due_in, IsServed}
-use Rattle.px_core.specs.Held.{AllOf, IsReleased, IsSettled, IsDrafted, ShowsOthers, waiting, Within, Hears, Releases}
+use Rattle.px_core.specs.Held.{AllOf, IsReleased, IsSettled, IsDrafted, waiting, Within, Hears, Releases}
 use Rattle.px_core.specs.Hooks.{open_hook}
 use Rattle.px_core.specs.Live.{hook_in, is_live, shown_in, waiting_hook}
 use Rattle.px_core.specs.Runs.{has}
@@ -109,7 +107,7 @@ pub record IsUnknown (conv : ℕ) (trace : Trace) : Type 0 where
 
 -- It has ended: the trace has what is due, no call changes that, and no hook is open.
 pub record IsOver (due : Due) (conv : ℕ) (trace : Trace) : Type 0 where
-  pub peer : Address
+  pub peer : Option Address
   pub begun : (calls conv trace).peer ≡ Some peer
   pub told : (view : View) → IsTold view → all_unmarked (seen_in view conv trace) ≡ all_unmarked (due_in due view conv trace)
   pub stays : (view : View) (more : List Move) → all_unmarked (seen_of view (due conv peer (calls_of conv trace ++ more))) ≡ all_unmarked (due_in due view conv trace)
@@ -257,8 +255,11 @@ module _ {C : Type 0} (standing : Standing C) (awaited : C → Option Ask) (numb
       pub own : AllOf conv more
       pub others : (other : ℕ) → conv ≢ other → found after other ≡ found before other
       pub stands : (due : Due) (course : Course S) (trace : Trace) (heard : Heard) (peer : Address) → addressed heard ≡ Some (conv, news.Begun peer) →
-          ((moves : List Move) → made_due conversation moves ≡ due conv peer moves) → TableStands due course old before trace →
+          ((moves : List Move) → made_due conversation moves ≡ due conv (Some peer) moves) → TableStands due course old before trace →
           TableStands due course new after ((trace ++ steps.Heard moment heard ∷ []) ++ more)
+      -- It may have no client, and begin with no one heard, at the moment of what was heard last.
+      pub alone : (due : Due) (course : Course S) (trace : Trace) → IsNow moment trace → ((moves : List Move) → made_due conversation moves ≡ due conv None moves) →
+          TableStands due course old before trace → TableStands due course new after ((trace ++ steps.Begun conv ∷ []) ++ more)
 
     -- Something heard that a router took: it adds steps of that conversation alone, and changes nothing of another; whatever
     -- trace it stood for, it stands for that trace with what was heard and these steps more.

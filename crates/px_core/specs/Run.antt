@@ -24,7 +24,7 @@ use Rattle.px_core.specs.declared.operation.Operation.{Operation}
 
 -- the maker means this due
 abbrev pub IsDueOf : Due → Due → Type 0
-IsDueOf made due = (conv : ℕ) (peer : Address) (moves : List Move) → made conv peer moves ≡ due conv peer moves
+IsDueOf made due = (conv : ℕ) (peer : Option Address) (moves : List Move) → made conv peer moves ≡ due conv peer moves
 
 -- the trace is told with more steps, and the fact holds of it
 pub record Tells (P : Trace → Type 0) (trace : Trace) (told : Option Trace) : Type 0 where
@@ -76,40 +76,56 @@ pub record KeepsOthers {C A : Type 0} (what : Heard) (before after : Router C A)
   pub others : (conv other : ℕ) (news : News) → addressed what ≡ Some (conv, news) → conv ≢ other → found after.table other ≡ found before.table other
   pub none : addressed what ≡ None → after.table ≡ before.table
 
--- Steps that follow from something heard: those of the conversation that was heard alone. The fact holds of the trace with them, and where the network
--- tells its steps, it tells these too.
-pub record AddsHeard (P : Trace → Type 0) (what : Heard) (trace : Trace) (before after : Option Trace) : Type 0 where
+-- Steps that follow, of whom they may be. The fact holds of the trace with them, and where the network tells its steps, it tells these too.
+pub record Adds (Own : List Step → Type 0) (P : Trace → Type 0) (trace : Trace) (before after : Option Trace) : Type 0 where
   pub more : List Step
-  pub own : IsOfHeard what more
+  pub own : Own more
   pub holds : P (trace ++ more)
   pub tells : (told : Trace) → before ≡ Some told → after ≡ Some (told ++ more)
 
--- Something heard that memory ran out in: what was told of the steps that follow. The trace with them is served, and the answerer came over it by the
--- course.
-pub record BreaksHeard {S : Type 0} (answers : Answering S) (fails : Failing S) (due : Due) (course : Course S) (what : Heard) (trace told : Trace) (now : Option Trace)
+-- What memory ran out in: what was told of the steps that follow. The trace with them is served, and the answerer came over it by the course.
+pub record Breaks {S : Type 0} (Own : List Step → Type 0) (answers : Answering S) (fails : Failing S) (due : Due) (course : Course S) (trace told : Trace) (now : Option Trace)
     (files : FilesMeaning) : Type 0 where
   pub more : List Step
-  pub own : IsOfHeard what more
+  pub own : Own more
   pub is : now ≡ Some (told ++ more)
   pub served : IsServed answers due (trace ++ more)
   pub follows : IsAnswered answers due course (trace ++ more)
   pub leaves : LeavesFiles answers fails due course ⊥ files (trace ++ more)
 
--- Steps that an operation added: those of the conversation whose hook it answers. The fact holds of the trace with them, and where the network
--- tells its steps, it tells these too.
-pub record AddsSteps (P : Trace → Type 0) (operation : Operation) (trace : Trace) (before after : Option Trace) : Type 0 where
-  pub more : List Step
-  pub own : AllOfAny (caused_in operation) more
-  pub holds : P (trace ++ more)
-  pub tells : (told : Trace) → before ≡ Some told → after ≡ Some (told ++ more)
+-- something heard: steps of the conversation that was heard alone
+abbrev pub AddsHeard : (Trace → Type 0) → Heard → Trace → Option Trace → Option Trace → Type 0
+AddsHeard P what = Adds (IsOfHeard what) P
 
--- An operation that memory ran out in: what was told of its steps. The trace with them is served, and the answerer came over it by the course with the
--- operation.
-pub record BreaksOff {S : Type 0} (answers : Answering S) (fails : Failing S) (due : Due) (course : Course S) (operation : Operation) (trace told : Trace) (now : Option Trace)
-    (files : FilesMeaning) : Type 0 where
+abbrev pub BreaksHeard : {S : Type 0} → Answering S → Failing S → Due → Course S → Heard → Trace → Trace → Option Trace → FilesMeaning → Type 0
+BreaksHeard answers fails due course what = Breaks (IsOfHeard what) answers fails due course
+
+-- an operation: steps of the conversation whose hook it answers, and the course with the operation
+abbrev pub AddsSteps : (Trace → Type 0) → Operation → Trace → Option Trace → Option Trace → Type 0
+AddsSteps P operation = Adds (AllOfAny (caused_in operation)) P
+
+abbrev pub BreaksOff : {S : Type 0} → Answering S → Failing S → Due → Course S → Operation → Trace → Trace → Option Trace → FilesMeaning → Type 0
+BreaksOff answers fails due course operation trace = Breaks (AllOfAny (caused_in operation)) answers fails due (with_operation course trace operation) trace
+
+-- A conversation without a client has begun: its first step says so, and the others are its own. The fact holds of the trace with them, and where the network
+-- tells its steps, it tells these too.
+pub record AddsBegun (P : Trace → Type 0) (conv : ℕ) (trace : Trace) (before after : Option Trace) : Type 0 where
   pub more : List Step
-  pub own : AllOfAny (caused_in operation) more
-  pub is : now ≡ Some (told ++ more)
-  pub served : IsServed answers due (trace ++ more)
-  pub follows : IsAnswered answers due (with_operation course trace operation) (trace ++ more)
-  pub leaves : LeavesFiles answers fails due (with_operation course trace operation) ⊥ files (trace ++ more)
+  pub own : AllOf conv more
+  pub holds : P ((trace ++ steps.Begun conv ∷ []) ++ more)
+  pub tells : (told : Trace) → before ≡ Some told → after ≡ Some ((told ++ steps.Begun conv ∷ []) ++ more)
+
+-- these steps are the conversation's beginning, with steps of its own behind it
+pub record IsBegunBy (conv : ℕ) (list : List Step) : Type 0 where
+  pub more : List Step
+  pub is : list ≡ steps.Begun conv ∷ more
+  pub own : AllOf conv more
+
+-- these steps are none, or the conversation's beginning with steps of its own behind it
+abbrev pub IsFrontOfBegun : ℕ → List Step → Type 0
+IsFrontOfBegun conv [] = Unit {0}
+IsFrontOfBegun conv (step ∷ rest) = (step ≡ steps.Begun conv) × AllOf conv rest
+
+-- a conversation without a client that memory ran out in, as it began
+abbrev pub BreaksBegun : {S : Type 0} → Answering S → Failing S → Due → Course S → ℕ → Trace → Trace → Option Trace → FilesMeaning → Type 0
+BreaksBegun answers fails due course conv = Breaks (IsFrontOfBegun conv) answers fails due course

@@ -1,5 +1,5 @@
 //! Laws of what is due in conversations, and of who answers hooks. Each is a function with nothing to do: its contract is the law.
-ghost use Rattle.std.specs.Prelude.{◌≡◌, ◌≢◌, ◌++◌, ◌∷◌, [], ℕ, Bool, true, List, Some, None};
+ghost use Rattle.std.specs.Prelude.{◌≡◌, ◌≢◌, ◌++◌, ◌∷◌, [], ℕ, Option, Bool, true, List, Some, None};
 ghost use Rattle.px_event.specs.Chain.{Chain, Stamped, due};
 ghost use Rattle.px_event.specs.Layer.{Move};
 ghost use Rattle.px_event.specs.Stands.{due_by};
@@ -38,7 +38,7 @@ pub fn no_hook_is_asked_behind_its_end<Stage>()
         AsksBeforeEnds (due chain start events replies) }
     ensures calls { (chain : Chain Stage TakenEvent GivenReply GivenCommand) (is_stage : Stage → Bool) (past : Stage → ℕ → Bool) → LeavesFlows chain is_stage past →
         (start : Stage) → is_stage start ≡ true → (moves : List Move) → AsksBeforeEnds (due_by chain start moves) }
-    ensures traces { (due : Due) → ((conv : ℕ) (peer : Address) (moves : List Move) → AsksBeforeEnds (due conv peer moves)) →
+    ensures traces { (due : Due) → ((conv : ℕ) (peer : Option Address) (moves : List Move) → AsksBeforeEnds (due conv peer moves)) →
         (trace : Trace) → IsWithinDue due trace → IsInOrder trace }
 {}
 

@@ -16,9 +16,13 @@
 //! An answerer may have addons, each with a name (`specs/Addons.antt`). `drop_addon` takes the first of a name away, and leaves the
 //! others as they are; what that makes of its state is its own relation, as its answers are.
 //!
+//! A conversation may have no client (`begin_alone`): it begins with no one heard, under a number from 2^31 on, which no accepted connection has, and a step of its own
+//! says so.
+//!
 //! A conversation that is over by its calls stays over, and no call behind them changes what is due.
 #![tactic(auto)]
 
+mod alone;
 mod answerer;
 mod conversation;
 mod flows;
@@ -37,6 +41,7 @@ mod runs;
 mod table;
 mod work;
 
+pub use alone::begin_alone;
 pub use answerer::{Answer, Answerer, Draft, NoSuchAddon, Verdict};
 pub use conversation::Conversation;
 pub use gates::{Gates, LayerMaker};

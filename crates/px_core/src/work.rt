@@ -2,7 +2,7 @@
 //!
 //! The steps of a call are said and noted one by one, so the network may fail within them. Each prefix of them is served,
 //! since an answer stands before what it causes; so the promise holds in every exit.
-ghost use Rattle.std.specs.Prelude.{◌≡◌, ◌≢◌, ◌++◌, ◌∷◌, ◌⊎◌, ℕ, Some, None, true, false, [], List, Err, IfOk, IfErr, IfSome, IsErr, OnOk, OnErr};
+ghost use Rattle.std.specs.Prelude.{◌≡◌, ◌≢◌, ◌++◌, ◌∷◌, ◌⊎◌, ℕ, Option, Some, None, true, false, [], List, Err, IfOk, IfErr, IfSome, IsErr, OnOk, OnErr};
 ghost use Rattle.std.specs.List.{flat_map};
 ghost use Rattle.px_text.specs.Prefix.{IsPrefixOf};
 ghost use Rattle.px_message.specs.declared.address.Address.{Address as PeerAddress};
@@ -58,7 +58,8 @@ pub fn work_off<C: Owes, A: Answerer, M: Maker<C>, F: Files, N: Net, T: Taker>(
         OnErr result (BreaksHeard A.answers A.fails due course heard (trace ++ WasHeard moment heard ∷ []) told (N.trace net.new) (files_meaning F.contents F.calls F.misses F.faults F.losses files.new)) }
     ensures taken { (trace : Trace) → N.trace net.old ≡ Some trace → T.taken taker.old ≡ flat_map done_of trace →
         OnOk result (Tells (λ told. T.taken taker.new ≡ flat_map done_of told) trace (N.trace net.new)) }
-    ensures due { (number : ℕ) (at : PeerAddress) (moves : List Move) → M.due maker.new number at moves ≡ M.due maker.old number at moves }
+    ensures due { (number : ℕ) (at : Option PeerAddress) (moves : List Move) → M.due maker.new number at moves ≡ M.due maker.old number at moves }
+    ensures count { M.alone maker.new ≡ M.alone maker.old }
     ensures listening { N.listening net.new ≡ N.listening net.old }
     ensures faults { N.faults net.new ≡ N.faults net.old }
     ensures own { (trace : Trace) → N.trace net.old ≡ Some trace → TellsOfHeard heard trace (N.trace net.new) }
@@ -220,7 +221,8 @@ fn follow<C: Owes, A: Answerer, M: Maker<C>, F: Files, N: Net, T: Taker>(
         OnErr result (BreaksHeard A.answers A.fails due course heard (trace ++ WasHeard moment heard ∷ []) told (N.trace net.new) (files_meaning F.contents F.calls F.misses F.faults F.losses files.new)) }
     ensures taken { (trace : Trace) → N.trace net.old ≡ Some trace → T.taken taker.old ≡ flat_map done_of trace →
         OnOk result (Tells (λ told. T.taken taker.new ≡ flat_map done_of told) trace (N.trace net.new)) }
-    ensures due { (number : ℕ) (at : PeerAddress) (moves : List Move) → M.due maker.new number at moves ≡ M.due maker.old number at moves }
+    ensures due { (number : ℕ) (at : Option PeerAddress) (moves : List Move) → M.due maker.new number at moves ≡ M.due maker.old number at moves }
+    ensures count { M.alone maker.new ≡ M.alone maker.old }
     ensures listening { N.listening net.new ≡ N.listening net.old }
     ensures faults { N.faults net.new ≡ N.faults net.old }
     ensures own { (trace : Trace) → N.trace net.old ≡ Some trace → TellsOfHeard heard trace (N.trace net.new) }
@@ -252,7 +254,8 @@ fn route<C: Owes, A: Answerer, M: Maker<C>, F: Files>(
     ensures own { IfOk result (λ steps. IsOfHeard heard steps.items) }
     ensures others { OnOk result (KeepsOthers heard router.old router.new) }
     ensures poisoned { router.old.poisoned ≡ true → IsErr result }
-    ensures due { (number : ℕ) (at : PeerAddress) (moves : List Move) → M.due maker.new number at moves ≡ M.due maker.old number at moves }
+    ensures due { (number : ℕ) (at : Option PeerAddress) (moves : List Move) → M.due maker.new number at moves ≡ M.due maker.old number at moves }
+    ensures count { M.alone maker.new ≡ M.alone maker.old }
     ensures files { FilesAfter A.answers A.fails (state_of A.state F.contents F.calls F.misses F.faults F.losses router.old.answerer files.old) (files_meaning F.contents F.calls F.misses F.faults F.losses files.new) }
     ensures given { OnOk result (ByAnswers A.answers (state_of A.state F.contents F.calls F.misses F.faults F.losses router.old.answerer files.old) (state_of A.state F.contents F.calls F.misses F.faults F.losses router.new.answerer files.new)) }
     ensures goes_on { HoldsNoEnded C.ended router.old.table → OnOk result (HoldsNoEnded C.ended router.new.table) }
@@ -283,7 +286,8 @@ fn begin<C: Owes, A: Answerer, M: Maker<C>, F: Files>(
     ensures own { IfOk result (λ steps. AllOf conv steps.items) }
     ensures others { (other : ℕ) → conv ≢ other → OnOk result (found router.new.table other ≡ found router.old.table other) }
     ensures poisoned { router.old.poisoned ≡ true → IsErr result }
-    ensures due { (number : ℕ) (at : PeerAddress) (moves : List Move) → M.due maker.new number at moves ≡ M.due maker.old number at moves }
+    ensures due { (number : ℕ) (at : Option PeerAddress) (moves : List Move) → M.due maker.new number at moves ≡ M.due maker.old number at moves }
+    ensures count { M.alone maker.new ≡ M.alone maker.old }
     ensures files { FilesAfter A.answers A.fails (state_of A.state F.contents F.calls F.misses F.faults F.losses router.old.answerer files.old) (files_meaning F.contents F.calls F.misses F.faults F.losses files.new) }
     ensures given { OnOk result (ByAnswers A.answers (state_of A.state F.contents F.calls F.misses F.faults F.losses router.old.answerer files.old) (state_of A.state F.contents F.calls F.misses F.faults F.losses router.new.answerer files.new)) }
     ensures goes_on { HoldsNoEnded C.ended router.old.table → OnOk result (HoldsNoEnded C.ended router.new.table) }
@@ -323,7 +327,11 @@ fn begins(heard: &Heard) -> Option<u32>
 }
 
 /// Says or notes each step in its order, and hands on each finished flow.
-fn tell_all<N: Net, T: Taker>(net: &mut N, taker: &mut T, steps: Vec<Step>) -> Result<(), NoMemory>
+pub(crate) fn tell_all<N: Net, T: Taker>(
+    net: &mut N,
+    taker: &mut T,
+    steps: Vec<Step>,
+) -> Result<(), NoMemory>
     requires tellable { AllTellable steps.items }
     ensures told { (trace : Trace) → N.trace net.old ≡ Some trace → OnOk result (N.trace net.new ≡ Some (trace ++ steps.items)) }
     ensures part { (trace : Trace) → N.trace net.old ≡ Some trace → OnErr result (ToldPart steps.items trace (N.trace net.new) (T.taken taker.old) (T.taken taker.new)) }

@@ -39,7 +39,7 @@ broken_so answers fails due course what trace told files breaks =
     (subst P same breaks.served, subst Q same breaks.follows)
 
 pub runs_on : {A : Type 0} (due : Due) (course : Course (List (Option Verdict))) (now : AnswererState (List (Option Verdict))) (flow new_flow : Flow) (router : Router (Gate LineEcho) A) (told : Trace) → IsDueOf (echo_due flow) due →
-    ((number : ℕ) (at : Address) (moves : List Move) → echo_due new_flow number at moves ≡ echo_due flow number at moves) →
+    ((number : ℕ) (at : Option Address) (moves : List Move) → echo_due new_flow number at moves ≡ echo_due flow number at moves) →
     TableStands (GateStands EchoStands awaits) (λ gate. awaits gate.layer) (λ gate. gate.layer.flow.id.conv)
     (λ made moves. due_by (echo_chain made.layer.flow) (Reading 0) moves) by_turns due course now router.table told →
     EchoRuns due course now new_flow router told

@@ -16,8 +16,8 @@ use Rattle.px_core.specs.Conversation.{AllNamed}
 use Rattle.px_core.proofs.ChainNamedLemmas.{all_named}
 
 -- the flow with this number and this client
-abbrev pub flow_of : Flow → ℕ → Address → Flow
-flow_of flow conv peer = record flow { id = record flow.id { conv = conv }; client = Some peer }
+abbrev pub flow_of : Flow → ℕ → Option Address → Flow
+flow_of flow conv peer = record flow { id = record flow.id { conv = conv }; client = peer }
 
 same_flow : (flow : Flow) (state : LineEcho) (stage : EchoStage) (prefix : List (Timed Event)) → IsAt flow state stage prefix → state.flow ≡ flow
 same_flow flow state (Reading used) prefix at = at.same_flow

@@ -10,7 +10,7 @@ returns-clause-stands g c = λ due course trace owes stands.
     admitted g.C.Conversation.stands g.C.Conversation.awaited g.C.Conversation.number g.C.Owes.due g.A.Answerer.answers c.args.conv c.args.moment c.in_ok-conversation.conversation _ _ _ _ c.new-steps.ensures.items
     c.in_ok-admit.ensures.admits due course trace c.args.heard.now c.in-Accepted.peer
     (c.requires.begins.1 ∙ ap (λ at. Some (c.args.conv, news.Begun at)) (peer_is c.in-Accepted.conv c.in-Accepted.door c.in-Accepted.peer c.args.conv c.requires.begins.0 (sym (ap addressed c.in-Accepted.is) ∙ c.requires.begins.1)))
-    (λ moves. c.in_ok-conversation.ensures.due moves ∙ owes c.args.conv c.in-Accepted.peer moves) stands
+    (λ moves. c.in_ok-conversation.ensures.due moves ∙ owes c.args.conv (Some c.in-Accepted.peer) moves) stands
 
 pub returns-clause-own : goal.returns-clause-own
 returns-clause-own g c =

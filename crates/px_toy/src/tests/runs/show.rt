@@ -2,11 +2,12 @@
 use px_event::{Ask, Door, Heard, Reply, Said, Side, Step};
 use px_text::{NoMemory, push_decimal};
 
-/// Writes a step: `+` an accepted connection, `<` what is heard of a side, `?` an ask, `=` an answer, `>` what is said, each
+/// Writes a step: `+` an accepted connection, `*` a conversation that begins without a client, `<` what is heard of a side, `?` an ask, `=` an answer, `>` what is said, each
 /// with its conversation's number; `!` is a close, and `.` nothing that a row has.
 pub(crate) fn write_step(step: &Step, text: &mut Vec<u8>) -> Result<(), NoMemory> {
     match step {
         Step::Heard { heard, .. } => write_heard(heard, text),
+        Step::Begun { conv } => write_mark(b'*', *conv, text),
         Step::Asked { conv, ask } => write_ask(*conv, ask, text),
         Step::Answered { conv, reply, .. } => write_reply(*conv, reply, text),
         Step::Said { conv, said } => write_said(*conv, said, text),
