@@ -14,6 +14,7 @@ pub mod ResumeLemmas
 pub mod MoveLemmas
 pub mod CallLemmas
 pub mod AnywhereLemmas
+pub mod GoingOnLemmas
 pub mod LookingLemmas
 pub mod RestLemmas
 pub mod OutcomeLemmas

@@ -2,6 +2,7 @@ pub mod Anywhere
 pub mod Bodies
 pub mod Calls
 pub mod Found
+pub mod GoingOn
 pub mod Heard
 pub mod Kept
 pub mod Law

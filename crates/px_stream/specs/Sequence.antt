@@ -119,6 +119,11 @@ abbrev pub is_end : Outcome → Bool
 is_end outcomes.Going = false
 is_end outcome = true
 
+-- the head of a request is awaited
+abbrev pub is_idle : Phase → Bool
+is_idle (phase.Ready ready.Idle) = true
+is_idle found = false
+
 -- where a CONNECT asks for a tunnel to
 abbrev pub asked_tunnel : Phase → Option Address
 asked_tunnel (phase.Ready (ready.Connects address)) = Some address

@@ -36,7 +36,7 @@ pub(crate) fn enter(phase: &mut Phase, next: Phase)
     leave(mem::replace(phase, next));
 }
 
-fn leave(phase: Phase) {
+pub(crate) fn leave(phase: Phase) {
     match phase {
         Phase::Ready(ready) => leave_ready(ready),
         Phase::Asked(asked) => leave_asked(asked),

@@ -2,14 +2,43 @@
 ghost use Rattle.std.specs.Prelude.{◌≡◌, IfOk};
 ghost use Rattle.px_stream.specs.Rests.{asked_rest, phase_flow, phase_rest, ready_rest};
 
-use crate::leaving::{leave_asked, leave_flow, leave_ready};
+use crate::leaving::{leave, leave_asked, leave_flow, leave_ready};
 use crate::link::Link;
 use crate::phase::{Asked, Phase, Wanted};
+use px_event::Rests;
 use px_message::Flow;
+use px_read::MessageReader;
 use px_text::{Bytes, NoMemory};
 
+/// What was not used of both sides, and the flow that another protocol follows.
+pub(crate) fn rests_of(
+    requests: MessageReader,
+    phase: Phase,
+) -> Result<(Rests, Option<Flow>), NoMemory>
+    ensures client { IfOk result (λ left. left.0.client ≡ requests.rest) }
+    ensures server { IfOk result (λ left. left.0.server ≡ phase_rest phase) }
+    ensures flow { IfOk result (λ left. left.1 ≡ phase_flow phase) }
+{
+    match requests.into_rest() {
+        Ok(client) => rests_with(client, phase),
+        Err(NoMemory) => {
+            leave(phase);
+            Err(NoMemory)
+        }
+    }
+}
+
+fn rests_with(client: Bytes, phase: Phase) -> Result<(Rests, Option<Flow>), NoMemory>
+    ensures client { IfOk result (λ left. left.0.client ≡ client) }
+    ensures server { IfOk result (λ left. left.0.server ≡ phase_rest phase) }
+    ensures flow { IfOk result (λ left. left.1 ≡ phase_flow phase) }
+{
+    let (server, flow) = rest_of_phase(phase)?;
+    Ok((Rests { client, server }, flow))
+}
+
 /// What was not used of the server's side, and the flow that another protocol follows.
-pub(crate) fn rest_of_phase(phase: Phase) -> Result<(Bytes, Option<Flow>), NoMemory>
+fn rest_of_phase(phase: Phase) -> Result<(Bytes, Option<Flow>), NoMemory>
     ensures server { IfOk result (λ left. left.0 ≡ phase_rest phase) }
     ensures flow { IfOk result (λ left. left.1 ≡ phase_flow phase) }
 {

@@ -9,6 +9,7 @@ ghost use Rattle.px_event.specs.Layer.{Move, Took, Replied, IsSound, Goes, AsksO
 ghost use Rattle.px_event.specs.declared.command.Command.{Command as GivenCommand};
 ghost use Rattle.px_read.specs.Reader.{before_all, request};
 ghost use Rattle.px_stream.specs.Anywhere.{Begins, HearsWaiting, IsNew, Reaches, ResumesAnywhere, Somewhere, TakesAnywhere};
+ghost use Rattle.px_stream.specs.GoingOn.{GoesOnWith, wanted_by};
 ghost use Rattle.px_stream.specs.Calls.{Answers, Hears, LooksOnce, MayHear, TakesEvent, TurnsTo};
 ghost use Rattle.px_chain.specs.Chain.{alone, look as look_at};
 ghost use Rattle.px_stream.specs.Kept.{stream_keeps};
@@ -17,7 +18,7 @@ ghost use Rattle.px_stream.specs.Looking.{MayLook};
 ghost use Rattle.px_exchange.specs.Places.{terms_of};
 ghost use Rattle.px_stream.specs.Phases.{spare_at};
 ghost use Rattle.px_stream.specs.Rests.{LeavesRests, phase_flow, phase_rest};
-ghost use Rattle.px_stream.specs.Sequence.{IsSideBelow, Stands, StandsInSequence, asked_tunnel, is_end, open_spare, outcome_at, outcome_in, ready_onward, requests_onward, seen_at, stage_at, upgraded_side};
+ghost use Rattle.px_stream.specs.Sequence.{IsSideBelow, Stands, StandsInSequence, asked_tunnel, is_end, is_idle, open_spare, outcome_at, outcome_in, ready_onward, requests_onward, seen_at, stage_at, upgraded_side};
 ghost use Rattle.px_chain.specs.Stages.{Stage};
 ghost use Rattle.px_stream.specs.Stands.{awaits, is_last};
 ghost use Rattle.px_stream.specs.Through.{IsDialling, led_by, led_to, server_dialled};
@@ -30,7 +31,7 @@ use crate::link::{Link, open_number, spare_side};
 use crate::looking::look;
 use crate::numbers::Numbers;
 use crate::phase::{Asked, Phase, Wanted};
-use crate::rests::rest_of_phase;
+use crate::rests::rests_of;
 use crate::sizes::{size_of_phase, size_of_spare};
 use crate::turning::turn;
 use px_event::{Ask, Command, Event, Reply, Rests};
@@ -182,6 +183,35 @@ impl Stream {
         self.client_closed = closed;
         self.requests.feed(rest)?;
         self.advance(moment, Wanted::Idle, out)
+    }
+
+    /// Goes on with a flow whose request others have read and asked about: its server is dialled, or the response that was given in place
+    /// of the server's goes through both hooks. It looks once. A stream that was handed something already may not go on so.
+    ///
+    /// It is then where the chain of flows in sequence is that has such a flow at that place, over all events, and gave what is owed there.
+    pub fn go_on_with(
+        &mut self,
+        moment: u64,
+        flow: Flow,
+        out: &mut Vec<Command>,
+    ) -> Result<(), NoMemory>
+        requires new { IsNew self.old }
+        ensures goes_on { OnOk result (GoesOnWith self.old self.new moment flow out.old.items out.new.items) }
+        ensures asks { OnOk result (AsksOnly (awaits self.new) out.old.items out.new.items) }
+        ensures left { OnOk result (sequence_left self.new ≤ sequence_left self.old) }
+    {
+        self.advance(moment, wanted_for(flow), out)
+    }
+
+    /// Whether the head of a request is awaited: where flows follow one another, the one before is finished.
+    pub fn is_idle(&self) -> bool
+        ensures { result ≡ is_idle self.now.phase }
+    {
+        match &self.phase {
+            Phase::Ready(Wanted::Idle) => true,
+            Phase::Ready(_) => false,
+            Phase::Asked(_) => false,
+        }
     }
 
     // Takes an event, where the flow is alone.
@@ -564,9 +594,19 @@ impl Stream {
             phase,
             ..
         } = self;
-        let client = requests.into_rest()?;
-        let (server, flow) = rest_of_phase(phase)?;
-        Ok((Rests { client, server }, flow))
+        let (rests, flow) = rests_of(requests, phase)?;
+        Ok((rests, flow))
+    }
+}
+
+// What is looked for where a flow's request is whole and was asked about.
+fn wanted_for(flow: Flow) -> Wanted
+    ensures { result ≡ wanted_by flow.response flow }
+{
+    if flow.response.is_some() {
+        Wanted::GivenHead { flow }
+    } else {
+        Wanted::Dialling { flow }
     }
 }
 

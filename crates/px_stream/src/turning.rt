@@ -263,7 +263,7 @@ fn send_request(
         onward_text(now.alloc, place.form(), flow.request.get())?,
         out,
     )?;
-    let address = server_for(place, &flow)?;
+    let address = Shared::new(now.alloc, server_for(place, &flow)?)?;
     Ok(Wanted::Answering {
         flow: flows::with_server(flow, address),
         link,

@@ -14,7 +14,7 @@ returns-clause-behind c onward made moves given stands =
     let seen : Sight = seen_at onward made moves in
     let P : List ℕ → List ℕ → Option Flow → Type 0 = LeavesRests made.terms.place (look made.terms stage seen) stage seen in
     let Q : List ℕ → Type 0 = λ client. P client (phase_rest c.args.self.phase) (phase_flow c.args.self.phase) in
-    let R : List ℕ → Type 0 = λ server. P c.in_ok-client.client server (phase_flow c.args.self.phase) in
-    let S : Option Flow → Type 0 = λ flow. P c.in_ok-client.client c.in_ok-server.server flow in
-    subst S (sym c.in_ok-server.ensures.flow) (subst R (sym c.in_ok-server.ensures.server)
-    (subst Q (sym c.in_ok-client.ensures) (leaves_rests made.terms _ _ stage seen stands.place.is_in.phase)))
+    let R : List ℕ → Type 0 = λ server. P c.in_ok-rests.rests.client server (phase_flow c.args.self.phase) in
+    let S : Option Flow → Type 0 = λ flow. P c.in_ok-rests.rests.client c.in_ok-rests.rests.server flow in
+    subst S (sym c.in_ok-rests.ensures.flow) (subst R (sym c.in_ok-rests.ensures.server)
+    (subst Q (sym c.in_ok-rests.ensures.client) (leaves_rests made.terms _ _ stage seen stands.place.is_in.phase)))
