@@ -583,8 +583,8 @@ module _ (server : ℕ) where
         (there_one here.before here.stage here.prefix there.holds)
 
 -- In mode `upstream:` a server that has not answered was sent one request at most.
-pub mode_one_request : (proxy peer : Address) (key : List ℕ) (conv server : ℕ) (moves : List Move) → HasNotAnswered server moves →
+pub mode_one_request : (proxy : Address) (peer : Option Address) (key : List ℕ) (conv server : ℕ) (moves : List Move) → HasNotAnswered server moves →
     IsOneRequest (bytes_in (seen_of (line (Server server)) (mode_due (modes.Upstream proxy) key conv peer moves)))
 mode_one_request proxy peer key conv server moves none =
-    walk_one server conv (record { address = Some peer; key = key }) (said_of server moves) none (replies_in 1 moves) never [] (begins (modes.Upstream proxy)) [] (events_in 1 moves)
+    walk_one server conv (record { address = peer; key = key }) (said_of server moves) none (replies_in 1 moves) never [] (begins (modes.Upstream proxy)) [] (events_in 1 moves)
     (record { one = is_none refl; stays = record { apart = (tt, (tt, tt)); untold = λ before. refl }; below = tt }) (said_are server 1 moves)

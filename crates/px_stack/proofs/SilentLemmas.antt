@@ -420,12 +420,12 @@ module _ (conv : ℕ) (client : Visitor) where
   stack_counts = record { passes = passes; looks = looks; waits = waits; turns = turns }
 
 -- No byte is due to a server while no call answers its dial with the connection. Servers are numbered from 0 in the order of their dials.
-pub mode_silent : (mode : Mode) (key : List ℕ) (conv : ℕ) (peer : Address) (server : ℕ) (moves : List Move) → NoAnswer server moves →
+pub mode_silent : (mode : Mode) (key : List ℕ) (conv : ℕ) (peer : Option Address) (server : ℕ) (moves : List Move) → NoAnswer server moves →
     bytes_in (seen_of (line (Server server)) (mode_due mode key conv peer moves)) ≡ []
 mode_silent mode key conv peer server moves none =
-    let client : Visitor = record { address = Some peer; key = key } in
+    let client : Visitor = record { address = peer; key = key } in
     counted_silent (stack_chain conv client) dials_at AllBelow (stack_counts conv client) server (begins mode) moves tt refl none
 
 -- Nothing at all is due before the first call.
-pub mode_nothing_yet : (mode : Mode) (key : List ℕ) (conv : ℕ) (peer : Address) → mode_due mode key conv peer [] ≡ []
+pub mode_nothing_yet : (mode : Mode) (key : List ℕ) (conv : ℕ) (peer : Option Address) → mode_due mode key conv peer [] ≡ []
 mode_nothing_yet mode key conv peer = refl

@@ -188,7 +188,7 @@ asked kept next out longer put asks = subst (λ c. AsksOnly (awaited_by c) out l
 
 pub makes_due : {E : Type 0} (result : Result Stack E) (mode : Mode) (mask_key : List ℕ) (conv : ℕ) (peer : Address) → IfOk result (λ made. made.conv ≡ conv) →
     IfOk result (λ made. made.client ≡ Some peer) → IfOk result (λ made. made.mask_key ≡ mask_key) → IfOk result (λ made. start_of made ≡ begins mode) →
-    IfOk result (λ made. (moves : List Move) → due_by (chain_of made) (start_of made) moves ≡ mode_due mode (key_of mask_key) conv peer moves)
+    IfOk result (λ made. (moves : List Move) → due_by (chain_of made) (start_of made) moves ≡ mode_due mode (key_of mask_key) conv (Some peer) moves)
 makes_due (Ok made) mode mask_key conv peer number client key start = λ moves.
     let there : Visitor = record { address = Some peer; key = key_of mask_key } in
     ap (λ c. due_by (stack_chain c (visitor_of made)) (start_of made) moves) number

@@ -1,5 +1,5 @@
 //! What follows of the definitions, each the contract of a function that does nothing.
-ghost use Rattle.std.specs.Prelude.{◌≡◌, ℕ, Bool, true, false, List, [], ◌++◌};
+ghost use Rattle.std.specs.Prelude.{◌≡◌, ℕ, Bool, true, false, List, [], ◌++◌, Option};
 ghost use Rattle.px_event.specs.Laws.{Settles, SoFarGrows};
 ghost use Rattle.px_event.specs.Layer.{Move};
 ghost use Rattle.px_event.specs.View.{View, bytes_in, line, seen_of};
@@ -24,14 +24,14 @@ pub fn what_is_due_only_grows()
 /// In every mode, with every key, no byte is due to a server before its dial was answered with the connection, and nothing at all
 /// before the first call.
 pub fn servers_hear_nothing_early()
-    ensures silent { (mode : Mode) (key : List ℕ) (conv : ℕ) (peer : Address) (server : ℕ) (moves : List Move) → NoAnswer server moves →
+    ensures silent { (mode : Mode) (key : List ℕ) (conv : ℕ) (peer : Option Address) (server : ℕ) (moves : List Move) → NoAnswer server moves →
         bytes_in (seen_of (line (Server server)) (mode_due mode key conv peer moves)) ≡ [] }
-    ensures before_all { (mode : Mode) (key : List ℕ) (conv : ℕ) (peer : Address) → mode_due mode key conv peer [] ≡ [] }
+    ensures before_all { (mode : Mode) (key : List ℕ) (conv : ℕ) (peer : Option Address) → mode_due mode key conv peer [] ≡ [] }
 {}
 
 /// No hook of a flow is asked behind the flow's end in what is due of a conversation, in every mode and with every key.
 pub fn no_hook_is_asked_behind_its_end()
-    ensures { (mode : Mode) (key : List ℕ) (conv : ℕ) (peer : Address) (moves : List Move) → AsksBeforeEnds (mode_due mode key conv peer moves) }
+    ensures { (mode : Mode) (key : List ℕ) (conv : ℕ) (peer : Option Address) (moves : List Move) → AsksBeforeEnds (mode_due mode key conv peer moves) }
 {}
 
 /// What the first bytes behind a CONNECT say is HTTP stays so, whatever follows; what the client's bytes alone say is none stays so;
@@ -46,7 +46,7 @@ pub fn first_bytes_decide()
 /// So no byte of a client goes to a proxy behind a CONNECT that it has not granted, and no request from inside a tunnel to a proxy that was
 /// asked for none. A server of which no byte has come has not answered.
 pub fn proxies_answer_first()
-    ensures one { (proxy peer : Address) (key : List ℕ) (conv server : ℕ) (moves : List Move) → HasNotAnswered server moves →
+    ensures one { (proxy : Address) (peer : Option Address) (key : List ℕ) (conv server : ℕ) (moves : List Move) → HasNotAnswered server moves →
         IsOneRequest (bytes_in (seen_of (line (Server server)) (mode_due (Upstream proxy) key conv peer moves))) }
     ensures unheard { (server : ℕ) (moves : List Move) → said_of server moves ≡ [] → HasNotAnswered server moves }
 {}

@@ -2,9 +2,9 @@
 ghost use Rattle.std.specs.Prelude.{◌≡◌};
 
 use crate::stack::Stack;
-use px_core::LayerMaker;
 use px_exchange::Mode;
 use px_message::Address;
+use px_resend::ClientMaker;
 use px_text::NoMemory;
 use std::alloc::Global;
 
@@ -31,7 +31,7 @@ impl Placed {
     }
 }
 
-impl LayerMaker<Stack> for Placed {
+impl ClientMaker<Stack> for Placed {
     ghost use Rattle.px_stack.specs.Modes.{mode_due};
     ghost use Rattle.rand_chacha.specs.ChaCha.{key_of};
 

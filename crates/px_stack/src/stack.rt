@@ -1,15 +1,19 @@
 //! A conversation: HTTP, until a CONNECT or a response of code 101 hands over, and what follows.
-ghost use Rattle.std.specs.Prelude.{◌≡◌, ◌≤◌, ◌<◌, ◌++◌, ℕ, List, [], Option, Some, None, IfOk, OnOk, false};
+ghost use Rattle.std.specs.Prelude.{◌≡◌, ◌≤◌, ◌<◌, ◌+◌, ◌++◌, ℕ, List, [], Option, Some, None, IfOk, OnOk, false};
 ghost use Rattle.rand_chacha.specs.ChaCha.{key_of};
 ghost use Rattle.px_event.specs.Layer.{AsksOnly, MayAnswer};
 ghost use Rattle.px_exchange.specs.Places.{place_of, terms_of};
-ghost use Rattle.px_http.specs.Stands.{HttpStands};
+ghost use Rattle.px_http.specs.Stands.{HttpStands, awaits as http_awaits};
 ghost use Rattle.px_stack.specs.Chain.{begins};
 ghost use Rattle.px_stack.specs.Chain.{unless_closed};
 ghost use Rattle.px_stack.specs.Kept.{awaited_by, goal_left, is_left, left_by, opened_left};
 ghost use Rattle.px_stack.specs.Stack.{StackStands, awaits, start_of, visitor_of};
 ghost use Rattle.px_stack.specs.Stands.{IsSomewhere};
 ghost use Rattle.px_stack.specs.Steps.{Adds, AsksFor, CanGoOn, CanReach, Decides, GoesInside, IsFewDials, IsGoalSomewhere, IsPlain, Leads, LetsThrough, Opens, Relays, ResumesChild, TakesChild, Tells, TurnsAway};
+ghost use Rattle.px_stream.specs.Anywhere.{Begins, IsNew};
+ghost use Rattle.px_stream.specs.Left.{sequence_left};
+ghost use Rattle.px_stream.specs.Phases.{spare_at};
+ghost use Rattle.px_stream.specs.Sequence.{IsSideBelow};
 ghost use Rattle.px_stream.specs.Through.{led_to};
 ghost use Rattle.px_stack.specs.Stages.{Visitor};
 
@@ -28,6 +32,7 @@ use px_exchange::texts::connected_text;
 use px_exchange::{Mode, Place};
 use px_http::HttpConv;
 use px_message::{Address, Fault};
+use px_stream::Numbers;
 use px_text::{Bytes, NoMemory};
 use px_tunnel::{UpstreamTunnel, connect_text};
 use std::alloc::Global;
@@ -357,16 +362,31 @@ impl Stack {
             side: Some(server),
             inside: proxy,
         };
-        let mut http = HttpConv::new(
+        let made = self.http_inside(place, numbers)?;
+        let http = begin_boxed(made, moment, &rest, out)?;
+        follow(self.means(), http, out)
+    }
+
+    // HTTP in a tunnel, at this place, which goes on with these numbers.
+    fn http_inside(&self, place: Place, numbers: Numbers) -> Result<Box<HttpConv>, NoMemory>
+        requires few { numbers.flow < 1000000 }
+        requires dials { numbers.server ≤ numbers.flow + 1 }
+        requires side { IsSideBelow place numbers.server }
+        ensures terms { IfOk result (λ http. http.value.stream.terms ≡ terms_of self.now.conv self.now.client place) }
+        ensures numbers { IfOk result (λ http. http.value.stream.numbers ≡ record { flow = numbers.flow; server = numbers.server }) }
+        ensures spare { IfOk result (λ http. http.value.stream.spare ≡ spare_at place) }
+        ensures new { IfOk result (λ http. IsNew http.value.stream) }
+    {
+        let client = copy_address(&self.client)?;
+        let http = HttpConv::new(
             self.alloc,
             self.conv,
-            copy_address(&self.client)?,
+            client,
             place,
             numbers.flow,
             numbers.server,
         );
-        http.begin(moment, false, &rest, out)?;
-        follow(self.means(), Box::new(self.alloc, http)?, out)
+        Ok(Box::new(self.alloc, http)?)
     }
 
     // Takes the reply to what is awaited.
@@ -581,6 +601,23 @@ fn new_http(
     let client = Some(peer.try_clone()?);
     let http = HttpConv::new(alloc, conv, client, place, 0, 0);
     Ok(Box::new(alloc, http)?)
+}
+
+// HTTP begins with what the client has sent.
+fn begin_boxed(
+    http: Box<HttpConv>,
+    moment: u64,
+    rest: &Bytes,
+    out: &mut Vec<Command>,
+) -> Result<Box<HttpConv>, NoMemory>
+    requires { IsNew http.value.stream }
+    ensures begins { IfOk result (λ begun. Begins http.value.stream begun.value.stream moment false rest.now out.old.items out.new.items) }
+    ensures asks { IfOk result (λ begun. AsksOnly (http_awaits begun.value) out.old.items out.new.items) }
+    ensures left { IfOk result (λ begun. sequence_left begun.value.stream ≤ sequence_left http.value.stream) }
+{
+    let mut begun = http;
+    begun.begin(moment, false, rest, out)?;
+    Ok(begun)
 }
 
 // HTTP takes an event, and what follows it.

@@ -4,4 +4,4 @@ use Rattle.px_stack.proofs.OrderLemmas.{ordered_from}
 use Rattle.px_stack.proofs.laws.no_hook_is_asked_behind_its_end.Goals as goal
 
 pub returns : goal.returns
-returns c = λ mode key conv peer moves. ordered_from conv (record { address = Some peer; key = key }) (begins mode) refl moves
+returns c = λ mode key conv peer moves. ordered_from conv (record { address = peer; key = key }) (begins mode) refl moves

@@ -1,5 +1,5 @@
 use Rattle.px_stack.proofs.StackLemmas.{makes_due}
-use Rattle.px_stack.proofs.placed.PlacedLayerMakerStack.make.Goals as goal
+use Rattle.px_stack.proofs.placed.PlacedClientMakerStack.make.Goals as goal
 
 pub returns-clause-due : goal.returns-clause-due
 returns-clause-due c =

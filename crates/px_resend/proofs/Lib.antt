@@ -1,0 +1,14 @@
+pub mod JoinedLemmas
+pub mod ReplaysLemmas
+pub mod WalkLemmas
+pub mod OwedLemmas
+pub mod OrderLemmas
+pub mod SilentLemmas
+pub mod ClientLemmas
+pub mod DialLemmas
+pub mod FollowLemmas
+pub mod GoOnLemmas
+pub mod GoingLemmas
+pub mod HeardLemmas
+pub mod RequestLemmas
+pub mod ResendLemmas

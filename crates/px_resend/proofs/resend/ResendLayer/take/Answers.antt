@@ -1,0 +1,19 @@
+use Rattle.px_event.specs.Layer.{Took}
+use Rattle.px_event.proofs.Steps.{sound_after}
+use Rattle.px_resend.specs.Stands.{ResendStands}
+use Rattle.px_resend.proofs.ResendLemmas.{asked, took, with_child}
+use Rattle.px_resend.proofs.resend.ResendLayer.take.Goals as goal
+
+pub returns-clause-goes : goal.returns-clause-goes
+returns-clause-goes c =
+    took c.args.self.now c.replace-child.result c.in_ok-next.next c.replace.new.dest c.args.moment c.args.event c.args.out.now.items c.hear.new.out.items
+    c.replace-child.ensures.value c.replace.ensures.after c.in_ok-next.ensures.takes
+
+pub returns-clause-sound : goal.returns-clause-sound
+returns-clause-sound c =
+    sound_after ResendStands c.args.self.now (with_child c.args.self.now c.replace.new.dest) (Took c.args.moment c.args.event) c.args.out.now.items c.hear.new.out.items c.requires.sound
+    (took c.args.self.now c.replace-child.result c.in_ok-next.next c.replace.new.dest c.args.moment c.args.event c.args.out.now.items c.hear.new.out.items
+    c.replace-child.ensures.value c.replace.ensures.after c.in_ok-next.ensures.takes)
+
+pub returns-clause-asks : goal.returns-clause-asks
+returns-clause-asks c = asked c.replace.new.dest c.in_ok-next.next c.args.out.now.items c.hear.new.out.items c.replace.ensures.after c.in_ok-next.ensures.asks

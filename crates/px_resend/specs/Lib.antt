@@ -1,0 +1,13 @@
+pub mod Chain
+pub mod Dialled
+pub mod Due
+pub mod Heard
+pub mod Joined
+pub mod JoinedLaws
+pub mod Kept
+pub mod Laws
+pub mod Lifted
+pub mod LiftedLaws
+pub mod Names
+pub mod Stands
+pub mod Steps

@@ -1,0 +1,57 @@
+//! Where a request that is sent again stands.
+ghost use Rattle.std.specs.Prelude.{◌≡◌, ◌^◌, ◌-◌, min};
+ghost use Rattle.px_resend.specs.Kept.{awaited_by, is_over, kept_by};
+
+use px_event::{Ask, Hook, Layer};
+use px_exchange::flows::hook_of;
+use px_message::Flow;
+use px_stream::Stream;
+
+/// Where it stands.
+#[derive(Drop)]
+pub enum Child {
+    /// It has not begun.
+    Waiting,
+    /// The hook of its request's head is asked.
+    AsksHead(Flow),
+    /// And that of the whole request.
+    AsksWhole(Flow),
+    /// Its request goes on, or a response was given in place of the server's.
+    GoesOn(Box<Stream>),
+    /// It has ended.
+    Over,
+}
+
+impl Child {
+    /// What is awaited.
+    pub fn waiting(&self) -> Option<Ask>
+        ensures { result ≡ awaited_by self.now }
+    {
+        match self {
+            Child::AsksHead(flow) => Some(hook_of(flow, Hook::RequestHead)),
+            Child::AsksWhole(flow) => Some(hook_of(flow, Hook::RequestBody)),
+            Child::GoesOn(stream) => stream.waiting(),
+            Child::Waiting | Child::Over => None,
+        }
+    }
+
+    /// How many bytes it keeps, or 2^64 - 1 where that is more.
+    pub fn kept(&self) -> usize
+        ensures { result ≡ min (kept_by self.now) (2 ^ 64 - 1) }
+    {
+        match self {
+            Child::GoesOn(stream) => stream.kept(),
+            Child::Waiting | Child::AsksHead(_) | Child::AsksWhole(_) | Child::Over => 0,
+        }
+    }
+
+    /// Whether it has ended.
+    pub fn ended(&self) -> bool
+        ensures { result ≡ is_over self.now }
+    {
+        match self {
+            Child::Over => true,
+            Child::Waiting | Child::AsksHead(_) | Child::AsksWhole(_) | Child::GoesOn(_) => false,
+        }
+    }
+}
