@@ -9,7 +9,7 @@ use Rattle.toml.specs.Data.{Data, Members, member, get_member}
 use Rattle.toml.specs.View.{view, members_view}
 use Rattle.toml.proofs.Views.{Entry}
 use Rattle.px_options.specs.Gathered.{and_then, gathered}
-use Rattle.px_options.specs.Keys.{key_of, name_of, replay_key_of}
+use Rattle.px_options.specs.Keys.{key_of, later_key_of, name_of, replay_key_of}
 use Rattle.px_options.specs.Lines as lines
 use Rattle.px_options.specs.Lines.{Line}
 use Rattle.px_options.specs.Options.{Settings, defaults, first_refusal, options_by, options_of, or_others, refusal_of_key, value_or, why}
@@ -24,6 +24,7 @@ settings_from s table = record {
   anticache = value_or lines.anticache s.anticache (get_member (name_of key.Anticache) table);
   anticomp = value_or lines.anticomp s.anticomp (get_member (name_of key.Anticomp) table);
   block_list = value_or lines.block_list s.block_list (get_member (name_of key.BlockList) table);
+  client_replay = value_or lines.client_replay s.client_replay (get_member (name_of key.ClientReplay) table);
   control = value_or lines.control s.control (get_member (name_of key.Control) table);
   events = value_or lines.events s.events (get_member (name_of key.Events) table);
   intercept = value_or lines.intercept s.intercept (get_member (name_of key.Intercept) table);
@@ -84,16 +85,10 @@ named_replay name found is =
     or_named (bytes_eq name (name_of key.ServerReplayUseHeaders)) key.ServerReplayUseHeaders found name _ (λ same. (bytes_eq-Decides _ _).0 same) e (λ e.
     absurd (nothing found e)))))))))
 
--- a key has its name
-named : (name : List ℕ) (found : Key) → key_of name ≡ Some found → name ≡ name_of found
-named name found is =
-    or_named (bytes_eq name (name_of key.Anticache)) key.Anticache found name _ (λ same. (bytes_eq-Decides _ _).0 same) is (λ e.
-    or_named (bytes_eq name (name_of key.Anticomp)) key.Anticomp found name _ (λ same. (bytes_eq-Decides _ _).0 same) e (λ e.
-    or_named (bytes_eq name (name_of key.BlockList)) key.BlockList found name _ (λ same. (bytes_eq-Decides _ _).0 same) e (λ e.
-    or_named (bytes_eq name (name_of key.Control)) key.Control found name _ (λ same. (bytes_eq-Decides _ _).0 same) e (λ e.
-    or_named (bytes_eq name (name_of key.Events)) key.Events found name _ (λ same. (bytes_eq-Decides _ _).0 same) e (λ e.
-    or_named (bytes_eq name (name_of key.Intercept)) key.Intercept found name _ (λ same. (bytes_eq-Decides _ _).0 same) e (λ e.
-    or_named (bytes_eq name (name_of key.Listen)) key.Listen found name _ (λ same. (bytes_eq-Decides _ _).0 same) e (λ e.
+-- a key from `listen` on has its name
+named_later : (name : List ℕ) (found : Key) → later_key_of name ≡ Some found → name ≡ name_of found
+named_later name found is =
+    or_named (bytes_eq name (name_of key.Listen)) key.Listen found name _ (λ same. (bytes_eq-Decides _ _).0 same) is (λ e.
     or_named (bytes_eq name (name_of key.MapLocal)) key.MapLocal found name _ (λ same. (bytes_eq-Decides _ _).0 same) e (λ e.
     or_named (bytes_eq name (name_of key.MapRemote)) key.MapRemote found name _ (λ same. (bytes_eq-Decides _ _).0 same) e (λ e.
     or_named (bytes_eq name (name_of key.Mode)) key.Mode found name _ (λ same. (bytes_eq-Decides _ _).0 same) e (λ e.
@@ -101,7 +96,19 @@ named name found is =
     or_named (bytes_eq name (name_of key.ModifyHeaders)) key.ModifyHeaders found name _ (λ same. (bytes_eq-Decides _ _).0 same) e (λ e.
     or_named (bytes_eq name (name_of key.SaveStreamFile)) key.SaveStreamFile found name _ (λ same. (bytes_eq-Decides _ _).0 same) e (λ e.
     or_named (bytes_eq name (name_of key.SaveStreamFilter)) key.SaveStreamFilter found name _ (λ same. (bytes_eq-Decides _ _).0 same) e (λ e.
-    named_replay name found e))))))))))))))
+    named_replay name found e))))))))
+
+-- a key has its name
+named : (name : List ℕ) (found : Key) → key_of name ≡ Some found → name ≡ name_of found
+named name found is =
+    or_named (bytes_eq name (name_of key.Anticache)) key.Anticache found name _ (λ same. (bytes_eq-Decides _ _).0 same) is (λ e.
+    or_named (bytes_eq name (name_of key.Anticomp)) key.Anticomp found name _ (λ same. (bytes_eq-Decides _ _).0 same) e (λ e.
+    or_named (bytes_eq name (name_of key.BlockList)) key.BlockList found name _ (λ same. (bytes_eq-Decides _ _).0 same) e (λ e.
+    or_named (bytes_eq name (name_of key.ClientReplay)) key.ClientReplay found name _ (λ same. (bytes_eq-Decides _ _).0 same) e (λ e.
+    or_named (bytes_eq name (name_of key.Control)) key.Control found name _ (λ same. (bytes_eq-Decides _ _).0 same) e (λ e.
+    or_named (bytes_eq name (name_of key.Events)) key.Events found name _ (λ same. (bytes_eq-Decides _ _).0 same) e (λ e.
+    or_named (bytes_eq name (name_of key.Intercept)) key.Intercept found name _ (λ same. (bytes_eq-Decides _ _).0 same) e (λ e.
+    named_later name found e)))))))
 
 -- one member more, by its key
 abbrev More : Option Key → Members → Data → Settings → List ℕ → Type 0
@@ -120,6 +127,9 @@ by_key (Some key.Anticomp) name d ms s is ih =
 by_key (Some key.BlockList) name d ms s is ih =
     subst (More (Some key.BlockList) ms d s) (sym (named name key.BlockList is)) (λ none.
     line_gathered lines.block_list (λ a s. record s { block_list = a }) s.block_list (name_of key.BlockList) d ms s (lines.block_list.reads d) refl none ih (λ a. refl) refl)
+by_key (Some key.ClientReplay) name d ms s is ih =
+    subst (More (Some key.ClientReplay) ms d s) (sym (named name key.ClientReplay is)) (λ none.
+    line_gathered lines.client_replay (λ a s. record s { client_replay = a }) s.client_replay (name_of key.ClientReplay) d ms s (lines.client_replay.reads d) refl none ih (λ a. refl) refl)
 by_key (Some key.Control) name d ms s is ih =
     subst (More (Some key.Control) ms d s) (sym (named name key.Control is)) (λ none.
     line_gathered lines.control (λ a s. record s { control = a }) s.control (name_of key.Control) d ms s (lines.control.reads d) refl none ih (λ a. refl) refl)

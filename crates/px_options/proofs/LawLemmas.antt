@@ -156,6 +156,7 @@ at_of_table : (k : Key) (d : Data) → IfSome (refusal_at k d) OfTable
 at_of_table key.Anticache d = why_of_table (lines.anticache.reads d) (wrong_of_table key.Anticache (as_bool d))
 at_of_table key.Anticomp d = why_of_table (lines.anticomp.reads d) (wrong_of_table key.Anticomp (as_bool d))
 at_of_table key.BlockList d = why_of_table (lines.block_list.reads d) (rules_of_table key.BlockList block_rule (texts_of (as_array d)))
+at_of_table key.ClientReplay d = why_of_table (lines.client_replay.reads d) (wrong_of_table key.ClientReplay (paths_in (texts_of (as_array d))))
 at_of_table key.Control d = why_of_table (lines.control.reads d) (some_of_table (address key.Control d) (wrong_of_table key.Control (address_in (as_str d))))
 at_of_table key.Events d = why_of_table (lines.events.reads d) (wrong_of_table key.Events (from_one (as_integer d)))
 at_of_table key.Intercept d = why_of_table (lines.intercept.reads d) (filter_in_of_table key.Intercept (as_str d))

@@ -7,6 +7,7 @@ abbrev pub name_of : Key → List ℕ
 name_of key.Anticache = codes "anticache"
 name_of key.Anticomp = codes "anticomp"
 name_of key.BlockList = codes "block_list"
+name_of key.ClientReplay = codes "client_replay"
 name_of key.Control = codes "control"
 name_of key.Events = codes "events"
 name_of key.Intercept = codes "intercept"
@@ -44,16 +45,10 @@ replay_key_of name =
     (or_key key.ServerReplayUseHeaders name
     None)))))))
 
--- the key of that name
-abbrev pub key_of : List ℕ → Option Key
-key_of name =
-    or_key key.Anticache name
-    (or_key key.Anticomp name
-    (or_key key.BlockList name
-    (or_key key.Control name
-    (or_key key.Events name
-    (or_key key.Intercept name
-    (or_key key.Listen name
+-- the key of that name, of those from `listen` on
+abbrev pub later_key_of : List ℕ → Option Key
+later_key_of name =
+    or_key key.Listen name
     (or_key key.MapLocal name
     (or_key key.MapRemote name
     (or_key key.Mode name
@@ -61,4 +56,16 @@ key_of name =
     (or_key key.ModifyHeaders name
     (or_key key.SaveStreamFile name
     (or_key key.SaveStreamFilter name
-    (replay_key_of name))))))))))))))
+    (replay_key_of name))))))))
+
+-- the key of that name
+abbrev pub key_of : List ℕ → Option Key
+key_of name =
+    or_key key.Anticache name
+    (or_key key.Anticomp name
+    (or_key key.BlockList name
+    (or_key key.ClientReplay name
+    (or_key key.Control name
+    (or_key key.Events name
+    (or_key key.Intercept name
+    (later_key_of name)))))))

@@ -35,6 +35,10 @@ anticomp = line key.Anticomp truth false
 abbrev pub block_list : Line (List BlockRule)
 block_list = line key.BlockList (rules block_rule) []
 
+-- without its key no request is sent again
+abbrev pub client_replay : Line (List (List ℕ))
+client_replay = line key.ClientReplay file_paths []
+
 -- without its key operators connect nowhere
 abbrev pub control : Line (Option Place)
 control = line key.Control some_address None

@@ -22,6 +22,7 @@ pub record Settings : Type 0 where
   pub anticache : Bool
   pub anticomp : Bool
   pub block_list : List BlockRule
+  pub client_replay : List (List ℕ)
   pub control : Option Place
   pub events : ℕ
   pub intercept : Option Expression
@@ -48,6 +49,7 @@ defaults = record {
   anticache = lines.anticache.default;
   anticomp = lines.anticomp.default;
   block_list = lines.block_list.default;
+  client_replay = lines.client_replay.default;
   control = lines.control.default;
   events = lines.events.default;
   intercept = lines.intercept.default;
@@ -78,6 +80,7 @@ abbrev pub refusal_at : Key → Data → Option OptionsError
 refusal_at key.Anticache d = why (lines.anticache.reads d)
 refusal_at key.Anticomp d = why (lines.anticomp.reads d)
 refusal_at key.BlockList d = why (lines.block_list.reads d)
+refusal_at key.ClientReplay d = why (lines.client_replay.reads d)
 refusal_at key.Control d = why (lines.control.reads d)
 refusal_at key.Events d = why (lines.events.reads d)
 refusal_at key.Intercept d = why (lines.intercept.reads d)
@@ -134,6 +137,7 @@ settings_of table = record {
   anticache = option_at lines.anticache table;
   anticomp = option_at lines.anticomp table;
   block_list = option_at lines.block_list table;
+  client_replay = option_at lines.client_replay table;
   control = option_at lines.control table;
   events = option_at lines.events table;
   intercept = option_at lines.intercept table;

@@ -18,6 +18,7 @@ abbrev pub put : Key → Data → Settings → Result Settings OptionsError
 put key.Anticache d s = put_by (λ a. record s { anticache = a }) (lines.anticache.reads d)
 put key.Anticomp d s = put_by (λ a. record s { anticomp = a }) (lines.anticomp.reads d)
 put key.BlockList d s = put_by (λ a. record s { block_list = a }) (lines.block_list.reads d)
+put key.ClientReplay d s = put_by (λ a. record s { client_replay = a }) (lines.client_replay.reads d)
 put key.Control d s = put_by (λ a. record s { control = a }) (lines.control.reads d)
 put key.Events d s = put_by (λ a. record s { events = a }) (lines.events.reads d)
 put key.Intercept d s = put_by (λ a. record s { intercept = a }) (lines.intercept.reads d)

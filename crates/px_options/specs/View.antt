@@ -32,6 +32,7 @@ settings o = record {
   anticache = o.anticache;
   anticomp = o.anticomp;
   block_list = block_views o.block_list;
+  client_replay = paths_view o.client_replay;
   control = option_map place o.control;
   events = o.events;
   intercept = option_map expression o.intercept;

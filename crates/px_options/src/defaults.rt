@@ -22,6 +22,7 @@ pub(crate) fn defaults(alloc: Global) -> Result<Options, OptionsError>
         anticache: false,
         anticomp: false,
         block_list: BlockRules::none(alloc),
+        client_replay: FilePaths::none(alloc),
         control: None,
         events: 9223372036854775807,
         intercept: None,

@@ -1,6 +1,6 @@
 //! The keys of an options file.
 ghost use Rattle.std.specs.Prelude.{◌≡◌};
-ghost use Rattle.px_options.specs.Keys.{key_of, name_of, replay_key_of};
+ghost use Rattle.px_options.specs.Keys.{key_of, later_key_of, name_of, replay_key_of};
 
 /// A key of an options file.
 #[derive(Clone, Copy, Debug, PartialEq, Eq)]
@@ -8,6 +8,7 @@ pub(crate) enum Key {
     Anticache,
     Anticomp,
     BlockList,
+    ClientReplay,
     Control,
     Events,
     Intercept,
@@ -37,6 +38,7 @@ pub(crate) fn name_of(key: Key) -> &'static [u8]
         Key::Anticache => b"anticache",
         Key::Anticomp => b"anticomp",
         Key::BlockList => b"block_list",
+        Key::ClientReplay => b"client_replay",
         Key::Control => b"control",
         Key::Events => b"events",
         Key::Intercept => b"intercept",
@@ -72,6 +74,9 @@ pub(crate) fn key_of(name: &[u8]) -> Option<Key>
     if name == b"block_list".as_slice() {
         return Some(Key::BlockList);
     }
+    if name == b"client_replay".as_slice() {
+        return Some(Key::ClientReplay);
+    }
     if name == b"control".as_slice() {
         return Some(Key::Control);
     }
@@ -81,6 +86,13 @@ pub(crate) fn key_of(name: &[u8]) -> Option<Key>
     if name == b"intercept".as_slice() {
         return Some(Key::Intercept);
     }
+    later_key_of(name)
+}
+
+// The key of that name, of those from `listen` on.
+fn later_key_of(name: &[u8]) -> Option<Key>
+    ensures { result ≡ later_key_of name.now }
+{
     if name == b"listen".as_slice() {
         return Some(Key::Listen);
     }

@@ -24,6 +24,8 @@ pub struct Options {
     pub anticomp: bool,
     /// Rules for flows that are answered with a status alone, or not at all (mitmproxy's option `block_list`).
     pub block_list: BlockRules,
+    /// The files whose flows' requests are sent again from the start (mitmproxy's option `client_replay`).
+    pub client_replay: FilePaths,
     /// Where operators connect; none says nowhere. mitmproxy has no such option.
     pub control: Option<Address>,
     /// After how many heard things a run ends.

@@ -45,6 +45,7 @@ fn put(alloc: Global, options: &mut Options, key: Key, value: &Value) -> Result<
         Key::Anticache => put_anticache(alloc, options, value),
         Key::Anticomp => put_anticomp(alloc, options, value),
         Key::BlockList => put_block_list(alloc, options, value),
+        Key::ClientReplay => put_client_replay(alloc, options, value),
         Key::Control => put_control(alloc, options, value),
         Key::Events => put_events(alloc, options, value),
         Key::Intercept => put_intercept(alloc, options, value),
@@ -88,6 +89,18 @@ fn put_block_list(alloc: Global, options: &mut Options, value: &Value) -> Result
     ensures err { IfErr result (λ e. (e ≡ error.NoMemory) ⊎ (put keys.BlockList (view value.now) (settings options.old) ≡ Err e)) }
 {
     options.block_list = read_rules(alloc, Key::BlockList, value)?;
+    Ok(())
+}
+
+fn put_client_replay(
+    alloc: Global,
+    options: &mut Options,
+    value: &Value,
+) -> Result<(), OptionsError>
+    ensures ok { OnOk result (put keys.ClientReplay (view value.now) (settings options.old) ≡ Ok (settings options.new)) }
+    ensures err { IfErr result (λ e. (e ≡ error.NoMemory) ⊎ (put keys.ClientReplay (view value.now) (settings options.old) ≡ Err e)) }
+{
+    options.client_replay = read_paths(alloc, Key::ClientReplay, value)?;
     Ok(())
 }
 

@@ -36,7 +36,7 @@ fn why(cause: &RuleCause) -> &'static str {
 
 #[test]
 fn texts_are_options_or_refused(rt: HostRuntime) {
-    let rows: [(&[u8], &str); 36] = [
+    let rows: [(&[u8], &str); 39] = [
         (b"mode = \"reverse:http://h:81/\"", "options"),
         (b"mode = \"reverse:HTTP://[::1]\"", "options"),
         (b"mode = \"regular\"", "options"),
@@ -52,6 +52,9 @@ fn texts_are_options_or_refused(rt: HostRuntime) {
         (b"mode = \"socks\"\nlisten = \"h\"", "wrong"),
         (b"events = 0", "wrong"),
         (b"block_list = [\"/100\"]", "bad status"),
+        (b"client_replay = [\"a\", \"b\"]", "options"),
+        (b"client_replay = [\"a\", \"\"]", "wrong"),
+        (b"client_replay = \"a\"", "wrong"),
         (b"control = \"127.0.0.1:9871\"", "options"),
         (b"control = \"127.0.0.1\"", "wrong"),
         (b"control = 9871", "wrong"),
