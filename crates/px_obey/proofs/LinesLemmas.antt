@@ -11,8 +11,8 @@ use Rattle.px_core.specs.Router.{IsNow}
 use Rattle.px_view.specs.declared.desk.Line.{Line}
 use Rattle.px_obey.specs.declared.outcome.Outcome.{Outcome}
 use Rattle.px_obey.specs.declared.outcome.Outcome.TheVariants.{GoesOn, Leaves, Quits}
-use Rattle.px_obey.specs.Obeyed.{AddsAnswers, BreaksAnswers, BreaksLine, BreaksLines, ByOrders, FilesAfterOrders, ObeysAll, ObeysLine, ObeysLines, all_obeyed, ended_at, none_obeyed, one_obeyed, point}
-use Rattle.px_obey.specs.Over.{BreaksOver, GoesOver, StandingFor}
+use Rattle.px_obey.specs.Obeyed.{BreaksLine, BreaksLines, ByOrders, FilesAfterOrders, ObeysAll, ObeysLine, ObeysLines, all_obeyed, ended_at, none_obeyed, one_obeyed, point}
+use Rattle.px_obey.specs.Over.{AddsAnswers, BreaksAnswers, BreaksOver, GoesOver, StandingFor}
 use Rattle.px_obey.proofs.ObeyLemmas.{after_by, breaks_both, goes_both, goes_map, goes_none}
 
 -- behind these no line is obeyed
@@ -98,7 +98,7 @@ module _ {S : Type 0} {answers : Answering S} {drops : List ℕ → S → S → 
   adds_answers {old = old} conv given lines outcome is g due course trace stands now =
       let a = g.adds due course trace stands now in
       let P : List Line → Type 0 = λ l. ObeysLines answers drops names due conv (point trace course old) l a.more a.last outcome in
-      record { last = a.last; is_now = a.is_now; more = a.more; obeyed = subst P is a.does; stands = a.stands; at_moment = a.at_moment; tells = a.tells }
+      record { last = a.last; is_now = a.is_now; more = a.more; does = subst P is a.does; stands = a.stands; at_moment = a.at_moment; tells = a.tells }
 
   pub breaks_answers : {fails : Failing S} {Before : StandingFor S} {moment : ℕ} {old : AnswererState S} {files : FilesMeaning} {net after : Option Trace} (conv : ℕ) (given lines : List Line) → given ≡ lines →
       BreaksOver answers fails drops (λ due first more trace course. BreaksLines answers drops names due conv first given more trace course) Before moment old files net after →

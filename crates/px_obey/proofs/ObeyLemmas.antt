@@ -1,14 +1,16 @@
 -- What was done, and what is done behind it.
-use Rattle.std.proofs.Common.{◌≡◌, ℕ, Bool, true, false, if◌then◌else◌, ◌==◌, List, [], ◌∷◌, ◌++◌, Option, Some, refl, ap, sym, ◌∙◌, subst, append_assoc}
+use Rattle.std.proofs.Common.{◌≡◌, ℕ, Bool, true, false, if◌then◌else◌, ◌==◌, List, [], ◌∷◌, ◌++◌, Option, Some, None, refl, ap, sym, ◌∙◌, subst, append_assoc}
+use Rattle.std.specs.Prelude.{is_some}
 use Rattle.std.proofs.lemmas.List.{append-nil}
 use Rattle.std.specs.List.{flat_map}
 use Rattle.std.proofs.lemmas.Grind.{flat_map-append}
 use Rattle.px_message.specs.declared.flow.Flow.{Flow}
+use Rattle.px_event.specs.declared.event.Event.TheVariants as events
 use Rattle.px_event.specs.declared.said.Said.{Said}
 use Rattle.px_event.specs.declared.said.Said.TheVariants as said
 use Rattle.px_event.specs.declared.step.Step.{Step}
 use Rattle.px_event.specs.declared.step.Step.TheVariants as steps
-use Rattle.px_event.specs.Layer.{Replied}
+use Rattle.px_event.specs.Layer.{Replied, Took}
 use Rattle.px_event.specs.Trace.{Trace}
 use Rattle.px_core.specs.Answers.{Answering, AnswererState, Failing, FilesAfter, FilesMeaning, after_answers, by_none}
 use Rattle.px_core.specs.Calls.{Calls, calls, calls_from, calls_on, dials, moved, no_calls}
@@ -31,8 +33,14 @@ replied_keeps : (same : Bool) (c next : Calls) → next.moment ≡ c.moment → 
 replied_keeps false c next is = refl
 replied_keeps true c next is = is
 
+begun_keeps : (same begun : Bool) (c next : Calls) → next.moment ≡ c.moment → (if same then (if begun then c else next) else c).moment ≡ c.moment
+begun_keeps false begun c next is = refl
+begun_keeps true true c next is = refl
+begun_keeps true false c next is = is
+
 step_keeps : (conv : ℕ) (c : Calls) (step : Step) → IsTellable step → (calls_on conv c step).moment ≡ c.moment
 step_keeps conv c (steps.Heard moment what) never = absurd never
+step_keeps conv c (steps.Begun number) told = begun_keeps (number == conv) (is_some c.peer) c (record c { peer = Some None; moves = c.moves ++ Took c.moment events.Begun ∷ [] }) refl
 step_keeps conv c (steps.Asked number ask) told = refl
 step_keeps conv c (steps.Answered number ask reply) told = replied_keeps (number == conv) c (moved (Replied c.moment reply) c) refl
 step_keeps conv c (steps.Said number what) told = spoken_keeps (number == conv) c what

@@ -15,10 +15,9 @@ use Rattle.px_event.specs.Trace.{Trace}
 use Rattle.px_core.specs.declared.operation.OperateError.{OperateError}
 use Rattle.px_core.specs.declared.operation.OperateError.TheVariants as refused
 use Rattle.px_core.specs.declared.operation.Operation.{Operation}
-use Rattle.px_core.specs.Answered.{IsAnswered, LeavesFiles}
 use Rattle.px_core.specs.Answers.{Answering, AnswererState, Failing, FilesAfter, FilesMeaning}
 use Rattle.px_core.specs.Course.{Course, with_operation}
-use Rattle.px_core.specs.Due.{Due, IsServed}
+use Rattle.px_core.specs.Due.{Due}
 use Rattle.px_core.specs.Live.{AreLive, IsLastAsked, is_live}
 use Rattle.px_core.specs.Router.{AllOfAny, IsNow, MovesBy, caused_in, operated_on, refusal}
 use Rattle.px_view.specs.declared.answer.OperatorAnswer.{OperatorAnswer}
@@ -146,30 +145,6 @@ pub record FilesAfterOrders {S : Type 0} (answers : Answering S) (fails : Failin
   pub last : AnswererState S
   pub by : ByOrders answers drops first last
   pub after : FilesAfter answers fails last files
-
--- Lines were obeyed over a router: it stands for what they lead to, by the answerer as it is now, at the same moment; and where the network tells its steps, it
--- tells these too.
-pub record AddsAnswers {S : Type 0} (answers : Answering S) (drops : List ℕ → S → S → Type 0) (names : S → List (List ℕ)) (due : Due) (Stands : Course S → Trace → Type 0) (moment conv : ℕ)
-    (lines : List Line) (first : Point S) (now : AnswererState S) (outcome : Outcome) (before after : Option Trace) : Type 0 where
-  pub last : Point S
-  pub is_now : last.now ≡ now
-  pub more : List Step
-  pub obeyed : ObeysLines answers drops names due conv first lines more last outcome
-  pub stands : Stands last.course last.trace
-  pub at_moment : IsNow moment last.trace
-  pub tells : (told : Trace) → before ≡ Some told → after ≡ Some (told ++ more)
-
--- Memory ran out in them: the trace of conversations with what was told is served, and the answerer came over it by the course.
-pub record BreaksAnswers {S : Type 0} (answers : Answering S) (fails : Failing S) (drops : List ℕ → S → S → Type 0) (names : S → List (List ℕ)) (due : Due) (conv : ℕ)
-    (lines : List Line) (first : Point S) (told : Trace) (now : Option Trace) (files : FilesMeaning) : Type 0 where
-  pub more : List Step
-  pub trace : Trace
-  pub course : Course S
-  pub breaks : BreaksLines answers drops names due conv first lines more trace course
-  pub is : now ≡ Some (told ++ more)
-  pub served : IsServed answers due trace
-  pub follows : IsAnswered answers due course trace
-  pub leaves : LeavesFiles answers fails due course ⊥ files trace
 
 -- A router stands for some trace, by what the answerer is and files mean now, and this was the moment of what was heard last.
 pub record StandsAt {S : Type 0} (Stands : Due → Course S → Trace → Type 0) (moment : ℕ) : Type 0 where

@@ -18,11 +18,12 @@ use Rattle.px_core.specs.Run.{done_of, Tells}
 use Rattle.px_core.specs.declared.operation.Operation.{Operation}
 use Rattle.px_view.specs.declared.answer.OperatorAnswer.TheVariants as answer
 use Rattle.px_view.specs.declared.command.Order.{Order}
+use Rattle.px_view.specs.declared.desk.Line.{Line}
 use Rattle.px_view.specs.declared.command.Order.TheVariants as order
 use Rattle.px_view.specs.Answers.{answer_text}
 use Rattle.px_view.specs.Show.{show_text}
 use Rattle.px_obey.specs.declared.outcome.Outcome.{Outcome}
-use Rattle.px_obey.specs.Obeyed.{ByOrders, FilesAfterOrders, Obeys, Point, closed, list_text, outcome_of, point, sent}
+use Rattle.px_obey.specs.Obeyed.{BreaksLines, ByOrders, FilesAfterOrders, Obeys, ObeysLines, Point, closed, list_text, outcome_of, point, sent}
 
 -- what is done from where to where, with the steps that are told of it
 abbrev pub Doing : Type 0 → Type 1
@@ -121,3 +122,12 @@ long_steps conv = sent conv (answer_text answer.LineTooLong) ∷ closed conv ∷
 -- the network tells nothing more, or these steps
 abbrev pub TellsSome : Option Trace → Option Trace → List Step → Type 0
 TellsSome before after more = (after ≡ before) ⊎ TellsMore before after more
+
+-- lines were obeyed over a router, or memory ran out in them
+abbrev pub AddsAnswers : {S : Type 0} → Answering S → (List ℕ → S → S → Type 0) → (S → List (List ℕ)) → Due → (Course S → Trace → Type 0) → ℕ → ℕ → List Line → Point S → AnswererState S → Outcome → Option Trace → Option Trace → Type 0
+AddsAnswers answers drops names due Stands moment conv lines first now outcome =
+    Adds (λ from more last. ObeysLines answers drops names due conv from lines more last outcome) Stands moment first now
+
+abbrev pub BreaksAnswers : {S : Type 0} → Answering S → Failing S → (List ℕ → S → S → Type 0) → (S → List (List ℕ)) → Due → ℕ → List Line → Point S → Trace → Option Trace → FilesMeaning → Type 0
+BreaksAnswers answers fails drops names due conv lines =
+    Breaks answers fails due (λ from more trace course. BreaksLines answers drops names due conv from lines more trace course)

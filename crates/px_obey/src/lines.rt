@@ -9,8 +9,8 @@ ghost use Rattle.px_core.specs.Course.{Course};
 ghost use Rattle.px_core.specs.Due.{Due};
 ghost use Rattle.px_core.specs.Router.{IsNow, RouterStands};
 ghost use Rattle.px_core.specs.Run.{done_of, Tells};
-ghost use Rattle.px_obey.specs.Obeyed.{AddsAnswers, BreaksAnswers, BreaksLines, ByOrders, FilesAfterOrders, ObeysLines, StandsAt, point};
-ghost use Rattle.px_obey.specs.Over.{BreaksOver, GoesOver};
+ghost use Rattle.px_obey.specs.Obeyed.{BreaksLines, ByOrders, FilesAfterOrders, ObeysLines, StandsAt, point};
+ghost use Rattle.px_obey.specs.Over.{AddsAnswers, BreaksAnswers, BreaksOver, GoesOver};
 
 use crate::Outcome;
 use crate::line::obey_line;
