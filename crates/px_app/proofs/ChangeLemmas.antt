@@ -19,7 +19,7 @@ use Rattle.px_obey.specs.declared.outcome.Outcome.{Outcome}
 use Rattle.px_obey.specs.Obeyed.{BreaksLine, BreaksLines, Obeys, ObeysAll, ObeysLine, ObeysLines, Point, all_obeyed, by_order, ended_at, in_operation, lists, no_order, none_obeyed, none_told, not_answered, not_closed, one_obeyed, operates, quits, refuses, shows, shows_none, too_long}
 use Rattle.px_view.specs.declared.command.Order.{Order}
 use Rattle.px_view.specs.declared.desk.Line.{Line}
-use Rattle.px_app.specs.Worked.{Breaks, Turns, Worked, WorkedPart, all_worked, breaks_in, in_conversation, in_lines, in_silence, not_begun, of_conversation, of_leaving, of_operator, one_worked}
+use Rattle.px_app.specs.Worked.{Breaks, Turns, Worked, WorkedPart, all_worked, breaks_in, breaks_begun, in_conversation, in_lines, in_silence, not_begun, of_conversation, of_leaving, of_operator, one_begun, one_worked}
 
 -- A change is a save, or takes an addon away.
 pub data SavesOrDrops {S : Type 0} (drops : List ℕ → S → S → Type 0) (one : Change S) : Type 0 where
@@ -125,11 +125,15 @@ module _ {S : Type 0} (answers : Answering S) (drops : List ℕ → S → S → 
       let all = turns_so was at moment what more trace turned over turns (worked_so first before was at false worked) in
       let Q : Course S → Type 0 = AreSavesOrDrops drops in
       subst Q (sym saves) (are_more (SavesOrDrops drops) turned.changes (change trace old new) all (is_save own))
+  worked_so first told trace course over (one_begun before next_told was next at saved conv more old new worked own tells goes same saves) =
+      let Q : Course S → Type 0 = AreSavesOrDrops drops in
+      subst Q (sym saves) (are_more (SavesOrDrops drops) at.changes (change trace old new) (worked_so first before was at false worked) (is_save same))
 
   pub worked_part_so : (first : AnswererState S) (told trace : Trace) (course : Course S) → WorkedPart answers drops names due first told trace course → AreSavesOrDrops drops course
   worked_part_so first told trace course (all_worked all_told whole made over worked) = worked_so first told trace course over worked
   worked_part_so first told trace course (breaks_in before next_told was next at broken moment what more worked broke tells) =
       breaks_so was at moment what more trace course broke (worked_so first before was at false worked)
+  worked_part_so first told trace course (breaks_begun before next_told was next at conv more worked front tells goes) = worked_so first before was at false worked
 
   -- what an addon that is taken away keeps of the own state, all changes of the run keep
   pub worked_keeps : (is : S → Type 0) → ((name : List ℕ) (old new : S) → is old → drops name old new → is new) → (first : AnswererState S) (told trace : Trace) (course : Course S) →

@@ -47,6 +47,11 @@ module _ (printing : Printing) (status : Status) (code : ℕ) (is : (code ≡ co
   pub six_says : code ≡ 6 → status ≡ BudgetSpent
   six_says six = elim is [ inl e ↦ six_at status printing (sym e ∙ six) | inr e ↦ absurd (omega arith) ]
 
+  -- a cause outside of what was heard is one of the status
+  pub causes_of : (code ≡ 5) ⊎ (code ≡ 6) → (code_of status ≡ 5) ⊎ (code_of status ≡ 6)
+  causes_of (inl five) = inl (ap code_of (five_says five))
+  causes_of (inr six) = inr (ap code_of (six_says six))
+
   seven_at : (s : Status) (p : Printing) → s ≢ OutputFailed → code_of (at_end p s) ≡ 7 → (s ≡ Ended) × (p ≡ Failed)
   seven_at Ended Whole not e = absurd (omega arith)
   seven_at Ended Failed not e = (refl, refl)

@@ -1,6 +1,7 @@
--- How many things were heard, and which flows are finished, one thing heard further.
+-- How many things were heard, and which flows are finished, one thing further that is heard or begins.
 use Rattle.std.proofs.Common.{◌≡◌, ℕ, ◌+◌, cond, List, [], ◌∷◌, ◌++◌, refl, sym, ap, ◌∙◌, arith}
 use Rattle.std.proofs.lemmas.Grind.{flat_map-append}
+use Rattle.std.proofs.lemmas.List.{append-nil}
 use Rattle.std.proofs.lemmas.List.Sums.{sum_by-append}
 use Rattle.px_message.specs.declared.flow.Flow.{Flow}
 use Rattle.px_event.specs.declared.heard.Heard.{Heard}
@@ -20,6 +21,7 @@ count_more trace more = sum_by-append (λ (step : Step). cond (is_heard step) 1 
 count_none : (more : Trace) → NoneHeard more → heard_count more ≡ 0
 count_none [] none = refl
 count_none (steps.Heard moment what ∷ more) none = absurd none
+count_none (steps.Begun conv ∷ more) none = absurd none
 count_none (steps.Asked number ask ∷ more) none = count_none more none
 count_none (steps.Answered number ask reply ∷ more) none = count_none more none
 count_none (steps.Said number what ∷ more) none = count_none more none
@@ -34,7 +36,21 @@ count_next trace moment what more none =
     let one : heard_count (steps.Heard moment what ∷ []) ≡ 1 = refl in
     omega (arith, counts, here, one, quiet)
 
--- flows are finished in the steps behind it
+-- a conversation began, and nothing was heard
+pub count_begun : (trace : Trace) (conv : ℕ) (more : Trace) → NoneHeard more → heard_count ((trace ++ steps.Begun conv ∷ []) ++ more) ≡ heard_count trace
+count_begun trace conv more none =
+    let quiet = count_none more none in
+    let here = count_more trace (steps.Begun conv ∷ []) in
+    let counts = count_more (trace ++ steps.Begun conv ∷ []) more in
+    let zero : heard_count (steps.Begun conv ∷ []) ≡ 0 = refl in
+    omega (arith, counts, here, zero, quiet)
+
+pub done_begun : (trace : Trace) (conv : ℕ) (more : Trace) → finished_in ((trace ++ steps.Begun conv ∷ []) ++ more) ≡ finished_in trace ++ finished_in more
+done_begun trace conv more =
+    flat_map-append done_of (trace ++ steps.Begun conv ∷ []) more
+    ∙ ap (λ (l : List Flow). l ++ finished_in more) (flat_map-append done_of trace (steps.Begun conv ∷ []) ∙ append-nil (finished_in trace))
+
+-- flows are finished in the steps behind what was heard
 pub done_next : (trace : Trace) (moment : ℕ) (what : Heard) (more : Trace) → finished_in ((trace ++ steps.Heard moment what ∷ []) ++ more) ≡ finished_in trace ++ finished_in more
 done_next trace moment what more =
     flat_map-append done_of (trace ++ steps.Heard moment what ∷ []) more ∙ ap (λ (l : List Flow). l ++ finished_in more) (done_heard trace moment what)

@@ -22,8 +22,8 @@ use Rattle.px_view.specs.declared.desk.Line.{Line}
 use Rattle.px_view.specs.Desk.{Stand, stands}
 use Rattle.px_app.specs.Operators.{leaves, leaves_at, nothing, operator_stand, says, says_at, stand_from, stand_on, word_of}
 use Rattle.px_app.specs.Statuses.{ends_by, ends_from, ends_heard, is_end}
-use Rattle.px_app.specs.Worked.{Turns, Worked, not_begun, of_conversation, of_leaving, of_operator, one_worked}
-use Rattle.px_app.proofs.TurnLemmas.{NoneHeard, none_heard}
+use Rattle.px_app.specs.Worked.{Turns, Worked, not_begun, of_conversation, of_leaving, of_operator, one_begun, one_worked}
+use Rattle.px_app.proofs.TurnLemmas.{NoneHeard, none_heard, none_of}
 
 -- it is no connection at that door
 abbrev pub ComesNot : ℕ × Heard → Type 0
@@ -62,6 +62,7 @@ stand_none conv [] all = refl
 stand_none conv (steps.Heard moment what ∷ rest) all =
     ap (λ s. stand_from conv s rest) (on_none conv moment what (All-head ComesNot (moment, what) (all_heard rest) all))
     ∙ stand_none conv rest (All-tail ComesNot (moment, what) (all_heard rest) all)
+stand_none conv (steps.Begun number ∷ rest) all = stand_none conv rest all
 stand_none conv (steps.Asked number ask ∷ rest) all = stand_none conv rest all
 stand_none conv (steps.Answered number ask reply ∷ rest) all = stand_none conv rest all
 stand_none conv (steps.Said number what ∷ rest) all = stand_none conv rest all
@@ -91,6 +92,7 @@ ends_more ended (step ∷ trace) more = ends_more (ends_by ended step) trace mor
 ends_still : (ended : Bool) (more : Trace) → NoneHeard more → ends_from ended more ≡ ended
 ends_still ended [] none = refl
 ends_still ended (steps.Heard moment what ∷ more) none = absurd none
+ends_still ended (steps.Begun conv ∷ more) none = absurd none
 ends_still ended (steps.Asked number ask ∷ more) none = ends_still ended more none
 ends_still ended (steps.Answered number ask reply ∷ more) none = ends_still ended more none
 ends_still ended (steps.Said number what ∷ more) none = ends_still ended more none
@@ -100,6 +102,11 @@ ends_next : (trace more : Trace) (moment : ℕ) (what : Heard) → NoneHeard mor
 ends_next trace more moment what none =
     ends_more false (trace ++ steps.Heard moment what ∷ []) more
     ∙ (ends_still (ends_heard (trace ++ steps.Heard moment what ∷ [])) more none ∙ ends_more false trace (steps.Heard moment what ∷ []))
+
+ends_begun : (trace : Trace) (conv : ℕ) (more : Trace) → NoneHeard more → ends_heard ((trace ++ steps.Begun conv ∷ []) ++ more) ≡ ends_heard trace
+ends_begun trace conv more none =
+    ends_more false (trace ++ steps.Begun conv ∷ []) more
+    ∙ (ends_still (ends_heard (trace ++ steps.Begun conv ∷ [])) more none ∙ ends_more false trace (steps.Begun conv ∷ []))
 
 -- ---- a front of what is heard
 
@@ -135,6 +142,14 @@ module _ {S : Type 0} (answers : Answering S) (drops : List ℕ → S → S → 
       let turn = turn_plain was at moment what more trace turned over (word_none was what none) turns in (
         tells ∙ (ap (λ t. (t ++ steps.Heard moment what ∷ []) ++ more) so.0 ∙ sym turn.0),
         ap ends_heard tells ∙ (ends_next before more moment what turn.2 ∙ sym turn.1),
+      )
+  worked_plain first told trace course over (one_begun before next_told was next at saved conv more old new worked own tells goes same saves) all =
+      let P : Trace → Type 0 = λ t. All ComesNot (all_heard t) in
+      let begun_so_far = before ++ steps.Begun conv ∷ [] in
+      let early = front_heard before (steps.Begun conv ∷ []) (front_heard begun_so_far more (subst P tells all)) in
+      let so = worked_plain first before was at false worked early in (
+        tells ∙ (ap (λ t. (t ++ steps.Begun conv ∷ []) ++ more) so.0 ∙ sym goes),
+        ap ends_heard tells ∙ (ends_begun before conv more (none_of conv more own) ∙ so.1),
       )
 
 -- ---- generated flows

@@ -8,12 +8,13 @@ use Rattle.px_gen.specs.Heard.{Hears}
 use Rattle.px_gen.specs.Noted.{HasGrownByFront, noted, with_steps}
 use Rattle.px_options.specs.Options.{Settings}
 use Rattle.px_addons.specs.declared.rules.Rules.{Rules}
-use Rattle.px_stack.specs.Modes.{mode_due}
+use Rattle.px_resend.specs.Due.{most_replayed}
+use Rattle.px_app.specs.Dues.{run_due}
 use Rattle.px_app.specs.Generates.{Generated, Generates, generator_mode, generator_settings}
 use Rattle.px_app.specs.Opened.{AreRulesOf}
 use Rattle.px_app.specs.Outside.{Outside}
 use Rattle.px_app.specs.Over.{course_from}
-use Rattle.px_app.specs.Run.{IsRun}
+use Rattle.px_app.specs.Serving.{Ran}
 use Rattle.px_app.specs.Statuses.{ends_heard}
 use Rattle.px_app.specs.declared.printing.Printing.{Printing}
 use Rattle.px_app.specs.declared.status.Status.TheVariants.{Ended}
@@ -21,6 +22,7 @@ use Rattle.px_app.proofs.AtOnceLemmas.{WaitsNot}
 use Rattle.px_app.proofs.DoorLemmas.{hears_plain, worked_plain}
 use Rattle.px_app.proofs.EndLemmas.{ended_not_lost}
 use Rattle.px_app.proofs.PromiseLemmas.{promises_of}
+use Rattle.px_app.proofs.RanLemmas.{replays_by}
 use Rattle.px_app.proofs.ToldLemmas.{none_part}
 
 with_none : (trace : Option Trace) → trace ≡ with_steps trace []
@@ -37,6 +39,15 @@ none_heard count = (0, (_, refl))
 
 not_seven : (status : ℕ) → status ≡ 8 → status ≡ 7 → ⊥
 not_seven status is seven = omega arith
+
+-- a generated run has no cause outside of what was heard
+no_cause : (code : ℕ) → (code ≡ 0) ⊎ ((code ≡ 7) ⊎ (code ≡ 8)) → (code ≡ 5) ⊎ (code ≡ 6) → ⊥
+no_cause code (inl zero) (inl five) = omega arith
+no_cause code (inl zero) (inr six) = omega arith
+no_cause code (inr (inl seven)) (inl five) = omega arith
+no_cause code (inr (inl seven)) (inr six) = omega arith
+no_cause code (inr (inr eight)) (inl five) = omega arith
+no_cause code (inr (inr eight)) (inr six) = omega arith
 
 not_printed : (status : ℕ) → status ≡ 8 → (failed : Type 0) (P : Type 0) → (status ≡ 0) ⊎ ((status ≢ 8) × ¬ failed) → P
 not_printed status is failed P (inl zero) = absurd (omega arith)
@@ -121,26 +132,26 @@ generates_by {S} {answers} {drops} {names} {fails} {key} {IsChain} {out} {count}
 
 module _ {S : Type 0} (answers : Answering S) (drops : List ℕ → S → S → Type 0) (names : S → List (List ℕ)) (fails : Failing S) (key : List ℕ) (chain : S) (files last : FilesMeaning) (budget : ℕ)
     (printing : Printing) (told : Trace)
-    (run : IsRun answers drops names fails (mode_due generator_mode key) (record { own = chain; files = files }) None budget Ended printing last None None told) where
+    (ran : Ran answers drops names fails (run_due generator_mode key []) (record { own = chain; files = files }) None budget Ended printing last (most_replayed []) None None told) where
   -- the end was heard
   pub heard_to_end : (count : ℕ) → Hears count told → ends_heard told ≡ true
   heard_to_end count hears =
-      let plain = worked_plain answers drops names (mode_due generator_mode key) _ told run.trace (course_from _ run.changes run.operations) run.over (run.worked_whole ended_not_lost) (hears_plain count told hears) in
-      plain.1 ∙ run.is_end.ended refl
+      let plain = worked_plain answers drops names (run_due generator_mode key []) _ told ran.run.trace (course_from _ ran.run.changes ran.run.operations) ran.run.over (ran.run.worked_whole ended_not_lost) (hears_plain count told hears) in
+      plain.1 ∙ ran.run.is_end.ended refl
 
   -- such a run by this chain, which lets no flow wait
   pub generated_so : (code : ℕ) (is : S → Type 0) → KeepsKind answers is WaitsNot → ((name : List ℕ) (old new : S) → is old → drops name old new → is new) → is chain →
-      Generated answers drops names fails key (λ settings other. other ≡ chain) files last code told
-  generated_so code is keeps stays so =
-      let reaches = run.reaches ended_not_lost in
+      (code ≡ 0) ⊎ ((code ≡ 7) ⊎ (code ≡ 8)) → Generated answers drops names fails key (λ settings other. other ≡ chain) files last code told
+  generated_so code is keeps stays so causes =
+      let reaches = ran.run.reaches ended_not_lost in
       record {
         chain = chain;
         is_chain = refl;
-        trace = run.trace;
-        changes = run.changes;
-        operations = run.operations;
-        over = run.over;
-        promises = promises_of answers drops names fails is keeps stays generator_settings.intercept generator_mode key _ None budget Ended printing last None None told code (λ other. ended_not_lost)
-            (λ none. so) run;
-        saves_none = (printing, reaches.placed, run.made, reaches.saved_so);
+        trace = ran.run.trace;
+        changes = ran.run.changes;
+        operations = ran.run.operations;
+        over = ran.run.over;
+        promises = promises_of answers drops names fails is keeps stays generator_settings.intercept generator_mode key [] _ None budget Ended printing last None None told code (λ other. ended_not_lost)
+            (λ none. so) (replays_by (most_replayed []) 0 code told (λ either. absurd (no_cause code causes either)) ran.replays) ran.run;
+        saves_none = (printing, reaches.placed, ran.run.made, reaches.saved_so);
       }

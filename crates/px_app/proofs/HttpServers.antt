@@ -28,8 +28,9 @@ use Rattle.px_chain.proofs.Quiet.{AllQuiet, LooksQuiet, any_flow}
 use Rattle.px_chain.specs.Sights.{Sight, Standing, Unused, answers_in, request_in, server_in, sight_over}
 use Rattle.px_chain.specs.Stages.{At, ServerSide, Stage, busy, connection, given_body, given_head, idle, next, over, request_body, response_body, response_head, upgraded}
 use Rattle.px_chain.proofs.QuietLemmas.{so_far_quiet, turn_quiet, finds_quiet_end}
+use Rattle.px_resend.specs.Dialled.{dials_in}
 use Rattle.px_app.specs.Servers.{CountsFrom}
-use Rattle.px_app.proofs.ServerLemmas.{dials_in, CountsDials}
+use Rattle.px_app.proofs.ServerLemmas.{CountsDials}
 
 -- so many servers were dialled before the stage, or nothing is dialled any more
 abbrev pub Dialled : ℕ → Stage → Type 0

@@ -1,9 +1,9 @@
 -- What comes of flow files, one file and one flow after the other.
-use Rattle.std.proofs.Common.{◌≡◌, ◌<◌, ◌≤◌, ℕ, zero, suc, ◌+◌, ◌-◌, List, [], ◌∷◌, ◌++◌, length, map, drop, get_or, Result, Ok, Err, IfErr, refl, sym, ap, ◌∙◌, subst, arith, append-nil, add-one}
+use Rattle.std.proofs.Common.{◌≡◌, ◌⊎◌, inl, inr, ◌<◌, ◌≤◌, ℕ, zero, suc, ◌+◌, ◌-◌, List, [], ◌∷◌, ◌++◌, length, map, drop, get_or, Result, Ok, Err, IfErr, refl, sym, ap, ◌∙◌, subst, arith, append-nil, add-one}
 use Rattle.std.proofs.Math.Seq.{drop-cons}
 use Rattle.std.specs.Prelude.{Vec}
 use Rattle.std.specs.Result.{IsErrAnd}
-use Rattle.std.proofs.lemmas.List.{append_assoc}
+use Rattle.std.proofs.lemmas.List.{append_assoc, map-append}
 use Rattle.px_text.specs.Prefix.{IsPrefixOf}
 use Rattle.px_message.specs.declared.flow.Flow.{Flow}
 use Rattle.px_outside.specs.declared.files.FileCall.{FileCall}
@@ -13,7 +13,7 @@ use Rattle.px_flowfile.specs.declared.entry.Entry.{Entry}
 use Rattle.px_map.specs.Reads.{Made, Seen}
 use Rattle.px_map.proofs.ReadsLemmas.{made_both, made_none}
 use Rattle.px_app.specs.FlowFile.{HasFlows, at_front}
-use Rattle.px_app.specs.Loaded.{Loaded, LoadsFiles, path_read, behind_flows, loaded, one_absent, one_bad, one_unread, unloaded, none_left, is_whole, is_absent, has_failed, is_bad, breaks_off, breaks_off_in}
+use Rattle.px_app.specs.Loaded.{Loaded, LoadsBehind, LoadsBoth, LoadsFiles, path_read, behind_flows, loaded, one_absent, one_bad, one_unread, unloaded, none_left, is_whole, is_absent, has_failed, is_bad, breaks_off, breaks_off_in}
 use Rattle.px_app.specs.Loading.{AddsAll, IsLoaded, IsNoNext, LoadsNoMore, came_of, stop_of}
 use Rattle.px_app.specs.declared.loading.LoadError.{LoadError}
 use Rattle.px_app.specs.declared.loading.LoadError.TheVariants as errors
@@ -208,3 +208,62 @@ all_read paths calls what flows (has_failed path others) is = absurd (cc)
 all_read paths calls what flows (is_bad path bytes behind mine others offset has bad same) is = absurd (cc)
 all_read paths calls what flows (breaks_off others) is = absurd (cc)
 all_read paths calls what flows (breaks_off_in path bytes others) is = absurd (cc)
+
+-- where the files of the first list were not all loaded, none of the second is read
+pub not_loaded : (first second : List (List ℕ)) (calls : List FileCall) (error : LoadError) → LoadsFiles first calls (stop_of error) → LoadsBoth first second calls (stop_of error) (loaded [])
+not_loaded first second calls (errors.Absent path) loads = record { first_calls = calls; second_calls = []; all = sym (append-nil calls); loads = loads; then_loads = (refl, refl) }
+not_loaded first second calls (errors.NotRead path) loads = record { first_calls = calls; second_calls = []; all = sym (append-nil calls); loads = loads; then_loads = (refl, refl) }
+not_loaded first second calls (errors.BadPlace path offset) loads = record { first_calls = calls; second_calls = []; all = sym (append-nil calls); loads = loads; then_loads = (refl, refl) }
+not_loaded first second calls errors.NoMemory loads = record { first_calls = calls; second_calls = []; all = sym (append-nil calls); loads = loads; then_loads = (refl, refl) }
+
+-- ---- the reads of two lists of files
+
+-- those of the second are of the first of its paths, or there are none
+second_read : (second : List (List ℕ)) (recorded : Loaded) (calls : List FileCall) (resent : Loaded) → LoadsBehind second recorded calls resent → IsPrefixOf (map path_read calls) second
+second_read second (loaded flows) calls resent loads = front_read second calls resent loads
+second_read second (one_absent path) calls resent (none, is) = (second, ap (λ (l : List FileCall). map path_read l ++ second) (sym none))
+second_read second (one_unread path) calls resent (none, is) = (second, ap (λ (l : List FileCall). map path_read l ++ second) (sym none))
+second_read second (one_bad path offset) calls resent (none, is) = (second, ap (λ (l : List FileCall). map path_read l ++ second) (sym none))
+second_read second unloaded calls resent (none, is) = (second, ap (λ (l : List FileCall). map path_read l ++ second) (sym none))
+
+-- and there are some only where all files of the first were loaded
+first_or_none : (recorded : Loaded) (second : List (List ℕ)) (calls : List FileCall) (resent : Loaded) → LoadsBehind second recorded calls resent →
+    ((flows : List Flow) × (recorded ≡ loaded flows)) ⊎ (calls ≡ [])
+first_or_none (loaded flows) second calls resent loads = inl (flows, refl)
+first_or_none (one_absent path) second calls resent (none, is) = inr none
+first_or_none (one_unread path) second calls resent (none, is) = inr none
+first_or_none (one_bad path offset) second calls resent (none, is) = inr none
+first_or_none unloaded second calls resent (none, is) = inr none
+
+-- the reads are of the first of the paths of both lists, one list behind the other
+pub both_front : (first second : List (List ℕ)) (calls : List FileCall) (recorded resent : Loaded) → LoadsBoth first second calls recorded resent → IsPrefixOf (map path_read calls) (first ++ second)
+both_front first second calls recorded resent both =
+    let P : List FileCall → Type 0 = λ l. IsPrefixOf (map path_read l) (first ++ second) in
+    subst P (sym both.all) (by_cases (first_or_none recorded second both.second_calls resent both.then_loads))
+  where
+    by_cases : ((flows : List Flow) × (recorded ≡ loaded flows)) ⊎ (both.second_calls ≡ []) → IsPrefixOf (map path_read (both.first_calls ++ both.second_calls)) (first ++ second)
+    by_cases (inl (flows, is)) =
+        let all = all_read first both.first_calls recorded flows both.loads is in
+        let part = second_read second recorded both.second_calls resent both.then_loads in (
+          part.0,
+          ap (λ (l : List (List ℕ)). l ++ second) (sym all)
+              ∙ (ap (λ (l : List (List ℕ)). map path_read both.first_calls ++ l) part.1
+              ∙ (sym (append_assoc (map path_read both.first_calls) (map path_read both.second_calls) part.0)
+              ∙ ap (λ (l : List (List ℕ)). l ++ part.0) (sym (map-append path_read both.first_calls both.second_calls)))),
+        )
+    by_cases (inr none) =
+        let part = front_read first both.first_calls recorded both.loads in
+        let same : map path_read (both.first_calls ++ both.second_calls) ≡ map path_read both.first_calls =
+        ap (λ (l : List FileCall). map path_read (both.first_calls ++ l)) none ∙ ap (λ (l : List FileCall). map path_read l) (append-nil both.first_calls) in (
+          part.0 ++ second,
+          ap (λ (l : List (List ℕ)). l ++ second) part.1
+              ∙ (append_assoc (map path_read both.first_calls) part.0 second ∙ ap (λ (l : List (List ℕ)). l ++ (part.0 ++ second)) (sym same)),
+        )
+
+-- and of all of them where all were loaded
+pub both_all : (first second : List (List ℕ)) (calls : List FileCall) (recorded resent : List Flow) → LoadsBoth first second calls (loaded recorded) (loaded resent) → map path_read calls ≡ first ++ second
+both_all first second calls recorded resent both =
+    ap (λ (l : List FileCall). map path_read l) both.all
+    ∙ (map-append path_read both.first_calls both.second_calls
+    ∙ (ap (λ (l : List (List ℕ)). l ++ map path_read both.second_calls) (all_read first both.first_calls (loaded recorded) recorded both.loads refl)
+    ∙ ap (λ (l : List (List ℕ)). first ++ l) (all_read second both.second_calls (loaded resent) resent both.then_loads refl)))

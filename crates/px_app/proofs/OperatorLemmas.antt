@@ -14,7 +14,7 @@ use Rattle.px_event.specs.declared.step.Step.TheVariants as steps
 use Rattle.px_event.specs.Trace.{Trace}
 use Rattle.px_core.specs.declared.news.News.{News}
 use Rattle.px_core.specs.declared.news.News.TheVariants as news
-use Rattle.px_core.specs.Calls.{Calls, addressed, calls, calls_from, calls_on, dial_ends, dials, hears_by, is_connected, is_dialling, no_calls, takes}
+use Rattle.px_core.specs.Calls.{Calls, addressed, begins, calls, calls_from, calls_on, dial_ends, dials, hears_by, is_connected, is_dialling, no_calls, takes}
 use Rattle.px_view.specs.declared.desk.Line.{Line}
 use Rattle.px_view.specs.declared.desk.Line.TheVariants as line
 use Rattle.px_view.specs.Desk.{Stand, fresh, is_feed, is_full, stand_of, stands, told, without_return}
@@ -33,6 +33,7 @@ stand_from_more conv stand (step ∷ front) more = stand_from_more conv (stand_b
 stand_quiet : (conv : ℕ) (stand : Stand) (more : Trace) → NoneHeard more → stand_from conv stand more ≡ stand
 stand_quiet conv stand [] none = refl
 stand_quiet conv stand (steps.Heard moment what ∷ more) none = absurd none
+stand_quiet conv stand (steps.Begun number ∷ more) none = absurd none
 stand_quiet conv stand (steps.Asked number ask ∷ more) none = stand_quiet conv stand more none
 stand_quiet conv stand (steps.Answered number ask reply ∷ more) none = stand_quiet conv stand more none
 stand_quiet conv stand (steps.Said number what ∷ more) none = stand_quiet conv stand more none
@@ -44,6 +45,12 @@ pub stand_heard : (conv : ℕ) (trace : Trace) (moment : ℕ) (what : Heard) (mo
 stand_heard conv trace moment what more none =
     let there : Trace = trace ++ steps.Heard moment what ∷ [] in
     stand_from_more conv None there more ∙ (stand_quiet conv (stand_from conv None there) more none ∙ stand_from_more conv None trace (steps.Heard moment what ∷ []))
+
+-- a conversation that begins, and steps in which nothing is heard
+pub stand_begun : (conv : ℕ) (trace : Trace) (number : ℕ) (more : Trace) → NoneHeard more → operator_stand conv ((trace ++ steps.Begun number ∷ []) ++ more) ≡ operator_stand conv trace
+stand_begun conv trace number more none =
+    let there : Trace = trace ++ steps.Begun number ∷ [] in
+    stand_from_more conv None there more ∙ (stand_quiet conv (stand_from conv None there) more none ∙ stand_from_more conv None trace (steps.Begun number ∷ []))
 
 -- ---- a conversation that has begun stays so
 
@@ -67,6 +74,7 @@ begun_dials (said.Dial server address) c is = is
 
 begun_on : (conv : ℕ) (c : Calls) (step : Step) → is_some c.peer ≡ true → is_some (calls_on conv c step).peer ≡ true
 begun_on conv c (steps.Heard moment what) is = begun_hears conv moment c (addressed what) is
+begun_on conv c (steps.Begun number) is = some_if (number == conv) (begins c.moment None c) c (some_if (is_some c.peer) c _ is refl) is
 begun_on conv c (steps.Asked number ask) is = is
 begun_on conv c (steps.Answered number ask reply) is = some_if (number == conv) _ c is is
 begun_on conv c (steps.Said number what) is = some_if (number == conv) (dials what c) c (begun_dials what c is) is
@@ -76,7 +84,7 @@ begun_from : (conv : ℕ) (c : Calls) (more : Trace) → is_some c.peer ≡ true
 begun_from conv c [] is = is
 begun_from conv c (step ∷ more) is = begun_from conv (calls_on conv c step) more (begun_on conv c step is)
 
-calls_from_more : (conv : ℕ) (c : Calls) (front more : Trace) → calls_from conv c (front ++ more) ≡ calls_from conv (calls_from conv c front) more
+pub calls_from_more : (conv : ℕ) (c : Calls) (front more : Trace) → calls_from conv c (front ++ more) ≡ calls_from conv (calls_from conv c front) more
 calls_from_more conv c [] more = refl
 calls_from_more conv c (step ∷ front) more = calls_from_more conv (calls_on conv c step) front more
 
@@ -129,7 +137,7 @@ pub record IsOperator (operators : Operators) (trace : Trace) (conv : ℕ) : Typ
   pub stand : stand_of operators.desk conv ≡ operator_stand conv trace
   pub some : is_some (stand_of operators.desk conv) ≡ true
 
-pub no_peer : (peer : Option Address) (known : Bool) → known ≡ is_some peer → not known ≡ true → peer ≡ None
+pub no_peer : (peer : Option (Option Address)) (known : Bool) → known ≡ is_some peer → not known ≡ true → peer ≡ None
 no_peer None known is never = refl
 no_peer (Some p) known is never = absurd (let yes : known ≡ false = not-true known never in cc)
 
@@ -146,12 +154,12 @@ operator_by operators trace conv known they is test =
       some = they.go_on conv parts.0;
     }
 
-says_is : (conv : ℕ) (stand there : Stand) (peer : Option Address) (bytes : List ℕ) → peer ≡ None → there ≡ stand → is_some there ≡ true → says_at conv stand peer bytes ≡ says conv (told bytes there)
+says_is : (conv : ℕ) (stand there : Stand) (peer : Option (Option Address)) (bytes : List ℕ) → peer ≡ None → there ≡ stand → is_some there ≡ true → says_at conv stand peer bytes ≡ says conv (told bytes there)
 says_is conv None there peer bytes none same some = absurd (let never : is_some there ≡ false = ap is_some same in cc)
 says_is conv (Some kept) there None bytes none same some = ap (λ s. says conv (told bytes s)) (sym same)
 says_is conv (Some kept) there (Some p) bytes none same some = absurd (cc)
 
-leaves_is : (conv : ℕ) (stand there : Stand) (peer : Option Address) → peer ≡ None → there ≡ stand → is_some there ≡ true → leaves_at conv stand peer ≡ leaves conv
+leaves_is : (conv : ℕ) (stand there : Stand) (peer : Option (Option Address)) → peer ≡ None → there ≡ stand → is_some there ≡ true → leaves_at conv stand peer ≡ leaves conv
 leaves_is conv None there peer none same some = absurd (let never : is_some there ≡ false = ap is_some same in cc)
 leaves_is conv (Some kept) there None none same some = refl
 leaves_is conv (Some kept) there (Some p) none same some = absurd (cc)
@@ -163,7 +171,7 @@ operator_says operators trace conv bytes is = says_is conv (operator_stand conv 
 pub operator_leaves : (operators : Operators) (trace : Trace) (conv : ℕ) → IsOperator operators trace conv → word_of trace (heard.Closed conv Client) ≡ leaves conv
 operator_leaves operators trace conv is = leaves_is conv (operator_stand conv trace) (stand_of operators.desk conv) (calls conv trace).peer is.none is.stand is.some
 
-silent_says : (conv : ℕ) (stand : Stand) (peer : Option Address) (bytes : List ℕ) (opened known : Bool) (there : Stand) → known ≡ is_some peer →
+silent_says : (conv : ℕ) (stand : Stand) (peer : Option (Option Address)) (bytes : List ℕ) (opened known : Bool) (there : Stand) → known ≡ is_some peer →
     (peer ≡ None → (if opened then there else None) ≡ stand) → (opened && not known) ≡ false → says_at conv stand peer bytes ≡ nothing
 silent_says conv None None bytes opened known there is at test = refl
 silent_says conv None (Some p) bytes opened known there is at test = refl
@@ -172,7 +180,7 @@ silent_says conv (Some kept) None bytes true true there is at test = absurd (cc)
 silent_says conv (Some kept) None bytes true false there is at test = absurd (cc)
 silent_says conv (Some kept) None bytes false known there is at test = absurd (let never : None ≡ Some kept = at refl in cc)
 
-silent_leaves : (conv : ℕ) (stand : Stand) (peer : Option Address) (opened known : Bool) (there : Stand) → known ≡ is_some peer →
+silent_leaves : (conv : ℕ) (stand : Stand) (peer : Option (Option Address)) (opened known : Bool) (there : Stand) → known ≡ is_some peer →
     (peer ≡ None → (if opened then there else None) ≡ stand) → (opened && not known) ≡ false → leaves_at conv stand peer ≡ nothing
 silent_leaves conv None None opened known there is at test = refl
 silent_leaves conv None (Some p) opened known there is at test = refl
@@ -392,12 +400,12 @@ module _ (before after : Operators) (trace : Trace) (moment number : ℕ) (bytes
 
 -- ---- what is of no operator
 
-says_none : (conv : ℕ) (stand : Stand) (peer : Option Address) (bytes : List ℕ) → peer ≡ None → says_at conv stand peer bytes ≡ nothing → stand ≡ None
+says_none : (conv : ℕ) (stand : Stand) (peer : Option (Option Address)) (bytes : List ℕ) → peer ≡ None → says_at conv stand peer bytes ≡ nothing → stand ≡ None
 says_none conv None peer bytes none is = refl
 says_none conv (Some kept) None bytes none is = absurd (cc)
 says_none conv (Some kept) (Some p) bytes none is = absurd (cc)
 
-leaves_none : (conv : ℕ) (stand : Stand) (peer : Option Address) → peer ≡ None → leaves_at conv stand peer ≡ nothing → stand ≡ None
+leaves_none : (conv : ℕ) (stand : Stand) (peer : Option (Option Address)) → peer ≡ None → leaves_at conv stand peer ≡ nothing → stand ≡ None
 leaves_none conv None peer none is = refl
 leaves_none conv (Some kept) None none is = absurd (cc)
 leaves_none conv (Some kept) (Some p) none is = absurd (cc)
@@ -430,6 +438,15 @@ module _ (trace : Trace) (conv : ℕ) (none : (calls conv trace).peer ≡ None) 
   nothing_moves heard.End quiet is = refl
 
 -- operators stay as they are
+-- a conversation without a client begins, of whatever number
+pub begun_on_alone : (operators : Operators) (trace : Trace) (number : ℕ) (more : Trace) → NoneHeard more → OperatorsStand operators trace → OperatorsStand operators ((trace ++ steps.Begun number ∷ []) ++ more)
+begun_on_alone operators trace number more none they = record {
+  at = λ conv never.
+      let before = not_begun conv trace (steps.Begun number ∷ []) (not_begun conv (trace ++ steps.Begun number ∷ []) more never) in
+      they.at conv before ∙ sym (stand_begun conv trace number more none);
+  go_on = they.go_on;
+}
+
 pub stayed_on : (operators : Operators) (trace : Trace) (moment : ℕ) (what : Heard) (next : Trace) → Hears trace moment what next → OperatorsStand operators trace → accepted_by what ≡ None → word_of trace what ≡ nothing →
     OperatorsStand operators next
 stayed_on operators trace moment what next hears they quiet is = record {

@@ -1,4 +1,4 @@
--- Where a trace rests, one thing heard further; and what is printed and saved there.
+-- Where a trace rests, one thing further that is heard or begins; and what is printed and saved there.
 use Rattle.std.proofs.Common.{◌≡◌, ℕ, List, [], ◌∷◌, ◌++◌, Option, Ok, Err, refl, sym, ap, ◌∙◌, subst, append_assoc}
 use Rattle.std.proofs.lemmas.List.{append-nil}
 use Rattle.px_text.specs.declared.no_memory.NoMemory.{NoMemory}
@@ -25,44 +25,49 @@ use Rattle.px_app.proofs.TurnLemmas.{IsDrop, NoneHeard}
 rests_quiet : (prefix more : Trace) → NoneHeard more → rests prefix more ≡ (prefix ++ more) ∷ []
 rests_quiet prefix [] none = ap (λ t. t ∷ []) (sym (append-nil prefix))
 rests_quiet prefix (steps.Heard moment what ∷ more) none = absurd none
+rests_quiet prefix (steps.Begun conv ∷ more) none = absurd none
 rests_quiet prefix (steps.Asked number ask ∷ more) none = rests_quiet (prefix ++ steps.Asked number ask ∷ []) more none ∙ ap (λ t. t ∷ []) (append_assoc prefix (steps.Asked number ask ∷ []) more)
 rests_quiet prefix (steps.Answered number ask reply ∷ more) none =
     rests_quiet (prefix ++ steps.Answered number ask reply ∷ []) more none ∙ ap (λ t. t ∷ []) (append_assoc prefix (steps.Answered number ask reply ∷ []) more)
 rests_quiet prefix (steps.Said number what ∷ more) none = rests_quiet (prefix ++ steps.Said number what ∷ []) more none ∙ ap (λ t. t ∷ []) (append_assoc prefix (steps.Said number what ∷ []) more)
 rests_quiet prefix (steps.Done flow ∷ more) none = rests_quiet (prefix ++ steps.Done flow ∷ []) more none ∙ ap (λ t. t ∷ []) (append_assoc prefix (steps.Done flow ∷ []) more)
 
-one_on : (prefix : Trace) (step : Step) (trace : Trace) (moment : ℕ) (what : Heard) (more : Trace) →
-    rests (prefix ++ step ∷ []) (trace ++ steps.Heard moment what ∷ more) ≡ rests (prefix ++ step ∷ []) trace ++ (((prefix ++ step ∷ []) ++ trace) ++ steps.Heard moment what ∷ more) ∷ [] →
-    rests (prefix ++ step ∷ []) (trace ++ steps.Heard moment what ∷ more) ≡ rests (prefix ++ step ∷ []) trace ++ ((prefix ++ step ∷ trace) ++ steps.Heard moment what ∷ more) ∷ []
-one_on prefix step trace moment what more is =
-    is ∙ ap (λ t. rests (prefix ++ step ∷ []) trace ++ (t ++ steps.Heard moment what ∷ more) ∷ []) (append_assoc prefix (step ∷ []) trace)
+-- it comes first behind a rest: something heard, or a conversation that begins
+abbrev pub IsFirst : Step → Type 0
+IsFirst step = (prefix rest : Trace) → rests prefix (step ∷ rest) ≡ prefix ∷ rests (prefix ++ step ∷ []) rest
 
--- one thing heard behind a trace
-rests_on : (prefix trace : Trace) (moment : ℕ) (what : Heard) (more : Trace) → NoneHeard more →
-    rests prefix (trace ++ steps.Heard moment what ∷ more) ≡ rests prefix trace ++ ((prefix ++ trace) ++ steps.Heard moment what ∷ more) ∷ []
-rests_on prefix [] moment what more none =
-    ap (λ l. prefix ∷ l) (rests_quiet (prefix ++ steps.Heard moment what ∷ []) more none
-    ∙ ap (λ t. t ∷ []) (append_assoc prefix (steps.Heard moment what ∷ []) more ∙ ap (λ t. t ++ steps.Heard moment what ∷ more) (sym (append-nil prefix))))
-rests_on prefix (steps.Heard other heard ∷ trace) moment what more none =
-    ap (λ l. prefix ∷ l) (rests_on (prefix ++ steps.Heard other heard ∷ []) trace moment what more none
-    ∙ ap (λ t. rests (prefix ++ steps.Heard other heard ∷ []) trace ++ (t ++ steps.Heard moment what ∷ more) ∷ []) (append_assoc prefix (steps.Heard other heard ∷ []) trace))
-rests_on prefix (steps.Asked number ask ∷ trace) moment what more none = one_on prefix (steps.Asked number ask) trace moment what more (rests_on (prefix ++ steps.Asked number ask ∷ []) trace moment what more none)
-rests_on prefix (steps.Answered number ask reply ∷ trace) moment what more none =
-    one_on prefix (steps.Answered number ask reply) trace moment what more (rests_on (prefix ++ steps.Answered number ask reply ∷ []) trace moment what more none)
-rests_on prefix (steps.Said number said ∷ trace) moment what more none = one_on prefix (steps.Said number said) trace moment what more (rests_on (prefix ++ steps.Said number said ∷ []) trace moment what more none)
-rests_on prefix (steps.Done flow ∷ trace) moment what more none = one_on prefix (steps.Done flow) trace moment what more (rests_on (prefix ++ steps.Done flow ∷ []) trace moment what more none)
+one_on : (prefix : Trace) (step : Step) (trace : Trace) (first : Step) (more : Trace) →
+    rests (prefix ++ step ∷ []) (trace ++ first ∷ more) ≡ rests (prefix ++ step ∷ []) trace ++ (((prefix ++ step ∷ []) ++ trace) ++ first ∷ more) ∷ [] →
+    rests (prefix ++ step ∷ []) (trace ++ first ∷ more) ≡ rests (prefix ++ step ∷ []) trace ++ ((prefix ++ step ∷ trace) ++ first ∷ more) ∷ []
+one_on prefix step trace first more is = is ∙ ap (λ t. rests (prefix ++ step ∷ []) trace ++ (t ++ first ∷ more) ∷ []) (append_assoc prefix (step ∷ []) trace)
 
-rests_of_more : (trace : Trace) (moment : ℕ) (what : Heard) (more : Trace) → NoneHeard more →
-    rests_of (trace ++ steps.Heard moment what ∷ more) ≡ rests_of trace ++ (trace ++ steps.Heard moment what ∷ more) ∷ []
-rests_of_more [] moment what more none = rests_quiet (steps.Heard moment what ∷ []) more none
-rests_of_more (step ∷ trace) moment what more none = rests_on (step ∷ []) trace moment what more none
+-- one thing that comes first behind a trace
+rests_on : (prefix trace : Trace) (first : Step) (more : Trace) → IsFirst first → NoneHeard more → rests prefix (trace ++ first ∷ more) ≡ rests prefix trace ++ ((prefix ++ trace) ++ first ∷ more) ∷ []
+rests_on prefix [] first more is none =
+    is prefix more
+    ∙ ap (λ l. prefix ∷ l) (rests_quiet (prefix ++ first ∷ []) more none ∙ ap (λ t. t ∷ []) (append_assoc prefix (first ∷ []) more ∙ ap (λ t. t ++ first ∷ more) (sym (append-nil prefix))))
+rests_on prefix (steps.Heard other heard ∷ trace) first more is none =
+    ap (λ l. prefix ∷ l) (one_on prefix (steps.Heard other heard) trace first more (rests_on (prefix ++ steps.Heard other heard ∷ []) trace first more is none))
+rests_on prefix (steps.Begun conv ∷ trace) first more is none = ap (λ l. prefix ∷ l) (one_on prefix (steps.Begun conv) trace first more (rests_on (prefix ++ steps.Begun conv ∷ []) trace first more is none))
+rests_on prefix (steps.Asked number ask ∷ trace) first more is none = one_on prefix (steps.Asked number ask) trace first more (rests_on (prefix ++ steps.Asked number ask ∷ []) trace first more is none)
+rests_on prefix (steps.Answered number ask reply ∷ trace) first more is none =
+    one_on prefix (steps.Answered number ask reply) trace first more (rests_on (prefix ++ steps.Answered number ask reply ∷ []) trace first more is none)
+rests_on prefix (steps.Said number said ∷ trace) first more is none = one_on prefix (steps.Said number said) trace first more (rests_on (prefix ++ steps.Said number said ∷ []) trace first more is none)
+rests_on prefix (steps.Done flow ∷ trace) first more is none = one_on prefix (steps.Done flow) trace first more (rests_on (prefix ++ steps.Done flow ∷ []) trace first more is none)
+
+rests_of_more : (trace : Trace) (first : Step) (more : Trace) → IsFirst first → NoneHeard more → rests_of (trace ++ first ∷ more) ≡ rests_of trace ++ (trace ++ first ∷ more) ∷ []
+rests_of_more [] first more is none = rests_quiet (first ∷ []) more none
+rests_of_more (step ∷ trace) first more is none = rests_on (step ∷ []) trace first more is none
 
 -- the trace that is told is one rest further
+pub rests_first : (trace : Trace) (first : Step) (more : Trace) → IsFirst first → NoneHeard more → rests_of ((trace ++ first ∷ []) ++ more) ≡ rests_of trace ++ ((trace ++ first ∷ []) ++ more) ∷ []
+rests_first trace first more is none =
+    let P : Trace → Type 0 = λ t. rests_of t ≡ rests_of trace ++ t ∷ [] in
+    subst P (sym (append_assoc trace (first ∷ []) more)) (rests_of_more trace first more is none)
+
 pub rests_next : (trace : Trace) (moment : ℕ) (what : Heard) (more : Trace) → NoneHeard more →
     rests_of ((trace ++ steps.Heard moment what ∷ []) ++ more) ≡ rests_of trace ++ ((trace ++ steps.Heard moment what ∷ []) ++ more) ∷ []
-rests_next trace moment what more none =
-    let P : Trace → Type 0 = λ t. rests_of t ≡ rests_of trace ++ t ∷ [] in
-    subst P (sym (append_assoc trace (steps.Heard moment what ∷ []) more)) (rests_of_more trace moment what more none)
+rests_next trace moment what more none = rests_first trace (steps.Heard moment what) more (λ prefix rest. refl) none
 
 -- ---- before each thing heard
 
@@ -70,9 +75,10 @@ rests_next trace moment what more none =
 before_on : (P : Trace → Type 0) (trace : Trace) (step : Step) (more : Trace) → BeforeEachHeard P ((trace ++ step ∷ []) ++ more) → BeforeEachHeard P (trace ++ step ∷ more)
 before_on P trace step more before = let Q : Trace → Type 0 = BeforeEachHeard P in subst Q (append_assoc trace (step ∷ []) more) before
 
-before_quiet : (P : Trace → Type 0) (trace more : Trace) → NoneHeard more → BeforeEachHeard P trace → BeforeEachHeard P (trace ++ more)
+pub before_quiet : (P : Trace → Type 0) (trace more : Trace) → NoneHeard more → BeforeEachHeard P trace → BeforeEachHeard P (trace ++ more)
 before_quiet P trace [] none before = let Q : Trace → Type 0 = BeforeEachHeard P in subst Q (sym (append-nil trace)) before
 before_quiet P trace (steps.Heard moment what ∷ more) none before = absurd none
+before_quiet P trace (steps.Begun conv ∷ more) none before = absurd none
 before_quiet P trace (steps.Asked number ask ∷ more) none before =
     before_on P trace (steps.Asked number ask) more (before_quiet P (trace ++ steps.Asked number ask ∷ []) more none
     (before_other P trace (steps.Asked number ask) (λ m h (is : steps.Asked number ask ≡ steps.Heard m h). absurd (cc)) before))

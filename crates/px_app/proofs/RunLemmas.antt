@@ -1,10 +1,8 @@
 -- How a run ends, by its status.
 use Rattle.std.proofs.Common.{◌≡◌, ◌≢◌, ◌⊎◌, inl, inr, ℕ, ◌<◌, Bool, true, false, List, [], Option, Some, Result, Ok, Err, IfErr, refl, sym, ap, ◌∙◌, subst, arith}
 use Rattle.std.specs.Result.{IsErrAnd}
-use Rattle.rand_chacha.specs.ChaCha.{key_of}
 use Rattle.px_message.specs.declared.address.Address.{Address}
 use Rattle.px_message.proofs.AddressLemmas.{address_eq}
-use Rattle.px_event.specs.Layer.{Move}
 use Rattle.px_event.specs.Trace.{BeforeEachHeard, Trace}
 use Rattle.px_outside.specs.declared.net.NetError.{NetError}
 use Rattle.px_outside.specs.declared.net.NetError.TheVariants as net
@@ -17,8 +15,6 @@ use Rattle.px_core.proofs.AnsweredLemmas.{whole_front}
 use Rattle.px_core.proofs.ResultLemmas.{same_some}
 use Rattle.px_exchange.specs.declared.mode.Mode.{Mode}
 use Rattle.px_exchange.specs.declared.mode.Mode.TheVariants as modes
-use Rattle.px_stack.specs.declared.placed.Placed.{Placed}
-use Rattle.px_stack.specs.Modes.{mode_due}
 use Rattle.px_options.specs.Mode.{regular, reverse, upstream}
 use Rattle.px_options.specs.Values.{Place}
 use Rattle.px_options.specs.View.{mode_view, place}
@@ -201,23 +197,3 @@ listens_where_heard old new trace P (inr h) empty tells heard_some = h
 pub if_err_by : {T : Type 0} (result : Result T Status) (Q P : Status → Type 0) → IsErrAnd result Q → ((status : Status) → Q status → P status) → IfErr result P
 if_err_by (Ok _) Q P is f = tt
 if_err_by (Err status) Q P is f = f status is
-
--- the status is that of the end
-pub ended_told : {S : Type 0} {answers : Answering S} {drops : List ℕ → S → S → Type 0} {names : S → List (List ℕ)} {fails : Failing S} {due : Due} {first : AnswererState S} {to : Option SavesTo} {budget : ℕ} {printing : Printing} {files : FilesMeaning} {start now : Option (List ℕ)} {told : Option Trace} {status : Status} →
-    status ≡ Ended → Told (IsRun answers drops names fails due first to budget status printing files start now) told → Told (IsRun answers drops names fails due first to budget Ended printing files start now) told
-ended_told {S} {answers} {drops} {names} {fails} {due} {first} {to} {budget} {printing} {files} {start} {now} {told} is run =
-    subst (λ (s : Status). Told (IsRun answers drops names fails due first to budget s printing files start now) told) is run
-
--- what is due of a maker's conversations is what is due in its mode with its key
-pub placed_due : (maker : Placed) (mode : Mode) (mask_key : List ℕ) → maker.mode ≡ mode → maker.mask_key ≡ mask_key → (conv : ℕ) (peer : Address) (moves : List Move) →
-    mode_due maker.mode (key_of maker.mask_key) conv peer moves ≡ mode_due mode (key_of mask_key) conv peer moves
-placed_due maker mode mask_key in_mode with_key conv peer moves =
-    ap (λ (m : Mode). mode_due m (key_of maker.mask_key) conv peer moves) in_mode
-    ∙ ap (λ (k : List ℕ). mode_due mode (key_of k) conv peer moves) with_key
-
--- so it is in a mode that is the same
-pub in_mode : {S : Type 0} {answers : Answering S} {drops : List ℕ → S → S → Type 0} {names : S → List (List ℕ)} {fails : Failing S} {first : AnswererState S} {to : Option SavesTo} {budget : ℕ} {printing : Printing} {files : FilesMeaning} {start now : Option (List ℕ)}
-    {told : Option Trace} {status : Status} (mode wanted : Mode) (key : List ℕ) → mode ≡ wanted → Told (IsRun answers drops names fails (mode_due mode key) first to budget status printing files start now) told →
-    Told (IsRun answers drops names fails (mode_due wanted key) first to budget status printing files start now) told
-in_mode {S} {answers} {drops} {names} {fails} {first} {to} {budget} {printing} {files} {start} {now} {told} {status} mode wanted key is run =
-    subst (λ (m : Mode). Told (IsRun answers drops names fails (mode_due m key) first to budget status printing files start now) told) is run

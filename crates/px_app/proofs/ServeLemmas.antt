@@ -1,5 +1,6 @@
 -- What is told of a run that serves, as its options say it, by how serving and the status's line went.
 use Rattle.std.proofs.Common.{◌≡◌, ◌≢◌, ◌≤◌, ◌⊎◌, inl, ℕ, List, Option, None, ◌++◌, ◌∙◌, sym, subst}
+use Rattle.px_message.specs.declared.flow.Flow.{Flow}
 use Rattle.px_event.specs.Trace.{Trace}
 use Rattle.px_outside.specs.Count.{Rose}
 use Rattle.px_outside.specs.Sink.{Writes, WritesPart}
@@ -8,25 +9,27 @@ use Rattle.px_core.specs.Kind.{KeepsKind}
 use Rattle.px_exchange.specs.declared.mode.Mode.{Mode}
 use Rattle.px_options.specs.Options.{Settings}
 use Rattle.px_options.specs.View.{mode_view}
-use Rattle.px_stack.specs.Modes.{mode_due}
+use Rattle.px_resend.specs.Due.{most_replayed}
+use Rattle.px_app.specs.Dues.{run_due}
 use Rattle.px_app.specs.Lines.{line_of}
 use Rattle.px_app.specs.Listed.{listed}
 use Rattle.px_app.specs.Outside.{Outside}
 use Rattle.px_app.specs.Printed.{Ends, Has, at_end}
 use Rattle.px_app.specs.Promises.{Prints}
-use Rattle.px_app.specs.Run.{IsRun}
 use Rattle.px_app.specs.Saved.{SavesTo}
 use Rattle.px_app.specs.Serves.{Served, saves_of}
+use Rattle.px_app.specs.Serving.{Ran}
 use Rattle.px_app.specs.Statuses.{code_of}
 use Rattle.px_app.specs.declared.printing.Printing.{Printing}
 use Rattle.px_app.specs.declared.printing.Printing.TheVariants.{Failed}
 use Rattle.px_app.specs.declared.status.Status.{Status}
 use Rattle.px_app.specs.declared.status.Status.TheVariants.{NoMemory, OutputFailed}
 use Rattle.px_app.proofs.AtOnceLemmas.{WaitsNot}
-use Rattle.px_app.proofs.CodeLemmas.{code_by, ended_or, not_eight, other_says, seven_says, zero_says}
+use Rattle.px_app.proofs.CodeLemmas.{causes_of, code_by, ended_or, not_eight, other_says, seven_says, zero_says}
 use Rattle.px_app.proofs.EndLemmas.{printed_part, printed_whole}
 use Rattle.px_app.proofs.OutputLemmas.{has_of, outputs_at}
 use Rattle.px_app.proofs.PromiseLemmas.{promises_in, promises_of}
+use Rattle.px_app.proofs.RanLemmas.{replays_by}
 use Rattle.px_app.proofs.RunLemmas.{same_mode}
 use Rattle.px_app.proofs.SetupLemmas.{ends_by, ends_so}
 
@@ -65,11 +68,13 @@ module _ {S : Type 0} (answers : Answering S) (drops : List ℕ → S → S → 
     }
 
     -- what is told of the run
-    pub served_so : (settings : Settings) (mode : Mode) (key : List ℕ) (chain : S) (read : FilesMeaning) (to : Option SavesTo) (budget : ℕ) (told : Trace) → mode_view mode ≡ settings.mode →
+    pub served_so : (settings : Settings) (mode : Mode) (key : List ℕ) (resent : List Flow) (chain : S) (read : FilesMeaning) (to : Option SavesTo) (budget : ℕ) (told : Trace) →
+        mode_view mode ≡ settings.mode →
         to ≡ saves_of settings → budget ≡ settings.events → (settings.intercept ≡ None → is chain) → status ≢ OutputFailed →
-        IsRun answers drops names fails (mode_due mode key) (record { own = chain; files = read }) to budget status printing after.files before.written mid told →
-        Served answers drops names fails key out_failed save_failed settings chain read before after code told
-    served_so settings mode key chain read to budget told in_mode saves events lets not run =
+        Ran answers drops names fails (run_due mode key resent) (record { own = chain; files = read }) to budget status printing after.files (most_replayed resent) before.written mid told →
+        Served answers drops names fails key out_failed save_failed settings chain resent read before after code told
+    served_so settings mode key resent chain read to budget told in_mode saves events lets not ran =
+        let run = ran.run in
         let well = λ (other : code ≢ 8). other_says printing status code number other in
         record {
           trace = run.trace;
@@ -77,7 +82,8 @@ module _ {S : Type 0} (answers : Answering S) (drops : List ℕ → S → S → 
           operations = run.operations;
           over = run.over;
           promises = λ wanted wants. promises_in (same_mode mode wanted (in_mode ∙ wants))
-              (promises_of answers drops names fails is keeps stays settings.intercept mode key _ to budget status printing after.files before.written mid told code well lets run);
+              (promises_of answers drops names fails is keeps stays settings.intercept mode key resent _ to budget status printing after.files before.written mid told code well lets
+              (replays_by (most_replayed resent) (code_of status) code told (causes_of printing status code number) ran.replays) run);
           outputs = outputs_at (out_failed ⊎ save_failed) run.changes (saves_of settings) code run.trace before.written mid after.written saves run.made run.part printing
               (λ other. run.reaches (well other)) line.still failed (λ zero. (zero_says printing status code number zero).1) (λ seven. (seven_says printing status code number not seven).1);
           ends = ends_by events (ends_so printing status code number not budget run.over told run.is_end);

@@ -21,6 +21,7 @@ use Rattle.px_event.specs.View.{Atom, about, asked, byte, close, dialled, done, 
 use Rattle.px_core.specs.Due.{Due, IsWithinDue, due_at}
 use Rattle.px_core.specs.Calls.{calls}
 use Rattle.px_core.specs.Unmarked.{all_unmarked}
+use Rattle.px_resend.specs.Dialled.{dial_in, dials_in}
 use Rattle.px_app.specs.Servers.{server_of, dialled_in, CountsFrom, CountsServers}
 
 -- ---- numbers that count
@@ -37,13 +38,6 @@ counts_front n [] ys all = tt
 counts_front n (x ∷ xs) ys (here, all) = (here, counts_front (n + 1) xs ys all)
 
 -- ---- the dials among commands
-
-abbrev pub dial_in : Command → List ℕ
-dial_in (commands.Dial server address inside) = server ∷ []
-dial_in _ = []
-
-abbrev pub dials_in : List Command → List ℕ
-dials_in list = flat_map dial_in list
 
 pub dials_more : (xs ys : List Command) → dials_in (xs ++ ys) ≡ dials_in xs ++ dials_in ys
 dials_more xs ys = flat_map-append dial_in xs ys
@@ -183,6 +177,7 @@ step_servers conv (steps.Asked other ask) = asked_servers (other == conv) (asked
 step_servers conv (steps.Answered other ask reply) = refl
 step_servers conv (steps.Said other what) = said_servers (other == conv) what
 step_servers conv (steps.Done flow) = refl
+step_servers conv (steps.Begun number) = refl
 
 trace_servers : (conv : ℕ) (trace : Trace) → servers_in (seen_in questions conv trace) ≡ dialled_in trace conv
 trace_servers conv [] = refl
@@ -192,10 +187,11 @@ trace_servers conv (step ∷ trace) =
     ∙ (ap (λ l. flat_map server_of (said_in conv step) ++ l) (trace_servers conv trace)
     ∙ sym (flat_map-append server_of (said_in conv step) (flat_map (said_in conv) trace))))
 
-abbrev CountsDue : Due → Type 0
-CountsDue due = (conv : ℕ) (peer : Address) (moves : List Move) → CountsFrom 0 (dials_in (due conv peer moves))
+-- what is due is numbered so, in every conversation
+abbrev pub CountsDue : Due → Type 0
+CountsDue due = (conv : ℕ) (peer : Option Address) (moves : List Move) → CountsFrom 0 (dials_in (due conv peer moves))
 
-counts_at : (due : Due) → CountsDue due → (conv : ℕ) (peer : Option Address) (moves : List Move) → CountsFrom 0 (dials_in (due_at due conv peer moves))
+counts_at : (due : Due) → CountsDue due → (conv : ℕ) (peer : Option (Option Address)) (moves : List Move) → CountsFrom 0 (dials_in (due_at due conv peer moves))
 counts_at due counts conv None moves = tt
 counts_at due counts conv (Some peer) moves = counts conv peer moves
 

@@ -37,9 +37,10 @@ use Rattle.px_stack.specs.Frames.{AreSaid, pass_says, turn_says}
 use Rattle.px_stack.specs.Modes.{mode_due}
 use Rattle.px_stack.specs.Sockets.{is_websocket}
 use Rattle.px_stack.specs.Stages.{Dialling, Ends as TunnelEnds, Goal, Stage, Tunnel, Visitor, a_flow, a_tunnel, connecting, http, over, raw, reaching, socket, undecided}
+use Rattle.px_resend.specs.Dialled.{dials_in}
 use Rattle.px_app.specs.Servers.{CountsFrom}
 use Rattle.px_app.proofs.HttpServers.{Dialled, DialledAt, counts as flows_count}
-use Rattle.px_app.proofs.ServerLemmas.{CountsDials, dials_in, dials_more, due_counts}
+use Rattle.px_app.proofs.ServerLemmas.{CountsDials, dials_more, due_counts}
 
 -- so many servers were dialled before the stage, or nothing is dialled any more
 abbrev DialledFor : ℕ → Goal → Type 0
@@ -358,6 +359,6 @@ module _ (conv : ℕ) (client : Visitor) where
   counts = record { pass = passes; so_far = waits; look = looks; turn = turns }
 
 -- the n-th dial that is due names server n
-pub mode_counts : (mode : Mode) (key : List ℕ) (conv : ℕ) (peer : Address) (moves : List Move) → CountsFrom 0 (dials_in (mode_due mode key conv peer moves))
+pub mode_counts : (mode : Mode) (key : List ℕ) (conv : ℕ) (peer : Option Address) (moves : List Move) → CountsFrom 0 (dials_in (mode_due mode key conv peer moves))
 mode_counts mode key conv peer moves =
-    let client : Visitor = record { address = Some peer; key = key } in due_counts (stack_chain conv client) DialledSo (begins mode) (counts conv client) refl moves
+    let client : Visitor = record { address = peer; key = key } in due_counts (stack_chain conv client) DialledSo (begins mode) (counts conv client) refl moves

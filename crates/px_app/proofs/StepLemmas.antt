@@ -1,6 +1,8 @@
 -- One thing heard by a run of many conversations, by how it ended.
 use Rattle.std.proofs.Common.{◌≡◌, ◌≢◌, ◌⊎◌, inl, inr, ℕ, ◌+◌, ◌<◌, Bool, true, false, List, [], ◌∷◌, ◌++◌, Option, Some, None, Result, Ok, Err, refl, sym, ap, ◌∙◌, subst, append_assoc}
 use Rattle.std.specs.List.{flat_map}
+use Rattle.std.proofs.lemmas.Grind.{flat_map-append}
+use Rattle.std.proofs.lemmas.List.{append_cancel_left}
 use Rattle.px_text.specs.declared.no_memory.NoMemory.{NoMemory as OutOfMemory}
 use Rattle.px_message.specs.declared.flow.Flow.{Flow}
 use Rattle.px_text.specs.Prefix.{IsPrefixOf}
@@ -32,24 +34,47 @@ use Rattle.px_core.proofs.StandsLemmas.{rests_by}
 use Rattle.px_app.specs.declared.operators.Operators.{Operators}
 use Rattle.px_app.specs.declared.printing.Printing.{Printing}
 use Rattle.px_app.specs.declared.printing.Printing.TheVariants.{Whole}
+use Rattle.px_app.specs.declared.replaying.Replaying.{Replaying}
 use Rattle.px_app.specs.declared.saving.Saving.{Saving}
 use Rattle.px_app.specs.declared.status.Status.{Status}
 use Rattle.px_app.specs.declared.status.Status.TheVariants.{Ended, NetFault, BudgetSpent, NoMemory}
 use Rattle.px_app.specs.Operating.{is_open, stand_in}
 use Rattle.px_app.specs.Over.{Goes, LeavesBehind, Reaches, ReachesPart, course_from, finished_in, rests_of}
-use Rattle.px_app.specs.Run.{BreaksOff, IsRun, Told, ToldNext}
+use Rattle.px_app.specs.Replayed.{NoneWaits}
+use Rattle.px_app.specs.Replaying.{ReplaysStand, behind_flows}
+use Rattle.px_app.specs.Run.{BreaksOff, IsRun, Told, ToldNext, ToldOn}
 use Rattle.px_app.specs.Saved.{Puts, SavesTo, saves_to_of}
-use Rattle.px_app.specs.Serving.{IsSound, Rests, ToldTurn, TurnBroke, Turned}
-use Rattle.px_app.specs.Statuses.{status_of, heard_count}
+use Rattle.px_app.specs.Serving.{Between, BrokeOff, IsSound, Ran, Rests, RestsNow, ToldTurn, TurnBroke, Turned}
+use Rattle.px_app.specs.Statuses.{code_of, status_of, heard_count}
 use Rattle.px_app.specs.Worked.{Worked, WorkedPart, all_worked, breaks_in, not_begun, one_worked}
 use Rattle.px_app.proofs.CountLemmas.{count_next, done_both}
+use Rattle.px_app.proofs.ListedLemmas.{done_heard}
+use Rattle.px_app.proofs.ReplayLemmas.{AreQuiet, now_behind, replays_in, replays_then, replays_whole, stands_first, stands_heard, stands_listed}
 use Rattle.px_app.proofs.RestLemmas.{before_by, before_next, breaks_next, part_more, reaches_drops, reaches_first, reaches_next, rests_next}
 use Rattle.px_app.proofs.RunLemmas.{leaves_all, memory_run, ended_run, spent_run, error_run}
-use Rattle.px_app.proofs.TurnLemmas.{Adds, Grows, breaks_adds, changed_front, turns_adds}
+use Rattle.px_app.proofs.TurnLemmas.{Adds, Grows, NoneHeard, breaks_adds, changed_front, turns_adds}
 
 -- what is told of the trace holds of it
-told_of : (P : Trace → Type 0) (before after : Trace) (told : Option Trace) → told ≡ Some after → Tells P before told → P after
+pub told_of : (P : Trace → Type 0) (before after : Trace) (told : Option Trace) → told ≡ Some after → Tells P before told → P after
 told_of P before after told is tells = subst P (same_some (before ++ tells.more) after (sym tells.is ∙ is)) tells.holds
+
+-- steps by which nothing is heard, and no conversation without a client begins
+quiet_by : (more : Trace) → NoneHeard more → AreQuiet more
+quiet_by [] none = tt
+quiet_by (steps.Heard moment what ∷ more) none = absurd none
+quiet_by (steps.Begun conv ∷ more) none = absurd none
+quiet_by (steps.Asked number ask ∷ more) none = (tt, quiet_by more none)
+quiet_by (steps.Answered number ask reply ∷ more) none = (tt, quiet_by more none)
+quiet_by (steps.Said number what ∷ more) none = (tt, quiet_by more none)
+quiet_by (steps.Done flow ∷ more) none = (tt, quiet_by more none)
+
+-- flows that are finished behind others are those of the steps behind
+pub flows_behind : (told more : Trace) (step : Step) (earlier flows : List Flow) → finished_in (told ++ step ∷ []) ≡ finished_in told → earlier ≡ finished_in told →
+    earlier ++ flows ≡ finished_in ((told ++ step ∷ []) ++ more) → flows ≡ finished_in more
+flows_behind told more step earlier flows none is_earlier all =
+    append_cancel_left (finished_in told) flows (finished_in more)
+    (ap (λ (l : List Flow). l ++ flows) (sym is_earlier)
+    ∙ (all ∙ (flat_map-append done_of (told ++ step ∷ []) more ∙ ap (λ (l : List Flow). l ++ finished_in more) none)))
 
 -- a course is told by its parts
 course_is : {S : Type 0} (course : Course S) (first : AnswererState S) (changes : List (Change S)) (operations : List Operated) → course.first ≡ first → course.changes ≡ changes →
@@ -64,7 +89,7 @@ grown_is drops first changes operations turned g =
     course_is turned first (changes ++ g.front_of.later) (operations ++ g.front_of.later_operations) (sym g.front_of.same) g.front_of.split g.front_of.split_operations
 
 -- it rests so by a course that goes on
-rests_longer : {S : Type 0} (answers : Answering S) (due : Due) (course longer : Course S) (trace : Trace) → IsFrontOf longer course → RestsBy answers due course trace → RestsBy answers due longer trace
+pub rests_longer : {S : Type 0} (answers : Answering S) (due : Due) (course longer : Course S) (trace : Trace) → IsFrontOf longer course → RestsBy answers due course trace → RestsBy answers due longer trace
 rests_longer answers due course longer trace front r =
     record { made = r.made; front_of = front_on longer course r.made front r.front_of; now = r.now; pending = r.pending; answered = r.answered; waits = r.waits }
 
@@ -78,20 +103,23 @@ module _ {C S : Type 0} (standing : Standing C) (awaited : C → Option Ask) (nu
   waiting : {course : Course S} {now : AnswererState S} (table : Table C) (trace : Trace) → TableStands standing awaited number made_due answers due course now table trace → RestsBy answers due course trace
   waiting table trace stands = rests_by standing awaited number made_due answers due table trace stands
 
-  came_over : {course : Course S} {now : AnswererState S} {table : Table C} {trace : Trace} → TableStands standing awaited number made_due answers due course now table trace → IsAnswered answers due course trace
+  pub came_over : {course : Course S} {now : AnswererState S} {table : Table C} {trace : Trace} → TableStands standing awaited number made_due answers due course now table trace → IsAnswered answers due course trace
   came_over {course} {now} stands = record { made = course; front_of = whole_front course; last = now; pending = stands.pending; answered = stands.answered }
 
-  files_all : {course : Course S} {now : AnswererState S} {table : Table C} {trace : Trace} → TableStands standing awaited number made_due answers due course now table trace → (W : Type 0) →
+  pub files_all : {course : Course S} {now : AnswererState S} {table : Table C} {trace : Trace} → TableStands standing awaited number made_due answers due course now table trace → (W : Type 0) →
       LeavesFiles answers fails due course W now.files trace
   files_all {course} {now} {table} {trace} stands W = leaves_all answers fails due course now stands.pending now.files trace stands.answered refl W
 
   -- memory ran out within the step
-  pub tells_memory : {new_files : FilesMeaning} (first : AnswererState S) (to : Option SavesTo) (printing : Printing) (budget : ℕ) (start now : Option (List ℕ)) (told : Option Trace) →
-      Told (BreaksOff answers drops names fails due first to new_files start now) told → Told (IsRun answers drops names fails due first to budget NoMemory printing new_files start now) told
-  tells_memory {new_files} first to printing budget start now told broken = record {
+  pub tells_memory : {new_files : FilesMeaning} (first : AnswererState S) (to : Option SavesTo) (printing : Printing) (budget total : ℕ) (start now : Option (List ℕ)) (told : Option Trace) →
+      Told (BrokeOff answers drops names fails due first to new_files total start now) told → Told (Ran answers drops names fails due first to budget NoMemory printing new_files total start now) told
+  tells_memory {new_files} first to printing budget total start now told broken = record {
     trace = broken.trace;
     tells = broken.tells;
-    holds = memory_run answers drops names fails due first to budget printing new_files start now broken.trace broken.holds;
+    holds = record {
+      run = memory_run answers drops names fails due first to budget printing new_files start now broken.trace broken.holds.breaks;
+      replays = broken.holds.replays;
+    };
   }
 
   module _ {A : Type 0} {state : A → S} (first : AnswererState S) (to : Option SavesTo) where
@@ -175,52 +203,72 @@ module _ {C S : Type 0} (standing : Standing C) (awaited : C → Option Ask) (nu
         reaches_turned : Reaches to was turned_changes r.made r.trace start before
         reaches_turned = reaches_drops drops to was r.changes adds.grows.front_of.later r.made r.trace start before r.reaches adds.grows.all_drops
 
+        quiet_told : AreQuiet t.more
+        quiet_told = quiet_by t.more adds.quiet_told
+
+        flows_are : flows ≡ finished_in t.more
+        flows_are = flows_behind told t.more (steps.Heard moment what) earlier flows (done_heard told moment what) is_earlier
+            (told_of (λ told_now. earlier ++ flows ≡ flat_map done_of told_now) (told ++ steps.Heard moment what ∷ []) told_after after told_is finished)
+
         -- the flows that it finished were printed and saved
-        pub rests_on : (is : Printing) (now : Option (List ℕ)) → Puts to was flows (Ok is) mid_files new_files before now →
-            ToldNext (Rests standing awaited number made_due answers drops names state due first to new_files new new_operators is start now over) told after
-        rests_on is now puts = record {
+        rests_after : (is : Printing) (now : Option (List ℕ)) → Puts to was flows (Ok is) mid_files new_files before now →
+            Rests standing awaited number made_due answers drops names state due first to new_files new new_operators is start now over told_after
+        rests_after is now puts = record {
+          trace = t.next;
+          changes = all_changes;
+          operations = all_operations;
+          made = r.made ++ puts.made;
+          stands = stands_next;
+          worked = worked_next;
+          waits = waits_after;
+          operators_stand = t.operators_stand;
+          same_done = done_same t.more t.next t.turned adds;
+          reaches = reaches_next to turned_changes r.made r.trace t.next flows start before now old_state new_state refl finished_next (rest_next t.more t.next t.turned adds) was is reaches_turned puts;
+        }
+
+        pub rests_on : (replaying new_replaying : Replaying) (total : ℕ) (listed : List Flow) → ReplaysStand replaying total told → NoneWaits total told → new_replaying ≡ behind_flows listed replaying →
+            listed ≡ flows → (is : Printing) (now : Option (List ℕ)) → Puts to was flows (Ok is) mid_files new_files before now →
+            ToldNext (RestsNow standing awaited number made_due answers drops names state due first to new_files new new_operators is new_replaying total start now over moment) told after
+        rests_on replaying new_replaying total listed stands goes behind same is now puts = record {
           after = told_after;
           tells = told_is;
           count = count_next told moment what t.more adds.quiet_told;
           holds = record {
-            trace = t.next;
-            changes = all_changes;
-            operations = all_operations;
-            made = r.made ++ puts.made;
-            stands = stands_next;
-            worked = worked_next;
-            waits = waits_after;
-            operators_stand = t.operators_stand;
-            same_done = done_same t.more t.next t.turned adds;
-            reaches = reaches_next to turned_changes r.made r.trace t.next flows start before now old_state new_state refl finished_next (rest_next t.more t.next t.turned adds) was is reaches_turned puts;
+            rests = rests_after is now puts;
+            replays = stands_listed total replaying new_replaying listed flows told_after behind same (stands_heard total replaying told moment what t.more flows quiet_told flows_are goes stands);
+            is_now = now_behind moment told what t.more quiet_told;
           };
         }
 
         -- memory ran out while they were printed and saved
-        pub breaks_on : (e : OutOfMemory) (now : Option (List ℕ)) → Puts to was flows (Err e) mid_files new_files before now →
-            Told (BreaksOff answers drops names fails due first to new_files start now) after
-        breaks_on e now puts = record {
+        breaks_after : (e : OutOfMemory) (now : Option (List ℕ)) → Puts to was flows (Err e) mid_files new_files before now →
+            BreaksOff answers drops names fails due first to new_files start now told_after
+        breaks_after e now puts = record {
+          trace = t.next;
+          changes = all_changes;
+          operations = all_operations;
+          made = r.made ++ puts.made;
+          worked = all_worked told_after t.next (course_from first all_changes all_operations) over worked_next;
+          served = stands_next.served;
+          follows = came_over stands_next;
+          leaves = files_all stands_next ⊥;
+          waits = waits_after;
+          part = breaks_next to turned_changes r.made r.trace t.next flows start before now old_state new_state refl finished_next (rest_next t.more t.next t.turned adds) was e reaches_turned puts;
+        }
+
+        pub breaks_on : (replaying : Replaying) (total : ℕ) → ReplaysStand replaying total told → NoneWaits total told → (e : OutOfMemory) (now : Option (List ℕ)) →
+            Puts to was flows (Err e) mid_files new_files before now → Told (BrokeOff answers drops names fails due first to new_files total start now) after
+        breaks_on replaying total stands goes e now puts = record {
           trace = told_after;
           tells = told_is;
-          holds = record {
-            trace = t.next;
-            changes = all_changes;
-            operations = all_operations;
-            made = r.made ++ puts.made;
-            worked = all_worked told_after t.next (course_from first all_changes all_operations) over worked_next;
-            served = stands_next.served;
-            follows = came_over stands_next;
-            leaves = files_all stands_next ⊥;
-            waits = waits_after;
-            part = breaks_next to turned_changes r.made r.trace t.next flows start before now old_state new_state refl finished_next (rest_next t.more t.next t.turned adds) was e reaches_turned puts;
-          };
+          holds = record { breaks = breaks_after e now puts; replays = replays_in total replaying told moment what t.more quiet_told goes stands };
         }
 
       -- memory ran out within it, and nothing of it was printed
-      pub breaks_within : {new_files : FilesMeaning} (now : Option (List ℕ)) (after : Option Trace) → now ≡ before →
+      pub breaks_within : {new_files : FilesMeaning} (replaying : Replaying) (total : ℕ) → ReplaysStand replaying total told → NoneWaits total told → (now : Option (List ℕ)) (after : Option Trace) → now ≡ before →
           TurnBroke answers drops names fails due r.trace (course_from first r.changes r.operations) moment what (told ++ steps.Heard moment what ∷ []) after new_files →
-          Told (BreaksOff answers drops names fails due first to new_files start now) after
-      breaks_within {new_files} now after same b =
+          Told (BrokeOff answers drops names fails due first to new_files total start now) after
+      breaks_within {new_files} replaying total stands goes now after same b =
           let course = course_from first r.changes r.operations in
           let told_after = (told ++ steps.Heard moment what ∷ []) ++ b.more in
           let adds = breaks_adds answers drops names due r.trace course moment what b.more b.next b.broken b.breaks in
@@ -237,82 +285,101 @@ module _ {C S : Type 0} (standing : Standing C) (awaited : C → Option Ask) (nu
             trace = told_after;
             tells = b.is;
             holds = record {
-              trace = b.next;
-              changes = r.changes ++ later;
-              operations = r.operations ++ adds.grows.front_of.later_operations;
-              made = r.made;
-              worked = subst Worked_so is (breaks_in told told_after r.trace b.next course b.broken moment what b.more r.worked b.breaks refl);
-              served = b.served;
-              follows = subst Follows is b.follows;
-              leaves = subst Leaves is b.leaves;
-              waits = subst Waits is (waits_next b.more b.next b.broken b.broken adds (whole_front b.broken));
-              part = subst Part (sym same) (part_more to was (r.changes ++ later) r.made r.trace (steps.Heard moment what ∷ adds.added) b.next start before reaches
-                  (adds.is_next ∙ append_assoc r.trace (steps.Heard moment what ∷ []) adds.added) (rest_next b.more b.next b.broken adds));
+              breaks = record {
+                trace = b.next;
+                changes = r.changes ++ later;
+                operations = r.operations ++ adds.grows.front_of.later_operations;
+                made = r.made;
+                worked = subst Worked_so is (breaks_in told told_after r.trace b.next course b.broken moment what b.more r.worked b.breaks refl);
+                served = b.served;
+                follows = subst Follows is b.follows;
+                leaves = subst Leaves is b.leaves;
+                waits = subst Waits is (waits_next b.more b.next b.broken b.broken adds (whole_front b.broken));
+                part = subst Part (sym same) (part_more to was (r.changes ++ later) r.made r.trace (steps.Heard moment what ∷ adds.added) b.next start before reaches
+                    (adds.is_next ∙ append_assoc r.trace (steps.Heard moment what ∷ []) adds.added) (rest_next b.more b.next b.broken adds));
+              };
+              replays = replays_in total replaying told moment what b.more (quiet_by b.more adds.quiet_told) goes stands;
             };
           }
 
     -- ---- how a turn ends
 
     -- nothing was heard
-    pub tells_error : {files : FilesMeaning} (router : Router C A) (operators : Operators) (printing : Printing) (budget : ℕ) (start now : Option (List ℕ)) (trace : Trace) (error : NetError) (status : Status)
-        (told : Option Trace) → Rests standing awaited number made_due answers drops names state due first to files router operators printing start now false trace → told ≡ Some trace →
-        heard_count trace < budget → status ≡ status_of error → Told (IsRun answers drops names fails due first to budget status printing files start now) told
-    tells_error {files} router operators printing budget start now trace error status told r is below same = record {
-      trace = trace;
-      tells = is;
-      holds = let P : Status → Type 0 = λ s. IsRun answers drops names fails due first to budget s printing files start now trace in
-          subst P (sym same) (error_run answers drops names fails due first to budget printing files start now trace r.trace r.changes r.operations false r.made r.worked r.stands.served (came_over r.stands)
-          (files_all r.stands) (all router.table r.trace r.stands) r.waits (waiting router.table r.trace r.stands) r.reaches error refl (λ _. below));
-    }
+    pub tells_error : {files : FilesMeaning} (router : Router C A) (operators : Operators) (printing : Printing) (replaying : Replaying) (budget total : ℕ) (start now : Option (List ℕ)) (trace : Trace)
+        (error : NetError) (status : Status) (told : Option Trace) →
+        Between standing awaited number made_due answers drops names state due first to files router operators printing replaying total start now trace → told ≡ Some trace →
+        heard_count trace < budget → status ≡ status_of error → Told (Ran answers drops names fails due first to budget status printing files total start now) told
+    tells_error {files} router operators printing replaying budget total start now trace error status told b is below same =
+        let r = b.rests in
+        let P : Status → Type 0 = λ s. IsRun answers drops names fails due first to budget s printing files start now trace in
+        record {
+          trace = trace;
+          tells = is;
+          holds = record {
+            run = subst P (sym same) (error_run answers drops names fails due first to budget printing files start now trace r.trace r.changes r.operations false r.made r.worked r.stands.served (came_over r.stands)
+                (files_all r.stands) (all router.table r.trace r.stands) r.waits (waiting router.table r.trace r.stands) r.reaches error refl (λ _. below));
+            replays = replays_whole total replaying (code_of status) trace b.replays b.goes;
+          };
+        }
 
     -- the run is over
-    pub tells_ended : {new_files : FilesMeaning} (new : Router C A) (operators : Operators) (printing : Printing) (budget : ℕ) (start now : Option (List ℕ)) (over : Bool) (trace : Trace) (told : Option Trace) →
-        over ≡ true → ToldNext (Rests standing awaited number made_due answers drops names state due first to new_files new operators printing start now over) trace told →
-        Told (IsRun answers drops names fails due first to budget Ended printing new_files start now) told
-    tells_ended {new_files} new operators printing budget start now over trace told last next =
-        let r = next.holds in
+    pub tells_ended : {new_files : FilesMeaning} (new : Router C A) (operators : Operators) (printing : Printing) (replaying : Replaying) (budget total : ℕ) (start now : Option (List ℕ)) (over : Bool)
+        (moment : ℕ) (trace : Trace) (told : Option Trace) → over ≡ true →
+        ToldNext (RestsNow standing awaited number made_due answers drops names state due first to new_files new operators printing replaying total start now over moment) trace told →
+        Told (Ran answers drops names fails due first to budget Ended printing new_files total start now) told
+    tells_ended {new_files} new operators printing replaying budget total start now over moment trace told last next =
+        let r = next.holds.rests in
         record {
           trace = next.after;
           tells = next.tells;
-          holds = ended_run answers drops names fails due first to budget printing new_files start now next.after r.trace r.changes r.operations over r.made r.worked r.stands.served (came_over r.stands)
-              (files_all r.stands) (all new.table r.trace r.stands) r.waits (waiting new.table r.trace r.stands) r.reaches last;
+          holds = record {
+            run = ended_run answers drops names fails due first to budget printing new_files start now next.after r.trace r.changes r.operations over r.made r.worked r.stands.served (came_over r.stands)
+                (files_all r.stands) (all new.table r.trace r.stands) r.waits (waiting new.table r.trace r.stands) r.reaches last;
+            replays = replays_then total 0 next.after (λ (e : 0 ≡ 5). cc) (λ (e : 0 ≡ 6). cc) next.holds.replays.in_turn next.holds.replays.none_waits;
+          };
         }
 
     -- the run goes on
-    pub goes_next : {new_files : FilesMeaning} (new : Router C A) (operators : Operators) (printing : Printing) (start now : Option (List ℕ)) (over : Bool) (trace : Trace) (told : Option Trace) → over ≡ false →
-        ToldNext (Rests standing awaited number made_due answers drops names state due first to new_files new operators printing start now over) trace told →
-        ToldNext (Rests standing awaited number made_due answers drops names state due first to new_files new operators printing start now false) trace told
-    goes_next {new_files} new operators printing start now over trace told other =
-        let P : Bool → Type 0 = λ b. ToldNext (Rests standing awaited number made_due answers drops names state due first to new_files new operators printing start now b) trace told in subst P other
+    pub goes_next : {new_files : FilesMeaning} (new : Router C A) (operators : Operators) (printing : Printing) (replaying : Replaying) (total : ℕ) (start now : Option (List ℕ)) (over : Bool) (moment : ℕ)
+        (trace : Trace) (told : Option Trace) → over ≡ false →
+        ToldNext (RestsNow standing awaited number made_due answers drops names state due first to new_files new operators printing replaying total start now over moment) trace told →
+        ToldNext (RestsNow standing awaited number made_due answers drops names state due first to new_files new operators printing replaying total start now false moment) trace told
+    goes_next {new_files} new operators printing replaying total start now over moment trace told other =
+        let P : Bool → Type 0 = λ b. ToldNext (RestsNow standing awaited number made_due answers drops names state due first to new_files new operators printing replaying total start now b moment) trace told in
+        subst P other
 
     -- one turn more
-    pub next_turn : {files new_files : FilesMeaning} (router new : Router C A) (operators new_operators : Operators) (was printing : Printing) (start mid now : Option (List ℕ)) (count : ℕ) (before after : Option Trace) →
-        ToldTurn standing awaited number made_due answers drops names state due first to files router operators was start mid count before →
-        ((trace : Trace) → Rests standing awaited number made_due answers drops names state due first to files router operators was start mid false trace → before ≡ Some trace →
-        ToldNext (Rests standing awaited number made_due answers drops names state due first to new_files new new_operators printing start now false) trace after) →
-        ToldTurn standing awaited number made_due answers drops names state due first to new_files new new_operators printing start now (count + 1) after
-    next_turn router new operators new_operators was printing start mid now count before after turn step =
+    pub next_turn : {files new_files : FilesMeaning} (router new : Router C A) (operators new_operators : Operators) (was printing : Printing) (replaying new_replaying : Replaying) (total : ℕ)
+        (start mid now : Option (List ℕ)) (count : ℕ) (before after : Option Trace) →
+        ToldTurn standing awaited number made_due answers drops names state due first to files router operators was replaying total start mid count before →
+        ((trace : Trace) → Between standing awaited number made_due answers drops names state due first to files router operators was replaying total start mid trace → before ≡ Some trace →
+        ToldNext (Between standing awaited number made_due answers drops names state due first to new_files new new_operators printing new_replaying total start now) trace after) →
+        ToldTurn standing awaited number made_due answers drops names state due first to new_files new new_operators printing new_replaying total start now (count + 1) after
+    next_turn router new operators new_operators was printing replaying new_replaying total start mid now count before after turn step =
         let next = step turn.trace turn.stands turn.tells in
         record { trace = next.after; tells = next.tells; stands = next.holds; counts = next.count ∙ ap (λ (n : ℕ). n + 1) turn.counts }
 
     -- all that may be heard was heard
-    pub tells_spent : {files : FilesMeaning} (router : Router C A) (operators : Operators) (printing : Printing) (start now : Option (List ℕ)) (budget count : ℕ) (told : Option Trace) →
-        ToldTurn standing awaited number made_due answers drops names state due first to files router operators printing start now count told → count ≡ budget →
-        Told (IsRun answers drops names fails due first to budget BudgetSpent printing files start now) told
-    tells_spent {files} router operators printing start now budget count told turn is =
-        let r = turn.stands in
+    pub tells_spent : {files : FilesMeaning} (router : Router C A) (operators : Operators) (printing : Printing) (replaying : Replaying) (total : ℕ) (start now : Option (List ℕ)) (budget count : ℕ)
+        (told : Option Trace) → ToldTurn standing awaited number made_due answers drops names state due first to files router operators printing replaying total start now count told → count ≡ budget →
+        Told (Ran answers drops names fails due first to budget BudgetSpent printing files total start now) told
+    tells_spent {files} router operators printing replaying total start now budget count told turn is =
+        let r = turn.stands.rests in
         record {
           trace = turn.trace;
           tells = turn.tells;
-          holds = spent_run answers drops names fails due first to budget printing files start now turn.trace r.trace r.changes r.operations false r.made r.worked r.stands.served (came_over r.stands)
-              (files_all r.stands) (all router.table r.trace r.stands) r.waits (waiting router.table r.trace r.stands) r.reaches refl (turn.counts ∙ is);
+          holds = record {
+            run = spent_run answers drops names fails due first to budget printing files start now turn.trace r.trace r.changes r.operations false r.made r.worked r.stands.served (came_over r.stands)
+                (files_all r.stands) (all router.table r.trace r.stands) r.waits (waiting router.table r.trace r.stands) r.reaches refl (turn.counts ∙ is);
+            replays = replays_whole total replaying 6 turn.trace turn.stands.replays turn.stands.goes;
+          };
         }
 
-    -- nothing was heard yet
-    pub first_turn : {files : FilesMeaning} (router : Router C A) (operators : Operators) (printing : Printing) (start now : Option (List ℕ)) (told : Option Trace) →
-        Rests standing awaited number made_due answers drops names state due first to files router operators printing start now false [] → told ≡ Some [] →
-        ToldTurn standing awaited number made_due answers drops names state due first to files router operators printing start now 0 told
-    first_turn router operators printing start now told rests is = record { trace = []; tells = is; stands = rests; counts = refl }
+    -- nothing was heard yet, and the first requests have begun
+    pub first_turn : {files : FilesMeaning} (router : Router C A) (operators : Operators) (printing : Printing) (replaying : Replaying) (total : ℕ) (start now : Option (List ℕ)) (told : Option Trace) →
+        ToldOn (Between standing awaited number made_due answers drops names state due first to files router operators printing replaying total start now) [] told →
+        ToldTurn standing awaited number made_due answers drops names state due first to files router operators printing replaying total start now 0 told
+    first_turn router operators printing replaying total start now told on = record { trace = on.after; tells = on.tells; stands = on.holds; counts = on.count }
 
 -- nothing was heard, printed or saved yet
 pub rests_first : {C : Type 0} (standing : Standing C) (awaited : C → Option Ask) (number : C → ℕ) (made_due : C → List Move → List Command) {S : Type 0} (answers : Answering S)
@@ -331,6 +398,18 @@ rests_first standing awaited number made_due answers drops names state due first
   operators_stand = λ _. record { at = λ conv fresh. none conv; go_on = λ conv opened. absurd (none_open conv opened) };
   same_done = refl;
   reaches = reaches_first to start;
+}
+
+-- and none has begun
+pub now_first : {C : Type 0} (standing : Standing C) (awaited : C → Option Ask) (number : C → ℕ) (made_due : C → List Move → List Command) {S : Type 0} (answers : Answering S)
+    (drops : List ℕ → S → S → Type 0) (names : S → List (List ℕ)) {A : Type 0} (state : A → S) (due : Due) (first : AnswererState S) (to : Option SavesTo) (files : FilesMeaning) (router : Router C A)
+    (operators : Operators) (replaying : Replaying) (total : ℕ) (start : Option (List ℕ)) → RouterStands standing awaited number made_due answers state due (begins_at first) files router [] →
+    ((conv : ℕ) → stand_in operators conv ≡ None) → ((conv : ℕ) → is_open operators conv ≢ true) → replaying.begun ≡ 0 → replaying.going ≡ false →
+    RestsNow standing awaited number made_due answers drops names state due first to files router operators Whole replaying total start start false 0 []
+now_first standing awaited number made_due answers drops names state due first to files router operators replaying total start stands none none_open begun going = record {
+  rests = rests_first standing awaited number made_due answers drops names state due first to files router operators start stands none none_open;
+  replays = stands_first total replaying begun going;
+  is_now = λ conv. refl;
 }
 
 no_step : (prefix : Trace) (step : Step) → [] ≡ prefix ++ step ∷ [] → ⊥
@@ -405,30 +484,34 @@ sound_changed {C} standing awaited number made_due {S} answers drops names state
     let now : AnswererState S = record { own = state router.answerer; files = new } in
     (due, with_change course trace was now, trace, owes, stands_changed standing awaited number made_due answers due course was now router.table trace s)
 
--- where flows are saved does not change from turn to turn
+-- where flows are saved does not change from turn to turn, and neither does how many requests are sent again
 pub next_saving : {C : Type 0} (standing : Standing C) (awaited : C → Option Ask) (number : C → ℕ) (made_due : C → List Move → List Command) {S : Type 0} (answers : Answering S)
-    (drops : List ℕ → S → S → Type 0) (names : S → List (List ℕ)) {A : Type 0} (state : A → S) (due : Due) (first : AnswererState S) {here there : Option Saving} → here ≡ there →
-    (files new_files : FilesMeaning) (router new : Router C A) (operators new_operators : Operators) (was is : Printing) (start mid now : Option (List ℕ)) (trace : Trace) (told : Option Trace) →
-    (Rests standing awaited number made_due answers drops names state due first (saves_to_of here) files router operators was start mid false trace →
-    ToldNext (Rests standing awaited number made_due answers drops names state due first (saves_to_of here) new_files new new_operators is start now false) trace told) →
-    Rests standing awaited number made_due answers drops names state due first (saves_to_of there) files router operators was start mid false trace →
-    ToldNext (Rests standing awaited number made_due answers drops names state due first (saves_to_of there) new_files new new_operators is start now false) trace told
-next_saving standing awaited number made_due answers drops names state due first same files new_files router new operators new_operators was is start mid now trace told step =
-    let P : Option Saving → Type 0 = λ s. Rests standing awaited number made_due answers drops names state due first (saves_to_of s) files router operators was start mid false trace →
-    ToldNext (Rests standing awaited number made_due answers drops names state due first (saves_to_of s) new_files new new_operators is start now false) trace told in
-    subst P same step
+    (drops : List ℕ → S → S → Type 0) (names : S → List (List ℕ)) {A : Type 0} (state : A → S) (due : Due) (first : AnswererState S) {here there : Option Saving} {few total : ℕ} → here ≡ there → few ≡ total →
+    (files new_files : FilesMeaning) (router new : Router C A) (operators new_operators : Operators) (was is : Printing) (replaying new_replaying : Replaying) (start mid now : Option (List ℕ)) (trace : Trace)
+    (told : Option Trace) →
+    (Between standing awaited number made_due answers drops names state due first (saves_to_of here) files router operators was replaying few start mid trace →
+    ToldNext (Between standing awaited number made_due answers drops names state due first (saves_to_of here) new_files new new_operators is new_replaying few start now) trace told) →
+    Between standing awaited number made_due answers drops names state due first (saves_to_of there) files router operators was replaying total start mid trace →
+    ToldNext (Between standing awaited number made_due answers drops names state due first (saves_to_of there) new_files new new_operators is new_replaying total start now) trace told
+next_saving standing awaited number made_due answers drops names state due first {here} {there} {few} {total} same same_total files new_files router new operators new_operators was is replaying new_replaying start mid now
+    trace told step =
+    let P : Option Saving → ℕ → Type 0 = λ s n. Between standing awaited number made_due answers drops names state due first (saves_to_of s) files router operators was replaying n start mid trace →
+    ToldNext (Between standing awaited number made_due answers drops names state due first (saves_to_of s) new_files new new_operators is new_replaying n start now) trace told in
+    subst (λ n. P there n) same_total (subst (λ s. P s few) same step)
 
 pub err_saving : {C : Type 0} (standing : Standing C) (awaited : C → Option Ask) (number : C → ℕ) (made_due : C → List Move → List Command) {S : Type 0} (answers : Answering S)
-    (drops : List ℕ → S → S → Type 0) (names : S → List (List ℕ)) (fails : Failing S) {A : Type 0} (state : A → S) (due : Due) (first : AnswererState S) {here there : Option Saving} → here ≡ there →
-    (files new_files : FilesMeaning) (budget : ℕ) (status : Status) (router : Router C A) (operators : Operators) (was is : Printing) (start mid now : Option (List ℕ)) (trace : Trace) (told : Option Trace) →
-    (Rests standing awaited number made_due answers drops names state due first (saves_to_of here) files router operators was start mid false trace →
-    Told (IsRun answers drops names fails due first (saves_to_of here) budget status is new_files start now) told) →
-    Rests standing awaited number made_due answers drops names state due first (saves_to_of there) files router operators was start mid false trace →
-    Told (IsRun answers drops names fails due first (saves_to_of there) budget status is new_files start now) told
-err_saving standing awaited number made_due answers drops names fails state due first same files new_files budget status router operators was is start mid now trace told step =
-    let P : Option Saving → Type 0 = λ s. Rests standing awaited number made_due answers drops names state due first (saves_to_of s) files router operators was start mid false trace →
-    Told (IsRun answers drops names fails due first (saves_to_of s) budget status is new_files start now) told in
-    subst P same step
+    (drops : List ℕ → S → S → Type 0) (names : S → List (List ℕ)) (fails : Failing S) {A : Type 0} (state : A → S) (due : Due) (first : AnswererState S) {here there : Option Saving} {few total : ℕ} → here ≡ there →
+    few ≡ total → (files new_files : FilesMeaning) (budget : ℕ) (status : Status) (router : Router C A) (operators : Operators) (was is : Printing) (replaying : Replaying) (start mid now : Option (List ℕ)) (trace : Trace)
+    (told : Option Trace) →
+    (Between standing awaited number made_due answers drops names state due first (saves_to_of here) files router operators was replaying few start mid trace →
+    Told (Ran answers drops names fails due first (saves_to_of here) budget status is new_files few start now) told) →
+    Between standing awaited number made_due answers drops names state due first (saves_to_of there) files router operators was replaying total start mid trace →
+    Told (Ran answers drops names fails due first (saves_to_of there) budget status is new_files total start now) told
+err_saving standing awaited number made_due answers drops names fails state due first {here} {there} {few} {total} same same_total files new_files budget status router operators was is replaying start mid now trace told
+    step =
+    let P : Option Saving → ℕ → Type 0 = λ s n. Between standing awaited number made_due answers drops names state due first (saves_to_of s) files router operators was replaying n start mid trace →
+    Told (Ran answers drops names fails due first (saves_to_of s) budget status is new_files n start now) told in
+    subst (λ n. P there n) same_total (subst (λ s. P s few) same step)
 
 pub leaves_saving : {S : Type 0} (answers : Answering S) (drops : List ℕ → S → S → Type 0) (fails : Failing S) (first : AnswererState S) (files : FilesMeaning) {here there : Option Saving} → here ≡ there →
     LeavesBehind answers drops fails (saves_to_of here) first files → LeavesBehind answers drops fails (saves_to_of there) first files
@@ -463,15 +546,7 @@ pub state_first : {C : Type 0} (standing : Standing C) (awaited : C → Option A
 state_first standing awaited number made_due answers state due first files router stands =
     ap (λ s. s.own) (answers_none answers due (begins_at (record { own = first; files = files })) (record { own = state router.answerer; files = files }) stands.pending [] stands.answered refl refl)
 
--- where flows are saved is what the run was given
-pub run_saving : {S : Type 0} (answers : Answering S) (drops : List ℕ → S → S → Type 0) (names : S → List (List ℕ)) (fails : Failing S) (due : Due) (first : AnswererState S) (budget : ℕ) (status : Status)
-    (printing : Printing) (files : FilesMeaning) (start now : Option (List ℕ)) (told : Option Trace) {here there : Option Saving} → here ≡ there →
-    Told (IsRun answers drops names fails due first (saves_to_of here) budget status printing files start now) told →
-    Told (IsRun answers drops names fails due first (saves_to_of there) budget status printing files start now) told
-run_saving answers drops names fails due first budget status printing files start now told same =
-    let P : Option Saving → Type 0 = λ s. Told (IsRun answers drops names fails due first (saves_to_of s) budget status printing files start now) told in subst P same
-
--- and the state that it began from
+-- what is left is so from the state that it began from
 pub leaves_from : {S : Type 0} (answers : Answering S) (drops : List ℕ → S → S → Type 0) (fails : Failing S) (to : Option SavesTo) (own other : S) (files last : FilesMeaning) → own ≡ other →
     LeavesBehind answers drops fails to (record { own = own; files = files }) last → LeavesBehind answers drops fails to (record { own = other; files = files }) last
 leaves_from {S} answers drops fails to own other files last same = let P : S → Type 0 = λ s. LeavesBehind answers drops fails to (record { own = s; files = files }) last in subst P same

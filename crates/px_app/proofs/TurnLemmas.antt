@@ -31,10 +31,11 @@ use Rattle.px_app.specs.Worked.{Breaks, Turns, of_conversation, of_operator, of_
 
 -- ---- what it says
 
--- in these steps nothing is heard
+-- in these steps nothing is heard, and no conversation begins
 abbrev pub NoneHeard : Trace → Type 0
 NoneHeard [] = Unit {0}
 NoneHeard (steps.Heard moment what ∷ rest) = ⊥
+NoneHeard (steps.Begun conv ∷ rest) = ⊥
 NoneHeard (step ∷ rest) = NoneHeard rest
 
 -- what is said to an operator: a text, or that the connection is closed
@@ -85,9 +86,10 @@ pub record Adds {S : Type 0} (drops : List ℕ → S → S → Type 0) (trace : 
 
 -- ---- steps in which nothing is heard
 
-none_of : (conv : ℕ) (more : Trace) → AllOf conv more → NoneHeard more
+pub none_of : (conv : ℕ) (more : Trace) → AllOf conv more → NoneHeard more
 none_of conv [] all = tt
 none_of conv (steps.Heard moment what ∷ more) (here, all) = here
+none_of conv (steps.Begun number ∷ more) (here, all) = here
 none_of conv (steps.Asked number ask ∷ more) (here, all) = none_of conv more all
 none_of conv (steps.Answered number ask reply ∷ more) (here, all) = none_of conv more all
 none_of conv (steps.Said number what ∷ more) (here, all) = none_of conv more all
@@ -107,6 +109,7 @@ none_any (Some conv) more all = none_of conv more all
 pub none_more : (list more : Trace) → NoneHeard list → NoneHeard more → NoneHeard (list ++ more)
 none_more [] more none after = after
 none_more (steps.Heard moment what ∷ list) more none after = absurd none
+none_more (steps.Begun conv ∷ list) more none after = absurd none
 none_more (steps.Asked number ask ∷ list) more none after = none_more list more none after
 none_more (steps.Answered number ask reply ∷ list) more none after = none_more list more none after
 none_more (steps.Said number what ∷ list) more none after = none_more list more none after

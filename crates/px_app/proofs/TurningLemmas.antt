@@ -37,7 +37,8 @@ use Rattle.px_core.proofs.StandsLemmas.{known_begun, nobody_heard}
 use Rattle.px_obey.specs.declared.outcome.Outcome.{Outcome}
 use Rattle.px_obey.specs.declared.outcome.Outcome.TheVariants.{GoesOn, Leaves, Quits}
 use Rattle.px_obey.specs.Obeyed as obeyed
-use Rattle.px_obey.specs.Obeyed.{AddsAnswers, BreaksAnswers, ByOrders, FilesAfterOrders, ObeysAll, ObeysLine, ObeysLines, Point, StandsAt, closed, outcome_of, point}
+use Rattle.px_obey.specs.Obeyed.{ByOrders, FilesAfterOrders, ObeysAll, ObeysLine, ObeysLines, Point, StandsAt, closed, outcome_of, point}
+use Rattle.px_obey.specs.Over.{AddsAnswers, BreaksAnswers}
 use Rattle.px_view.specs.declared.command.Order.{Order}
 use Rattle.px_view.specs.declared.command.Order.TheVariants as order
 use Rattle.px_view.specs.declared.desk.Line.{Line}
@@ -395,7 +396,7 @@ module _ {C S : Type 0} (standing : Standing C) (awaited : C → Option Ask) (nu
         let what : Heard = heard.Piece conv Client bytes in
         let there : Trace = trace ++ steps.Heard moment what ∷ [] in
         let first : Point S = point there course (record { own = state router.answerer; files = files }) in
-        let turns = of_operator conv lines adds.more (record { own = state router.answerer; files = files }) routed.pending adds.last outcome word_so routed.answered adds.obeyed in
+        let turns = of_operator conv lines adds.more (record { own = state router.answerer; files = files }) routed.pending adds.last outcome word_so routed.answered adds.does in
         let added : Adds drops trace course moment what adds.more adds.last.trace adds.last.course =
         turns_adds answers drops names due trace course moment what adds.more adds.last.trace adds.last.course (is_quit outcome) turns in
         let P : Bool → Type 0 = λ b. Turned standing awaited number made_due answers drops names state due new_files new after trace course moment what b net now in
@@ -407,6 +408,6 @@ module _ {C S : Type 0} (standing : Standing C) (awaited : C → Option Ask) (nu
           turns = turns;
           stands = adds.stands;
           operators_stand = λ goes. stand_behind before taken after trace moment conv bytes lines adds.last.trace (record { added = added.added; is_next = added.is_next; quiet = added.quiet }) they is takes
-              answers drops names due first adds.last adds.more outcome adds.obeyed (subst Q is_left settles) goes;
+              answers drops names due first adds.last adds.more outcome adds.does (subst Q is_left settles) goes;
           tells = adds.tells;
         })

@@ -31,6 +31,7 @@ generator_settings = record {
   anticache = lines.anticache.default;
   anticomp = lines.anticomp.default;
   block_list = lines.block_list.default;
+  client_replay = lines.client_replay.default;
   control = lines.control.default;
   events = lines.events.default;
   intercept = lines.intercept.default;
@@ -56,7 +57,7 @@ generator_settings = record {
 abbrev pub SavesNone : {S : Type 0} → List (Change S) → Type 0
 SavesNone changes = (reached : Printing) × (placed : List Trace) × (made : List Append) × SavedOver None reached changes placed made
 
--- every peer got what was due to it, and nothing was saved
+-- every peer got what was due to it, no request was sent again, and nothing was saved
 pub record Generated {S : Type 0} (answers : Answering S) (drops : List ℕ → S → S → Type 0) (names : S → List (List ℕ)) (fails : Failing S) (key : List ℕ) (IsChain : Settings → S → Type 0)
     (files last : FilesMeaning) (status : ℕ) (told : Trace) : Type 0 where
   pub chain : S
@@ -65,7 +66,7 @@ pub record Generated {S : Type 0} (answers : Answering S) (drops : List ℕ → 
   pub changes : List (Change S)
   pub operations : List Operated
   pub over : Bool
-  pub promises : Promises answers drops names fails generator_settings.intercept generator_mode key (record { own = chain; files = files }) changes operations last status over told trace
+  pub promises : Promises answers drops names fails generator_settings.intercept generator_mode key [] (record { own = chain; files = files }) changes operations last status over told trace
   pub saves_none : SavesNone changes
 
 -- A run of so many generated flows, with this key of masks, over a network in memory. Another network was told what was asked, answered and finished in it,

@@ -16,6 +16,9 @@ pub mod Own
 pub mod Operators
 pub mod Operating
 pub mod Worked
+pub mod Replayed
+pub mod Replaying
+pub mod Dues
 pub mod Servers
 pub mod Run
 pub mod Promises

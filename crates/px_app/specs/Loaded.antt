@@ -46,3 +46,27 @@ path_read (Missed path) = path
 path_read (ReadFailed path) = path
 path_read (Appended path bytes) = path
 path_read (AppendFailed path) = path
+
+-- ---- two lists of files, one behind the other
+
+-- the flows that were loaded
+abbrev pub flows_in : Loaded → List Flow
+flows_in (loaded flows) = flows
+flows_in came = []
+
+-- what came of both: the first that was not loaded, or what came of the second
+abbrev pub behind_loaded : Loaded → Loaded → Loaded
+behind_loaded (loaded flows) second = second
+behind_loaded came second = came
+
+-- The files of the second list are read where those of the first were all loaded.
+abbrev pub LoadsBehind : List (List ℕ) → Loaded → List FileCall → Loaded → Type 0
+LoadsBehind paths (loaded flows) calls second = LoadsFiles paths calls second
+LoadsBehind paths came calls second = (calls ≡ []) × (second ≡ loaded [])
+
+pub record LoadsBoth (first_paths second_paths : List (List ℕ)) (calls : List FileCall) (first second : Loaded) : Type 0 where
+  pub first_calls : List FileCall
+  pub second_calls : List FileCall
+  pub all : calls ≡ first_calls ++ second_calls
+  pub loads : LoadsFiles first_paths first_calls first
+  pub then_loads : LoadsBehind second_paths first second_calls second

@@ -29,8 +29,9 @@ pub data Opened : Type 0 where
   unjudged : (bytes : List ℕ) → Opened
   -- these bytes were read, which are no options, for this cause
   refused : (bytes : List ℕ) (why : OptionsError) → Opened
-  -- these bytes were read, which are these options; then these reads were made of the flow files that they name, and this came of them
-  says : (bytes : List ℕ) (settings : Settings) (calls : List FileCall) (what : Loaded) → Opened
+  -- these bytes were read, which are these options; then these reads were made of the flow files that they name, and this came of those whose flows answer, and of those that are
+  -- sent again
+  says : (bytes : List ℕ) (settings : Settings) (calls : List FileCall) (recorded resent : Loaded) → Opened
 
 -- the reads that were made, in their order: of the options file of this path, and then of flow files
 abbrev pub reads_of : List ℕ → Opened → List FileCall
@@ -39,7 +40,7 @@ reads_of path absent = Missed path ∷ []
 reads_of path not_read = ReadFailed path ∷ []
 reads_of path (unjudged bytes) = Read path bytes ∷ []
 reads_of path (refused bytes why) = Read path bytes ∷ []
-reads_of path (says bytes settings calls what) = Read path bytes ∷ calls
+reads_of path (says bytes settings calls recorded resent) = Read path bytes ∷ calls
 
 -- the rules of a chain are those of the options; its recorded list stands beside them
 pub record AreRulesOf (settings : Settings) (rules : Rules) : Type 0 where

@@ -41,11 +41,11 @@ pub data Word : Type 0 where
   leaves : (conv : ℕ) → Word
 
 -- bytes of a connection whose lines stand so, and which has begun a conversation or not
-abbrev pub says_at : ℕ → Stand → Option Address → List ℕ → Word
+abbrev pub says_at : ℕ → Stand → Option (Option Address) → List ℕ → Word
 says_at conv (Some kept) None bytes = says conv (told bytes (Some kept))
 says_at conv stand peer bytes = nothing
 
-abbrev pub leaves_at : ℕ → Stand → Option Address → Word
+abbrev pub leaves_at : ℕ → Stand → Option (Option Address) → Word
 leaves_at conv (Some kept) None = leaves conv
 leaves_at conv stand peer = nothing
 

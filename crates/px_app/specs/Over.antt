@@ -1,7 +1,7 @@
 -- What a run appended over its trace, and what became of files.
 --
--- When all steps that follow from something heard are said, the flows that finished in them are printed and saved, before the next thing is
--- heard. So each rest of the trace has one change of files, which appends what has become due there. Between them an operator may take an addon away, which changes no
+-- When all steps that follow from something heard, or from the beginning of a conversation without a client, are said, the flows that finished in them are printed and
+-- saved, before the next thing is heard or begins. So each rest of the trace has one change of files, which appends what has become due there. Between them an operator may take an addon away, which changes no
 -- file.
 use Rattle.std.specs.Prelude.{◌≡◌, ◌≤◌, ℕ, List, [], ◌∷◌, ◌++◌, map, Option}
 use Rattle.std.specs.List.{flat_map}
@@ -20,10 +20,11 @@ use Rattle.px_app.specs.Saved.{Append, Appending, ArePut, BrokeAppending, Came, 
 use Rattle.px_app.specs.declared.printing.Printing.{Printing}
 use Rattle.px_app.specs.declared.printing.Printing.TheVariants.{Whole, Failed}
 
--- where a trace rests: behind the last step of each thing heard; these are its prefixes that end so
+-- where a trace rests: behind the last step of each thing heard, and of each conversation that began with no one heard; these are its prefixes that end so
 abbrev pub rests : Trace → Trace → List Trace
 rests prefix [] = prefix ∷ []
 rests prefix (steps.Heard moment what ∷ rest) = prefix ∷ rests (prefix ++ steps.Heard moment what ∷ []) rest
+rests prefix (steps.Begun conv ∷ rest) = prefix ∷ rests (prefix ++ steps.Begun conv ∷ []) rest
 rests prefix (step ∷ rest) = rests (prefix ++ step ∷ []) rest
 
 abbrev pub rests_of : Trace → List Trace

@@ -64,6 +64,13 @@ pub record Told (P : Trace → Type 0) (told : Option Trace) : Type 0 where
   pub tells : told ≡ Some trace
   pub holds : P trace
 
+-- a trace is told, with nothing heard beside what was heard before, and the fact holds of it
+pub record ToldOn (P : Trace → Type 0) (before : Trace) (told : Option Trace) : Type 0 where
+  pub after : Trace
+  pub tells : told ≡ Some after
+  pub count : heard_count after ≡ heard_count before
+  pub holds : P after
+
 -- a trace is told, with one more thing heard, and the fact holds of it
 pub record ToldNext (P : Trace → Type 0) (before : Trace) (told : Option Trace) : Type 0 where
   pub after : Trace

@@ -1,4 +1,4 @@
--- How a run goes on: one thing heard, and the steps that follow from it, for conversations and for operators.
+-- How a run goes on: one thing heard, and the steps that follow from it, for conversations and for operators; or a conversation that begins with no one heard.
 --
 -- Two traces go side by side. What is told has every step; the steps of conversations are those without what was said to operators.
 use Rattle.std.specs.Prelude.{◌≡◌, ℕ, Bool, true, false, List, [], ◌∷◌, ◌++◌}
@@ -10,7 +10,8 @@ use Rattle.px_core.specs.Answered.{Answers, Pending}
 use Rattle.px_core.specs.Answers.{Answering, AnswererState}
 use Rattle.px_core.specs.Course.{Course, begins_at, with_change}
 use Rattle.px_core.specs.Due.{Due}
-use Rattle.px_core.specs.Run.{IsOfHeard}
+use Rattle.px_core.specs.Held.{AllOf}
+use Rattle.px_core.specs.Run.{IsFrontOfBegun, IsOfHeard}
 use Rattle.px_obey.specs.declared.outcome.Outcome.{Outcome}
 use Rattle.px_obey.specs.declared.outcome.Outcome.TheVariants.{Leaves, Quits}
 use Rattle.px_obey.specs.Obeyed.{BreaksLines, ObeysLines, Point, closed, point}
@@ -50,17 +51,23 @@ module _ {S : Type 0} (answers : Answering S) (drops : List ℕ → S → S → 
         Breaks trace course moment what more last broken
     in_silence : Breaks trace course moment what [] (trace ++ steps.Heard moment what ∷ []) course
 
-  -- A run from its beginning: what is told, the steps of conversations, the course, and whether it ends. Behind each thing heard, when all its steps were told, the answerer's
+  -- A run from its beginning: what is told, the steps of conversations, the course, and whether it ends. Behind each thing heard or begun, when all its steps were told, the answerer's
   -- files may change, as the flows that finished are saved.
   pub data Worked (first : AnswererState S) : Trace → Trace → Course S → Bool → Type 0 where
     not_begun : Worked first [] [] (begins_at first) false
     one_worked : (told next_told trace next : Trace) (course turned saved : Course S) (moment : ℕ) (what : Heard) (more : List Step) (over : Bool) (old new : AnswererState S) →
         Worked first told trace course false → Turns trace course moment what more next turned over → next_told ≡ (told ++ steps.Heard moment what ∷ []) ++ more →
         new.own ≡ old.own → saved ≡ with_change turned next old new → Worked first next_told next saved over
+    -- a conversation without a client begins, with steps of its own behind
+    one_begun : (told next_told trace next : Trace) (course saved : Course S) (conv : ℕ) (more : List Step) (old new : AnswererState S) →
+        Worked first told trace course false → AllOf conv more → next_told ≡ (told ++ steps.Begun conv ∷ []) ++ more → next ≡ (trace ++ steps.Begun conv ∷ []) ++ more →
+        new.own ≡ old.own → saved ≡ with_change course next old new → Worked first next_told next saved false
 
-  -- a run that ended so, or broke off within one thing heard
+  -- a run that ended so, or broke off within one thing heard or begun
   pub data WorkedPart (first : AnswererState S) : Trace → Trace → Course S → Type 0 where
     all_worked : (told trace : Trace) (course : Course S) (over : Bool) → Worked first told trace course over → WorkedPart first told trace course
     breaks_in : (told next_told trace next : Trace) (course broken : Course S) (moment : ℕ) (what : Heard) (more : List Step) →
         Worked first told trace course false → Breaks trace course moment what more next broken → next_told ≡ (told ++ steps.Heard moment what ∷ []) ++ more →
         WorkedPart first next_told next broken
+    breaks_begun : (told next_told trace next : Trace) (course : Course S) (conv : ℕ) (more : List Step) → Worked first told trace course false → IsFrontOfBegun conv more →
+        next_told ≡ told ++ more → next ≡ trace ++ more → WorkedPart first next_told next course

@@ -11,26 +11,27 @@ ghost use Rattle.px_gen.specs.Script.{script as script_of};
 ghost use Rattle.px_map.specs.View.{local_views};
 ghost use Rattle.px_gen.specs.Counts.{counts_in, counts_text as text_of_counts};
 ghost use Rattle.px_gen.specs.Noted.{HasGrownByFront, noted, with_steps};
-ghost use Rattle.px_stack.specs.Modes.{mode_due};
+ghost use Rattle.px_resend.specs.Due.{most_replayed};
+ghost use Rattle.px_app.specs.Dues.{run_due};
 ghost use Rattle.px_app.specs.Generates.{Generates, generator_mode, generator_settings};
 ghost use Rattle.px_app.specs.Opened.{AreRulesOf};
 ghost use Rattle.px_app.specs.Outside.{outside};
 ghost use Rattle.px_app.specs.Over.{LeavesBehind};
-ghost use Rattle.px_app.specs.Run.{IsRun, Told};
+ghost use Rattle.px_app.specs.Run.{Told};
+ghost use Rattle.px_app.specs.Serving.{Ran};
 
 use crate::printing::Printing;
-use crate::serve::Conv;
-use crate::serving::{Serving, serve_all};
+use crate::serve::{maker_of, serve_by};
 use crate::status::Status;
 use crate::stop::NO_MEMORY;
 use px_addons::{Addon, Chain, Rules};
-use px_core::{Answerer, Gates};
+use px_core::Answerer;
 use px_event::{Heard, Step};
 use px_gen::{
     Generated, Nowhere, Scripted, counts_of, counts_text, note_all, rules, script, server,
 };
 use px_outside::{Files, Net, Sink, SinkError};
-use px_stack::{Mode, Placed};
+use px_stack::Mode;
 use px_text::NoMemory;
 use std::alloc::Global;
 use std::marker::Brand;
@@ -100,19 +101,24 @@ fn serve_generated<K: Scripted, F: Files>(
     generated: &mut Generated<K>,
     files: &mut F,
 ) -> Result<(), NoMemory>
-    ensures ok { ⟦<Generated<K> as Net>⟧.trace generated.old ≡ Some [] → OnOk result ((printing : Printing) × Told (IsRun ⟦<Chain as Answerer>⟧.answers ⟦<Chain as Answerer>⟧.drops ⟦<Chain as Answerer>⟧.names ⟦<Chain as Answerer>⟧.fails (mode_due mode (key_of mask_key)) (record { own = chain; files = files_meaning F.contents F.calls F.misses F.faults F.losses files.old }) None 18446744073709551615 Status.Ended printing (files_meaning F.contents F.calls F.misses F.faults F.losses files.new) None None) (⟦<Generated<K> as Net>⟧.trace generated.new)) }
+    ensures ok { ⟦<Generated<K> as Net>⟧.trace generated.old ≡ Some [] → OnOk result ((printing : Printing) × Told (Ran ⟦<Chain as Answerer>⟧.answers ⟦<Chain as Answerer>⟧.drops ⟦<Chain as Answerer>⟧.names ⟦<Chain as Answerer>⟧.fails (run_due mode (key_of mask_key) []) (record { own = chain; files = files_meaning F.contents F.calls F.misses F.faults F.losses files.old }) None 18446744073709551615 Status.Ended printing (files_meaning F.contents F.calls F.misses F.faults F.losses files.new) (most_replayed []) None None) (⟦<Generated<K> as Net>⟧.trace generated.new)) }
     ensures files { LeavesBehind ⟦<Chain as Answerer>⟧.answers ⟦<Chain as Answerer>⟧.drops ⟦<Chain as Answerer>⟧.fails None (record { own = chain; files = files_meaning F.contents F.calls F.misses F.faults F.losses files.old }) (files_meaning F.contents F.calls F.misses F.faults F.losses files.new) }
 {
-    let maker = Gates::new(alloc, Placed::new(alloc, mode, mask_key));
-    let mut serving = Serving::<Conv, Chain, Gates<Placed>>::new(alloc, chain, maker, None);
-    match serve_all(
+    let Ok(maker) = maker_of(alloc, mode, mask_key, Vec::new(alloc)) else {
+        drop(chain);
+        return Err(NoMemory);
+    };
+    let ending = serve_by(
         alloc,
-        &mut serving,
+        maker,
+        chain,
+        None,
         generated,
         files,
         &mut Nowhere,
         u64::MAX,
-    ) {
+    );
+    match ending.status {
         Status::Ended => Ok(()),
         _ => Err(NoMemory),
     }

@@ -3,10 +3,11 @@
 //! `run` is the whole program over a network, files, two sinks, addons and a key for the masks of frames that are handed in. Each promise is in a
 //! clause of it.
 //!
-//! With the words `serve OPTIONS` the options file is read, once and first, and then the flow files that it names for `server_replay`, in their order; what
-//! came of that is told (`specs/Opened.antt`, `specs/Loaded.antt`). Where it says options and the flows of all those files were loaded, what each peer of each conversation was sent is what is due to it in the options' mode and with that key by px_stack's `mode_due`, by where its client is and
-//! the calls that the trace has of the conversation; each hook was answered by the chain of the options' rules, those flows and the addons alone;
-//! what is printed is a line of each finished flow of the trace, and the status's line behind them; and each status has its cause in the
+//! With the words `serve OPTIONS` the options file is read, once and first, and then the flow files that it names for `server_replay` and those for `client_replay`, in
+//! their order; what came of that is told (`specs/Opened.antt`, `specs/Loaded.antt`). Where it says options and the flows of all those files were loaded, what each peer of each
+//! conversation was sent is what is due to it in the options' mode and with that key (`specs/Dues.antt`), by where its client is and the calls that the trace has of the
+//! conversation; the requests of `client_replay` are conversations without a client, each begun where the flow of the one before is finished (`specs/Replayed.antt`); each hook was
+//! answered by the chain of the options' rules, the flows of `server_replay` and the addons, or by an operator where `intercept` is set; what is printed is a line of each finished flow of the trace, and the status's line behind them; and each status has its cause in the
 //! trace or in a count of faults (`specs/Serves.antt`). With the words `flows FILE FILTER` the file is read, and the line of each of its flows on
 //! which the filter holds is printed (`specs/Flows.antt`). With the words `gen N` it is a run over what px_gen makes of that number
 //! (`specs/Generates.antt`). Out of memory alone has no cause; after it each peer has got a prefix of what is due, and a prefix of the
@@ -27,7 +28,7 @@ ghost use Rattle.px_options.specs.View.{settings};
 ghost use Rattle.px_app.specs.Flows.{Fetched, ListsFile};
 ghost use Rattle.px_app.specs.Generates.{Generates};
 ghost use Rattle.px_app.specs.Lines.{line_of, usage};
-ghost use Rattle.px_app.specs.Loaded.{Loaded, LoadsFiles, loaded, unloaded};
+ghost use Rattle.px_app.specs.Loaded.{Loaded, LoadsBoth, LoadsFiles, loaded, unloaded};
 ghost use Rattle.px_app.specs.Opened.{Opened, AreRulesOf, replay_of};
 ghost use Rattle.px_app.specs.Outside.{IsTold, outside};
 ghost use Rattle.px_app.specs.Printed.{Has, Ends, at_end};
@@ -60,8 +61,9 @@ const USAGE: &str = "usage: mitm serve OPTIONS | flows FILE FILTER | gen N\n";
 
 /// Runs the program with these words, and answers the exit status.
 ///
-/// `serve OPTIONS` reads the options file of that path, loads the flows of the files of `server_replay`, listens where it says, tells a note of that, serves each connection in the
-/// mode that it names by its rules, these flows and these addons, with this key for the masks of frames, and prints a line of each finished flow. `flows FILE FILTER` reads that file of flows
+/// `serve OPTIONS` reads the options file of that path, loads the flows of the files of `server_replay` and `client_replay`, listens where it says, tells a note of that, serves
+/// each connection in the mode that it names by its rules, the flows of `server_replay` and these addons, with this key for the masks of frames, sends the requests of `client_replay`
+/// again, one behind the other, and prints a line of each finished flow. `flows FILE FILTER` reads that file of flows
 /// and prints the line of each on which the filter holds. `gen N` runs N generated flows over a network in memory, tells `net` what was
 /// asked, answered and finished, and prints three counts.
 ///
@@ -204,15 +206,15 @@ fn serve_options<N: Net, F: Files, S: Sink, T: Sink>(
     mask_key: [u8; 32],
 ) -> u8
     requires idle { N.listening net.old ≡ idle }
-    ensures { (calls : List FileCall) × (what : Loaded) × (read : FilesMeaning) × LoadsFiles (settings options).server_replay calls what
+    ensures { (calls : List FileCall) × (recorded : Loaded) × (resent : Loaded) × (read : FilesMeaning) × LoadsBoth (settings options).server_replay (settings options).client_replay calls recorded resent
         × Made calls (seen F.contents F.calls F.misses F.faults F.losses files.old) (seen_of read)
         × RunsWith ⟦<Chain as Answerer>⟧.answers ⟦<Chain as Answerer>⟧.drops ⟦<Chain as Answerer>⟧.names ⟦<Chain as Answerer>⟧.fails (key_of mask_key)
-        (λ settings flows chain. AreRulesOf settings chain.rules × (chain.replay ≡ replay_of settings flows) × (chain.addons ≡ addons)) (net.new ≡ net.old) (Rose (N.faults net.old) (N.faults net.new)) (Rose (S.faults out.old) (S.faults out.new)) (Rose (F.losses files.old) (F.losses files.new)) (Rose (T.faults notes.old) (T.faults notes.new)) (settings options) what read
+        (λ settings flows chain. AreRulesOf settings chain.rules × (chain.replay ≡ replay_of settings flows) × (chain.addons ≡ addons)) (net.new ≡ net.old) (Rose (N.faults net.old) (N.faults net.new)) (Rose (S.faults out.old) (S.faults out.new)) (Rose (F.losses files.old) (F.losses files.new)) (Rose (T.faults notes.old) (T.faults notes.new)) (settings options) recorded resent read
         (outside N.trace N.listening F.contents F.calls F.misses F.faults F.losses S.written T.written net.old files.old out.old notes.old)
         (outside N.trace N.listening F.contents F.calls F.misses F.faults F.losses S.written T.written net.new files.new out.new notes.new) result }
 {
     match load_flows(alloc, options.server_replay.as_slice(), files) {
-        Ok(flows) => serve_flows(
+        Ok(flows) => serve_recorded(
             alloc, options, flows, net, files, out, notes, addons, mask_key,
         ),
         Err(error) => {
@@ -224,8 +226,8 @@ fn serve_options<N: Net, F: Files, S: Sink, T: Sink>(
     }
 }
 
-// Serves as the options say, with these flows of the files that they name.
-fn serve_flows<N: Net, F: Files, S: Sink, T: Sink>(
+// Loads the flows whose requests are sent again, and serves as the options say, with these flows that answer.
+fn serve_recorded<N: Net, F: Files, S: Sink, T: Sink>(
     alloc: Global,
     options: Options,
     flows: Vec<Flow>,
@@ -237,24 +239,63 @@ fn serve_flows<N: Net, F: Files, S: Sink, T: Sink>(
     mask_key: [u8; 32],
 ) -> u8
     requires idle { N.listening net.old ≡ idle }
-    ensures { (what : Loaded) × ((what ≡ loaded flows.items) ⊎ (what ≡ unloaded)) × RunsWith ⟦<Chain as Answerer>⟧.answers ⟦<Chain as Answerer>⟧.drops ⟦<Chain as Answerer>⟧.names ⟦<Chain as Answerer>⟧.fails (key_of mask_key)
-        (λ settings flows chain. AreRulesOf settings chain.rules × (chain.replay ≡ replay_of settings flows) × (chain.addons ≡ addons)) (net.new ≡ net.old) (Rose (N.faults net.old) (N.faults net.new)) (Rose (S.faults out.old) (S.faults out.new)) (Rose (F.losses files.old) (F.losses files.new)) (Rose (T.faults notes.old) (T.faults notes.new)) (settings options) what (files_meaning F.contents F.calls F.misses F.faults F.losses files.old)
+    ensures { (calls : List FileCall) × (resent : Loaded) × (read : FilesMeaning) × LoadsFiles (settings options).client_replay calls resent
+        × Made calls (seen F.contents F.calls F.misses F.faults F.losses files.old) (seen_of read)
+        × RunsWith ⟦<Chain as Answerer>⟧.answers ⟦<Chain as Answerer>⟧.drops ⟦<Chain as Answerer>⟧.names ⟦<Chain as Answerer>⟧.fails (key_of mask_key)
+        (λ settings flows chain. AreRulesOf settings chain.rules × (chain.replay ≡ replay_of settings flows) × (chain.addons ≡ addons)) (net.new ≡ net.old) (Rose (N.faults net.old) (N.faults net.new)) (Rose (S.faults out.old) (S.faults out.new)) (Rose (F.losses files.old) (F.losses files.new)) (Rose (T.faults notes.old) (T.faults notes.new)) (settings options) (loaded flows.items) resent read
+        (outside N.trace N.listening F.contents F.calls F.misses F.faults F.losses S.written T.written net.old files.old out.old notes.old)
+        (outside N.trace N.listening F.contents F.calls F.misses F.faults F.losses S.written T.written net.new files.new out.new notes.new) result }
+{
+    match load_flows(alloc, options.client_replay.as_slice(), files) {
+        Ok(resent) => serve_flows(
+            alloc, options, flows, resent, net, files, out, notes, addons, mask_key,
+        ),
+        Err(error) => {
+            drop(addons);
+            drop(flows);
+            let status = refuse_load(alloc, &error, out, notes);
+            drop(options);
+            status
+        }
+    }
+}
+
+// Serves as the options say: these flows answer, and the requests of those are sent again.
+fn serve_flows<N: Net, F: Files, S: Sink, T: Sink>(
+    alloc: Global,
+    options: Options,
+    flows: Vec<Flow>,
+    resent: Vec<Flow>,
+    net: &mut N,
+    files: &mut F,
+    out: &mut S,
+    notes: &mut T,
+    addons: Vec<Box<dyn Addon>>,
+    mask_key: [u8; 32],
+) -> u8
+    requires idle { N.listening net.old ≡ idle }
+    ensures { (what : Loaded) × ((what ≡ loaded resent.items) ⊎ (what ≡ unloaded)) × RunsWith ⟦<Chain as Answerer>⟧.answers ⟦<Chain as Answerer>⟧.drops ⟦<Chain as Answerer>⟧.names ⟦<Chain as Answerer>⟧.fails (key_of mask_key)
+        (λ settings flows chain. AreRulesOf settings chain.rules × (chain.replay ≡ replay_of settings flows) × (chain.addons ≡ addons)) (net.new ≡ net.old) (Rose (N.faults net.old) (N.faults net.new)) (Rose (S.faults out.old) (S.faults out.new)) (Rose (F.losses files.old) (F.losses files.new)) (Rose (T.faults notes.old) (T.faults notes.new)) (settings options) (loaded flows.items) what (files_meaning F.contents F.calls F.misses F.faults F.losses files.old)
         (outside N.trace N.listening F.contents F.calls F.misses F.faults F.losses S.written T.written net.old files.old out.old notes.old)
         (outside N.trace N.listening F.contents F.calls F.misses F.faults F.losses S.written T.written net.new files.new out.new notes.new) result }
 {
     match setup_of(alloc, options, flows) {
-        Ok(setup) => serve_setup(alloc, setup, net, files, out, notes, addons, mask_key),
+        Ok(setup) => serve_setup(
+            alloc, setup, resent, net, files, out, notes, addons, mask_key,
+        ),
         Err(NoMemory) => {
             drop(addons);
+            drop(resent);
             NO_MEMORY
         }
     }
 }
 
-// Serves by this setup.
+// Serves by this setup, and sends the requests of these flows again.
 fn serve_setup<N: Net, F: Files, S: Sink, T: Sink>(
     alloc: Global,
     setup: Setup,
+    resent: Vec<Flow>,
     net: &mut N,
     files: &mut F,
     out: &mut S,
@@ -265,7 +306,7 @@ fn serve_setup<N: Net, F: Files, S: Sink, T: Sink>(
     requires idle { N.listening net.old ≡ idle }
     ensures { (settings : Settings) (flows : List RecordedFlow) → IsSetupOf settings flows setup → (chain : ⟦<Chain as Answerer>⟧.State)
         × (AreRulesOf settings chain.rules × (chain.replay ≡ replay_of settings flows) × (chain.addons ≡ addons)) × Serves ⟦<Chain as Answerer>⟧.answers ⟦<Chain as Answerer>⟧.drops ⟦<Chain as Answerer>⟧.names ⟦<Chain as Answerer>⟧.fails (key_of mask_key)
-        (Rose (N.faults net.old) (N.faults net.new)) (Rose (S.faults out.old) (S.faults out.new)) (Rose (F.losses files.old) (F.losses files.new)) (Rose (T.faults notes.old) (T.faults notes.new)) settings chain (files_meaning F.contents F.calls F.misses F.faults F.losses files.old)
+        (Rose (N.faults net.old) (N.faults net.new)) (Rose (S.faults out.old) (S.faults out.new)) (Rose (F.losses files.old) (F.losses files.new)) (Rose (T.faults notes.old) (T.faults notes.new)) settings chain resent.items (files_meaning F.contents F.calls F.misses F.faults F.losses files.old)
         (outside N.trace N.listening F.contents F.calls F.misses F.faults F.losses S.written T.written net.old files.old out.old notes.old)
         (outside N.trace N.listening F.contents F.calls F.misses F.faults F.losses S.written T.written net.new files.new out.new notes.new) result }
 {
@@ -284,6 +325,7 @@ fn serve_setup<N: Net, F: Files, S: Sink, T: Sink>(
         control.as_ref(),
         mode,
         mask_key,
+        resent,
         chain,
         saving,
         net,

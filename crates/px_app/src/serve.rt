@@ -1,18 +1,24 @@
-//! A proxy: each connection is a conversation whose requests go where the mode says.
-ghost use Rattle.std.specs.Prelude.{◌≡◌, ◌≢◌, ◌≤◌, ◌⊎◌, [], Some, Err, IfErr, OnOk, OnErr, option_copied, option_map};
+//! A proxy: each connection is a conversation whose requests go where the mode says, and recorded requests are sent again.
+ghost use Rattle.std.specs.Prelude.{◌≡◌, ◌≢◌, ◌≤◌, ◌⊎◌, [], Some, Err, IfErr, IfOk, OnOk, OnErr, option_copied, option_map};
 ghost use Rattle.rand_chacha.specs.ChaCha.{key_of};
 ghost use Rattle.px_outside.specs.Count.{Rose};
 ghost use Rattle.px_outside.specs.Net.{failed, idle};
 ghost use Rattle.px_outside.specs.Sink.{Writes, WritesPart};
 ghost use Rattle.px_stack.specs.Modes.{mode_due};
+ghost use Rattle.px_resend.specs.Chain.{proxy_in};
+ghost use Rattle.px_resend.specs.Due.{due_with, most_replayed};
 ghost use Rattle.px_core.specs.Answers.{files_meaning};
+ghost use Rattle.px_core.specs.Due.{Due};
+ghost use Rattle.px_core.specs.Run.{IsDueOf};
 ghost use Rattle.px_options.specs.View.{mode_view};
 ghost use Rattle.px_app.specs.Lines.{start_note};
 ghost use Rattle.px_app.specs.Outside.{IsTold};
 ghost use Rattle.px_app.specs.Over.{KeepsLosses, LeavesBehind};
-ghost use Rattle.px_app.specs.Run.{IsRun, ListensAt, Told, place_of};
+ghost use Rattle.px_app.specs.Dues.{run_due};
+ghost use Rattle.px_app.specs.Run.{ListensAt, Told, place_of};
 ghost use Rattle.px_app.specs.Saved.{saves_to_of};
 ghost use Rattle.px_app.specs.Serves.{where_listening};
+ghost use Rattle.px_app.specs.Serving.{Ran};
 ghost use Rattle.px_app.specs.Statuses.{code_of};
 
 use crate::printing::Printing;
@@ -22,14 +28,16 @@ use crate::status::Status;
 use crate::stop::{start_note, tell};
 use px_core::{Answerer, Gates};
 use px_gate::Gate;
-use px_message::Address;
+use px_message::{Address, Flow};
 use px_outside::{Files, Net, Sink};
+use px_resend::{Conversation, Replays, proxy_of};
 use px_stack::{Mode, Placed, Stack};
 use px_text::NoMemory;
 use std::alloc::Global;
 
-/// A conversation: HTTP and what follows it, behind a gate that holds what comes while a question is open.
-pub type Conv = Gate<Stack>;
+/// A conversation, behind a gate that holds what comes while a question is open: one with a client, of HTTP and what follows it, or a recorded request that is
+/// sent again.
+pub type Conv = Gate<Conversation<Stack>>;
 
 /// How serving ended, and how printing and saving went.
 #[derive(Clone, Copy, Debug)]
@@ -39,14 +47,15 @@ pub(crate) struct Ending {
 }
 
 /// Listens for clients at `proxy`, and for operators at `control` where there is one, tells a note of that, and serves each connection in this mode and with this key for the masks of
-/// frames, with hooks answered so, until the net ends or so many things were heard. Of each finished flow its line is printed, and then it is saved
-/// where that is asked for.
+/// frames, with hooks answered so, until the net ends or so many things were heard. The requests of the flows `resent` are sent again, one behind the other. Of each finished flow its
+/// line is printed, and then it is saved where that is asked for.
 pub(crate) fn serve<A: Answerer + Drop, N: Net, F: Files, S: Sink, T: Sink>(
     alloc: Global,
     proxy: &Address,
     control: Option<&Address>,
     mode: Mode,
     mask_key: [u8; 32],
+    resent: Vec<Flow>,
     answerer: A,
     saving: Option<Saving>,
     net: &mut N,
@@ -57,7 +66,7 @@ pub(crate) fn serve<A: Answerer + Drop, N: Net, F: Files, S: Sink, T: Sink>(
 ) -> Ending
     requires idle { N.listening net.old ≡ idle }
     requires losses { KeepsLosses A.answers A.fails }
-    ensures run { N.trace net.old ≡ Some [] → Told (IsRun A.answers A.drops A.names A.fails (mode_due mode (key_of mask_key)) (record { own = A.state answerer; files = files_meaning F.contents F.calls F.misses F.faults F.losses files.old }) (saves_to_of saving) budget result.status result.printing (files_meaning F.contents F.calls F.misses F.faults F.losses files.new) (S.written out.old) (S.written out.new)) (N.trace net.new) }
+    ensures run { N.trace net.old ≡ Some [] → Told (Ran A.answers A.drops A.names A.fails (run_due mode (key_of mask_key) resent.items) (record { own = A.state answerer; files = files_meaning F.contents F.calls F.misses F.faults F.losses files.old }) (saves_to_of saving) budget result.status result.printing (files_meaning F.contents F.calls F.misses F.faults F.losses files.new) (most_replayed resent.items) (S.written out.old) (S.written out.new)) (N.trace net.new) }
     ensures failed { result.printing ≡ Printing.Failed → Rose (S.faults out.old) (S.faults out.new) ⊎ Rose (F.losses files.old) (F.losses files.new) }
     ensures later { S.faults out.old ≤ S.faults out.new }
     ensures files { LeavesBehind A.answers A.drops A.fails (saves_to_of saving) (record { own = A.state answerer; files = files_meaning F.contents F.calls F.misses F.faults F.losses files.old }) (files_meaning F.contents F.calls F.misses F.faults F.losses files.new) }
@@ -69,12 +78,65 @@ pub(crate) fn serve<A: Answerer + Drop, N: Net, F: Files, S: Sink, T: Sink>(
     let printing = Printing::Whole;
     if let Err(status) = begin(alloc, proxy, control, &mode, net, notes) {
         drop(mode);
+        drop(resent);
         drop(answerer);
         drop(saving);
         return Ending { status, printing };
     }
-    let maker = Gates::new(alloc, Placed::new(alloc, mode, mask_key));
-    let mut serving = Serving::<Conv, A, Gates<Placed>>::new(alloc, answerer, maker, saving);
+    match maker_of(alloc, mode, mask_key, resent) {
+        Ok(maker) => serve_by(alloc, maker, answerer, saving, net, files, out, budget),
+        Err(NoMemory) => {
+            drop(answerer);
+            drop(saving);
+            Ending {
+                status: Status::NoMemory,
+                printing,
+            }
+        }
+    }
+}
+
+/// Who makes the conversations of a run: those with clients, and those of the requests that are sent again.
+pub(crate) fn maker_of(
+    alloc: Global,
+    mode: Mode,
+    mask_key: [u8; 32],
+    resent: Vec<Flow>,
+) -> Result<Gates<Replays<Placed>>, NoMemory>
+    ensures mode { IfOk result (λ maker. maker.layers.layers.mode ≡ mode) }
+    ensures mask_key { IfOk result (λ maker. maker.layers.layers.mask_key ≡ mask_key) }
+    ensures proxy { IfOk result (λ maker. maker.layers.proxy ≡ proxy_in mode) }
+    ensures resent { IfOk result (λ maker. maker.layers.flows ≡ resent) }
+{
+    let proxy = proxy_of(&mode)?;
+    let placed = Placed::new(alloc, mode, mask_key);
+    Ok(Gates::new(alloc, Replays::new(alloc, placed, proxy, resent)))
+}
+
+/// Serves with this maker of conversations, where it listens.
+pub(crate) fn serve_by<A: Answerer + Drop, N: Net, F: Files, S: Sink>(
+    alloc: Global,
+    maker: Gates<Replays<Placed>>,
+    answerer: A,
+    saving: Option<Saving>,
+    net: &mut N,
+    files: &mut F,
+    out: &mut S,
+    budget: u64,
+) -> Ending
+    requires losses { KeepsLosses A.answers A.fails }
+    ensures run { (due : Due) → IsDueOf (due_with (mode_due maker.layers.layers.mode (key_of maker.layers.layers.mask_key)) maker.layers.proxy maker.layers.flows.items) due → N.trace net.old ≡ Some [] →
+        Told (Ran A.answers A.drops A.names A.fails due (record { own = A.state answerer; files = files_meaning F.contents F.calls F.misses F.faults F.losses files.old }) (saves_to_of saving) budget result.status result.printing (files_meaning F.contents F.calls F.misses F.faults F.losses files.new) (most_replayed maker.layers.flows.items) (S.written out.old) (S.written out.new)) (N.trace net.new) }
+    ensures failed { result.printing ≡ Printing.Failed → Rose (S.faults out.old) (S.faults out.new) ⊎ Rose (F.losses files.old) (F.losses files.new) }
+    ensures later { S.faults out.old ≤ S.faults out.new }
+    ensures files { LeavesBehind A.answers A.drops A.fails (saves_to_of saving) (record { own = A.state answerer; files = files_meaning F.contents F.calls F.misses F.faults F.losses files.old }) (files_meaning F.contents F.calls F.misses F.faults F.losses files.new) }
+    ensures listening { N.listening net.new ≡ N.listening net.old }
+    ensures fault { result.status ≡ Status.NetFault → Rose (N.faults net.old) (N.faults net.new) }
+    ensures output { result.status ≢ Status.OutputFailed }
+{
+    let mut serving = Serving::<Conv, A, Gates<Replays<Placed>>>::new(
+        alloc, answerer, maker, saving,
+    );
     let status = serve_all(alloc, &mut serving, net, files, out, budget);
     let printing = serving.printing;
     Ending { status, printing }

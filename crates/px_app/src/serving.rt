@@ -17,14 +17,15 @@ ghost use Rattle.px_core.specs.Router.{RouterStands};
 ghost use Rattle.px_core.specs.Run.{IsDueOf, Tells, done_of};
 ghost use Rattle.px_app.specs.Operating.{OperatorsStand};
 ghost use Rattle.px_app.specs.Over.{Goes, KeepsLosses, LeavesBehind};
-ghost use Rattle.px_app.specs.Run.{BreaksOff, IsRun, Told, ToldNext};
+ghost use Rattle.px_app.specs.Run.{Told, ToldNext};
 ghost use Rattle.px_app.specs.Saved.{SavesTo, saves_to_of};
-ghost use Rattle.px_app.specs.Serving.{IsSound, Rests, TurnBroke, Turned};
+ghost use Rattle.px_app.specs.Serving.{Between, BrokeOff, IsSound, Ran, RestsNow, TurnBroke, Turned};
 ghost use Rattle.px_app.specs.Statuses.{is_end, heard_count};
 
 use crate::finished::{Before, Finished};
 use crate::operators::Operators;
 use crate::printing::Printing;
+use crate::replaying::Replaying;
 use crate::saving::Saving;
 use crate::status::Status;
 use px_core::{Answerer, Maker, Owes, Router};
@@ -35,7 +36,8 @@ use px_text::NoMemory;
 use std::alloc::Global;
 use std::marker::Brand;
 
-/// The conversations of a run, its operators, who makes conversations, where flows are saved, and how printing and saving went.
+/// The conversations of a run, its operators, who makes conversations, where flows are saved, how printing and saving went, and how far it came with the requests that it
+/// sends again.
 #[derive(Drop)]
 pub(crate) struct Serving<C, A, M> {
     pub(crate) router: Router<C, A>,
@@ -43,6 +45,7 @@ pub(crate) struct Serving<C, A, M> {
     pub(crate) maker: M,
     pub(crate) saving: Option<Saving>,
     pub(crate) printing: Printing,
+    pub(crate) replaying: Replaying,
 }
 
 impl<C: Owes, A: Answerer, M: Maker<C>> Serving<C, A, M> {
@@ -53,7 +56,7 @@ impl<C: Owes, A: Answerer, M: Maker<C>> Serving<C, A, M> {
         maker: M,
         saving: Option<Saving>,
     ) -> Serving<C, A, M>
-        ensures rests { (due : Due) (files : FilesMeaning) (start : Option (List ℕ)) → Rests C.stands C.awaited C.number C.due A.answers A.drops A.names A.state due (record { own = A.state answerer; files = files }) (saves_to_of result.saving) files result.router result.operators result.printing start start false [] }
+        ensures rests { (due : Due) (files : FilesMeaning) (total : ℕ) (start : Option (List ℕ)) → RestsNow C.stands C.awaited C.number C.due A.answers A.drops A.names A.state due (record { own = A.state answerer; files = files }) (saves_to_of result.saving) files result.router result.operators result.printing result.replaying total start start false 0 [] }
         ensures answerer { A.state result.router.answerer ≡ A.state answerer }
         ensures maker { result.maker ≡ maker }
         ensures saving { result.saving ≡ saving }
@@ -65,6 +68,7 @@ impl<C: Owes, A: Answerer, M: Maker<C>> Serving<C, A, M> {
             maker,
             saving,
             printing: Printing::Whole,
+            replaying: Replaying::new(),
         }
     }
 
@@ -85,9 +89,11 @@ impl<C: Owes, A: Answerer, M: Maker<C>> Serving<C, A, M> {
         ensures sound { OnOk result (IsSound C.stands C.awaited C.number C.due A.answers A.drops A.names A.state (M.due self.new.maker) (files_meaning F.contents F.calls F.misses F.faults F.losses files.new) self.new.router) }
         ensures finished { (trace : Trace) → N.trace net.old ≡ Some trace → K.before ≡ flat_map done_of trace →
             IfOk result (λ given. Tells (λ told. K.before ++ given.1.items ≡ flat_map done_of told) trace (N.trace net.new)) }
-        ensures due { (number : ℕ) (at : PeerAddress) (moves : List Move) → M.due self.new.maker number at moves ≡ M.due self.old.maker number at moves }
+        ensures due { (number : ℕ) (at : Option PeerAddress) (moves : List Move) → M.due self.new.maker number at moves ≡ M.due self.old.maker number at moves }
+        ensures count { M.alone self.new.maker ≡ M.alone self.old.maker }
         ensures printing { self.new.printing ≡ self.old.printing }
         ensures saving { self.new.saving ≡ self.old.saving }
+        ensures replaying { self.new.replaying ≡ self.old.replaying }
         ensures files { (to : Option SavesTo) → LeavesBehind A.answers A.drops A.fails to (state_of A.state F.contents F.calls F.misses F.faults F.losses self.old.router.answerer files.old) (files_meaning F.contents F.calls F.misses F.faults F.losses files.new) }
         ensures given { (to : Option SavesTo) → OnOk result (Goes A.answers A.drops to (state_of A.state F.contents F.calls F.misses F.faults F.losses self.old.router.answerer files.old) (state_of A.state F.contents F.calls F.misses F.faults F.losses self.new.router.answerer files.new)) }
         ensures listening { N.listening net.new ≡ N.listening net.old }
@@ -111,14 +117,15 @@ impl<C: Owes, A: Answerer, M: Maker<C>> Serving<C, A, M> {
     ) -> Result<bool, NoMemory>
         requires losses { KeepsLosses A.answers A.fails }
         requires sound { IsSound C.stands C.awaited C.number C.due A.answers A.drops A.names A.state (M.due self.old.maker) (files_meaning F.contents F.calls F.misses F.faults F.losses files.old) self.old.router }
-        ensures ok { (due : Due) (first : AnswererState A.State) (start : Option (List ℕ)) (trace : Trace) → IsDueOf (M.due self.old.maker) due → Rests C.stands C.awaited C.number C.due A.answers A.drops A.names A.state due first (saves_to_of self.old.saving) (files_meaning F.contents F.calls F.misses F.faults F.losses files.old) self.old.router self.old.operators self.old.printing start (S.written out.old) false trace →
+        ensures ok { (due : Due) (first : AnswererState A.State) (start : Option (List ℕ)) (trace : Trace) → IsDueOf (M.due self.old.maker) due → Between C.stands C.awaited C.number C.due A.answers A.drops A.names A.state due first (saves_to_of self.old.saving) (files_meaning F.contents F.calls F.misses F.faults F.losses files.old) self.old.router self.old.operators self.old.printing self.old.replaying (M.alone self.old.maker) start (S.written out.old) trace →
             N.trace net.old ≡ Some (trace ++ WasHeard moment heard ∷ []) →
-            IfOk result (λ over. ToldNext (Rests C.stands C.awaited C.number C.due A.answers A.drops A.names A.state due first (saves_to_of self.old.saving) (files_meaning F.contents F.calls F.misses F.faults F.losses files.new) self.new.router self.new.operators self.new.printing start (S.written out.new) over) trace (N.trace net.new)) }
-        ensures err { (due : Due) (first : AnswererState A.State) (start : Option (List ℕ)) (trace : Trace) → IsDueOf (M.due self.old.maker) due → Rests C.stands C.awaited C.number C.due A.answers A.drops A.names A.state due first (saves_to_of self.old.saving) (files_meaning F.contents F.calls F.misses F.faults F.losses files.old) self.old.router self.old.operators self.old.printing start (S.written out.old) false trace →
+            IfOk result (λ over. ToldNext (RestsNow C.stands C.awaited C.number C.due A.answers A.drops A.names A.state due first (saves_to_of self.old.saving) (files_meaning F.contents F.calls F.misses F.faults F.losses files.new) self.new.router self.new.operators self.new.printing self.new.replaying (M.alone self.old.maker) start (S.written out.new) over moment) trace (N.trace net.new)) }
+        ensures err { (due : Due) (first : AnswererState A.State) (start : Option (List ℕ)) (trace : Trace) → IsDueOf (M.due self.old.maker) due → Between C.stands C.awaited C.number C.due A.answers A.drops A.names A.state due first (saves_to_of self.old.saving) (files_meaning F.contents F.calls F.misses F.faults F.losses files.old) self.old.router self.old.operators self.old.printing self.old.replaying (M.alone self.old.maker) start (S.written out.old) trace →
             N.trace net.old ≡ Some (trace ++ WasHeard moment heard ∷ []) →
-            OnErr result (Told (BreaksOff A.answers A.drops A.names A.fails due first (saves_to_of self.old.saving) (files_meaning F.contents F.calls F.misses F.faults F.losses files.new) start (S.written out.new)) (N.trace net.new)) }
+            OnErr result (Told (BrokeOff A.answers A.drops A.names A.fails due first (saves_to_of self.old.saving) (files_meaning F.contents F.calls F.misses F.faults F.losses files.new) (M.alone self.old.maker) start (S.written out.new)) (N.trace net.new)) }
         ensures sound { OnOk result (IsSound C.stands C.awaited C.number C.due A.answers A.drops A.names A.state (M.due self.new.maker) (files_meaning F.contents F.calls F.misses F.faults F.losses files.new) self.new.router) }
-        ensures due { (number : ℕ) (at : PeerAddress) (moves : List Move) → M.due self.new.maker number at moves ≡ M.due self.old.maker number at moves }
+        ensures due { (number : ℕ) (at : Option PeerAddress) (moves : List Move) → M.due self.new.maker number at moves ≡ M.due self.old.maker number at moves }
+        ensures count { M.alone self.new.maker ≡ M.alone self.old.maker }
         ensures saving { self.new.saving ≡ self.old.saving }
         ensures failed { (first lost : ℕ) → first ≤ S.faults out.old → lost ≤ F.losses files.old → (self.old.printing ≡ Printing.Failed → Rose first (S.faults out.old) ⊎ Rose lost (F.losses files.old)) →
             self.new.printing ≡ Printing.Failed → Rose first (S.faults out.new) ⊎ Rose lost (F.losses files.new) }
@@ -130,13 +137,14 @@ impl<C: Owes, A: Answerer, M: Maker<C>> Serving<C, A, M> {
         ensures faults { N.faults net.new ≡ N.faults net.old }
     {
         let (over, flows) = self.finish::<Brand, N, F>(alloc, net, files, moment, heard)?;
+        self.replaying = self.replaying.behind(&flows);
         self.printing = self
             .printing
             .put_flows(alloc, self.saving.as_ref(), files, out, flows)?;
         Ok(over)
     }
 
-    /// Hears one thing, works it off, and prints and saves the flows that it finished; or ends the run.
+    /// Hears one thing, works it off, and prints and saves the flows that it finished; then the requests begin that wait to be sent again; or the run ends.
     fn hear<N: Net, F: Files, S: Sink>(
         &mut self,
         alloc: Global,
@@ -146,12 +154,13 @@ impl<C: Owes, A: Answerer, M: Maker<C>> Serving<C, A, M> {
     ) -> Result<(), Status>
         requires losses { KeepsLosses A.answers A.fails }
         requires sound { IsSound C.stands C.awaited C.number C.due A.answers A.drops A.names A.state (M.due self.old.maker) (files_meaning F.contents F.calls F.misses F.faults F.losses files.old) self.old.router }
-        ensures ok { (due : Due) (first : AnswererState A.State) (start : Option (List ℕ)) (trace : Trace) → IsDueOf (M.due self.old.maker) due → Rests C.stands C.awaited C.number C.due A.answers A.drops A.names A.state due first (saves_to_of self.old.saving) (files_meaning F.contents F.calls F.misses F.faults F.losses files.old) self.old.router self.old.operators self.old.printing start (S.written out.old) false trace → N.trace net.old ≡ Some trace →
-            OnOk result (ToldNext (Rests C.stands C.awaited C.number C.due A.answers A.drops A.names A.state due first (saves_to_of self.old.saving) (files_meaning F.contents F.calls F.misses F.faults F.losses files.new) self.new.router self.new.operators self.new.printing start (S.written out.new) false) trace (N.trace net.new)) }
-        ensures err { (due : Due) (first : AnswererState A.State) (start : Option (List ℕ)) (trace : Trace) (budget : ℕ) → IsDueOf (M.due self.old.maker) due → Rests C.stands C.awaited C.number C.due A.answers A.drops A.names A.state due first (saves_to_of self.old.saving) (files_meaning F.contents F.calls F.misses F.faults F.losses files.old) self.old.router self.old.operators self.old.printing start (S.written out.old) false trace → N.trace net.old ≡ Some trace →
-            heard_count trace < budget → IfErr result (λ status. Told (IsRun A.answers A.drops A.names A.fails due first (saves_to_of self.old.saving) budget status self.new.printing (files_meaning F.contents F.calls F.misses F.faults F.losses files.new) start (S.written out.new)) (N.trace net.new)) }
+        ensures ok { (due : Due) (first : AnswererState A.State) (start : Option (List ℕ)) (trace : Trace) → IsDueOf (M.due self.old.maker) due → Between C.stands C.awaited C.number C.due A.answers A.drops A.names A.state due first (saves_to_of self.old.saving) (files_meaning F.contents F.calls F.misses F.faults F.losses files.old) self.old.router self.old.operators self.old.printing self.old.replaying (M.alone self.old.maker) start (S.written out.old) trace → N.trace net.old ≡ Some trace →
+            OnOk result (ToldNext (Between C.stands C.awaited C.number C.due A.answers A.drops A.names A.state due first (saves_to_of self.old.saving) (files_meaning F.contents F.calls F.misses F.faults F.losses files.new) self.new.router self.new.operators self.new.printing self.new.replaying (M.alone self.old.maker) start (S.written out.new)) trace (N.trace net.new)) }
+        ensures err { (due : Due) (first : AnswererState A.State) (start : Option (List ℕ)) (trace : Trace) (budget : ℕ) → IsDueOf (M.due self.old.maker) due → Between C.stands C.awaited C.number C.due A.answers A.drops A.names A.state due first (saves_to_of self.old.saving) (files_meaning F.contents F.calls F.misses F.faults F.losses files.old) self.old.router self.old.operators self.old.printing self.old.replaying (M.alone self.old.maker) start (S.written out.old) trace → N.trace net.old ≡ Some trace →
+            heard_count trace < budget → IfErr result (λ status. Told (Ran A.answers A.drops A.names A.fails due first (saves_to_of self.old.saving) budget status self.new.printing (files_meaning F.contents F.calls F.misses F.faults F.losses files.new) (M.alone self.old.maker) start (S.written out.new)) (N.trace net.new)) }
         ensures sound { OnOk result (IsSound C.stands C.awaited C.number C.due A.answers A.drops A.names A.state (M.due self.new.maker) (files_meaning F.contents F.calls F.misses F.faults F.losses files.new) self.new.router) }
-        ensures due { (number : ℕ) (at : PeerAddress) (moves : List Move) → M.due self.new.maker number at moves ≡ M.due self.old.maker number at moves }
+        ensures due { (number : ℕ) (at : Option PeerAddress) (moves : List Move) → M.due self.new.maker number at moves ≡ M.due self.old.maker number at moves }
+        ensures count { M.alone self.new.maker ≡ M.alone self.old.maker }
         ensures saving { self.new.saving ≡ self.old.saving }
         ensures failed { (first lost : ℕ) → first ≤ S.faults out.old → lost ≤ F.losses files.old → (self.old.printing ≡ Printing.Failed → Rose first (S.faults out.old) ⊎ Rose lost (F.losses files.old)) →
             self.new.printing ≡ Printing.Failed → Rose first (S.faults out.new) ⊎ Rose lost (F.losses files.new) }
@@ -166,7 +175,11 @@ impl<C: Owes, A: Answerer, M: Maker<C>> Serving<C, A, M> {
     {
         let (moment, heard) = net.next()?;
         let over = self.take(alloc, net, files, out, moment, heard)?;
-        if over { Err(Status::Ended) } else { Ok(()) }
+        if over {
+            return Err(Status::Ended);
+        }
+        self.begin_replays(alloc, net, files, out, moment)?;
+        Ok(())
     }
 }
 
@@ -183,7 +196,7 @@ pub(crate) fn is_end(heard: &Heard) -> bool
     }
 }
 
-/// Hears and works off one thing after the other, until the net ends or so many were heard.
+/// The requests begin that wait to be sent again; then it hears and works off one thing after the other, until the net ends or so many were heard.
 pub(crate) fn serve_all<C: Owes, A: Answerer, M: Maker<C>, N: Net, F: Files, S: Sink>(
     alloc: Global,
     serving: &mut Serving<C, A, M>,
@@ -194,8 +207,8 @@ pub(crate) fn serve_all<C: Owes, A: Answerer, M: Maker<C>, N: Net, F: Files, S: 
 ) -> Status
     requires losses { KeepsLosses A.answers A.fails }
     requires sound { IsSound C.stands C.awaited C.number C.due A.answers A.drops A.names A.state (M.due serving.old.maker) (files_meaning F.contents F.calls F.misses F.faults F.losses files.old) serving.old.router }
-    ensures run { (due : Due) (first : AnswererState A.State) (start : Option (List ℕ)) → IsDueOf (M.due serving.old.maker) due → Rests C.stands C.awaited C.number C.due A.answers A.drops A.names A.state due first (saves_to_of serving.old.saving) (files_meaning F.contents F.calls F.misses F.faults F.losses files.old) serving.old.router serving.old.operators serving.old.printing start (S.written out.old) false [] → N.trace net.old ≡ Some [] →
-        Told (IsRun A.answers A.drops A.names A.fails due first (saves_to_of serving.old.saving) budget result serving.new.printing (files_meaning F.contents F.calls F.misses F.faults F.losses files.new) start (S.written out.new)) (N.trace net.new) }
+    ensures run { (due : Due) (first : AnswererState A.State) (start : Option (List ℕ)) → IsDueOf (M.due serving.old.maker) due → RestsNow C.stands C.awaited C.number C.due A.answers A.drops A.names A.state due first (saves_to_of serving.old.saving) (files_meaning F.contents F.calls F.misses F.faults F.losses files.old) serving.old.router serving.old.operators serving.old.printing serving.old.replaying (M.alone serving.old.maker) start (S.written out.old) false 0 [] → N.trace net.old ≡ Some [] →
+        Told (Ran A.answers A.drops A.names A.fails due first (saves_to_of serving.old.saving) budget result serving.new.printing (files_meaning F.contents F.calls F.misses F.faults F.losses files.new) (M.alone serving.old.maker) start (S.written out.new)) (N.trace net.new) }
     ensures failed { (first lost : ℕ) → first ≤ S.faults out.old → lost ≤ F.losses files.old → (serving.old.printing ≡ Printing.Failed → Rose first (S.faults out.old) ⊎ Rose lost (F.losses files.old)) →
         serving.new.printing ≡ Printing.Failed → Rose first (S.faults out.new) ⊎ Rose lost (F.losses files.new) }
     ensures later { S.faults out.old ≤ S.faults out.new }
@@ -204,6 +217,9 @@ pub(crate) fn serve_all<C: Owes, A: Answerer, M: Maker<C>, N: Net, F: Files, S: 
     ensures fault { result ≡ Status.NetFault → Rose (N.faults net.old) (N.faults net.new) }
     ensures output { result ≢ Status.OutputFailed }
 {
+    if let Err(NoMemory) = serving.begin_replays(alloc, net, files, out, 0) {
+        return Status::NoMemory;
+    }
     'turns: for turn in 0..budget {
         if let Err(status) = serving.hear(alloc, net, files, out) {
             return status;

@@ -44,6 +44,7 @@ pub(crate) fn setup_of(alloc: Global, options: Options, flows: Vec<Flow>) -> Res
         anticache,
         anticomp,
         block_list,
+        client_replay,
         control,
         events,
         intercept,
@@ -64,6 +65,7 @@ pub(crate) fn setup_of(alloc: Global, options: Options, flows: Vec<Flow>) -> Res
         server_replay_reuse,
         server_replay_use_headers,
     } = options;
+    drop(client_replay);
     let how = KeyOptions {
         ignore_content: server_replay_ignore_content,
         ignore_host: server_replay_ignore_host,

@@ -50,9 +50,11 @@ impl<C: Owes, A: Answerer, M: Maker<C>> Serving<C, A, M> {
         ensures sound { OnOk result (IsSound C.stands C.awaited C.number C.due A.answers A.drops A.names A.state (M.due self.new.maker) (files_meaning F.contents F.calls F.misses F.faults F.losses files.new) self.new.router) }
         ensures taken { (trace : Trace) → N.trace net.old ≡ Some trace → K.before ++ finished.old.flows.items ≡ flat_map done_of trace →
             OnOk result (Tells (λ told. K.before ++ finished.new.flows.items ≡ flat_map done_of told) trace (N.trace net.new)) }
-        ensures due { (number : ℕ) (at : PeerAddress) (moves : List Move) → M.due self.new.maker number at moves ≡ M.due self.old.maker number at moves }
+        ensures due { (number : ℕ) (at : Option PeerAddress) (moves : List Move) → M.due self.new.maker number at moves ≡ M.due self.old.maker number at moves }
+        ensures count { M.alone self.new.maker ≡ M.alone self.old.maker }
         ensures printing { self.new.printing ≡ self.old.printing }
         ensures saving { self.new.saving ≡ self.old.saving }
+        ensures replaying { self.new.replaying ≡ self.old.replaying }
         ensures files { (to : Option SavesTo) → LeavesBehind A.answers A.drops A.fails to (state_of A.state F.contents F.calls F.misses F.faults F.losses self.old.router.answerer files.old) (files_meaning F.contents F.calls F.misses F.faults F.losses files.new) }
         ensures given { (to : Option SavesTo) → OnOk result (Goes A.answers A.drops to (state_of A.state F.contents F.calls F.misses F.faults F.losses self.old.router.answerer files.old) (state_of A.state F.contents F.calls F.misses F.faults F.losses self.new.router.answerer files.new)) }
         ensures listening { N.listening net.new ≡ N.listening net.old }
@@ -134,9 +136,11 @@ impl<C: Owes, A: Answerer, M: Maker<C>> Serving<C, A, M> {
         ensures sound { OnOk result (IsSound C.stands C.awaited C.number C.due A.answers A.drops A.names A.state (M.due self.new.maker) (files_meaning F.contents F.calls F.misses F.faults F.losses files.new) self.new.router) }
         ensures taken { (trace : Trace) → N.trace net.old ≡ Some trace → K.before ++ finished.old.flows.items ≡ flat_map done_of trace →
             OnOk result (Tells (λ told. K.before ++ finished.new.flows.items ≡ flat_map done_of told) trace (N.trace net.new)) }
-        ensures due { (number : ℕ) (at : PeerAddress) (moves : List Move) → M.due self.new.maker number at moves ≡ M.due self.old.maker number at moves }
+        ensures due { (number : ℕ) (at : Option PeerAddress) (moves : List Move) → M.due self.new.maker number at moves ≡ M.due self.old.maker number at moves }
+        ensures count { M.alone self.new.maker ≡ M.alone self.old.maker }
         ensures printing { self.new.printing ≡ self.old.printing }
         ensures saving { self.new.saving ≡ self.old.saving }
+        ensures replaying { self.new.replaying ≡ self.old.replaying }
         ensures files { (to : Option SavesTo) → LeavesBehind A.answers A.drops A.fails to (state_of A.state F.contents F.calls F.misses F.faults F.losses self.old.router.answerer files.old) (files_meaning F.contents F.calls F.misses F.faults F.losses files.new) }
         ensures given { (to : Option SavesTo) → OnOk result (Goes A.answers A.drops to (state_of A.state F.contents F.calls F.misses F.faults F.losses self.old.router.answerer files.old) (state_of A.state F.contents F.calls F.misses F.faults F.losses self.new.router.answerer files.new)) }
         ensures listening { N.listening net.new ≡ N.listening net.old }
@@ -178,9 +182,11 @@ impl<C: Owes, A: Answerer, M: Maker<C>> Serving<C, A, M> {
         ensures sound { OnOk result (IsSound C.stands C.awaited C.number C.due A.answers A.drops A.names A.state (M.due self.new.maker) (files_meaning F.contents F.calls F.misses F.faults F.losses files.new) self.new.router) }
         ensures taken { (trace : Trace) → N.trace net.old ≡ Some trace → K.before ++ finished.old.flows.items ≡ flat_map done_of trace →
             OnOk result (Tells (λ told. K.before ++ finished.new.flows.items ≡ flat_map done_of told) trace (N.trace net.new)) }
-        ensures due { (number : ℕ) (at : PeerAddress) (moves : List Move) → M.due self.new.maker number at moves ≡ M.due self.old.maker number at moves }
+        ensures due { (number : ℕ) (at : Option PeerAddress) (moves : List Move) → M.due self.new.maker number at moves ≡ M.due self.old.maker number at moves }
+        ensures count { M.alone self.new.maker ≡ M.alone self.old.maker }
         ensures printing { self.new.printing ≡ self.old.printing }
         ensures saving { self.new.saving ≡ self.old.saving }
+        ensures replaying { self.new.replaying ≡ self.old.replaying }
         ensures files { (to : Option SavesTo) → LeavesBehind A.answers A.drops A.fails to (state_of A.state F.contents F.calls F.misses F.faults F.losses self.old.router.answerer files.old) (files_meaning F.contents F.calls F.misses F.faults F.losses files.new) }
         ensures given { (to : Option SavesTo) → OnOk result (Goes A.answers A.drops to (state_of A.state F.contents F.calls F.misses F.faults F.losses self.old.router.answerer files.old) (state_of A.state F.contents F.calls F.misses F.faults F.losses self.new.router.answerer files.new)) }
         ensures listening { N.listening net.new ≡ N.listening net.old }
@@ -219,9 +225,11 @@ impl<C: Owes, A: Answerer, M: Maker<C>> Serving<C, A, M> {
         ensures sound { OnOk result (IsSound C.stands C.awaited C.number C.due A.answers A.drops A.names A.state (M.due self.new.maker) (files_meaning F.contents F.calls F.misses F.faults F.losses files.now) self.new.router) }
         ensures taken { (trace : Trace) → N.trace net.old ≡ Some trace → K.before ++ finished.now.flows.items ≡ flat_map done_of trace →
             OnOk result (Tells (λ told. K.before ++ finished.now.flows.items ≡ flat_map done_of told) trace (N.trace net.new)) }
-        ensures due { (number : ℕ) (at : PeerAddress) (moves : List Move) → M.due self.new.maker number at moves ≡ M.due self.old.maker number at moves }
+        ensures due { (number : ℕ) (at : Option PeerAddress) (moves : List Move) → M.due self.new.maker number at moves ≡ M.due self.old.maker number at moves }
+        ensures count { M.alone self.new.maker ≡ M.alone self.old.maker }
         ensures printing { self.new.printing ≡ self.old.printing }
         ensures saving { self.new.saving ≡ self.old.saving }
+        ensures replaying { self.new.replaying ≡ self.old.replaying }
         ensures files { (to : Option SavesTo) → LeavesBehind A.answers A.drops A.fails to (state_of A.state F.contents F.calls F.misses F.faults F.losses self.old.router.answerer files.now) (files_meaning F.contents F.calls F.misses F.faults F.losses files.now) }
         ensures given { (to : Option SavesTo) → OnOk result (Goes A.answers A.drops to (state_of A.state F.contents F.calls F.misses F.faults F.losses self.old.router.answerer files.now) (state_of A.state F.contents F.calls F.misses F.faults F.losses self.new.router.answerer files.now)) }
         ensures listening { N.listening net.new ≡ N.listening net.old }

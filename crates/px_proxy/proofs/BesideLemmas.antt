@@ -24,7 +24,7 @@ use Rattle.px_core.specs.Due.{Due}
 use Rattle.px_view.specs.Desk.{Stand, fresh, stands}
 use Rattle.px_app.specs.Operators.{says_at, leaves_at, operator_stand, stand_by_step, stand_from, word_of}
 use Rattle.px_app.specs.Servers.{CountsFrom, CountsServers, dialled_in, server_of}
-use Rattle.px_app.specs.Worked.{Worked, WorkedPart, not_begun, one_worked, all_worked, breaks_in}
+use Rattle.px_app.specs.Worked.{Worked, WorkedPart, not_begun, one_worked, one_begun, all_worked, breaks_in, breaks_begun}
 use Rattle.px_app.proofs.TurnLemmas.{Adds, Among, AmongAny, IsToOperator, breaks_adds, no_steps, operator_of, said_more, same_step, turns_adds}
 use Rattle.px_wire.specs.Taken.{SendsToOpened, is_opened, opens}
 use Rattle.px_proxy.specs.TakenDue.{accepts_operator, is_operators}
@@ -88,6 +88,7 @@ stand_still conv (steps.Heard moment (heard.Closed number Client)) other = eithe
 stand_still conv (steps.Heard moment (heard.Closed number (Server server))) other = refl
 stand_still conv (steps.Heard moment (heard.Dialled number server ok)) other = refl
 stand_still conv (steps.Heard moment heard.End) other = refl
+stand_still conv (steps.Begun number) other = refl
 stand_still conv (steps.Asked number ask) other = refl
 stand_still conv (steps.Answered number ask reply) other = refl
 stand_still conv (steps.Said number what) other = refl
@@ -115,7 +116,7 @@ stand_operators conv trace kept is = by (is_operators conv trace) refl
     by true so = so
     by false so = let e : None ≡ Some kept = sym (stand_none conv trace so) ∙ is in absurd (cc)
 
-says_operators : (trace : Trace) (number conv : ℕ) (bytes : List ℕ) (stand : Stand) (peer : Option Address) → operator_stand number trace ≡ stand → operator_of (says_at number stand peer bytes) ≡ Some conv →
+says_operators : (trace : Trace) (number conv : ℕ) (bytes : List ℕ) (stand : Stand) (peer : Option (Option Address)) → operator_stand number trace ≡ stand → operator_of (says_at number stand peer bytes) ≡ Some conv →
     is_operators conv trace ≡ true
 says_operators trace number conv bytes None peer was is = let e : None ≡ Some conv = is in absurd (cc)
 says_operators trace number conv bytes (Some kept) (Some at) was is = let e : None ≡ Some conv = is in absurd (cc)
@@ -123,7 +124,7 @@ says_operators trace number conv bytes (Some kept) None was is =
     let same : number ≡ conv = (let e : Some number ≡ Some conv = is in cc) in
     let P : ℕ → Type 0 = λ n. is_operators n trace ≡ true in subst P same (stand_operators number trace kept was)
 
-leaves_operators : (trace : Trace) (number conv : ℕ) (stand : Stand) (peer : Option Address) → operator_stand number trace ≡ stand → operator_of (leaves_at number stand peer) ≡ Some conv →
+leaves_operators : (trace : Trace) (number conv : ℕ) (stand : Stand) (peer : Option (Option Address)) → operator_stand number trace ≡ stand → operator_of (leaves_at number stand peer) ≡ Some conv →
     is_operators conv trace ≡ true
 leaves_operators trace number conv None peer was is = let e : None ≡ Some conv = is in absurd (cc)
 leaves_operators trace number conv (Some kept) (Some at) was is = let e : None ≡ Some conv = is in absurd (cc)
@@ -187,6 +188,14 @@ beside_word told trace (heard.Closed number (Server server)) b = refl
 beside_word told trace (heard.Dialled number server ok) b = refl
 beside_word told trace heard.End b = refl
 
+-- the same steps behind both
+same_behind : (told next_told trace next : Trace) (more : List Step) → Beside [] told trace → next_told ≡ told ++ more → next ≡ trace ++ more → Beside [] next_told next
+same_behind told next_told trace next more b is also =
+    let all = beside_joined [] told trace more more b (all_beside told more) in
+    let P : Trace → Type 0 = λ t. Beside [] t (trace ++ more) in
+    let Q : Trace → Type 0 = λ t. Beside [] next_told t in
+    subst Q (sym also) (subst P (sym is) all)
+
 -- ---- a run
 
 module _ {S : Type 0} (answers : Answering S) (drops : List ℕ → S → S → Type 0) (names : S → List (List ℕ)) (due : Due) (first : AnswererState S) where
@@ -207,6 +216,9 @@ module _ {S : Type 0} (answers : Answering S) (drops : List ℕ → S → S → 
   worked_beside told trace course over (one_worked before now behind next from turned saved moment what more is_over old new worked turns is same is_saved) =
       adds_beside before now behind from moment what more next turned (worked_beside before behind from false worked)
       (turns_adds answers drops names due behind from moment what more next turned is_over turns) is
+  worked_beside told trace course over (one_begun before now behind next from saved conv more old new worked own joined also same is_saved) =
+      same_behind before now behind next (steps.Begun conv ∷ more) (worked_beside before behind from false worked) (joined ∙ append_assoc before (steps.Begun conv ∷ []) more)
+      (also ∙ append_assoc behind (steps.Begun conv ∷ []) more)
 
   -- also where it broke off
   pub part_beside : (told trace : Trace) (course : Course S) → WorkedPart answers drops names due first told trace course → Beside [] told trace
@@ -214,6 +226,7 @@ module _ {S : Type 0} (answers : Answering S) (drops : List ℕ → S → S → 
   part_beside told trace course (breaks_in before now behind next from broken moment what more worked breaks is) =
       adds_beside before now behind from moment what more next broken (worked_beside before behind from false worked)
       (breaks_adds answers drops names due behind from moment what more next broken breaks) is
+  part_beside told trace course (breaks_begun before now behind next from conv more worked own joined also) = same_behind before now behind next more (worked_beside before behind from false worked) joined also
 
 -- ---- fronts
 
@@ -324,6 +337,7 @@ accepts_opens conv (steps.Heard moment (heard.Piece number side bytes)) never = 
 accepts_opens conv (steps.Heard moment (heard.Closed number side)) never = refl
 accepts_opens conv (steps.Heard moment (heard.Dialled number server ok)) never = refl
 accepts_opens conv (steps.Heard moment heard.End) never = refl
+accepts_opens conv (steps.Begun number) never = refl
 accepts_opens conv (steps.Asked number ask) never = refl
 accepts_opens conv (steps.Answered number ask reply) never = refl
 accepts_opens conv (steps.Said number what) never = refl

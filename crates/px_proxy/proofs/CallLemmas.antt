@@ -1,5 +1,5 @@
--- The calls of a conversation in a trace: no more of them connect a server than dials were said, and there is none before the
--- client was accepted.
+-- The calls of a conversation in a trace: no more of them connect a server than dials were said, and it has no client before one
+-- was accepted.
 use Rattle.std.proofs.Common.{◌≡◌, ◌∙◌, ℕ, ◌+◌, ◌≤◌, Bool, true, false, cond, refl, ap, arith, List, [], ◌∷◌, ◌++◌, ◌==◌, length, Option, Some, None}
 use Rattle.std.specs.Prelude.{is_some, nat_lt}
 use Rattle.std.specs.List.{flat_map}
@@ -23,7 +23,7 @@ use Rattle.px_event.specs.Layer.{Move, Took, Replied}
 use Rattle.px_event.specs.Trace.{Trace, said_in}
 use Rattle.px_core.specs.declared.news.News.{News}
 use Rattle.px_core.specs.declared.news.News.TheVariants as news
-use Rattle.px_core.specs.Calls.{Calls, no_calls, number_end, moved, addressed, is_connected, is_dialling, dial_reply, dial_ends, takes, hears_by, hears, dials, calls_on, calls_from, calls}
+use Rattle.px_core.specs.Calls.{Calls, begins, no_calls, number_end, moved, addressed, is_connected, is_dialling, dial_reply, dial_ends, takes, hears_by, hears, dials, calls_on, calls_from, calls}
 use Rattle.px_app.specs.Servers.{server_of, dialled_in}
 use Rattle.px_chain.specs.Silent.{connects, connections}
 use Rattle.px_wire.specs.Taken.{opens, is_opened}
@@ -57,7 +57,7 @@ dial_reply_connects : (ok : Bool) → connects (dial_reply ok) ≤ 1
 dial_reply_connects true = omega arith
 dial_reply_connects false = omega arith
 
-begun_within : (moment n : ℕ) (c : Calls) (peer : Address) (begun : Bool) → is_some c.peer ≡ begun → Within c n → Within (takes moment c (news.Begun peer)) n
+begun_within : (moment n : ℕ) (c : Calls) (peer : Option Address) (begun : Bool) → is_some c.peer ≡ begun → Within c n → Within (begins moment peer c) n
 begun_within moment n c peer true is within = rw is within
 begun_within moment n c peer false is within = let e = took_joined c.moves moment events.Begun in rw is (omega arith)
 
@@ -80,7 +80,7 @@ dialled_within moment n c server ok true is within =
     rw is (omega arith)
 
 takes_within : (moment n : ℕ) (c : Calls) (what : News) → Within c n → Within (takes moment c what) n
-takes_within moment n c (news.Begun peer) within = begun_within moment n c peer (is_some c.peer) refl within
+takes_within moment n c (news.Begun peer) within = begun_within moment n c (Some peer) (is_some c.peer) refl within
 takes_within moment n c (news.Event side event) within = event_within moment n c side event (is_some c.peer) (is_connected side c.connected) refl refl within
 takes_within moment n c (news.Dialled server ok) within = dialled_within moment n c server ok (is_dialling server c.dial) refl within
 
@@ -91,6 +91,10 @@ hears_within conv moment n c (Some (number, what)) within = by (number == conv)
     by : (mine : Bool) → Within (cond mine (takes moment c what) c) n
     by true = takes_within moment n c what within
     by false = within
+
+began_within : (n : ℕ) (c : Calls) (mine : Bool) → Within c n → Within (cond mine (begins c.moment None c) c) n
+began_within n c true within = begun_within c.moment n c None (is_some c.peer) refl within
+began_within n c false within = within
 
 answered_within : (moment n : ℕ) (c : Calls) (reply : Reply) (mine : Bool) → connects reply ≡ 0 → Within c n → Within (cond mine (record c { moves = c.moves ++ Replied moment reply ∷ [] }) c) n
 answered_within moment n c reply true none within = let e = connections_joined c.moves moment reply in omega arith
@@ -110,6 +114,7 @@ no_more n m c none within = omega arith
 step_within : (conv n : ℕ) (c : Calls) (step : Step) → ((number : ℕ) (ask : Ask) (reply : Reply) → step ≡ steps.Answered number ask reply → connects reply ≡ 0)
     → Within c n → Within (calls_on conv c step) (n + length (flat_map server_of (said_in conv step)))
 step_within conv n c (steps.Heard moment what) none within = no_more n 0 (calls_on conv c (steps.Heard moment what)) refl (hears_within conv moment n c (addressed what) within)
+step_within conv n c (steps.Begun number) none within = no_more n 0 (calls_on conv c (steps.Begun number)) refl (began_within n c (number == conv) within)
 step_within conv n c (steps.Asked number ask) none within = no_more n 0 c refl within
 step_within conv n c (steps.Answered number ask reply) none within =
     no_more n 0 (calls_on conv c (steps.Answered number ask reply)) refl (answered_within c.moment n c reply (number == conv) (none number ask reply refl) within)
@@ -134,25 +139,31 @@ connections_most conv trace none = let within = from_within conv 0 no_calls trac
 
 -- ---- before the client
 
-begun_by : (conv moment : ℕ) (c : Calls) (peer : Address) (number : ℕ) (below : Bool) → (number == conv) ≡ false → c.peer ≡ None
-    → (hears_by conv moment c (cond below (Some (number, news.Begun peer)) None)).peer ≡ None
+-- it has not begun, or it began without a client
+abbrev pub HasNoClient : Option (Option Address) → Type 0
+HasNoClient None = Unit {0}
+HasNoClient (Some None) = Unit {0}
+HasNoClient (Some (Some peer)) = ⊥
+
+begun_by : (conv moment : ℕ) (c : Calls) (peer : Address) (number : ℕ) (below : Bool) → (number == conv) ≡ false → HasNoClient c.peer
+    → HasNoClient (hears_by conv moment c (cond below (Some (number, news.Begun peer)) None)).peer
 begun_by conv moment c peer number true other none = rw other none
 begun_by conv moment c peer number false other none = none
 
-accepted_by : (conv moment : ℕ) (c : Calls) (number : ℕ) (door : Door) (peer : Address) → (number == conv) ≡ false → c.peer ≡ None
-    → (hears conv moment c (heard.Accepted number door peer)).peer ≡ None
+accepted_by : (conv moment : ℕ) (c : Calls) (number : ℕ) (door : Door) (peer : Address) → (number == conv) ≡ false → HasNoClient c.peer
+    → HasNoClient (hears conv moment c (heard.Accepted number door peer)).peer
 accepted_by conv moment c number Proxy peer other none = begun_by conv moment c peer number (nat_lt number number_end) other none
 accepted_by conv moment c number Control peer other none = none
 
-mine_or : (mine : Bool) (a b : Calls) → a.peer ≡ None → b.peer ≡ None → (cond mine a b).peer ≡ None
+mine_or : (mine : Bool) (a b : Calls) → HasNoClient a.peer → HasNoClient b.peer → HasNoClient (cond mine a b).peer
 mine_or true a b one other = one
 mine_or false a b one other = other
 
-event_by : (moment : ℕ) (c : Calls) (side : Side) (event : Event) → c.peer ≡ None → (takes moment c (news.Event side event)).peer ≡ None
+event_by : (moment : ℕ) (c : Calls) (side : Side) (event : Event) → HasNoClient c.peer → HasNoClient (takes moment c (news.Event side event)).peer
 event_by moment c side event none =
     mine_or (is_some c.peer) (cond (is_connected side c.connected) (moved (Took moment event) c) c) c (mine_or (is_connected side c.connected) (moved (Took moment event) c) c none none) none
 
-heard_by : (conv moment : ℕ) (c : Calls) (what : Heard) → opens conv Client (steps.Heard moment what) ≡ false → c.peer ≡ None → (hears conv moment c what).peer ≡ None
+heard_by : (conv moment : ℕ) (c : Calls) (what : Heard) → opens conv Client (steps.Heard moment what) ≡ false → HasNoClient c.peer → HasNoClient (hears conv moment c what).peer
 heard_by conv moment c (heard.Accepted number door peer) other none = accepted_by conv moment c number door peer other none
 heard_by conv moment c (heard.Piece number side bytes) other none = mine_or (number == conv) (takes moment c (news.Event side (events.Piece side bytes))) c (event_by moment c side (events.Piece side bytes) none) none
 heard_by conv moment c (heard.Closed number side) other none = mine_or (number == conv) (takes moment c (news.Event side (events.Closed side))) c (event_by moment c side (events.Closed side) none) none
@@ -160,27 +171,31 @@ heard_by conv moment c (heard.Dialled number server ok) other none =
     mine_or (number == conv) (takes moment c (news.Dialled server ok)) c (mine_or (is_dialling server c.dial) (dial_ends moment server ok c) c none none) none
 heard_by conv moment c heard.End other none = none
 
-dials_by : (what : Said) (c : Calls) → c.peer ≡ None → (dials what c).peer ≡ None
+dials_by : (what : Said) (c : Calls) → HasNoClient c.peer → HasNoClient (dials what c).peer
 dials_by (said.Dial server address) c none = none
 dials_by (said.Send side text) c none = none
 dials_by (said.Close side) c none = none
 
-step_by : (conv : ℕ) (c : Calls) (step : Step) → opens conv Client step ≡ false → c.peer ≡ None → (calls_on conv c step).peer ≡ None
+began_by : (c : Calls) → HasNoClient c.peer → HasNoClient (begins c.moment None c).peer
+began_by c none = mine_or (is_some c.peer) c (record c { peer = Some None; moves = c.moves ++ Took c.moment events.Begun ∷ [] }) none tt
+
+step_by : (conv : ℕ) (c : Calls) (step : Step) → opens conv Client step ≡ false → HasNoClient c.peer → HasNoClient (calls_on conv c step).peer
 step_by conv c (steps.Heard moment what) other none = heard_by conv moment c what other none
+step_by conv c (steps.Begun number) other none = mine_or (number == conv) (begins c.moment None c) c (began_by c none) none
 step_by conv c (steps.Asked number ask) other none = none
 step_by conv c (steps.Answered number ask reply) other none = mine_or (number == conv) (moved (Replied c.moment reply) c) c none none
 step_by conv c (steps.Said number what) other none = mine_or (number == conv) (dials what c) c (dials_by what c none) none
 step_by conv c (steps.Done flow) other none = none
 
-from_by : (conv : ℕ) (c : Calls) (trace : Trace) → is_opened conv Client trace ≡ false → c.peer ≡ None → (calls_from conv c trace).peer ≡ None
+from_by : (conv : ℕ) (c : Calls) (trace : Trace) → is_opened conv Client trace ≡ false → HasNoClient c.peer → HasNoClient (calls_from conv c trace).peer
 from_by conv c [] never none = none
 from_by conv c (step ∷ trace) never none = by (opens conv Client step) refl (λ here rest. from_by conv (calls_on conv c step) trace rest (step_by conv c step here none))
   where
-    by : (b : Bool) → opens conv Client step ≡ b → (opens conv Client step ≡ false → is_opened conv Client trace ≡ false → (calls_from conv (calls_on conv c step) trace).peer ≡ None)
-        → (calls_from conv (calls_on conv c step) trace).peer ≡ None
+    by : (b : Bool) → opens conv Client step ≡ b → (opens conv Client step ≡ false → is_opened conv Client trace ≡ false → HasNoClient (calls_from conv (calls_on conv c step) trace).peer)
+        → HasNoClient (calls_from conv (calls_on conv c step) trace).peer
     by true is onward = let e : true ≡ false = rw is at never in absurd (cc)
     by false is onward = let rest : is_opened conv Client trace ≡ false = rw is at never in onward is rest
 
--- it has not begun before its client was accepted
-pub not_begun : (conv : ℕ) (trace : Trace) → is_opened conv Client trace ≡ false → (calls conv trace).peer ≡ None
-not_begun conv trace never = from_by conv no_calls trace never refl
+-- it has no client before one was accepted
+pub no_client : (conv : ℕ) (trace : Trace) → is_opened conv Client trace ≡ false → HasNoClient (calls conv trace).peer
+no_client conv trace never = from_by conv no_calls trace never tt

@@ -61,6 +61,7 @@ server_opened conv server false (said.Close side) number is = refl
 
 step_opened : (conv server : ℕ) (step : Step) → opens conv (Server server) step ≡ Has server (flat_map server_of (said_in conv step))
 step_opened conv server (steps.Heard moment what) = refl
+step_opened conv server (steps.Begun number) = refl
 step_opened conv server (steps.Asked number ask) = refl
 step_opened conv server (steps.Answered number ask reply) = refl
 step_opened conv server (steps.Said number what) = server_opened conv server (number == conv) what number refl

@@ -10,11 +10,11 @@ use Rattle.px_event.specs.declared.step.Step.{Step}
 use Rattle.px_event.specs.declared.step.Step.TheVariants as steps
 use Rattle.px_core.specs.Answers.{Answering, Failing, FilesMeaning}
 use Rattle.px_options.specs.Options.{Settings}
-use Rattle.px_app.specs.Loaded.{Loaded, loaded, one_absent, one_bad, one_unread, unloaded}
+use Rattle.px_app.specs.Loaded.{Loaded, behind_loaded, flows_in, loaded, one_absent, one_bad, one_unread, unloaded}
 use Rattle.px_app.specs.Opened.{Opened, nothing_read, absent, not_read, unjudged, refused, says}
 use Rattle.px_app.specs.Outside.{Outside}
 use Rattle.px_app.specs.Promises.{HasCause}
-use Rattle.px_app.specs.Serves.{RunsOn, RunsWith, Serves, ServesFile}
+use Rattle.px_app.specs.Serves.{RunsBy, RunsOn, RunsWith, Serves, ServesFile}
 use Rattle.px_app.specs.Statuses.{is_end, ends_by, ends_from, ends_heard}
 use Rattle.px_message.specs.declared.address.Address.{Address}
 use Rattle.px_message.specs.declared.flow.Flow.{Flow}
@@ -53,9 +53,9 @@ causes_by net cause sink status h by = record {
 }
 
 module _ {S : Type 0} (answers : Answering S) (drops : List ℕ → S → S → Type 0) (names : S → List (List ℕ)) (fails : Failing S) (key : List ℕ) (IsChain : Settings → List Flow → S → Type 0) (same net cause out save notes : Type 0) (by : net → cause) where
-  serves_by : (settings : Settings) (chain : S) (read : FilesMeaning) (before after : Outside) (status : ℕ) →
-      Serves answers drops names fails key net out save notes settings chain read before after status → Serves answers drops names fails key cause out save notes settings chain read before after status
-  serves_by settings chain read before after status h = record {
+  serves_by : (settings : Settings) (chain : S) (resent : List Flow) (read : FilesMeaning) (before after : Outside) (status : ℕ) →
+      Serves answers drops names fails key net out save notes settings chain resent read before after status → Serves answers drops names fails key cause out save notes settings chain resent read before after status
+  serves_by settings chain resent read before after status h = record {
     served = h.served;
     files = h.files;
     listening = h.listening;
@@ -63,13 +63,18 @@ module _ {S : Type 0} (answers : Answering S) (drops : List ℕ → S → S → 
     notes = h.notes;
   }
 
-  with_by : (settings : Settings) (what : Loaded) (read : FilesMeaning) (before after : Outside) (status : ℕ) →
-      RunsWith answers drops names fails key IsChain same net out save notes settings what read before after status → RunsWith answers drops names fails key IsChain same cause out save notes settings what read before after status
-  with_by settings (loaded flows) read before after status h = record { so = (h.so.0, h.so.1, serves_by settings h.so.0 read before after status h.so.2) }
-  with_by settings (one_absent path) read before after status h = record { so = h.so }
-  with_by settings (one_unread path) read before after status h = record { so = h.so }
-  with_by settings (one_bad path offset) read before after status h = record { so = h.so }
-  with_by settings unloaded read before after status h = record { so = h.so }
+  by_flows : (settings : Settings) (flows : List Flow) (what : Loaded) (read : FilesMeaning) (before after : Outside) (status : ℕ) →
+      RunsBy answers drops names fails key IsChain same net out save notes settings flows what read before after status → RunsBy answers drops names fails key IsChain same cause out save notes settings flows what read before after status
+  by_flows settings flows (loaded resent) read before after status h = (h.0, h.1, serves_by settings h.0 resent read before after status h.2)
+  by_flows settings flows (one_absent path) read before after status h = h
+  by_flows settings flows (one_unread path) read before after status h = h
+  by_flows settings flows (one_bad path offset) read before after status h = h
+  by_flows settings flows unloaded read before after status h = h
+
+  with_by : (settings : Settings) (recorded resent : Loaded) (read : FilesMeaning) (before after : Outside) (status : ℕ) →
+      RunsWith answers drops names fails key IsChain same net out save notes settings recorded resent read before after status →
+      RunsWith answers drops names fails key IsChain same cause out save notes settings recorded resent read before after status
+  with_by settings recorded resent read before after status h = record { so = by_flows settings (flows_in recorded) (behind_loaded recorded resent) read before after status h.so }
 
   runs_by : (path : List ℕ) (opened : Opened) (read : FilesMeaning) (before after : Outside) (status : ℕ) →
       RunsOn answers drops names fails key IsChain same net out save notes path opened read before after status → RunsOn answers drops names fails key IsChain same cause out save notes path opened read before after status
@@ -78,7 +83,7 @@ module _ {S : Type 0} (answers : Answering S) (drops : List ℕ → S → S → 
   runs_by path not_read read before after status h = h
   runs_by path (unjudged bytes) read before after status h = h
   runs_by path (refused bytes why) read before after status h = h
-  runs_by path (says bytes settings reads what) read before after status h = (h.0, h.1, with_by settings what read before after status h.2)
+  runs_by path (says bytes settings reads recorded resent) read before after status h = (h.0, h.1, with_by settings recorded resent read before after status h.2)
 
   -- the same of a run
   pub file_by : (path : List ℕ) (opened : Opened) (before after : Outside) (status : ℕ) →
@@ -98,6 +103,7 @@ not_end l heard.End may = absurd may
 noted : (l : Ledger) (step : Step) → MayNote l step → ends_by false step ≡ false
 noted l (steps.Heard moment what) may = not_end l what may.1
 noted l (steps.Said conv what) may = refl
+noted l (steps.Begun conv) may = refl
 noted l (steps.Asked conv ask) may = refl
 noted l (steps.Answered conv ask reply) may = refl
 noted l (steps.Done flow) may = refl

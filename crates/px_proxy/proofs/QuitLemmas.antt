@@ -25,7 +25,7 @@ use Rattle.px_view.specs.declared.desk.Line.{Line}
 use Rattle.px_view.specs.declared.desk.Line.TheVariants as line
 use Rattle.px_app.specs.Operators.{nothing, says, leaves, operator_stand, says_at, leaves_at, word_of}
 use Rattle.px_app.specs.Statuses.{ends_by, ends_from, ends_heard, is_end}
-use Rattle.px_app.specs.Worked.{Turns, Worked, is_quit, of_conversation, of_operator, of_leaving, not_begun, one_worked}
+use Rattle.px_app.specs.Worked.{Turns, Worked, is_quit, of_conversation, of_operator, of_leaving, not_begun, one_worked, one_begun}
 use Rattle.px_app.proofs.TurnLemmas.{NoneHeard, turns_adds}
 use Rattle.px_proxy.specs.Quits.{QuitsLast}
 use Rattle.px_proxy.proofs.BesideLemmas.{Beside, beside_word, worked_beside}
@@ -39,6 +39,7 @@ ends_more ended (step ∷ trace) more = ends_more (ends_by ended step) trace mor
 ends_quiet : (ended : Bool) (more : Trace) → NoneHeard more → ends_from ended more ≡ ended
 ends_quiet ended [] none = refl
 ends_quiet ended (steps.Heard moment what ∷ more) none = absurd none
+ends_quiet ended (steps.Begun number ∷ more) none = absurd none
 ends_quiet ended (steps.Asked number ask ∷ more) none = ends_quiet ended more none
 ends_quiet ended (steps.Answered number ask reply ∷ more) none = ends_quiet ended more none
 ends_quiet ended (steps.Said number what ∷ more) none = ends_quiet ended more none
@@ -52,6 +53,7 @@ ends_last trace moment what more none =
 tellable : (more : Trace) → NoneHeard more → AllTellable more
 tellable [] none = tt
 tellable (steps.Heard moment what ∷ more) none = absurd none
+tellable (steps.Begun number ∷ more) none = absurd none
 tellable (steps.Asked number ask ∷ more) none = (tt, tellable more none)
 tellable (steps.Answered number ask reply ∷ more) none = (tt, tellable more none)
 tellable (steps.Said number what ∷ more) none = (tt, tellable more none)
@@ -73,12 +75,12 @@ leaves_says number conv lines is = cc
 same_sayer : (number conv : ℕ) (mine lines : List Line) → says number mine ≡ says conv lines → number ≡ conv
 same_sayer number conv mine lines is = cc
 
-says_number : (number conv : ℕ) (bytes : List ℕ) (lines : List Line) (stand : Stand) (peer : Option Address) → says_at number stand peer bytes ≡ says conv lines → number ≡ conv
+says_number : (number conv : ℕ) (bytes : List ℕ) (lines : List Line) (stand : Stand) (peer : Option (Option Address)) → says_at number stand peer bytes ≡ says conv lines → number ≡ conv
 says_number number conv bytes lines None peer is = absurd (nothing_says conv lines is)
 says_number number conv bytes lines (Some kept) (Some at) is = absurd (nothing_says conv lines is)
 says_number number conv bytes lines (Some kept) None is = same_sayer number conv _ lines is
 
-leaves_nobody : (number conv : ℕ) (lines : List Line) (stand : Stand) (peer : Option Address) → leaves_at number stand peer ≡ says conv lines → ⊥
+leaves_nobody : (number conv : ℕ) (lines : List Line) (stand : Stand) (peer : Option (Option Address)) → leaves_at number stand peer ≡ says conv lines → ⊥
 leaves_nobody number conv lines None peer is = nothing_says conv lines is
 leaves_nobody number conv lines (Some kept) (Some at) is = nothing_says conv lines is
 leaves_nobody number conv lines (Some kept) None is = leaves_says number conv lines is
@@ -162,3 +164,4 @@ module _ {S : Type 0} (answers : Answering S) (drops : List ℕ → S → S → 
       let P : Trace → Type 0 = QuitsLast in
       subst P (sym joined) (turn_quits before behind from moment what more next turned is_over (worked_beside answers drops names due first before behind from false worked) a.quiet_told turns is
       (sym (ends_last before moment what more a.quiet_told) ∙ (ap ends_heard (sym joined) ∙ goes_on)))
+  quits_last first told trace course over (one_begun before now behind next from saved conv more old new worked own joined also same is_saved) is goes_on = let wrong : false ≡ true = is in absurd (cc)

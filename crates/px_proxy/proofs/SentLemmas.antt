@@ -37,6 +37,7 @@ done_bytes false flow = refl
 
 step_bytes : (side : Side) (conv : ℕ) (step : Step) → bytes_in (step_atoms (line side) conv step) ≡ flat_map (bytes_for side) (said_in conv step)
 step_bytes side conv (steps.Heard moment what) = refl
+step_bytes side conv (steps.Begun number) = refl
 step_bytes side conv (steps.Asked number ask) = refl
 step_bytes side conv (steps.Answered number ask reply) = refl
 step_bytes side conv (steps.Said number what) = own_bytes side (number == conv) what

@@ -30,7 +30,7 @@ use Rattle.px_proxy.proofs.SentLemmas.{seen_is_sent}
 use Rattle.px_proxy.proofs.DialLemmas.{dials_once, not_dialled}
 use Rattle.px_proxy.proofs.ChainLemmas.{no_verdict_connects}
 use Rattle.px_proxy.proofs.BesideLemmas.{Beside, always_beside, beside_calls, beside_counts, beside_front, beside_sends, beside_sent}
-use Rattle.px_proxy.proofs.CallLemmas.{NoDialAnswered, connections_most, not_begun}
+use Rattle.px_proxy.proofs.CallLemmas.{HasNoClient, NoDialAnswered, connections_most, no_client}
 use Rattle.px_wire.specs.Calls.{Calls, steps_of}
 use Rattle.px_wire.specs.Rules.{Obeys}
 use Rattle.px_wire.specs.Taken.{taken_for, is_opened, SendsToOpened}
@@ -38,7 +38,11 @@ use Rattle.px_wire.proofs.TakenLemmas.{steps_joined, front_obeys, taken_is_sent}
 
 -- no byte is due to a server before so many calls connect
 abbrev pub IsSilent : Due → Type 0
-IsSilent due = (conv : ℕ) (peer : Address) (server : ℕ) (moves : List Move) → NoAnswer server moves → bytes_in (seen_of (line (Server server)) (due conv peer moves)) ≡ []
+IsSilent due = (conv : ℕ) (peer : Option Address) (server : ℕ) (moves : List Move) → NoAnswer server moves → bytes_in (seen_of (line (Server server)) (due conv peer moves)) ≡ []
+
+-- nor any to a client where there is none
+abbrev pub IsUnsaid : Due → Type 0
+IsUnsaid due = (conv : ℕ) (moves : List Move) → bytes_in (seen_of (line Client) (due conv None moves)) ≡ []
 
 -- ---- prefixes
 
@@ -77,15 +81,18 @@ prefix_none : {A : Type 0} (xs ys : List A) → IsPrefixOf xs ys → ys ≡ [] �
 prefix_none [] ys before none = refl
 prefix_none (x ∷ xs) ys before none = let e = sym none ∙ before.1 in absurd (cc)
 
-module _ {S : Type 0} (answers : Answering S) (none_connects : ConnectsNone answers) (due : Due) (silent : IsSilent due) where
-  silent_at : (conv server : ℕ) (peer : Option Address) (moves : List Move) → NoAnswer server moves → bytes_in (seen_of (line (Server server)) (due_at due conv peer moves)) ≡ []
+module _ {S : Type 0} (answers : Answering S) (none_connects : ConnectsNone answers) (due : Due) (silent : IsSilent due) (unsaid : IsUnsaid due) where
+  silent_at : (conv server : ℕ) (peer : Option (Option Address)) (moves : List Move) → NoAnswer server moves → bytes_in (seen_of (line (Server server)) (due_at due conv peer moves)) ≡ []
   silent_at conv server None moves none = refl
   silent_at conv server (Some peer) moves none = silent conv peer server moves none
 
+  unsaid_at : (conv : ℕ) (peer : Option (Option Address)) (moves : List Move) → HasNoClient peer → bytes_in (seen_of (line Client) (due_at due conv peer moves)) ≡ []
+  unsaid_at conv None moves none = refl
+  unsaid_at conv (Some None) moves none = unsaid conv moves
+  unsaid_at conv (Some (Some peer)) moves none = absurd none
+
   nothing_due : (trace : Trace) → CountsServers trace → NoDialAnswered trace → (conv : ℕ) (side : Side) → is_opened conv side trace ≡ false → bytes_in (due_in due (line side) conv trace) ≡ []
-  nothing_due trace counts answered conv Client never =
-      let none = not_begun conv trace never in
-      ap (λ (peer : Option Address). bytes_in (seen_of (line Client) (due_at due conv peer (calls conv trace).moves))) none
+  nothing_due trace counts answered conv Client never = unsaid_at conv (calls conv trace).peer (calls conv trace).moves (no_client conv trace never)
   nothing_due trace counts answered conv (Server server) never =
       let few : connections (calls conv trace).moves ≤ length (dialled_in trace conv) = connections_most conv trace answered in
       let most : length (dialled_in trace conv) ≤ server = not_dialled trace conv server counts never in

@@ -11,10 +11,11 @@ use Rattle.px_event.specs.declared.step.Step.{Step}
 use Rattle.px_event.specs.declared.step.Step.TheVariants as steps
 use Rattle.px_core.specs.Due.{Due, due_in}
 use Rattle.px_exchange.specs.declared.mode.Mode.{Mode}
-use Rattle.px_stack.specs.Modes.{mode_due}
+use Rattle.px_options.specs.Options.{Settings}
 use Rattle.px_options.specs.View.{mode_view}
-use Rattle.px_app.specs.Loaded.{loaded, one_absent, one_bad, one_unread, unloaded}
-use Rattle.px_app.specs.Opened.{Opened, nothing_read, absent, not_read, unjudged, refused, says}
+use Rattle.px_app.specs.Loaded.{Loaded, behind_loaded, loaded}
+use Rattle.px_app.specs.Dues.{run_due}
+use Rattle.px_app.specs.Opened.{Opened, says}
 use Rattle.px_wire.specs.Calls.{Calls, steps_of}
 use Rattle.px_wire.specs.Taken.{TakesWhatWasSent, taken_for}
 use Rattle.px_proxy.specs.Quits.{QuitsLast}
@@ -43,17 +44,14 @@ pub record WiredSo (due : Due) (status : ℕ) (list : Calls) : Type 0 where
   pub takes : AlwaysTakesWhatIsDue due list
   pub quits : (status ≡ 0) ⊎ (status ≡ 7) → QuitsLast (steps_of list)
 
--- Where a run's start came to that, and the wire, which had told no step before, made these calls: what it took is what is due by the
--- options, with this key of masks.
+-- Where the flow files of these options came to that, and the wire, which had told no step before, made these calls: what it took is what is due by the options, with this key of
+-- masks and these flows whose requests are sent again.
+abbrev pub IsWiredWith : List ℕ → Settings → Loaded → ℕ → Option Trace → Option Calls → Type 0
+IsWiredWith key settings (loaded resent) status steps told =
+    (mode : Mode) (list : Calls) → settings.mode ≡ mode_view mode → steps ≡ Some [] → told ≡ Some list → WiredSo (run_due mode key resent) status list
+IsWiredWith key settings came status steps told = Unit {0}
+
+-- so it is by what a run's start came to
 abbrev pub IsWiredBy : List ℕ → Opened → ℕ → Option Trace → Option Calls → Type 0
-IsWiredBy key nothing_read status steps told = Unit {0}
-IsWiredBy key absent status steps told = Unit {0}
-IsWiredBy key not_read status steps told = Unit {0}
-IsWiredBy key (unjudged bytes) status steps told = Unit {0}
-IsWiredBy key (refused bytes why) status steps told = Unit {0}
-IsWiredBy key (says bytes settings reads (one_absent path)) status steps told = Unit {0}
-IsWiredBy key (says bytes settings reads (one_unread path)) status steps told = Unit {0}
-IsWiredBy key (says bytes settings reads (one_bad path offset)) status steps told = Unit {0}
-IsWiredBy key (says bytes settings reads unloaded) status steps told = Unit {0}
-IsWiredBy key (says bytes settings reads (loaded flows)) status steps told =
-    (mode : Mode) (list : Calls) → settings.mode ≡ mode_view mode → steps ≡ Some [] → told ≡ Some list → WiredSo (mode_due mode key) status list
+IsWiredBy key (says bytes settings reads recorded resent) status steps told = IsWiredWith key settings (behind_loaded recorded resent) status steps told
+IsWiredBy key opened status steps told = Unit {0}

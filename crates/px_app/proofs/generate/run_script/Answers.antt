@@ -1,4 +1,4 @@
-use Rattle.std.proofs.Common.{◌≡◌, None, Some, refl, sym, ap, subst}
+use Rattle.std.proofs.Common.{◌≡◌, [], None, Some, refl, sym, ap, subst}
 use Rattle.rand_chacha.specs.ChaCha.{key_of}
 use Rattle.px_event.specs.Trace.{Trace}
 use Rattle.px_addons.specs.Chain.{movers_of}
@@ -10,7 +10,8 @@ use Rattle.px_app.specs.Generates.{generator_mode}
 use Rattle.px_app.proofs.ChainLemmas.{chain_never_waits}
 use Rattle.px_app.proofs.ChangeLemmas.{drops_keep_rules}
 use Rattle.px_app.proofs.GenerateLemmas.{complete_by, generated_so, heard_to_end, nothing_told}
-use Rattle.px_app.proofs.RunLemmas.{in_mode, told_trace}
+use Rattle.px_app.proofs.RanLemmas.{ran_in_mode}
+use Rattle.px_app.proofs.RunLemmas.{told_trace}
 use Rattle.px_app.proofs.SaveLaws.{none_left}
 use Rattle.px_app.proofs.generate.run_script.Goals as goal
 
@@ -29,7 +30,7 @@ returns-in-Ok-serve_generated g c =
     let steps : Trace = c.trace.result.now in
     let key = key_of c.args.mask_key in
     let begun = c.in-Ok-serve_generated.ensures.ok (ap (λ (s : GeneratedState). Some s.trace) c.new-generated.ensures.new) in
-    let run = told_trace _ _ steps (in_mode c.in-Ok.mode generator_mode key c.in-Ok.ensures.mode begun.1) (ap Some (sym c.trace.ensures.trace)) in
+    let run = told_trace _ _ steps (ran_in_mode c.in-Ok.mode generator_mode key [] c.in-Ok.ensures.mode begun.1) (ap Some (sym c.trace.ensures.trace)) in
     let heard = subst (λ (t : Trace). Hears g.K.Scripted.count t) (sym c.trace.ensures.trace) c.trace.ensures.hears in
     record {
       run = steps;
@@ -38,7 +39,7 @@ returns-in-Ok-serve_generated g c =
       by_chain = λ some.
           generated_so _ _ _ _ key _ _ _ _ _ steps run _ _ (chain_never_waits _ _ _ (λ chain. chain.rules) (λ chain. movers_of chain.replay chain.addons.items))
           (λ name old new so dropped. drops_keep_rules _ (λ chain. chain.rules) (λ chain. movers_of chain.replay chain.addons.items) (λ (r : Rules). r.intercept ≡ None) name old new so dropped)
-          c.requires.intercept;
+          c.requires.intercept c.tell_run.ensures.statuses;
       told = c.tell_run.ensures.told;
       told_part = c.tell_run.ensures.told_part;
       listening = c.tell_run.ensures.listening;

@@ -1,46 +1,31 @@
-use Rattle.std.proofs.Common.{◌∙◌, None, ap, refl}
+use Rattle.std.proofs.Common.{◌∙◌, [], None}
 use Rattle.rand_chacha.specs.ChaCha.{key_of}
-use Rattle.px_stack.specs.declared.placed.Placed.{Placed}
-use Rattle.px_stack.specs.Modes.{mode_due}
-use Rattle.px_core.specs.Answers.{files_meaning}
-use Rattle.px_core.specs.declared.gates.Gates.{Gates}
 use Rattle.px_addons.specs.Chain.{movers_of}
-use Rattle.px_app.specs.Over.{course_from}
+use Rattle.px_core.specs.Answers.{files_meaning}
+use Rattle.px_app.specs.Dues.{run_due}
+use Rattle.px_app.specs.Over.{goes_none}
 use Rattle.px_app.proofs.ChainLemmas.{chain_keeps_losses}
-use Rattle.px_app.proofs.RunLemmas.{ended_told, placed_due}
-use Rattle.px_app.proofs.StepLemmas.{leaves_from, leaves_saving, run_saving}
+use Rattle.px_app.proofs.GoesLemmas.{leaves_whole}
+use Rattle.px_app.proofs.RanLemmas.{due_of_maker, ended_ran, ran_resent, same_items}
 use Rattle.px_app.proofs.generate.serve_generated.Goals as goal
 
-pub serve_all-requires : goal.serve_all-requires
-serve_all-requires g c =
-    let maker = c.new-serving.result.maker.layers in
-    let due = mode_due maker.mode (key_of maker.mask_key) in
-    let files = files_meaning g.F.Files.contents g.F.Files.calls g.F.Files.misses g.F.Files.faults g.F.Files.losses c.args.files.now in
-    let rests = c.new-serving.ensures.rests due files None in
-    record {
-      losses = chain_keeps_losses _ _ _ (λ chain. chain.rules) (λ chain. movers_of chain.replay chain.addons.items);
-      sound = (due, course_from _ rests.changes rests.operations, rests.trace, (λ conv peer moves. refl), rests.stands);
-    }
+pub returns-in_default-clause-files : goal.returns-in_default-clause-files
+returns-in_default-clause-files g c = leaves_whole _ _ _ None _ _ goes_none
+
+pub serve_by-ending-requires : goal.serve_by-ending-requires
+serve_by-ending-requires g c = record { losses = chain_keeps_losses _ _ _ (λ chain. chain.rules) (λ chain. movers_of chain.replay chain.addons.items) }
 
 pub returns-in-Ended-clause-ok : goal.returns-in-Ended-clause-ok
 returns-in-Ended-clause-ok g c = λ empty.
-    let layers = ap (λ (m : Gates Placed). m.layers) c.new-serving.ensures.maker ∙ c.new-maker.ensures in
-    let in_mode = ap (λ (p : Placed). p.mode) layers ∙ c.new.ensures.mode in
-    let with_key = ap (λ (p : Placed). p.mask_key) layers ∙ c.new.ensures.mask_key in
-    let due = mode_due c.args.mode (key_of c.args.mask_key) in
+    let made = c.in-Ok.ensures in
+    let flows = same_items c.in-Ok.maker.layers.flows c.new.result made.resent ∙ c.new.ensures.items in
+    let due = run_due c.args.mode (key_of c.args.mask_key) [] in
     let files = files_meaning g.F.Files.contents g.F.Files.calls g.F.Files.misses g.F.Files.faults g.F.Files.losses c.args.files.now in (
-      c.serve_all.new.serving.printing,
-      ended_told c.in-Ended.is
-          (run_saving _ _ _ _ due _ _ _ _ _ None None _ c.new-serving.ensures.saving
-          (c.serve_all.ensures.run due _ None (placed_due c.new-serving.result.maker.layers c.args.mode c.args.mask_key in_mode with_key)
-          (c.new-serving.ensures.rests due files None) empty)),
+      c.serve_by-ending.result.printing,
+      ended_ran c.in-Ended.is
+          (ran_resent _ _ _ _ due (record { own = c.args.chain; files = files }) None _ _ _ _ None None _ flows
+          (c.serve_by-ending.ensures.run due (due_of_maker c.in-Ok.maker c.args.mode c.args.mask_key [] made.mode made.mask_key made.proxy flows) empty)),
     )
 
 pub returns-in-Ended-clause-files : goal.returns-in-Ended-clause-files
-returns-in-Ended-clause-files g c = leaves_from _ _ _ None _ _ _ _ c.new-serving.ensures.answerer (leaves_saving _ _ _ _ _ c.new-serving.ensures.saving c.serve_all.ensures.files)
-
-pub returns : goal.returns
-returns g c = record {
-  ok = λ empty. tt;
-  files = leaves_from _ _ _ None _ _ _ _ c.new-serving.ensures.answerer (leaves_saving _ _ _ _ _ c.new-serving.ensures.saving c.serve_all.ensures.files);
-}
+returns-in-Ended-clause-files g c = c.serve_by-ending.ensures.files

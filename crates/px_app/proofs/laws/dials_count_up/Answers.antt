@@ -1,7 +1,7 @@
-use Rattle.px_stack.specs.Modes.{mode_due}
-use Rattle.px_app.proofs.StackServers.{mode_counts}
+use Rattle.px_app.specs.Dues.{run_due}
+use Rattle.px_app.proofs.RunServers.{run_counts}
 use Rattle.px_app.proofs.ServerLemmas.{always_counts}
 use Rattle.px_app.proofs.laws.dials_count_up.Goals as goal
 
 pub returns : goal.returns
-returns c = λ mode key trace within. always_counts (mode_due mode key) (mode_counts mode key) trace within
+returns c = λ mode key resent trace within. always_counts (run_due mode key resent) (run_counts mode key resent) trace within

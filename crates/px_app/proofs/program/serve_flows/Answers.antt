@@ -5,7 +5,7 @@ use Rattle.px_app.proofs.ToldLemmas.{told_none}
 use Rattle.px_app.proofs.program.serve_flows.Goals as goal
 
 pub returns-in-Ok : goal.returns-in-Ok
-returns-in-Ok g c = (loaded c.args.flows.items, inl refl, record { so = c.serve_setup.ensures (settings c.args.options) c.args.flows.items c.in-Ok.ensures })
+returns-in-Ok g c = (loaded c.args.resent.items, inl refl, record { so = c.serve_setup.ensures (settings c.args.options) c.args.flows.items c.in-Ok.ensures })
 
 pub returns-in-Err : goal.returns-in-Err
 returns-in-Err g c = (

@@ -44,7 +44,7 @@ returns g c = λ settings flows so.
               from_first = c.serve-ending.ensures.later;
             })
             _ _ (λ failed. first_later _ _ _ c.end.ensures.later (c.serve-ending.ensures.failed failed)) (λ rose. rose)
-            settings c.args.setup.mode (key_of c.args.mask_key) _ _ _ _ told so.mode so.saving so.events
+            settings c.args.setup.mode (key_of c.args.mask_key) c.args.resent.items _ _ _ _ told so.mode so.saving so.events
             (λ none. no_filter_by c.new-chain.result.rules.intercept settings.intercept rules.intercept none) c.serve-ending.ensures.output
             (told_trace _ _ told (c.serve-ending.ensures.run empty) tells);
         files = leaves_at _ _ _ _ _ so.saving c.serve-ending.ensures.files;
