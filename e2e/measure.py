@@ -158,26 +158,27 @@ def pipelined(proxy, count):
 
 
 class Uploader(threading.Thread):
-    """Uploads without a pause, and notes how long that took."""
+    """Uploads without a pause, in bodies of this size one behind the other, and notes how long that took."""
 
-    def __init__(self, proxy):
+    def __init__(self, proxy, size):
         super().__init__()
-        self.proxy, self.seconds, self.has_begun = proxy, None, threading.Event()
+        self.proxy, self.size, self.seconds, self.has_begun = proxy, size, None, threading.Event()
 
     def run(self):
         piece, began = bytes(65536), time.time()
         with self.proxy.connect() as client:
-            client.sendall(f"POST /up HTTP/1.1\r\nHost: h\r\nConnection: close\r\nContent-Length: {UPLOAD}\r\n\r\n".encode())
-            for _ in range(UPLOAD // len(piece)):
-                client.sendall(piece)
-                self.has_begun.set()
-            read_all(client)
+            for _ in range(UPLOAD // self.size):
+                client.sendall(f"POST /up HTTP/1.1\r\nHost: h\r\nContent-Length: {self.size}\r\n\r\n".encode())
+                for _ in range(self.size // len(piece)):
+                    client.sendall(piece)
+                    self.has_begun.set()
+                read_answers(client, 1)
         self.seconds = time.time() - began
 
 
-def beside_upload(proxy):
-    """How long an upload takes, and how long another client waits meanwhile, at the middle and at most."""
-    uploader, waits = Uploader(proxy), []
+def beside_upload(proxy, size):
+    """How long uploads of so much in all take, and how long another client waits meanwhile, at the middle and at most."""
+    uploader, waits = Uploader(proxy, size), []
     uploader.start()
     uploader.has_begun.wait()
     while uploader.is_alive():
@@ -223,7 +224,8 @@ ROWS = {
     "bodies": ("peak memory with those", peak),
     "1000_pipelined": ("1,000 requests in one piece", lambda proxy: pipelined(proxy, 1000)),
     "10000_pipelined": ("10,000 requests in one piece", lambda proxy: pipelined(proxy, 10000)),
-    "upload": ("an upload of 200 MB, and another client meanwhile", beside_upload),
+    "uploads": ("20 uploads of 10 MB, and another client meanwhile", lambda proxy: beside_upload(proxy, BIG)),
+    "upload": ("an upload of 200 MB, and another client meanwhile", lambda proxy: beside_upload(proxy, UPLOAD)),
 }
 REFUSED = f"answers of {TRIES} servers that answer 413 and reset"
 

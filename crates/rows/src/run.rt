@@ -283,6 +283,7 @@ fn show_status(out: &mut String, status: u8) -> Result<(), RowError> {
 #[derive(Clone, Copy, Debug, PartialEq, Eq)]
 struct Counts {
     heard: u64,
+    begun: u64,
     said: u64,
     asked: u64,
     answered: u64,
@@ -292,6 +293,7 @@ struct Counts {
 fn show_steps(out: &mut String, trace: &[Step]) -> Result<(), RowError> {
     let mut counts = Counts {
         heard: 0,
+        begun: 0,
         said: 0,
         asked: 0,
         answered: 0,
@@ -301,6 +303,7 @@ fn show_steps(out: &mut String, trace: &[Step]) -> Result<(), RowError> {
         let kind = match step {
             Step::Heard { .. } => &mut counts.heard,
             Step::Said { .. } => &mut counts.said,
+            Step::Begun { .. } => &mut counts.begun,
             Step::Asked { .. } => &mut counts.asked,
             Step::Answered { .. } => &mut counts.answered,
             Step::Done { .. } => &mut counts.done,
@@ -309,6 +312,7 @@ fn show_steps(out: &mut String, trace: &[Step]) -> Result<(), RowError> {
     }
     let Counts {
         heard,
+        begun,
         said,
         asked,
         answered,
@@ -316,7 +320,11 @@ fn show_steps(out: &mut String, trace: &[Step]) -> Result<(), RowError> {
     } = counts;
     write!(
         out,
-        "steps {heard} heard, {said} said, {asked} asked, {answered} answered, {done} done\n"
+        "steps {heard} heard, {said} said, {asked} asked, {answered} answered, {done} done"
     )?;
+    if begun > 0 {
+        write!(out, ", {begun} begun")?;
+    }
+    out.push('\n')?;
     Ok(())
 }

@@ -136,7 +136,7 @@ fn show_size(out: &mut String, response: &Option<Shared<Response>>) -> Result<()
 fn show_error(out: &mut String, flow: &Flow) -> Result<(), RowError> {
     if let Some(error) = &flow.error {
         out.push_str(" error: ")?;
-        write_escaped(out, error.msg.as_slice())?;
+        write_escaped(out, error.get().msg.as_slice())?;
     }
     Ok(())
 }
@@ -160,7 +160,7 @@ fn show_moments(out: &mut String, flow: &Flow) -> Result<(), RowError> {
         show_moment(out, moment)?;
     }
     if let Some(error) = &flow.error {
-        let moment = error.moment;
+        let moment = error.get().moment;
         write!(out, " error {moment}")?;
     }
     Ok(())
@@ -173,7 +173,7 @@ fn show_rest(out: &mut String, flow: &Flow) -> Result<(), RowError> {
         match address {
             Some(address) => {
                 out.push(' ')?;
-                show_address(out, address)?;
+                show_address(out, address.get())?;
             }
             None => out.push_str(" -")?,
         }
