@@ -197,8 +197,12 @@ def case_page_with_a_websocket_in_a_browser():
     with tempfile.TemporaryDirectory() as home, Peer(serve, PEER), Mitm(options, mode=REVERSE):
         if "<p>here</p>" not in shown_by(browser, home, "data:text/html,<p>here</p>"):
             raise Skipped(f"{browser} does not run here")
-        shown = shown_by(browser, home, f"http://127.0.0.1:{PROXY[1]}/page", "--virtual-time-budget=3000")
-        assert '<p id="text">read good day</p>' in shown, shown
+        # (its time runs on while a message is awaited, so a browser on a busy machine may be done too early)
+        for budget in (3_000, 10_000, 30_000, 100_000):
+            shown = shown_by(browser, home, f"http://127.0.0.1:{PROXY[1]}/page", f"--virtual-time-budget={budget}")
+            if '<p id="text">read good day</p>' in shown:
+                return
+        raise AssertionError(shown)
 
 
 def case_who_vanishes_from_a_websocket():
