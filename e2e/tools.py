@@ -111,7 +111,8 @@ class Mitm(Started):
             os.makedirs(os.path.join(home, os.path.dirname(name)), exist_ok=True)
             with open(os.path.join(home, name), "wb") as file:
                 file.write(content)
-        self.printed, self.noted = tempfile.TemporaryFile(), tempfile.TemporaryFile()
+        # (appended to, since whoever reads them here moves the place that the program would write at)
+        self.printed, self.noted = tempfile.TemporaryFile("a+b"), tempfile.TemporaryFile("a+b")
         self.process = start_program(["serve", "options"], home, self.user, self.out or self.printed, self.noted, self.in_front)
         self.seen = 0
         wait_for(lambda: listens(self.port) or self.process.poll() is not None, "mitm")
