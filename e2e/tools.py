@@ -111,8 +111,10 @@ class Mitm(Started):
             os.makedirs(os.path.join(home, os.path.dirname(name)), exist_ok=True)
             with open(os.path.join(home, name), "wb") as file:
                 file.write(content)
-        # (appended to, since whoever reads them here moves the place that the program would write at)
-        self.printed, self.noted = tempfile.TemporaryFile("a+b"), tempfile.TemporaryFile("a+b")
+        self.printed, self.noted = tempfile.TemporaryFile(), tempfile.TemporaryFile()
+        for file in (self.printed, self.noted):
+            # (whoever reads it here moves the place that the program would write at)
+            fcntl.fcntl(file, fcntl.F_SETFL, fcntl.fcntl(file, fcntl.F_GETFL) | os.O_APPEND)
         self.process = start_program(["serve", "options"], home, self.user, self.out or self.printed, self.noted, self.in_front)
         self.seen = 0
         wait_for(lambda: listens(self.port) or self.process.poll() is not None, "mitm")
