@@ -1,4 +1,5 @@
 pub mod Growth
+pub mod Kept
 pub mod Likeness
 pub mod LineLemmas
 pub mod Moves

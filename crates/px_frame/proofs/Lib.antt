@@ -4,6 +4,5 @@ pub mod FramesLemmas
 pub mod FrontLemmas
 pub mod HeadLemmas
 pub mod MaskLemmas
-pub mod PrefixLemmas
 pub mod ReadLemmas
 pub mod WrittenLemmas

@@ -7,8 +7,8 @@
 //! directions.
 //!
 //! Copies share what they hold: the bytes of names, values, paths and bodies, and a list of fields as a whole until one of
-//! its copies is changed. Copies of a flow share its messages whole. So a copy of a message costs the same whatever its length, and a change of one copy is seen
-//! in no other.
+//! its copies is changed. Copies of a flow share its messages, its addresses and its error whole. So a copy costs the same
+//! whatever its length, and a change of one copy is seen in no other.
 //!
 //! Contracts see a `Name`, a `Value`, a `Host`, a `Path` and a `Body` as the list of their bytes, a `Status` as its
 //! number and `Fields` as the list of their pairs, in the sender's order and spelling.

@@ -38,7 +38,7 @@ use Rattle.px_resend.specs.Dialled.{IsFirstAlone, dial_in, dials_in}
 use Rattle.px_resend.specs.Due.{resend_due}
 use Rattle.px_resend.specs.Heard.{all_of_servers, to_servers}
 use Rattle.px_resend.proofs.OwedLemmas.{asked_there, found_quiet, quiet_left}
-use Rattle.px_resend.proofs.WalkLemmas.{KeepsSteps, due_kept}
+use Rattle.px_event.proofs.Kept.{KeepsSteps, due_kept}
 
 -- ---- which servers were dialled before a stage
 

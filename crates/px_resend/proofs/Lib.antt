@@ -1,6 +1,5 @@
 pub mod JoinedLemmas
 pub mod ReplaysLemmas
-pub mod WalkLemmas
 pub mod OwedLemmas
 pub mod OrderLemmas
 pub mod SilentLemmas

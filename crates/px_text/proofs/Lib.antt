@@ -2,3 +2,4 @@ pub mod BlankLemmas
 pub mod LeastLemmas
 pub mod LinesLemmas
 pub mod NumberLemmas
+pub mod PrefixLemmas

@@ -5,5 +5,4 @@ pub mod ReadLemmas
 pub mod TargetLemmas
 pub mod TargetPathLemmas
 pub mod ChunkTextLemmas
-pub mod PrefixLemmas
 mod FramingLemmas

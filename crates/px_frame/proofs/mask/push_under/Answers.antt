@@ -1,7 +1,7 @@
 use Rattle.std.proofs.Common.{◌<◌, ◌++◌, ◌∙◌, ℕ, List, ap, sym, length, take, arith}
 use Rattle.px_frame.specs.Mask.{under}
 use Rattle.px_frame.proofs.MaskLemmas.{under_before, under_more}
-use Rattle.px_frame.proofs.PrefixLemmas.{both_parts, err_adds}
+use Rattle.px_text.proofs.PrefixLemmas.{both_parts, err_adds}
 use Rattle.px_frame.proofs.mask.push_under.Goals as goal
 
 pub loop-i-preserved : goal.loop-i-preserved

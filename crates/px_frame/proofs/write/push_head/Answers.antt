@@ -1,7 +1,7 @@
 use Rattle.std.proofs.Common.{◌≡◌, ◌∙◌, ◌+◌, ◌++◌, ◌∷◌, [], Bool, ap}
 use Rattle.std.specs.Prelude.{is_some}
 use Rattle.px_frame.specs.Text.{high, key_bytes, length_text}
-use Rattle.px_frame.proofs.PrefixLemmas.{adds_first, adds_second, adds_same, both_parts, err_adds, err_behind, err_nothing}
+use Rattle.px_text.proofs.PrefixLemmas.{adds_first, adds_second, adds_same, both_parts, err_adds, err_behind, err_nothing}
 use Rattle.px_frame.proofs.write.push_head.Goals as goal
 
 pub returns-in_err-push-clause-err : goal.returns-in_err-push-clause-err

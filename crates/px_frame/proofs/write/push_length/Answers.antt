@@ -1,4 +1,4 @@
-use Rattle.px_frame.proofs.PrefixLemmas.{err_nothing}
+use Rattle.px_text.proofs.PrefixLemmas.{err_nothing}
 use Rattle.px_frame.proofs.write.push_length.Goals as goal
 
 pub returns-in_err-push-clause-err : goal.returns-in_err-push-clause-err

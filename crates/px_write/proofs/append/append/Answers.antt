@@ -1,5 +1,5 @@
 use Rattle.std.proofs.Common.{◌<◌, [], length, arith}
-use Rattle.px_write.proofs.PrefixLemmas.{adds_before, adds_more, err_adds}
+use Rattle.px_text.proofs.PrefixLemmas.{adds_before, adds_more, err_adds}
 use Rattle.px_write.proofs.append.append.Goals as goal
 
 pub loop-piece-preserved : goal.loop-piece-preserved

@@ -3,7 +3,7 @@ use Rattle.std.proofs.lemmas.Bool.{cond-false}
 use Rattle.px_text.specs.Number.{hexadecimal}
 use Rattle.px_text.specs.Blank.{crlf}
 use Rattle.px_write.specs.Text.{chunk_text}
-use Rattle.px_write.proofs.PrefixLemmas.{err_adds, adds_first, adds_same}
+use Rattle.px_text.proofs.PrefixLemmas.{err_adds, adds_first, adds_same}
 use Rattle.px_write.proofs.body.write_chunk.Goals as goal
 
 -- a chunk is its first line and the rest

@@ -1,6 +1,6 @@
 use Rattle.px_text.specs.Number.{hexadecimal}
 use Rattle.px_text.specs.Blank.{crlf}
-use Rattle.px_write.proofs.PrefixLemmas.{err_behind, err_first, ok_behind}
+use Rattle.px_text.proofs.PrefixLemmas.{err_behind, err_first, ok_behind}
 use Rattle.px_write.proofs.body.write_chunk_start.Goals as goal
 
 pub returns-in_err-push_hex-clause-err : goal.returns-in_err-push_hex-clause-err

@@ -1,5 +1,5 @@
 use Rattle.px_write.specs.Text.{chunk_text, last_chunk_text}
-use Rattle.px_write.proofs.PrefixLemmas.{err_behind, err_first, ok_behind}
+use Rattle.px_text.proofs.PrefixLemmas.{err_behind, err_first, ok_behind}
 use Rattle.px_write.proofs.body.write_chunked.Goals as goal
 
 pub returns-in_err-write_chunk-clause-err : goal.returns-in_err-write_chunk-clause-err

@@ -1,7 +1,7 @@
 use Rattle.std.proofs.Common.{◌∷◌}
 use Rattle.px_text.specs.Blank.{crlf}
 use Rattle.px_write.specs.Text.{fields_text}
-use Rattle.px_write.proofs.PrefixLemmas.{err_behind, err_first, ok_behind}
+use Rattle.px_text.proofs.PrefixLemmas.{err_behind, err_first, ok_behind}
 use Rattle.px_write.proofs.body.write_last_chunk.Goals as goal
 
 pub returns-in_err-append-clause-err : goal.returns-in_err-append-clause-err

@@ -1,6 +1,6 @@
 use Rattle.std.proofs.Common.{◌≡◌, ◌++◌, ℕ, List, codes, append_assoc}
 use Rattle.px_write.specs.Error.{answer_head}
-use Rattle.px_write.proofs.PrefixLemmas.{err_same, ok_same}
+use Rattle.px_text.proofs.PrefixLemmas.{err_same, ok_same}
 use Rattle.px_write.proofs.error.write_answer_head.Goals as goal
 
 -- the head is the pieces that are written

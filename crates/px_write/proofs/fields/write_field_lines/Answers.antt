@@ -1,7 +1,7 @@
 use Rattle.std.proofs.Common.{◌≡◌, ◌∙◌, ◌++◌, ℕ, List, get_or, ap, sym}
 use Rattle.std.proofs.lemmas.Option.{get_or_from_slice_get, slice_get_within}
 use Rattle.px_write.specs.Text.{field_line}
-use Rattle.px_write.proofs.PrefixLemmas.{adds_item, adds_more, adds_same, err_adds}
+use Rattle.px_text.proofs.PrefixLemmas.{adds_item, adds_more, adds_same, err_adds}
 use Rattle.px_write.proofs.fields.write_field_lines.Goals as goal
 
 pub loop-i-preserved : goal.loop-i-preserved

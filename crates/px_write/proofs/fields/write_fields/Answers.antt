@@ -1,7 +1,7 @@
 use Rattle.std.specs.List.{flat_map}
 use Rattle.px_text.specs.Blank.{crlf}
 use Rattle.px_write.specs.Text.{field_line}
-use Rattle.px_write.proofs.PrefixLemmas.{err_behind, err_first, ok_behind}
+use Rattle.px_text.proofs.PrefixLemmas.{err_behind, err_first, ok_behind}
 use Rattle.px_write.proofs.fields.write_fields.Goals as goal
 
 pub returns-in_err-write_field_lines-clause-err : goal.returns-in_err-write_field_lines-clause-err

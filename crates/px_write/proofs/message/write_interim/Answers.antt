@@ -1,5 +1,5 @@
 use Rattle.px_write.specs.Text.{fields_text, status_line, version_text}
-use Rattle.px_write.proofs.PrefixLemmas.{err_behind, err_first, ok_behind}
+use Rattle.px_text.proofs.PrefixLemmas.{err_behind, err_first, ok_behind}
 use Rattle.px_write.proofs.message.write_interim.Goals as goal
 
 pub returns-in_err-write_status_line-clause-err : goal.returns-in_err-write_status_line-clause-err

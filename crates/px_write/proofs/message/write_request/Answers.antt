@@ -1,5 +1,5 @@
 use Rattle.px_write.specs.Text.{body_text, request_head_text}
-use Rattle.px_write.proofs.PrefixLemmas.{err_behind, err_first, ok_behind}
+use Rattle.px_text.proofs.PrefixLemmas.{err_behind, err_first, ok_behind}
 use Rattle.px_write.proofs.message.write_request.Goals as goal
 
 pub returns-in_err-write_request_head-clause-err : goal.returns-in_err-write_request_head-clause-err

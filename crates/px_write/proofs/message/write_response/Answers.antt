@@ -1,5 +1,5 @@
 use Rattle.px_write.specs.Text.{response_body_text, response_head_text}
-use Rattle.px_write.proofs.PrefixLemmas.{err_behind, err_first, ok_behind}
+use Rattle.px_text.proofs.PrefixLemmas.{err_behind, err_first, ok_behind}
 use Rattle.px_write.proofs.message.write_response.Goals as goal
 
 pub returns-in_err-write_response_head-clause-err : goal.returns-in_err-write_response_head-clause-err
