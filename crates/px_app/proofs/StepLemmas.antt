@@ -22,7 +22,7 @@ use Rattle.px_core.specs.Answers.{Answering, AnswererState, Failing, FilesMeanin
 use Rattle.px_core.specs.Course.{Change, Course, IsFrontOf, Operated, begins_at, change, with_change}
 use Rattle.px_core.specs.Due.{Due, due_in, IsServed, IsAllTold, IsWithinDue, EndsMet, OpenOnesWait}
 use Rattle.px_core.specs.Hooks.{EndsInTurn}
-use Rattle.px_core.specs.declared.table.Table.{Table}
+use Rattle.px_core.specs.declared.table.Conversations.{Conversations}
 use Rattle.px_core.specs.Router.{RouterStands, TableStands}
 use Rattle.px_core.specs.Run.{Tells, done_of}
 use Rattle.px_event.proofs.TraceLemmas.{always_empty, before_empty}
@@ -97,16 +97,16 @@ module _ {C S : Type 0} (standing : Standing C) (awaited : C → Option Ask) (nu
     (gave : (made state : C) (moves : List Move) (given : List Command) → standing made state moves given → (view : View) → seen_of view given ≡ seen_of view (made_due made moves))
     (grows : (made : C) (moves : List Move) (move : Move) (view : View) → IsPrefixOf (seen_of view (made_due made moves)) (seen_of view (made_due made (moves ++ move ∷ []))))
     (answers : Answering S) (drops : List ℕ → S → S → Type 0) (names : S → List (List ℕ)) (fails : Failing S) (due : Due) where
-  all : {course : Course S} {now : AnswererState S} (table : Table C) (trace : Trace) → TableStands standing awaited number made_due answers due course now table trace → IsAllTold due trace
+  all : {course : Course S} {now : AnswererState S} (table : Conversations C) (trace : Trace) → TableStands standing awaited number made_due answers due course now table trace → IsAllTold due trace
   all table trace stands = all_told standing awaited number made_due gave grows answers due table trace stands
 
-  waiting : {course : Course S} {now : AnswererState S} (table : Table C) (trace : Trace) → TableStands standing awaited number made_due answers due course now table trace → RestsBy answers due course trace
+  waiting : {course : Course S} {now : AnswererState S} (table : Conversations C) (trace : Trace) → TableStands standing awaited number made_due answers due course now table trace → RestsBy answers due course trace
   waiting table trace stands = rests_by standing awaited number made_due answers due table trace stands
 
-  pub came_over : {course : Course S} {now : AnswererState S} {table : Table C} {trace : Trace} → TableStands standing awaited number made_due answers due course now table trace → IsAnswered answers due course trace
+  pub came_over : {course : Course S} {now : AnswererState S} {table : Conversations C} {trace : Trace} → TableStands standing awaited number made_due answers due course now table trace → IsAnswered answers due course trace
   came_over {course} {now} stands = record { made = course; front_of = whole_front course; last = now; pending = stands.pending; answered = stands.answered }
 
-  pub files_all : {course : Course S} {now : AnswererState S} {table : Table C} {trace : Trace} → TableStands standing awaited number made_due answers due course now table trace → (W : Type 0) →
+  pub files_all : {course : Course S} {now : AnswererState S} {table : Conversations C} {trace : Trace} → TableStands standing awaited number made_due answers due course now table trace → (W : Type 0) →
       LeavesFiles answers fails due course W now.files trace
   files_all {course} {now} {table} {trace} stands W = leaves_all answers fails due course now stands.pending now.files trace stands.answered refl W
 

@@ -9,7 +9,7 @@ use Rattle.px_event.specs.declared.step.Step.{Step}
 use Rattle.px_event.specs.declared.step.Step.TheVariants as steps
 use Rattle.px_event.specs.Layer.{Move, Standing}
 use Rattle.px_event.specs.Trace.{Trace}
-use Rattle.px_core.specs.declared.table.Table.{Table}
+use Rattle.px_core.specs.declared.table.Conversations.{Conversations}
 use Rattle.px_core.specs.Answered.{IsAnswered, LeavesFiles}
 use Rattle.px_core.specs.Answers.{Answering, AnswererState, Failing, FilesAfter, FilesMeaning}
 use Rattle.px_core.specs.Course.{Course}
@@ -53,7 +53,7 @@ front_of_begun conv (x ∷ prefix) list (rest, whole) begun =
 
 module _ {C : Type 0} (standing : Standing C) (awaited : C → Option Ask) (number : C → ℕ) (made_due : C → List Move → List Command) {S : Type 0} (answers : Answering S) where
   -- the conversation was admitted behind its beginning
-  pub admitted_begun : (conv moment : ℕ) (conversation : C) (before after : Table C) {old new : AnswererState S} (first given : List Step) → first ≡ steps.Begun conv ∷ [] →
+  pub admitted_begun : (conv moment : ℕ) (conversation : C) (before after : Conversations C) {old new : AnswererState S} (first given : List Step) → first ≡ steps.Begun conv ∷ [] →
       Admits standing awaited number made_due answers conv moment conversation before after old new first given → IsBegunBy conv given
   admitted_begun conv moment conversation before after first given is a = record {
     more = a.more;
@@ -61,7 +61,7 @@ module _ {C : Type 0} (standing : Standing C) (awaited : C → Option Ask) (numb
     own = a.own;
   }
 
-  pub admitted_alone : (conv moment : ℕ) (conversation : C) (before after : Table C) {old new : AnswererState S} (first given : List Step) → first ≡ steps.Begun conv ∷ [] →
+  pub admitted_alone : (conv moment : ℕ) (conversation : C) (before after : Conversations C) {old new : AnswererState S} (first given : List Step) → first ≡ steps.Begun conv ∷ [] →
       Admits standing awaited number made_due answers conv moment conversation before after old new first given →
       (due : Due) (course : Course S) (trace : Trace) → IsNow moment trace → ((moves : List Move) → made_due conversation moves ≡ due conv None moves) →
       TableStands standing awaited number made_due answers due course old before trace →
@@ -73,7 +73,7 @@ module _ {C : Type 0} (standing : Standing C) (awaited : C → Option Ask) (numb
 
   module _ (fails : Failing S) where
     -- Behind the trace before its beginning the answerer was asked what it was asked, whatever of its steps was told.
-    leaves_begun : (due : Due) (course : Course S) (now : AnswererState S) (files : FilesMeaning) (table : Table C) (trace more : Trace) →
+    leaves_begun : (due : Due) (course : Course S) (now : AnswererState S) (files : FilesMeaning) (table : Conversations C) (trace more : Trace) →
         TableStands standing awaited number made_due answers due course now table trace → FilesAfter answers fails now files → LeavesFiles answers fails due course ⊥ files (trace ++ more)
     leaves_begun due course now files table trace more stands after = record {
       prefix = trace;
@@ -89,7 +89,7 @@ module _ {C : Type 0} (standing : Standing C) (awaited : C → Option Ask) (numb
     }
 
     -- no step was told
-    pub begun_none : (due : Due) (course : Course S) (now : AnswererState S) (files : FilesMeaning) (table : Table C) (trace told : Trace) (conv : ℕ) (net : Option Trace) →
+    pub begun_none : (due : Due) (course : Course S) (now : AnswererState S) (files : FilesMeaning) (table : Conversations C) (trace told : Trace) (conv : ℕ) (net : Option Trace) →
         TableStands standing awaited number made_due answers due course now table trace → FilesAfter answers fails now files → net ≡ Some told →
         BreaksBegun answers fails due course conv trace told net files
     begun_none due course now files table trace told conv net stands after is =
@@ -105,7 +105,7 @@ module _ {C : Type 0} (standing : Standing C) (awaited : C → Option Ask) (numb
         }
 
     -- some of its steps were told
-    pub begun_part : (due : Due) (course : Course S) (old new : AnswererState S) (files : FilesMeaning) (before after : Table C) (trace told list : Trace) (conv : ℕ) (net : Option Trace)
+    pub begun_part : (due : Due) (course : Course S) (old new : AnswererState S) (files : FilesMeaning) (before after : Conversations C) (trace told list : Trace) (conv : ℕ) (net : Option Trace)
         (taken new_taken : List Flow) → TableStands standing awaited number made_due answers due course old before trace →
         TableStands standing awaited number made_due answers due course new after (trace ++ list) → FilesAfter answers fails old files → IsBegunBy conv list →
         ToldPart list told net taken new_taken → BreaksBegun answers fails due course conv trace told net files

@@ -4,7 +4,7 @@ use Rattle.px_event.specs.declared.ask.Ask.{Ask}
 use Rattle.px_event.specs.declared.command.Command.{Command}
 use Rattle.px_event.specs.Layer.{Move, Standing}
 use Rattle.px_event.specs.Trace.{Trace}
-use Rattle.px_core.specs.declared.table.Table.{Table}
+use Rattle.px_core.specs.declared.table.Conversations.{Conversations}
 use Rattle.px_core.specs.Answered.{at_change}
 use Rattle.px_core.specs.Answers.{Answering, AnswererState, FilesMeaning}
 use Rattle.px_core.specs.Course.{AllAre, Change, Course, IsFrontOf, with_change}
@@ -20,7 +20,7 @@ same_state {S} a b own files =
 
 -- behind all steps something else became of the state
 pub stands_changed : {C : Type 0} (standing : Standing C) (awaited : C → Option Ask) (number : C → ℕ) (made_due : C → List Move → List Command) {S : Type 0} (answers : Answering S)
-    (due : Due) (course : Course S) (old new : AnswererState S) (table : Table C) (trace : Trace) → TableStands standing awaited number made_due answers due course old table trace →
+    (due : Due) (course : Course S) (old new : AnswererState S) (table : Conversations C) (trace : Trace) → TableStands standing awaited number made_due answers due course old table trace →
     TableStands standing awaited number made_due answers due (with_change course trace old new) new table trace
 stands_changed standing awaited number made_due answers due course old new table trace s = record {
   at = s.at;

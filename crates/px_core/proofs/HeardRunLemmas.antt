@@ -10,7 +10,7 @@ use Rattle.px_event.specs.declared.step.Step.TheVariants as steps
 use Rattle.px_event.specs.Layer.{Move, Standing}
 use Rattle.px_event.specs.Trace.{Trace}
 use Rattle.px_event.specs.View.{View, seen_of}
-use Rattle.px_core.specs.declared.table.Table.{Table}
+use Rattle.px_core.specs.declared.table.Conversations.{Conversations}
 use Rattle.px_core.specs.Answered.{IsAnswered, LeavesFiles, at_other}
 use Rattle.px_core.specs.Answers.{Answering, AnswererState, Failing, FilesAfter, FilesMeaning}
 use Rattle.px_core.specs.Course.{Course}
@@ -26,7 +26,7 @@ module _ {C : Type 0} (standing : Standing C) (awaited : C → Option Ask) (numb
     (grows : (made : C) (moves : List Move) (move : Move) (view : View) → IsPrefixOf (seen_of view (made_due made moves)) (seen_of view (made_due made (moves ++ move ∷ []))))
     {S : Type 0} (answers : Answering S) (fails : Failing S) where
   -- Behind the trace before what was heard the answerer was asked what it was asked, whatever of that was told.
-  leaves_heard : (due : Due) (course : Course S) (now : AnswererState S) (files : FilesMeaning) (table : Table C) (trace more : Trace) (moment : ℕ) (what : Heard) →
+  leaves_heard : (due : Due) (course : Course S) (now : AnswererState S) (files : FilesMeaning) (table : Conversations C) (trace more : Trace) (moment : ℕ) (what : Heard) →
       TableStands standing awaited number made_due answers due course now table trace → FilesAfter answers fails now files →
       LeavesFiles answers fails due course ⊥ files ((trace ++ steps.Heard moment what ∷ []) ++ more)
   leaves_heard due course now files table trace more moment what stands after = record {
@@ -43,7 +43,7 @@ module _ {C : Type 0} (standing : Standing C) (awaited : C → Option Ask) (numb
   }
 
   -- no step was told
-  pub heard_none : (due : Due) (course : Course S) (now : AnswererState S) (files : FilesMeaning) (table : Table C) (trace told : Trace) (moment : ℕ) (what : Heard) (net : Option Trace) →
+  pub heard_none : (due : Due) (course : Course S) (now : AnswererState S) (files : FilesMeaning) (table : Conversations C) (trace told : Trace) (moment : ℕ) (what : Heard) (net : Option Trace) →
       TableStands standing awaited number made_due answers due course now table trace → FilesAfter answers fails now files → net ≡ Some told →
       BreaksHeard answers fails due course what (trace ++ steps.Heard moment what ∷ []) told net files
   heard_none due course now files table trace told moment what net stands after is =
@@ -66,7 +66,7 @@ module _ {C : Type 0} (standing : Standing C) (awaited : C → Option Ask) (numb
       }
 
   -- some of the steps were told
-  pub heard_part : (due : Due) (course : Course S) (old new : AnswererState S) (files : FilesMeaning) (before after : Table C) (trace told list : Trace) (moment : ℕ) (what : Heard) (net : Option Trace)
+  pub heard_part : (due : Due) (course : Course S) (old new : AnswererState S) (files : FilesMeaning) (before after : Conversations C) (trace told list : Trace) (moment : ℕ) (what : Heard) (net : Option Trace)
       (taken new_taken : List Flow) → TableStands standing awaited number made_due answers due course old before trace →
       TableStands standing awaited number made_due answers due course new after ((trace ++ steps.Heard moment what ∷ []) ++ list) → FilesAfter answers fails old files → IsOfHeard what list →
       ToldPart list told net taken new_taken → BreaksHeard answers fails due course what (trace ++ steps.Heard moment what ∷ []) told net files

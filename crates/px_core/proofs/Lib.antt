@@ -18,6 +18,7 @@ pub mod OperateLemmas
 pub mod OperateRunLemmas
 pub mod OrderedLemmas
 pub mod ResultLemmas
+pub mod NextLemmas
 pub mod RouteLemmas
 pub mod RunLemmas
 pub mod RunsLemmas

@@ -3,12 +3,12 @@ use Rattle.std.proofs.Common.{◌≡◌, inl, inr, ℕ, Bool, false, Option, Som
 use Rattle.std.proofs.lemmas.Bool.Decides.{eqb_tells}
 use Rattle.slab.specs.Slab as slab
 use Rattle.px_core.specs.declared.held.Held.{Held}
-use Rattle.px_core.specs.declared.table.Table.{Table}
+use Rattle.px_core.specs.declared.table.Conversations.{Conversations}
 use Rattle.px_core.specs.Router.{HoldsNoEnded}
 
 module _ {C : Type 0} (ended : C → Bool) where
   -- what is put at a key goes on
-  pub updated : (before after : Table C) (key : ℕ) (held : Held C) → slab.Updates before.live after.live key (Some held) → ended held.conversation ≡ false →
+  pub updated : (before after : Conversations C) (key : ℕ) (held : Held C) → slab.Updates before.live after.live key (Some held) → ended held.conversation ≡ false →
       HoldsNoEnded ended before → HoldsNoEnded ended after
   updated before after key held update on all other found is = elim (eqb_tells other key) [
     | inl same ↦
@@ -18,7 +18,7 @@ module _ {C : Type 0} (ended : C → Bool) where
   ]
 
   -- what is put at a key is taken away again
-  pub removed : (before between after : Table C) (key : ℕ) (slot : Option (Held C)) → slab.Updates before.live between.live key slot → slab.Updates between.live after.live key None →
+  pub removed : (before between after : Conversations C) (key : ℕ) (slot : Option (Held C)) → slab.Updates before.live between.live key slot → slab.Updates between.live after.live key None →
       HoldsNoEnded ended before → HoldsNoEnded ended after
   removed before between after key slot update remove all other found is = elim (eqb_tells other key) [
     | inl same ↦ absurd (let no : None ≡ Some found = sym remove.changed ∙ (ap (slab.get after.live) (sym same.1) ∙ is) in cc)
@@ -26,9 +26,9 @@ module _ {C : Type 0} (ended : C → Bool) where
   ]
 
   -- nothing is put or taken away
-  pub same_live : (before after : Table C) → after.live ≡ before.live → HoldsNoEnded ended before → HoldsNoEnded ended after
+  pub same_live : (before after : Conversations C) → after.live ≡ before.live → HoldsNoEnded ended before → HoldsNoEnded ended after
   same_live before after same all key found is = all key found (ap (λ (s : slab.Slab (Held C)). slab.get s key) (sym same) ∙ is)
 
   -- nothing is held
-  pub none_held : (table : Table C) → ((key : ℕ) → slab.get table.live key ≡ None) → HoldsNoEnded ended table
+  pub none_held : (table : Conversations C) → ((key : ℕ) → slab.get table.live key ≡ None) → HoldsNoEnded ended table
   none_held table none key found is = absurd (let no : None ≡ Some found = sym (none key) ∙ is in cc)

@@ -31,7 +31,7 @@ use Rattle.px_core.specs.declared.operation.OperateError.TheVariants as refused
 use Rattle.px_core.specs.declared.operation.Operation.TheVariants as operations
 use Rattle.px_core.specs.declared.table.Entry.{Entry}
 use Rattle.px_core.specs.declared.table.Entry.TheVariants as place
-use Rattle.px_core.specs.declared.table.Table.{Table}
+use Rattle.px_core.specs.declared.table.Conversations.{Conversations}
 use Rattle.px_core.specs.Answered.{Pending, IsNoAnswer, Answers, at_first, at_hook, at_reply, at_other, at_change, at_mark, at_release, shown_behind, with_shown}
 use Rattle.px_core.specs.Answers.{Answering, AnswererState, ByAnswers, FilesMeaning, by_none}
 use Rattle.px_core.specs.Calls.{calls}
@@ -47,7 +47,8 @@ use Rattle.px_core.proofs.AnsweredLemmas.{any_more, marked_released}
 use Rattle.px_core.proofs.CallLemmas.{others_calls, others_seen, same_number}
 use Rattle.px_core.proofs.HookLemmas.{others_hook}
 use Rattle.px_core.proofs.CourseLemmas.{stands_changed}
-use Rattle.px_core.proofs.RouteLemmas.{Same, apart_keys, at_key, draft_in, here_stands, live_in, marks_in, marks_live, next_stands, same_found, table_follows, IsHeldOr}
+use Rattle.px_core.proofs.RouteLemmas.{apart_keys, at_key, draft_in, here_stands, live_in, marks_in, marks_live, next_stands, same_found, table_follows, IsHeldOr}
+use Rattle.px_core.proofs.NextLemmas.{Same}
 
 -- whether a flow is live, one step further
 live_from-more : (conv index : ℕ) (was : Bool) (trace : Trace) (step : Step) → live_from conv index was (trace ++ step ∷ []) ≡ live_on conv index (live_from conv index was trace) step
@@ -142,20 +143,20 @@ if_err_then (Ok t) error A is p = absurd (cc)
 if_err_then (Err e) error A is p = p.1
 
 -- the flows of these numbers, each with its hook that waits
-abbrev pub listed : {C : Type 0} → (C → Option Ask) → Table C → List (ℕ × ℕ) → List (FlowId × Option Hook)
+abbrev pub listed : {C : Type 0} → (C → Option Ask) → Conversations C → List (ℕ × ℕ) → List (FlowId × Option Hook)
 listed awaited table numbers = map (λ n. (record { conv = n.0; index = n.1 }, hook_at awaited n.1 (found table n.0))) numbers
 
-below_all : {C : Type 0} (awaited : C → Option Ask) (table : Table C) (first : ℕ × ℕ) (numbers : List (ℕ × ℕ)) → AllByRecursion (λ n. pair_cmp first n ≡ Less) numbers →
+below_all : {C : Type 0} (awaited : C → Option Ask) (table : Conversations C) (first : ℕ × ℕ) (numbers : List (ℕ × ℕ)) → AllByRecursion (λ n. pair_cmp first n ≡ Less) numbers →
     AllByRecursion (λ n. flow_cmp (record { conv = first.0; index = first.1 }) n ≡ Less) (map (λ l. l.0) (listed awaited table numbers))
 below_all awaited table first [] all = tt
 below_all awaited table first (n ∷ numbers) (here, all) = (here, below_all awaited table first numbers all)
 
-rising_list : {C : Type 0} (awaited : C → Option Ask) (table : Table C) (numbers : List (ℕ × ℕ)) → IsStrictlySortedBy pair_cmp numbers → IsStrictlySortedBy flow_cmp (map (λ l. l.0) (listed awaited table numbers))
+rising_list : {C : Type 0} (awaited : C → Option Ask) (table : Conversations C) (numbers : List (ℕ × ℕ)) → IsStrictlySortedBy pair_cmp numbers → IsStrictlySortedBy flow_cmp (map (λ l. l.0) (listed awaited table numbers))
 unfolding IsStrictlySortedBy
 rising_list awaited table [] sorted = tt
 rising_list awaited table (n ∷ numbers) (here, sorted) = (below_all awaited table n numbers here, rising_list awaited table numbers sorted)
 
-member_list : {C : Type 0} (awaited : C → Option Ask) (table : Table C) (id : FlowId) (numbers : List (ℕ × ℕ)) →
+member_list : {C : Type 0} (awaited : C → Option Ask) (table : Conversations C) (id : FlowId) (numbers : List (ℕ × ℕ)) →
     is_member (eq_by_cmp pair_cmp) numbers (id.conv, id.index) ≡ list_any (λ l. is_same_flow id l.0) (listed awaited table numbers)
 member_list awaited table id [] = refl
 member_list awaited table id (n ∷ numbers) =
@@ -163,7 +164,7 @@ member_list awaited table id (n ∷ numbers) =
     ∙ ap (λ b. ((id.conv == n.0) && (id.index == n.1)) || b) (member_list awaited table id numbers)
 
 -- one more of them is listed
-pub listed_next : {C : Type 0} (awaited : C → Option Ask) (table : Table C) (rest next : List (ℕ × ℕ)) (number : ℕ × ℕ) (before between all : List (FlowId × Option Hook)) (hook : Option Hook) →
+pub listed_next : {C : Type 0} (awaited : C → Option Ask) (table : Conversations C) (rest next : List (ℕ × ℕ)) (number : ℕ × ℕ) (before between all : List (FlowId × Option Hook)) (hook : Option Hook) →
     rest ≡ number ∷ next → before ++ listed awaited table rest ≡ all → hook ≡ hook_at awaited number.1 (found table number.0) →
     between ≡ before ++ (record { conv = number.0; index = number.1 }, hook) ∷ [] → between ++ listed awaited table next ≡ all
 listed_next awaited table rest next number before between all hook is split so grown =
@@ -276,12 +277,12 @@ module _ {C : Type 0} (standing : Standing C) (awaited : C → Option Ask) (numb
     (grows : (made : C) (moves : List Move) (move : Move) (view : View) → IsPrefixOf (seen_of view (made_due made moves)) (seen_of view (made_due made (moves ++ move ∷ []))))
     {S : Type 0} (answers : Answering S) where
   -- what the table shows of flows is shown of the live ones
-  pub table_live : (due : Due) {course : Course S} {now : AnswererState S} (table : Table C) (trace : Trace) → TableStands standing awaited number made_due answers due course now table trace →
+  pub table_live : (due : Due) {course : Course S} {now : AnswererState S} (table : Conversations C) (trace : Trace) → TableStands standing awaited number made_due answers due course now table trace →
       (conv index : ℕ) → is_some (shown_in table.flows conv index) ≡ live_from conv index false trace
   table_live due {course} {now} table trace stands conv index =
       ap is_some (sym (stands.shown conv index)) ∙ shown_live answers due course trace now stands.pending stands.answered conv index
 
-  pub last_asked : (due : Due) {course : Course S} {now : AnswererState S} (table : Table C) (trace : Trace) (id : FlowId) (flow : Flow) →
+  pub last_asked : (due : Due) {course : Course S} {now : AnswererState S} (table : Conversations C) (trace : Trace) (id : FlowId) (flow : Flow) →
       TableStands standing awaited number made_due answers due course now table trace → shown_in table.flows id.conv id.index ≡ Some flow →
       (is_live id trace ≡ true) × IsLastAsked answers due course trace id flow
   last_asked due {course} {now} table trace id flow stands is = (
@@ -289,7 +290,7 @@ module _ {C : Type 0} (standing : Standing C) (awaited : C → Option Ask) (numb
     record { now = now; pending = stands.pending; answered = stands.answered; shown = stands.shown id.conv id.index ∙ is },
   )
 
-  pub not_asked : (due : Due) {course : Course S} {now : AnswererState S} (table : Table C) (trace : Trace) (id : FlowId) →
+  pub not_asked : (due : Due) {course : Course S} {now : AnswererState S} (table : Conversations C) (trace : Trace) (id : FlowId) →
       TableStands standing awaited number made_due answers due course now table trace → shown_in table.flows id.conv id.index ≡ None → is_live id trace ≡ false
   not_asked due table trace id stands is = sym (table_live due table trace stands id.conv id.index) ∙ ap is_some is
 
@@ -301,7 +302,7 @@ module _ {C : Type 0} (standing : Standing C) (awaited : C → Option Ask) (numb
   waits_found due conv index trace lost w = absurd w
   waits_found due conv index trace (live held) w = sym (ap (hook_in index) w.within.turn ∙ hook_in_of index (awaited held.conversation))
 
-  pub table_waits : (due : Due) {course : Course S} {now : AnswererState S} (table : Table C) (trace : Trace) (id : FlowId) →
+  pub table_waits : (due : Due) {course : Course S} {now : AnswererState S} (table : Conversations C) (trace : Trace) (id : FlowId) →
       TableStands standing awaited number made_due answers due course now table trace → hook_at awaited id.index (found table id.conv) ≡ waiting_hook id trace
   table_waits due table trace id stands = waits_found due id.conv id.index trace (found table id.conv) (stands.at id.conv)
 
@@ -309,7 +310,7 @@ module _ {C : Type 0} (standing : Standing C) (awaited : C → Option Ask) (numb
   module _ (ended : C → Bool) (ends : (made state : C) (moves : List Move) (given : List Command) → standing made state moves given → ended state ≡ true →
       (more : List Move) (view : View) → seen_of view (made_due made (moves ++ more)) ≡ seen_of view (made_due made moves))
       (rests : (made state : C) (moves : List Move) (given : List Command) → standing made state moves given → ended state ≡ true → awaited state ≡ None) where
-    operates_of : (moment : ℕ) (operation : Operation) (id : FlowId) (before after : Table C) (held new_held : Held C) {old new : AnswererState S} (out new_out : List Step) → answers_for operation ≡ Some id →
+    operates_of : (moment : ℕ) (operation : Operation) (id : FlowId) (before after : Conversations C) (held new_held : Held C) {old new : AnswererState S} (out new_out : List Step) → answers_for operation ≡ Some id →
         found before id.conv ≡ live held → Releases standing awaited number made_due answers id.conv moment operation held new_held before.flows after.flows old new out new_out →
         IsHeldOr standing awaited number made_due gave grows answers ended ends rests new_held (found after id.conv) → ((other : ℕ) → id.conv ≢ other → found after other ≡ found before other) →
         Operates standing awaited number made_due answers moment operation before after old new out new_out
@@ -334,7 +335,7 @@ module _ {C : Type 0} (standing : Standing C) (awaited : C → Option Ask) (numb
           (marks_in standing awaited number made_due gave grows answers ended ends rests made.operations id.conv new_held (found after id.conv) there next.3.marks) (λ index. refl));
     }
 
-    named_at : (due : Due) {course : Course S} {now : AnswererState S} (table : Table C) (trace : Trace) (conv key : ℕ) (held : Held C) → TableStands standing awaited number made_due answers due course now table trace →
+    named_at : (due : Due) {course : Course S} {now : AnswererState S} (table : Conversations C) (trace : Trace) (conv key : ℕ) (held : Held C) → TableStands standing awaited number made_due answers due course now table trace →
         place_of table conv ≡ Some (place.Live key) → slab.get table.live key ≡ Some held → number held.conversation ≡ conv
     named_at due table trace conv key held stands at is =
         let P : Found (Held C) → Type 0 = StandsIn standing awaited number made_due answers due conv trace in
@@ -342,7 +343,7 @@ module _ {C : Type 0} (standing : Standing C) (awaited : C → Option Ask) (numb
         w.within.named
 
     -- it goes on
-    pub operates_live : (moment key : ℕ) (operation : Operation) (id : FlowId) (before after : Table C) {old new : AnswererState S} (over_now : Bool) (out new_out : List Step) → answers_for operation ≡ Some id →
+    pub operates_live : (moment key : ℕ) (operation : Operation) (id : FlowId) (before after : Conversations C) {old new : AnswererState S} (over_now : Bool) (out new_out : List Step) → answers_for operation ≡ Some id →
         IsTabled standing awaited number made_due answers before → place_of before id.conv ≡ Some (place.Live key) →
         ReleasesAt standing awaited number made_due answers ended id.conv moment operation key before after old new over_now out new_out →
         Operates standing awaited number made_due answers moment operation before after old new out new_out
@@ -353,7 +354,7 @@ module _ {C : Type 0} (standing : Standing C) (awaited : C → Option Ask) (numb
         (apart_keys standing awaited number made_due gave grows answers due before trace id.conv other key h.held stands h.was (named_at due before trace id.conv key h.held stands at h.was) apart))
 
     -- or has ended
-    pub operates_ended : (moment key : ℕ) (operation : Operation) (id : FlowId) (before between after : Table C) {old new : AnswererState S} (over_now : Bool) (out new_out : List Step) → answers_for operation ≡ Some id →
+    pub operates_ended : (moment key : ℕ) (operation : Operation) (id : FlowId) (before between after : Conversations C) {old new : AnswererState S} (over_now : Bool) (out new_out : List Step) → answers_for operation ≡ Some id →
         IsTabled standing awaited number made_due answers before → place_of before id.conv ≡ Some (place.Live key) →
         ReleasesAt standing awaited number made_due answers ended id.conv moment operation key before between old new over_now out new_out → over_now ≡ true →
         slab.Updates between.live after.live key None → after.flows ≡ between.flows → PutsPlace between after id.conv (Some place.Ended) →
@@ -367,7 +368,7 @@ module _ {C : Type 0} (standing : Standing C) (awaited : C → Option Ask) (numb
         (apart_keys standing awaited number made_due gave grows answers due before trace id.conv other key h.held stands h.was (named_at due before trace id.conv key h.held stands at h.was) apart))
 
     -- so it is by the number of the call
-    pub operates_live_at : (moment key conv : ℕ) (operation : Operation) (id : FlowId) (before after : Table C) {old new : AnswererState S} (over_now : Bool) (out new_out : List Step) → answers_for operation ≡ Some id →
+    pub operates_live_at : (moment key conv : ℕ) (operation : Operation) (id : FlowId) (before after : Conversations C) {old new : AnswererState S} (over_now : Bool) (out new_out : List Step) → answers_for operation ≡ Some id →
         id.conv ≡ conv → IsTabled standing awaited number made_due answers before → place_of before conv ≡ Some (place.Live key) →
         ReleasesAt standing awaited number made_due answers ended conv moment operation key before after old new over_now out new_out →
         Operates standing awaited number made_due answers moment operation before after old new out new_out
@@ -376,7 +377,7 @@ module _ {C : Type 0} (standing : Standing C) (awaited : C → Option Ask) (numb
         Operates standing awaited number made_due answers moment operation before after old new out new_out in
         subst P same (λ at h. operates_live moment key operation id before after over_now out new_out for tabled at h)
 
-    pub operates_ended_at : (moment key conv : ℕ) (operation : Operation) (id : FlowId) (before between after : Table C) {old new : AnswererState S} (over_now : Bool) (out new_out : List Step) →
+    pub operates_ended_at : (moment key conv : ℕ) (operation : Operation) (id : FlowId) (before between after : Conversations C) {old new : AnswererState S} (over_now : Bool) (out new_out : List Step) →
         answers_for operation ≡ Some id → id.conv ≡ conv → IsTabled standing awaited number made_due answers before → over_now ≡ true →
         slab.Updates between.live after.live key None → after.flows ≡ between.flows → place_of before conv ≡ Some (place.Live key) →
         ReleasesAt standing awaited number made_due answers ended conv moment operation key before between old new over_now out new_out → PutsPlace between after conv (Some place.Ended) →
@@ -387,7 +388,7 @@ module _ {C : Type 0} (standing : Standing C) (awaited : C → Option Ask) (numb
         subst P same (λ at h noted. operates_ended moment key operation id before between after over_now out new_out for tabled at h is_over removed same_flows noted)
 
     -- a mark, which is kept where the conversation is live
-    pub operates_marked : (moment key : ℕ) (id : FlowId) (before after : Table C) (held new_held : Held C) {state : AnswererState S} (out : List Step) →
+    pub operates_marked : (moment key : ℕ) (id : FlowId) (before after : Conversations C) (held new_held : Held C) {state : AnswererState S} (out : List Step) →
         IsTabled standing awaited number made_due answers before → place_of before id.conv ≡ Some (place.Live key) → slab.get before.live key ≡ Some held →
         slab.Updates before.live after.live key (Some new_held) → ((other : ℕ) → place_of after other ≡ place_of before other) → after.flows ≡ before.flows →
         new_held.conversation ≡ held.conversation → new_held.connected ≡ held.connected → new_held.draft ≡ held.draft →
@@ -453,7 +454,7 @@ module _ {C : Type 0} (standing : Standing C) (awaited : C → Option Ask) (numb
             (apart_keys standing awaited number made_due gave grows answers due0 before trace0 id.conv other key held stands0 is (named_at due0 before trace0 id.conv key held stands0 at is) apart)
 
   -- where it has ended nothing will be asked, and nothing is to be kept
-  pub operates_unkept : (moment : ℕ) (id : FlowId) (table : Table C) {state : AnswererState S} (out : List Step) → found table id.conv ≡ over →
+  pub operates_unkept : (moment : ℕ) (id : FlowId) (table : Conversations C) {state : AnswererState S} (out : List Step) → found table id.conv ≡ over →
       Operates standing awaited number made_due answers moment (operations.Mark id) table table state state out out
   operates_unkept moment id table {state} out was = record {
     more = [];
@@ -481,7 +482,7 @@ module _ {C : Type 0} (standing : Standing C) (awaited : C → Option Ask) (numb
   }
 
   -- nothing is live of a conversation that was not admitted
-  pub unknown_not_live : (due : Due) {course : Course S} {now : AnswererState S} (table : Table C) (trace : Trace) (id : FlowId) →
+  pub unknown_not_live : (due : Due) {course : Course S} {now : AnswererState S} (table : Conversations C) (trace : Trace) (id : FlowId) →
       TableStands standing awaited number made_due answers due course now table trace → found table id.conv ≡ unknown → is_live id trace ≡ false
   unknown_not_live due table trace id stands was =
       let P : Found (Held C) → Type 0 = StandsIn standing awaited number made_due answers due id.conv trace in
@@ -489,7 +490,7 @@ module _ {C : Type 0} (standing : Standing C) (awaited : C → Option Ask) (numb
       never_live id.conv id.index trace (u.sees questions tt)
 
   -- an addon is taken away
-  pub operates_dropped : (moment : ℕ) (name : List ℕ) (table : Table C) (old new : AnswererState S) (out : List Step) →
+  pub operates_dropped : (moment : ℕ) (name : List ℕ) (table : Conversations C) (old new : AnswererState S) (out : List Step) →
       Operates standing awaited number made_due answers moment (operations.DropAddon name) table table old new out out
   operates_dropped moment name table old new out = record {
     more = [];
@@ -502,15 +503,15 @@ module _ {C : Type 0} (standing : Standing C) (awaited : C → Option Ask) (numb
         subst T (sym (append-nil trace)) (stands_changed standing awaited number made_due answers due course old new table trace stands);
   }
 
-  pub dropped_as : (moment : ℕ) (operation : Operation) (name : List ℕ) (table after : Table C) (old new : AnswererState S) (out : List Step) → operation ≡ operations.DropAddon name → after ≡ table →
+  pub dropped_as : (moment : ℕ) (operation : Operation) (name : List ℕ) (table after : Conversations C) (old new : AnswererState S) (out : List Step) → operation ≡ operations.DropAddon name → after ≡ table →
       Operates standing awaited number made_due answers moment operation table after old new out out
   dropped_as moment operation name table after old new out is same =
       let P : Operation → Type 0 = λ o. Operates standing awaited number made_due answers moment o table after old new out out in
-      let Q : Table C → Type 0 = λ t. Operates standing awaited number made_due answers moment (operations.DropAddon name) table t old new out out in
+      let Q : Conversations C → Type 0 = λ t. Operates standing awaited number made_due answers moment (operations.DropAddon name) table t old new out out in
       subst P (sym is) (subst Q (sym same) (operates_dropped moment name table old new out))
 
   -- its steps go to the caller
-  pub operates_out : (moment : ℕ) (operation : Operation) (before after : Table C) {old new : AnswererState S} (empty given out new_out : List Step) → empty ≡ [] → new_out ≡ out ++ given →
+  pub operates_out : (moment : ℕ) (operation : Operation) (before after : Conversations C) {old new : AnswererState S} (empty given out new_out : List Step) → empty ≡ [] → new_out ≡ out ++ given →
       Operates standing awaited number made_due answers moment operation before after old new empty given → Operates standing awaited number made_due answers moment operation before after old new out new_out
   operates_out moment operation before after empty given out new_out none grown r = record {
     more = r.more;
@@ -521,13 +522,13 @@ module _ {C : Type 0} (standing : Standing C) (awaited : C → Option Ask) (numb
   }
 
   -- what is under a key where the number is live
-  pub at_held : (due : Due) {course : Course S} {now : AnswererState S} (table : Table C) (trace : Trace) (conv key : ℕ) → TableStands standing awaited number made_due answers due course now table trace →
+  pub at_held : (due : Due) {course : Course S} {now : AnswererState S} (table : Conversations C) (trace : Trace) (conv key : ℕ) → TableStands standing awaited number made_due answers due course now table trace →
       place_of table conv ≡ Some (place.Live key) → (held : Held C) × (slab.get table.live key ≡ Some held)
   at_held due table trace conv key stands at =
       let k = at_key standing awaited number made_due gave grows answers due table trace conv key stands at in (k.held, k.is)
 
   -- it awaits the hook that an operation answers
-  pub awaits_for : (table : Table C) (id : FlowId) (key : ℕ) (operation : Operation) → answers_for operation ≡ Some id → IsTabled standing awaited number made_due answers table →
+  pub awaits_for : (table : Conversations C) (id : FlowId) (key : ℕ) (operation : Operation) → answers_for operation ≡ Some id → IsTabled standing awaited number made_due answers table →
       place_of table id.conv ≡ Some (place.Live key) → IsSome (hook_at awaited id.index (found table id.conv)) → AwaitsFor awaited id.conv operation (found table id.conv)
   awaits_for table id key operation for (due, course, now, trace, stands) at some = by (found table id.conv) there some
     where
@@ -556,20 +557,20 @@ module _ {C : Type 0} (standing : Standing C) (awaited : C → Option Ask) (numb
       by (live held) is some = let h = hooked (awaited held.conversation) some in (id, h.0, for, refl, h.1)
 
   -- and so does what is held
-  pub releases_for : (table : Table C) (conv key : ℕ) (operation : Operation) (held : Held C) → place_of table conv ≡ Some (place.Live key) → slab.get table.live key ≡ Some held →
+  pub releases_for : (table : Conversations C) (conv key : ℕ) (operation : Operation) (held : Held C) → place_of table conv ≡ Some (place.Live key) → slab.get table.live key ≡ Some held →
       AwaitsFor awaited conv operation (found table conv) → IsReleased awaited conv operation held
   releases_for table conv key operation held at is waits =
       let P : Found (Held C) → Type 0 = AwaitsFor awaited conv operation in subst P (ap (found_by table.live) at ∙ ap found_at is) waits
 
   -- no refusal where the flow is live and its hook waits
-  pub none_refused : (due : Due) {course : Course S} {now : AnswererState S} (table : Table C) (trace : Trace) (id : FlowId) → TableStands standing awaited number made_due answers due course now table trace →
+  pub none_refused : (due : Due) {course : Course S} {now : AnswererState S} (table : Conversations C) (trace : Trace) (id : FlowId) → TableStands standing awaited number made_due answers due course now table trace →
       is_some (shown_in table.flows id.conv id.index) ≡ true → IsSome (hook_at awaited id.index (found table id.conv)) → refusal_at (is_live id trace) (is_some (waiting_hook id trace)) ≡ None
   none_refused due table trace id stands shows waits =
       let there : is_live id trace ≡ true = sym (table_live due table trace stands id.conv id.index) ∙ shows in
       let awaits : is_some (waiting_hook id trace) ≡ true = ap is_some (sym (table_waits due table trace id stands)) ∙ waits in
       ap (λ b. refusal_at b (is_some (waiting_hook id trace))) there ∙ ap (refusal_at true) awaits
 
-  pub not_waiting : (due : Due) {course : Course S} {now : AnswererState S} (table : Table C) (trace : Trace) (id : FlowId) → TableStands standing awaited number made_due answers due course now table trace →
+  pub not_waiting : (due : Due) {course : Course S} {now : AnswererState S} (table : Conversations C) (trace : Trace) (id : FlowId) → TableStands standing awaited number made_due answers due course now table trace →
       is_some (shown_in table.flows id.conv id.index) ≡ true → hook_at awaited id.index (found table id.conv) ≡ None →
       refusal_at (is_live id trace) (is_some (waiting_hook id trace)) ≡ Some refused.NotWaiting
   not_waiting due table trace id stands shows none =
@@ -577,17 +578,17 @@ module _ {C : Type 0} (standing : Standing C) (awaited : C → Option Ask) (numb
       let awaits : is_some (waiting_hook id trace) ≡ false = ap is_some (sym (table_waits due table trace id stands) ∙ none) in
       ap (λ b. refusal_at b (is_some (waiting_hook id trace))) there ∙ ap (refusal_at true) awaits
 
-  pub no_such_flow : (due : Due) {course : Course S} {now : AnswererState S} (table : Table C) (trace : Trace) (id : FlowId) (waits : Bool) → TableStands standing awaited number made_due answers due course now table trace →
+  pub no_such_flow : (due : Due) {course : Course S} {now : AnswererState S} (table : Conversations C) (trace : Trace) (id : FlowId) (waits : Bool) → TableStands standing awaited number made_due answers due course now table trace →
       is_some (shown_in table.flows id.conv id.index) ≡ false → refusal_at (is_live id trace) waits ≡ Some refused.NoSuchFlow
   no_such_flow due table trace id waits stands shows = ap (λ b. refusal_at b waits) (sym (table_live due table trace stands id.conv id.index) ∙ shows)
 
-  all_waits : (due : Due) {course : Course S} {now : AnswererState S} (table : Table C) (trace : Trace) → TableStands standing awaited number made_due answers due course now table trace →
+  all_waits : (due : Due) {course : Course S} {now : AnswererState S} (table : Conversations C) (trace : Trace) → TableStands standing awaited number made_due answers due course now table trace →
       (numbers : List (ℕ × ℕ)) → AllByRecursion (λ l. l.1 ≡ waiting_hook l.0 trace) (listed awaited table numbers)
   all_waits due table trace stands [] = tt
   all_waits due table trace stands (n ∷ numbers) = (table_waits due table trace (record { conv = n.0; index = n.1 }) stands, all_waits due table trace stands numbers)
 
   -- what is listed of all that the table shows are the live flows
-  pub are_live : (due : Due) {course : Course S} {now : AnswererState S} (table : Table C) (trace : Trace) → TableStands standing awaited number made_due answers due course now table trace →
+  pub are_live : (due : Due) {course : Course S} {now : AnswererState S} (table : Conversations C) (trace : Trace) → TableStands standing awaited number made_due answers due course now table trace →
       (numbers : List (ℕ × ℕ)) → IsStrictlySortedBy pair_cmp numbers → ((q : ℕ × ℕ) → is_some (tree.get pair_cmp table.flows.asked q) ≡ is_member (eq_by_cmp pair_cmp) numbers q) →
       AreLive trace (listed awaited table numbers)
   are_live due table trace stands numbers sorted has_it = record {

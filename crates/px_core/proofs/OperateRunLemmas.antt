@@ -10,7 +10,7 @@ use Rattle.px_event.specs.Layer.{Move, Standing}
 use Rattle.px_event.specs.Trace.{Trace}
 use Rattle.px_core.specs.declared.operation.Operation.{Operation}
 use Rattle.px_core.specs.declared.operation.Operation.TheVariants as operations
-use Rattle.px_core.specs.declared.table.Table.{Table}
+use Rattle.px_core.specs.declared.table.Conversations.{Conversations}
 use Rattle.px_core.specs.Answered.{IsAnswered, LeavesFiles}
 use Rattle.px_core.specs.Answers.{Answering, AnswererState, Failing, FilesAfter, FilesMeaning}
 use Rattle.px_core.specs.Course.{Course, with_operation}
@@ -42,7 +42,7 @@ any_tellable None list none = let P : List Step → Type 0 = AllTellable in subs
 any_tellable (Some conv) list all = all_tellable conv list all
 
 module _ {C : Type 0} (standing : Standing C) (awaited : C → Option Ask) (number : C → ℕ) (made_due : C → List Move → List Command) {S : Type 0} (answers : Answering S) where
-  operated_stands : (moment : ℕ) (operation : Operation) (before after : Table C) {old new : AnswererState S} (empty given : List Step) → empty ≡ [] →
+  operated_stands : (moment : ℕ) (operation : Operation) (before after : Conversations C) {old new : AnswererState S} (empty given : List Step) → empty ≡ [] →
       Operates standing awaited number made_due answers moment operation before after old new empty given → (due : Due) (course : Course S) (trace : Trace) → IsNow moment trace →
       TableStands standing awaited number made_due answers due course old before trace →
       TableStands standing awaited number made_due answers due (operated_on course trace operation old new) new after (trace ++ given)
@@ -50,13 +50,13 @@ module _ {C : Type 0} (standing : Standing C) (awaited : C → Option Ask) (numb
       let P : Trace → Type 0 = λ l. TableStands standing awaited number made_due answers due (operated_on course trace operation old new) new after (trace ++ l) in
       subst P (sym (r.grown ∙ ap (λ l. l ++ r.more) none)) (r.stands due course trace now stands)
 
-  pub operated_own : (moment : ℕ) (operation : Operation) (before after : Table C) {old new : AnswererState S} (empty given : List Step) → empty ≡ [] →
+  pub operated_own : (moment : ℕ) (operation : Operation) (before after : Conversations C) {old new : AnswererState S} (empty given : List Step) → empty ≡ [] →
       Operates standing awaited number made_due answers moment operation before after old new empty given → AllOfAny (caused_in operation) given
   operated_own moment operation before after empty given none r =
       let P : List Step → Type 0 = AllOfAny (caused_in operation) in subst P (sym (r.grown ∙ ap (λ l. l ++ r.more) none)) r.own
 
   -- all its steps were told
-  pub adds_all : (moment : ℕ) (operation : Operation) (before after : Table C) {old new : AnswererState S} (empty given : List Step) (net now : Option Trace) → empty ≡ [] →
+  pub adds_all : (moment : ℕ) (operation : Operation) (before after : Conversations C) {old new : AnswererState S} (empty given : List Step) (net now : Option Trace) → empty ≡ [] →
       Operates standing awaited number made_due answers moment operation before after old new empty given → (due : Due) (course : Course S) (trace : Trace) → IsNow moment trace →
       TableStands standing awaited number made_due answers due course old before trace → ((told : Trace) → net ≡ Some told → now ≡ Some (told ++ given)) →
       AddsSteps (TableStands standing awaited number made_due answers due (operated_on course trace operation old new) new after) operation trace net now
@@ -68,7 +68,7 @@ module _ {C : Type 0} (standing : Standing C) (awaited : C → Option Ask) (numb
   }
 
   -- behind the trace before the operation the answerer was asked what it was asked, whatever of that was told
-  leaves_operated : (fails : Failing S) (due : Due) (course : Course S) (now : AnswererState S) (files : FilesMeaning) (table : Table C) (trace more : Trace) (operation : Operation) →
+  leaves_operated : (fails : Failing S) (due : Due) (course : Course S) (now : AnswererState S) (files : FilesMeaning) (table : Conversations C) (trace more : Trace) (operation : Operation) →
       TableStands standing awaited number made_due answers due course now table trace → FilesAfter answers fails now files →
       LeavesFiles answers fails due (with_operation course trace operation) ⊥ files (trace ++ more)
   leaves_operated fails due course now files table trace more operation stands after = record {
@@ -85,14 +85,14 @@ module _ {C : Type 0} (standing : Standing C) (awaited : C → Option Ask) (numb
   }
 
   -- where no step was told, the answerer came so far by the course with it
-  follows_none : (due : Due) (course : Course S) (now : AnswererState S) (table : Table C) (trace more : Trace) (operation : Operation) → more ≡ [] →
+  follows_none : (due : Due) (course : Course S) (now : AnswererState S) (table : Conversations C) (trace more : Trace) (operation : Operation) → more ≡ [] →
       TableStands standing awaited number made_due answers due course now table trace → IsAnswered answers due (with_operation course trace operation) (trace ++ more)
   follows_none due course now table trace more operation none stands =
       let P : Trace → Type 0 = IsAnswered answers due (with_operation course trace operation) in
       subst P (sym (ap (λ l. trace ++ l) none ∙ append-nil trace))
       (record { made = course; front_of = operated_front (with_operation course trace operation) course trace operation refl; last = now; pending = stands.pending; answered = stands.answered })
 
-  pub breaks_none : (fails : Failing S) (due : Due) (course : Course S) (now : AnswererState S) (files : FilesMeaning) (table : Table C) (trace told : Trace) (operation : Operation) (net : Option Trace) →
+  pub breaks_none : (fails : Failing S) (due : Due) (course : Course S) (now : AnswererState S) (files : FilesMeaning) (table : Conversations C) (trace told : Trace) (operation : Operation) (net : Option Trace) →
       TableStands standing awaited number made_due answers due course now table trace → FilesAfter answers fails now files → net ≡ Some told → BreaksOff answers fails due course operation trace told net files
   breaks_none fails due course now files table trace told operation net stands after is =
       let P : Trace → Type 0 = IsServed answers due in
@@ -105,14 +105,14 @@ module _ {C : Type 0} (standing : Standing C) (awaited : C → Option Ask) (numb
         leaves = leaves_operated fails due course now files table trace [] operation stands after;
       }
 
-  follows_front : (due : Due) (course made : Course S) (now : AnswererState S) (table : Table C) (trace given list : Trace) → made ≡ course → IsPrefixOf given list →
+  follows_front : (due : Due) (course made : Course S) (now : AnswererState S) (table : Conversations C) (trace given list : Trace) → made ≡ course → IsPrefixOf given list →
       TableStands standing awaited number made_due answers due made now table (trace ++ list) → IsAnswered answers due course (trace ++ given)
   follows_front due course made now table trace given list same (rest, whole) stands =
       let P : Course S → Type 0 = λ c. IsAnswered answers due c (trace ++ given) in
       subst P same (answered_front answers due made (trace ++ given) rest (trace ++ list) (ap (λ l. trace ++ l) whole ∙ sym (append_assoc trace given rest))
       (record { made = made; front_of = whole_front made; last = now; pending = stands.pending; answered = stands.answered }))
 
-  follows_part : (moment : ℕ) (operation : Operation) (before after : Table C) {old new : AnswererState S} (empty list given : List Step) → empty ≡ [] →
+  follows_part : (moment : ℕ) (operation : Operation) (before after : Conversations C) {old new : AnswererState S} (empty list given : List Step) → empty ≡ [] →
       Operates standing awaited number made_due answers moment operation before after old new empty list → (due : Due) (course : Course S) (trace : Trace) → IsNow moment trace →
       TableStands standing awaited number made_due answers due course old before trace → IsPrefixOf given list → IsAnswered answers due (with_operation course trace operation) (trace ++ given)
   follows_part moment (operations.Resume id) before after empty list given none r due course trace now stands front =
@@ -125,7 +125,7 @@ module _ {C : Type 0} (standing : Standing C) (awaited : C → Option Ask) (numb
       follows_none due course _ before trace given (operations.DropAddon name) (any_front None given list front (operated_own moment (operations.DropAddon name) before after empty list none r)) stands
 
   -- some of its steps were told
-  pub breaks_part : (fails : Failing S) (moment : ℕ) (operation : Operation) (before after : Table C) {old new : AnswererState S} (empty list : List Step) (files : FilesMeaning) (net : Option Trace) (taken new_taken : List Flow) →
+  pub breaks_part : (fails : Failing S) (moment : ℕ) (operation : Operation) (before after : Conversations C) {old new : AnswererState S} (empty list : List Step) (files : FilesMeaning) (net : Option Trace) (taken new_taken : List Flow) →
       empty ≡ [] → Operates standing awaited number made_due answers moment operation before after old new empty list → (due : Due) (course : Course S) (trace told : Trace) → IsNow moment trace →
       TableStands standing awaited number made_due answers due course old before trace → FilesAfter answers fails old files → ToldPart list told net taken new_taken →
       BreaksOff answers fails due course operation trace told net files

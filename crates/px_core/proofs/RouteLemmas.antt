@@ -1,6 +1,5 @@
 -- From the end of a step to the end of the next, for a table of conversations.
-use Rattle.std.proofs.Common.{◌≡◌, ◌≢◌, ◌⊎◌, inl, inr, ℕ, Bool, true, false, ◌==◌, List, [], ◌∷◌, ◌++◌, Option, Some, None, refl, ap, sym, ◌∙◌, subst, append_assoc, is_some}
-use Rattle.std.specs.Prelude.{if◌then◌else◌}
+use Rattle.std.proofs.Common.{◌≡◌, ◌≢◌, ◌⊎◌, inl, inr, ℕ, Bool, true, false, ◌==◌, List, [], ◌∷◌, ◌++◌, Option, Some, None, refl, ap, sym, ◌∙◌, subst, is_some}
 use Rattle.std.proofs.lemmas.List.{append-nil}
 use Rattle.std.proofs.lemmas.Bool.Decides.{eqb_tells}
 use Rattle.slab.specs.Slab as slab
@@ -9,7 +8,6 @@ use Rattle.px_event.proofs.Growth.{prefix_self}
 use Rattle.px_message.specs.declared.address.Address.{Address}
 use Rattle.px_event.specs.declared.ask.Ask.{Ask}
 use Rattle.px_event.specs.declared.ask.Ask.TheVariants as asks
-use Rattle.px_event.specs.declared.reply.Reply.{Reply}
 use Rattle.px_event.specs.declared.command.Command.{Command}
 use Rattle.px_event.specs.declared.event.Event.TheVariants as events
 use Rattle.px_event.specs.declared.heard.Heard.{Heard}
@@ -26,11 +24,11 @@ use Rattle.px_core.specs.declared.news.News.{News}
 use Rattle.px_core.specs.declared.news.News.TheVariants as news
 use Rattle.px_core.specs.declared.table.Entry.{Entry}
 use Rattle.px_core.specs.declared.table.Entry.TheVariants as place
-use Rattle.px_core.specs.declared.table.Table.{Table}
+use Rattle.px_core.specs.declared.table.Conversations.{Conversations}
 use Rattle.px_core.specs.Answered.{nothing_pending, at_first, at_other}
 use Rattle.px_core.specs.Answers.{Answering, AnswererState}
 use Rattle.px_core.specs.Course.{Course, Operated, begins_at, is_marked}
-use Rattle.px_core.specs.Calls.{Calls, begins, calls, calls_of, takes, moved, addressed, is_connected, is_dialling, dial_ends}
+use Rattle.px_core.specs.Calls.{Calls, begins, calls, calls_of, takes, addressed}
 use Rattle.px_core.specs.Due.{Due, due_at, due_by, due_in, IsWithinDue, IsAllTold, EndsMet, Waits, OpenOnesWait, IsServed}
 use Rattle.px_core.specs.Held.{AllOf, Kept, ShowsOthers, dial_of, kept_of, waiting, Follows, Hears, Takes}
 use Rattle.px_core.specs.Live.{shown_in}
@@ -39,153 +37,13 @@ use Rattle.px_core.specs.Hooks.{open_hook, hook_of, EndsInTurn}
 use Rattle.px_core.specs.Router.{Found, unknown, over, lost, live, found_at, found_by, place_of, found, draft_of, KeepsMarks, PutsPlace, IsUnknown, IsOver, IsLive, StandsIn, TableStands, IsTabled, HearsAt, Hands, Admits, Routes, IsAtKey}
 use Rattle.px_core.specs.Runs.{has}
 use Rattle.px_core.proofs.AnsweredLemmas.{follows_heard}
-use Rattle.px_core.proofs.BegunLemmas.{calls_begun, calls_begun_other, follows_begun, hook_begun, no_answer_begun, no_heard_begun, seen_begun}
+use Rattle.px_core.proofs.BegunLemmas.{calls_begun, follows_begun, hook_begun, no_answer_begun, no_heard_begun, seen_begun}
 use Rattle.px_core.proofs.UnmarkedLemmas.{unmarked_prefix}
-use Rattle.px_core.proofs.CallLemmas.{others_calls, others_seen}
-use Rattle.px_core.proofs.HearLemmas.{seen_heard, calls_heard, calls_heard_other, calls_heard_none}
-use Rattle.px_core.proofs.HookLemmas.{hook_heard, others_hook, hook_is, hook_named, kept_on}
+use Rattle.px_core.proofs.HearLemmas.{seen_heard, calls_heard}
+use Rattle.px_core.proofs.HookLemmas.{hook_heard, hook_is, hook_named, kept_on}
 use Rattle.px_core.proofs.SideLemmas.{servers_along}
 use Rattle.px_core.proofs.ServedLemmas.{due_is, due_same, due_there, last_step, ends_in_turn}
-
--- a state that has ended is over by its calls, so no call changes what is due
-pub ended_stays : {C : Type 0} (standing : Standing C) (made_due : C → List Move → List Command) (ended : C → Bool) (is_over : C → List Move → Bool) →
-    ((made state : C) (moves : List Move) (given : List Command) → standing made state moves given → ended state ≡ is_over made moves) →
-    ((made : C) (moves : List Move) → is_over made moves ≡ true → (more : List Move) (view : View) → seen_of view (made_due made (moves ++ more)) ≡ seen_of view (made_due made moves)) →
-    (made state : C) (moves : List Move) (given : List Command) → standing made state moves given → ended state ≡ true → (more : List Move) (view : View) →
-    seen_of view (made_due made (moves ++ more)) ≡ seen_of view (made_due made moves)
-ended_stays standing made_due ended is_over exact stays made state moves given stands end more view =
-    stays made moves (sym (exact made state moves given stands) ∙ end) more view
-
--- nothing of the conversation is new
-pub record Same (conv : ℕ) (trace next : Trace) : Type 0 where
-  pub moves : calls_of conv next ≡ calls_of conv trace
-  pub peer : (calls conv next).peer ≡ (calls conv trace).peer
-  pub dial : (calls conv next).dial ≡ (calls conv trace).dial
-  pub connected : (calls conv next).connected ≡ (calls conv trace).connected
-  pub sees : (view : View) → IsTold view → seen_in view conv next ≡ seen_in view conv trace
-  pub hook : open_hook conv next ≡ open_hook conv trace
-
-same_by : (conv moment : ℕ) (trace next : Trace) → calls conv next ≡ record (calls conv trace) { moment = moment } →
-    ((view : View) → IsTold view → seen_in view conv next ≡ seen_in view conv trace) → open_hook conv next ≡ open_hook conv trace → Same conv trace next
-same_by conv moment trace next on sees hook = record {
-  moves = ap (λ (c : Calls). c.moves) on;
-  peer = ap (λ (c : Calls). c.peer) on;
-  dial = ap (λ (c : Calls). c.dial) on;
-  connected = ap (λ (c : Calls). c.connected) on;
-  sees = sees;
-  hook = hook;
-}
-
-other_same : (conv other moment : ℕ) (trace more : Trace) (heard : Heard) (what : News) → addressed heard ≡ Some (conv, what) → AllOf conv more → conv ≢ other →
-    Same other trace ((trace ++ steps.Heard moment heard ∷ []) ++ more)
-other_same conv other moment trace more heard what is all apart =
-    same_by other moment trace ((trace ++ steps.Heard moment heard ∷ []) ++ more)
-    (others_calls conv other (trace ++ steps.Heard moment heard ∷ []) more all apart ∙ calls_heard_other other conv trace moment heard what is apart)
-    (λ view told. others_seen view conv other (trace ++ steps.Heard moment heard ∷ []) more all apart ∙ seen_heard view other trace moment heard)
-    (others_hook conv other (trace ++ steps.Heard moment heard ∷ []) more all apart ∙ hook_heard other trace moment heard)
-
-begun_same : (conv other : ℕ) (trace more : Trace) → AllOf conv more → conv ≢ other → Same other trace ((trace ++ steps.Begun conv ∷ []) ++ more)
-begun_same conv other trace more all apart =
-    let there : Trace = trace ++ steps.Begun conv ∷ [] in
-    let on : calls other (there ++ more) ≡ calls other trace = others_calls conv other there more all apart ∙ calls_begun_other other conv trace apart in
-    record {
-      moves = ap (λ (c : Calls). c.moves) on;
-      peer = ap (λ (c : Calls). c.peer) on;
-      dial = ap (λ (c : Calls). c.dial) on;
-      connected = ap (λ (c : Calls). c.connected) on;
-      sees = λ view told. others_seen view conv other there more all apart ∙ seen_begun view other conv trace;
-      hook = others_hook conv other there more all apart ∙ hook_begun other conv trace;
-    }
-
-none_same : (conv moment : ℕ) (trace : Trace) (heard : Heard) → addressed heard ≡ None → Same conv trace (trace ++ steps.Heard moment heard ∷ [])
-none_same conv moment trace heard is =
-    same_by conv moment trace (trace ++ steps.Heard moment heard ∷ []) (calls_heard_none conv trace moment heard is) (λ view told. seen_heard view conv trace moment heard)
-    (hook_heard conv trace moment heard)
-
--- at most one call is new, and its client stays where it is
-abbrev IsGrown : Calls → Calls → Type 0
-IsGrown before after =
-    ((after.moves ≡ before.moves) ⊎ ((move : Move) × (after.moves ≡ before.moves ++ move ∷ []))) × ((peer : Option Address) → before.peer ≡ Some peer → after.peer ≡ Some peer)
-
-begins_grown : (moment : ℕ) (at : Option Address) (c : Calls) → IsGrown c (begins moment at c)
-begins_grown moment at c = by (is_some c.peer) refl
-  where
-    by : (b : Bool) → is_some c.peer ≡ b → IsGrown c (if b then c else record c { peer = Some at; moves = c.moves ++ Took moment events.Begun ∷ [] })
-    by true some = (inl refl, λ peer is. is)
-    by false none = (inr (_, refl), λ peer is. absurd (let no : true ≡ false = sym (ap is_some is) ∙ none in cc))
-
-takes_grown : (moment : ℕ) (c : Calls) (what : News) → IsGrown c (takes moment c what)
-takes_grown moment c (news.Begun at) = begins_grown moment (Some at) c
-takes_grown moment c (news.Event side event) = by (is_some c.peer) (is_connected side c.connected)
-  where
-    by : (b d : Bool) → IsGrown c (if b then (if d then moved (Took moment event) c else c) else c)
-    by true true = (inr (_, refl), λ peer is. is)
-    by true false = (inl refl, λ peer is. is)
-    by false true = (inl refl, λ peer is. is)
-    by false false = (inl refl, λ peer is. is)
-takes_grown moment c (news.Dialled server ok) = by (is_dialling server c.dial)
-  where
-    by : (b : Bool) → IsGrown c (if b then dial_ends moment server ok c else c)
-    by true = (inr (_, refl), λ peer is. is)
-    by false = (inl refl, λ peer is. is)
-
-heard_grown : (conv : ℕ) (trace : Trace) (moment : ℕ) (heard : Heard) → IsGrown (calls conv trace) (calls conv (trace ++ steps.Heard moment heard ∷ []))
-heard_grown conv trace moment heard = by (addressed heard) refl
-  where
-    P : Calls → Type 0
-    P = IsGrown (calls conv trace)
-
-    here : (what : News) → addressed heard ≡ Some (conv, what) → IsGrown (calls conv trace) (calls conv (trace ++ steps.Heard moment heard ∷ []))
-    here what is = subst P (sym (calls_heard conv trace moment heard what is)) (takes_grown moment (calls conv trace) what)
-
-    of : (number : ℕ) (what : News) → addressed heard ≡ Some (number, what) → ((number == conv) ≡ true) × (number ≡ conv) ⊎ ((number == conv) ≡ false) × (number ≢ conv) →
-        IsGrown (calls conv trace) (calls conv (trace ++ steps.Heard moment heard ∷ []))
-    of number what is (inl same) = here what (is ∙ ap (λ n. Some (n, what)) same.1)
-    of number what is (inr apart) = subst P (sym (calls_heard_other conv number trace moment heard what is apart.1)) (inl refl, λ peer is. is)
-
-    by : (a : Option (ℕ × News)) → addressed heard ≡ a → IsGrown (calls conv trace) (calls conv (trace ++ steps.Heard moment heard ∷ []))
-    by None is = subst P (sym (calls_heard_none conv trace moment heard is)) (inl refl, λ peer is. is)
-    by (Some (number, what)) is = of number what is (eqb_tells number conv)
-
-begun_grown : (conv number : ℕ) (trace : Trace) → IsGrown (calls conv trace) (calls conv (trace ++ steps.Begun number ∷ []))
-begun_grown conv number trace = by (eqb_tells number conv)
-  where
-    P : Calls → Type 0
-    P = IsGrown (calls conv trace)
-
-    by : ((number == conv) ≡ true) × (number ≡ conv) ⊎ ((number == conv) ≡ false) × (number ≢ conv) → IsGrown (calls conv trace) (calls conv (trace ++ steps.Begun number ∷ []))
-    by (inl same) =
-        let Q : ℕ → Type 0 = λ n. IsGrown (calls conv trace) (calls conv (trace ++ steps.Begun n ∷ [])) in
-        subst Q (sym same.1) (subst P (sym (calls_begun conv trace)) (begins_grown (calls conv trace).moment None (calls conv trace)))
-    by (inr apart) = subst P (sym (calls_begun_other conv number trace apart.1)) (inl refl, λ peer is. is)
-
-no_answer_heard : (moment conv : ℕ) (heard : Heard) (ask : Ask) (reply : Reply) → steps.Answered conv ask reply ≡ steps.Heard moment heard → ⊥
-no_answer_heard moment conv heard ask reply e = cc
-
--- where nothing of an ended conversation changes what is due
-over_grown : (due : Due) (conv : ℕ) (trace next : Trace) → IsOver due conv trace → IsGrown (calls conv trace) (calls conv next) → (view : View) →
-    all_unmarked (due_in due view conv next) ≡ all_unmarked (due_in due view conv trace)
-over_grown due conv trace next w (inl same, stays) view =
-    ap (λ l. all_unmarked (seen_of view l)) (due_same due conv (calls conv next) (calls conv trace) (stays w.peer w.begun ∙ sym w.begun) same)
-over_grown due conv trace next w (inr (move, is), stays) view =
-    ap all_unmarked (due_there due conv next w.peer (stays w.peer w.begun) view) ∙ (ap (λ l. all_unmarked (seen_of view (due conv w.peer l))) is ∙ w.stays view (move ∷ []))
-
-over_stays : (due : Due) (conv : ℕ) (trace next : Trace) (w : IsOver due conv trace) → IsGrown (calls conv trace) (calls conv next) → (view : View) (more : List Move) →
-    all_unmarked (seen_of view (due conv w.peer (calls_of conv next ++ more))) ≡ all_unmarked (due_in due view conv trace)
-over_stays due conv trace next w (inl same, stays) view more = ap (λ l. all_unmarked (seen_of view (due conv w.peer (l ++ more)))) same ∙ w.stays view more
-over_stays due conv trace next w (inr (move, is), stays) view more =
-    ap (λ l. all_unmarked (seen_of view (due conv w.peer (l ++ more)))) is
-    ∙ (ap (λ l. all_unmarked (seen_of view (due conv w.peer l))) (append_assoc (calls_of conv trace) (move ∷ []) more) ∙ w.stays view (move ∷ more))
-
-pub over_next : (due : Due) (conv : ℕ) (trace next : Trace) → IsOver due conv trace → IsGrown (calls conv trace) (calls conv next) →
-    ((view : View) → IsTold view → seen_in view conv next ≡ seen_in view conv trace) → open_hook conv next ≡ open_hook conv trace → IsOver due conv next
-over_next due conv trace next w grown sees hook = record {
-  peer = w.peer;
-  begun = grown.1 w.peer w.begun;
-  told = λ view told. ap all_unmarked (sees view told) ∙ (w.told view told ∙ sym (over_grown due conv trace next w grown view));
-  stays = λ view more. over_stays due conv trace next w grown view more ∙ sym (over_grown due conv trace next w grown view);
-  hook = hook ∙ w.hook;
-}
+use Rattle.px_core.proofs.NextLemmas.{IsGrown, begun_grown, begun_same, heard_grown, no_answer_heard, none_same, other_same, over_grown, over_next, same_by, Same}
 
 -- a number that is not under the key that changed
 pub same_found : {X : Type 0} (before after : slab.Slab X) (was now : Option Entry) (key : ℕ) → now ≡ was → ((k : ℕ) → k ≢ key → slab.get after k ≡ slab.get before k) →
@@ -238,7 +96,7 @@ module _ {C : Type 0} (standing : Standing C) (awaited : C → Option Ask) (numb
       }
 
   -- a table in which nothing was admitted
-  pub new_stands : {S : Type 0} (answers : Answering S) (due : Due) (first : AnswererState S) (table : Table C) → ((conv : ℕ) → place_of table conv ≡ None) →
+  pub new_stands : {S : Type 0} (answers : Answering S) (due : Due) (first : AnswererState S) (table : Conversations C) → ((conv : ℕ) → place_of table conv ≡ None) →
       ((conv index : ℕ) → shown_in table.flows conv index ≡ None) → TableStands standing awaited number made_due answers due (begins_at first) first table []
   new_stands answers due first table empty no_flows = record {
     at = λ conv.
@@ -279,7 +137,7 @@ module _ {C : Type 0} (standing : Standing C) (awaited : C → Option Ask) (numb
     told_in due conv trace (live held) w view told =
         sym (due_is answers due standing awaited number made_due gave conv held trace [] w.within view ∙ (append-nil (all_unmarked (seen_of view w.within.earlier)) ∙ ap all_unmarked (w.within.tells view told)))
 
-    pub all_told : (due : Due) {course : Course S} {now : AnswererState S} (table : Table C) (trace : Trace) → TableStands standing awaited number made_due answers due course now table trace → IsAllTold due trace
+    pub all_told : (due : Due) {course : Course S} {now : AnswererState S} (table : Conversations C) (trace : Trace) → TableStands standing awaited number made_due answers due course now table trace → IsAllTold due trace
     all_told due table trace stands conv view told = told_in due conv trace (found table conv) (stands.at conv) view told
 
     -- a hook that is open waits
@@ -295,7 +153,7 @@ module _ {C : Type 0} (standing : Standing C) (awaited : C → Option Ask) (numb
         let kept = w.drafted named.0 named.1 (hook_is (awaited held.conversation) ask waits ∙ ap Some named.2) in
         subst P (sym named.2) (kept.draft, kept.waits)
 
-    pub open_ones_wait : (due : Due) {course : Course S} {now : AnswererState S} (table : Table C) (trace : Trace) → TableStands standing awaited number made_due answers due course now table trace → OpenOnesWait answers due trace
+    pub open_ones_wait : (due : Due) {course : Course S} {now : AnswererState S} (table : Conversations C) (trace : Trace) → TableStands standing awaited number made_due answers due course now table trace → OpenOnesWait answers due trace
     open_ones_wait due table trace stands conv ask is = waits_in due conv trace (found table conv) (stands.at conv) ask is
 
     -- what is due to one that is live by one call more
@@ -338,7 +196,7 @@ module _ {C : Type 0} (standing : Standing C) (awaited : C → Option Ask) (numb
     next_within due conv trace next (live held) w grown view told sees = live_next due conv trace next held w grown view told sees
 
     -- what was heard takes nothing back
-    pub heard_served : (due : Due) {course : Course S} {now : AnswererState S} (table : Table C) (trace : Trace) (moment : ℕ) (heard : Heard) → TableStands standing awaited number made_due answers due course now table trace →
+    pub heard_served : (due : Due) {course : Course S} {now : AnswererState S} (table : Conversations C) (trace : Trace) (moment : ℕ) (heard : Heard) → TableStands standing awaited number made_due answers due course now table trace →
         IsServed answers due (trace ++ steps.Heard moment heard ∷ [])
     heard_served due table trace moment heard stands = record {
       within = always_more (IsWithinDue due) trace (steps.Heard moment heard) stands.served.within
@@ -351,7 +209,7 @@ module _ {C : Type 0} (standing : Standing C) (awaited : C → Option Ask) (numb
     }
 
     -- nor does a beginning
-    pub begun_served : (due : Due) {course : Course S} {now : AnswererState S} (table : Table C) (trace : Trace) (conv_begun : ℕ) → TableStands standing awaited number made_due answers due course now table trace →
+    pub begun_served : (due : Due) {course : Course S} {now : AnswererState S} (table : Conversations C) (trace : Trace) (conv_begun : ℕ) → TableStands standing awaited number made_due answers due course now table trace →
         IsServed answers due (trace ++ steps.Begun conv_begun ∷ [])
     begun_served due table trace conv_begun stands = record {
       within = always_more (IsWithinDue due) trace (steps.Begun conv_begun) stands.served.within
@@ -371,7 +229,7 @@ module _ {C : Type 0} (standing : Standing C) (awaited : C → Option Ask) (numb
     keeps_same before after conv (live held) same kept = λ index. same index ∙ kept index
 
     -- the others stay, and this one stands
-    pub next_stands : (due : Due) {course made : Course S} {old new : AnswererState S} (conv : ℕ) (before after : Table C) (kept : Kept) (trace next : Trace) →
+    pub next_stands : (due : Due) {course made : Course S} {old new : AnswererState S} (conv : ℕ) (before after : Conversations C) (kept : Kept) (trace next : Trace) →
         ((other : ℕ) → conv ≢ other → Same other trace next) → ((other : ℕ) → conv ≢ other → found after other ≡ found before other) →
         ((other index : ℕ) → conv ≢ other → is_marked made.operations other index ≡ is_marked course.operations other index) → ShowsOthers conv before.flows after.flows →
         (stands : TableStands standing awaited number made_due answers due course old before trace) → StandsIn standing awaited number made_due answers due conv next (found after conv) →
@@ -418,7 +276,7 @@ module _ {C : Type 0} (standing : Standing C) (awaited : C → Option Ask) (numb
         shown_of other index (inr apart) = f.shown_others other index apart.1 ∙ (stands.shown other index ∙ sym (shows other index apart.1))
 
     -- so it is of what was heard
-    heard_stands : (due : Due) {course : Course S} {old new : AnswererState S} (conv moment : ℕ) (what : News) (before after : Table C) (kept : Kept) (trace more : Trace) (heard : Heard) →
+    heard_stands : (due : Due) {course : Course S} {old new : AnswererState S} (conv moment : ℕ) (what : News) (before after : Conversations C) (kept : Kept) (trace more : Trace) (heard : Heard) →
         addressed heard ≡ Some (conv, what) → AllOf conv more → ((other : ℕ) → conv ≢ other → found after other ≡ found before other) → ShowsOthers conv before.flows after.flows →
         (stands : TableStands standing awaited number made_due answers due course old before trace) →
         StandsIn standing awaited number made_due answers due conv ((trace ++ steps.Heard moment heard ∷ []) ++ more) (found after conv) →
@@ -432,7 +290,7 @@ module _ {C : Type 0} (standing : Standing C) (awaited : C → Option Ask) (numb
         others (λ other index apart. refl) shows
 
     -- it follows where the table stands
-    pub table_follows : (due : Due) {course : Course S} {now : AnswererState S} (conv : ℕ) (table : Table C) (kept : Kept) (trace : Trace) →
+    pub table_follows : (due : Due) {course : Course S} {now : AnswererState S} (conv : ℕ) (table : Conversations C) (kept : Kept) (trace : Trace) →
         (stands : TableStands standing awaited number made_due answers due course now table trace) → draft_of (found table conv) ≡ kept.draft →
         ((index : ℕ) → is_marked course.operations conv index ≡ kept.marks index) → ((index : ℕ) → shown_in table.flows conv index ≡ kept.shown index) →
         Follows answers due course stands.pending conv kept now trace
@@ -447,7 +305,7 @@ module _ {C : Type 0} (standing : Standing C) (awaited : C → Option Ask) (numb
     }
 
     -- what is heard too
-    heard_follows : (due : Due) {course : Course S} {now : AnswererState S} (conv moment : ℕ) (table : Table C) (kept : Kept) (trace : Trace) (heard : Heard) →
+    heard_follows : (due : Due) {course : Course S} {now : AnswererState S} (conv moment : ℕ) (table : Conversations C) (kept : Kept) (trace : Trace) (heard : Heard) →
         (stands : TableStands standing awaited number made_due answers due course now table trace) → draft_of (found table conv) ≡ kept.draft →
         ((index : ℕ) → is_marked course.operations conv index ≡ kept.marks index) → ((index : ℕ) → shown_in table.flows conv index ≡ kept.shown index) →
         Follows answers due course stands.pending conv kept now (trace ++ steps.Heard moment heard ∷ [])
@@ -455,7 +313,7 @@ module _ {C : Type 0} (standing : Standing C) (awaited : C → Option Ask) (numb
         follows_heard answers due course stands.pending conv kept now trace moment heard (table_follows due conv table kept trace stands same marked shows)
 
     -- the marks of one that is live
-    pub marks_live : {due : Due} {course : Course S} {now : AnswererState S} (conv : ℕ) (table : Table C) (held : Held C) (trace : Trace) → found table conv ≡ live held →
+    pub marks_live : {due : Due} {course : Course S} {now : AnswererState S} (conv : ℕ) (table : Conversations C) (held : Held C) (trace : Trace) → found table conv ≡ live held →
         TableStands standing awaited number made_due answers due course now table trace → (index : ℕ) → is_marked course.operations conv index ≡ has held.marks index
     marks_live {course = course} conv table held trace was stands = let P : Found (Held C) → Type 0 = KeepsMarks course.operations conv in subst P was (stands.marks conv)
 
@@ -501,7 +359,7 @@ module _ {C : Type 0} (standing : Standing C) (awaited : C → Option Ask) (numb
           IsLive standing awaited number made_due answers due conv held trace
       live_in due conv held trace x is w = let P : Found (Held C) → Type 0 = StandsIn standing awaited number made_due answers due conv trace in subst P is w
 
-      pub hands_of : (conv moment : ℕ) (what : News) (before after : Table C) (held new_held : Held C) {old new : AnswererState S} (out new_out : List Step) → found before conv ≡ live held →
+      pub hands_of : (conv moment : ℕ) (what : News) (before after : Conversations C) (held new_held : Held C) {old new : AnswererState S} (out new_out : List Step) → found before conv ≡ live held →
           Hears standing awaited number made_due answers conv moment what held new_held before.flows after.flows old new out new_out → IsHeldOr new_held (found after conv) →
           ((other : ℕ) → conv ≢ other → found after other ≡ found before other) → Hands standing awaited number made_due answers conv moment what before after old new out new_out
       hands_of conv moment what before after held new_held out new_out was hears there others = record {
@@ -521,7 +379,7 @@ module _ {C : Type 0} (standing : Standing C) (awaited : C → Option Ask) (numb
             (marks_in course.operations conv new_held (found after conv) there next.3.marks) (λ index. refl);
       }
 
-      pub admits_of : (conv moment : ℕ) (conversation : C) (before after : Table C) (held new_held : Held C) {old new : AnswererState S} (out new_out : List Step) → found before conv ≡ unknown →
+      pub admits_of : (conv moment : ℕ) (conversation : C) (before after : Conversations C) (held new_held : Held C) {old new : AnswererState S} (out new_out : List Step) → found before conv ≡ unknown →
           held.conversation ≡ conversation → held.draft ≡ None → held.marks ≡ [] → awaited conversation ≡ None → standing conversation conversation [] [] →
           Takes standing awaited number made_due answers conv moment (Took moment events.Begun) None (has []) held new_held before.flows after.flows old new out new_out → IsHeldOr new_held (found after conv) →
           ((other : ℕ) → conv ≢ other → found after other ≡ found before other) → Admits standing awaited number made_due answers conv moment conversation before after old new out new_out
@@ -619,7 +477,7 @@ module _ {C : Type 0} (standing : Standing C) (awaited : C → Option Ask) (numb
       }
 
     -- news that the table ignores
-    ignored_hands : (conv moment : ℕ) (what : News) (table : Table C) {state : AnswererState S} (out : List Step) →
+    ignored_hands : (conv moment : ℕ) (what : News) (table : Conversations C) {state : AnswererState S} (out : List Step) →
         ((due : Due) (trace : Trace) (heard : Heard) → addressed heard ≡ Some (conv, what) → StandsIn standing awaited number made_due answers due conv trace (found table conv) →
         StandsIn standing awaited number made_due answers due conv (trace ++ steps.Heard moment heard ∷ []) (found table conv)) →
         Hands standing awaited number made_due answers conv moment what table table state state out out
@@ -639,7 +497,7 @@ module _ {C : Type 0} (standing : Standing C) (awaited : C → Option Ask) (numb
           (subst R same (heard_follows due conv moment table kept trace heard stands refl (λ index. refl) (λ index. refl))) refl (stands.marks conv) (λ index. refl);
     }
 
-    pub over_hands : (conv moment : ℕ) (what : News) (table : Table C) {state : AnswererState S} (out : List Step) → found table conv ≡ over → Hands standing awaited number made_due answers conv moment what table table state state out out
+    pub over_hands : (conv moment : ℕ) (what : News) (table : Conversations C) {state : AnswererState S} (out : List Step) → found table conv ≡ over → Hands standing awaited number made_due answers conv moment what table table state state out out
     over_hands conv moment what table out was = ignored_hands conv moment what table out (λ due trace heard is w.
         let P : Found (Held C) → Type 0 = StandsIn standing awaited number made_due answers due conv trace in
         let Q : Found (Held C) → Type 0 = StandsIn standing awaited number made_due answers due conv (trace ++ steps.Heard moment heard ∷ []) in
@@ -651,7 +509,7 @@ module _ {C : Type 0} (standing : Standing C) (awaited : C → Option Ask) (numb
     takes_nothing moment c (news.Event side event) not begun dial = rw begun refl
     takes_nothing moment c (news.Dialled server ok) not begun dial = rw dial refl
 
-    pub unknown_hands : (conv moment : ℕ) (what : News) (table : Table C) {state : AnswererState S} (out : List Step) → found table conv ≡ unknown → ((peer : Address) → what ≡ news.Begun peer → ⊥) →
+    pub unknown_hands : (conv moment : ℕ) (what : News) (table : Conversations C) {state : AnswererState S} (out : List Step) → found table conv ≡ unknown → ((peer : Address) → what ≡ news.Begun peer → ⊥) →
         Hands standing awaited number made_due answers conv moment what table table state state out out
     unknown_hands conv moment what table out was not = ignored_hands conv moment what table out (λ due trace heard is w.
         let P : Found (Held C) → Type 0 = StandsIn standing awaited number made_due answers due conv trace in
@@ -663,7 +521,7 @@ module _ {C : Type 0} (standing : Standing C) (awaited : C → Option Ask) (numb
         subst Q (sym was) (stands_same answers due conv trace (trace ++ steps.Heard moment heard ∷ []) same unknown u))
 
     -- what was heard of no conversation
-    pub routes_none : (moment : ℕ) (heard : Heard) (table : Table C) {state : AnswererState S} (out : List Step) → addressed heard ≡ None → Routes standing awaited number made_due answers moment heard table table state state out out
+    pub routes_none : (moment : ℕ) (heard : Heard) (table : Conversations C) {state : AnswererState S} (out : List Step) → addressed heard ≡ None → Routes standing awaited number made_due answers moment heard table table state state out out
     routes_none moment heard table {state} out is = record {
       more = [];
       grown = sym (append-nil out);
@@ -686,7 +544,7 @@ module _ {C : Type 0} (standing : Standing C) (awaited : C → Option Ask) (numb
     same_pair : (p q : ℕ × News) → Some p ≡ Some q → p.0 ≡ q.0
     same_pair p q e = let s : p ≡ q = cc in ap (λ (r : ℕ × News). r.0) s
 
-    pub routes_of : (moment : ℕ) (heard : Heard) (conv : ℕ) (what : News) (before after : Table C) {old new : AnswererState S} (out new_out : List Step) → addressed heard ≡ Some (conv, what) →
+    pub routes_of : (moment : ℕ) (heard : Heard) (conv : ℕ) (what : News) (before after : Conversations C) {old new : AnswererState S} (out new_out : List Step) → addressed heard ≡ Some (conv, what) →
         Hands standing awaited number made_due answers conv moment what before after old new out new_out → Routes standing awaited number made_due answers moment heard before after old new out new_out
     routes_of moment heard conv what before after out new_out is hands = record {
       more = hands.more;
@@ -697,7 +555,7 @@ module _ {C : Type 0} (standing : Standing C) (awaited : C → Option Ask) (numb
       stands = λ due course trace stands. hands.stands due course trace heard is stands;
     }
 
-    pub routes_out : (moment : ℕ) (heard : Heard) (before after : Table C) {old new : AnswererState S} (empty given out new_out : List Step) → empty ≡ [] → new_out ≡ out ++ given →
+    pub routes_out : (moment : ℕ) (heard : Heard) (before after : Conversations C) {old new : AnswererState S} (empty given out new_out : List Step) → empty ≡ [] → new_out ≡ out ++ given →
         Routes standing awaited number made_due answers moment heard before after old new empty given → Routes standing awaited number made_due answers moment heard before after old new out new_out
     routes_out moment heard before after empty given out new_out none grown r = record {
       more = r.more;
@@ -708,7 +566,7 @@ module _ {C : Type 0} (standing : Standing C) (awaited : C → Option Ask) (numb
       stands = r.stands;
     }
 
-    pub admits_out : (conv moment : ℕ) (conversation : C) (before after : Table C) {old new : AnswererState S} (empty given out new_out : List Step) → empty ≡ [] → new_out ≡ out ++ given →
+    pub admits_out : (conv moment : ℕ) (conversation : C) (before after : Conversations C) {old new : AnswererState S} (empty given out new_out : List Step) → empty ≡ [] → new_out ≡ out ++ given →
         Admits standing awaited number made_due answers conv moment conversation before after old new empty given → Admits standing awaited number made_due answers conv moment conversation before after old new out new_out
     admits_out conv moment conversation before after empty given out new_out none grown r = record {
       more = r.more;
@@ -720,7 +578,7 @@ module _ {C : Type 0} (standing : Standing C) (awaited : C → Option Ask) (numb
     }
 
     -- no two numbers share a key
-    pub apart_keys : (due : Due) {course : Course S} {now : AnswererState S} (table : Table C) (trace : Trace) (conv other key : ℕ) (held : Held C) → TableStands standing awaited number made_due answers due course now table trace →
+    pub apart_keys : (due : Due) {course : Course S} {now : AnswererState S} (table : Conversations C) (trace : Trace) (conv other key : ℕ) (held : Held C) → TableStands standing awaited number made_due answers due course now table trace →
         slab.get table.live key ≡ Some held → number held.conversation ≡ conv → conv ≢ other → place_of table other ≡ Some (place.Live key) → ⊥
     apart_keys due table trace conv other key held stands is named apart at =
         let there : found table other ≡ live held = ap (found_by table.live) at ∙ ap found_at is in
@@ -728,7 +586,7 @@ module _ {C : Type 0} (standing : Standing C) (awaited : C → Option Ask) (numb
         let w : IsLive standing awaited number made_due answers due other held trace = subst P there (stands.at other) in
         apart (sym named ∙ w.within.named)
 
-    pub no_vacant_key : (due : Due) {course : Course S} {now : AnswererState S} (table : Table C) (trace : Trace) (other key : ℕ) → TableStands standing awaited number made_due answers due course now table trace →
+    pub no_vacant_key : (due : Due) {course : Course S} {now : AnswererState S} (table : Conversations C) (trace : Trace) (other key : ℕ) → TableStands standing awaited number made_due answers due course now table trace →
         slab.get table.live key ≡ None → place_of table other ≡ Some (place.Live key) → ⊥
     no_vacant_key due table trace other key stands is at =
         let there : found table other ≡ lost = ap (found_by table.live) at ∙ ap found_at is in
@@ -743,7 +601,7 @@ module _ {C : Type 0} (standing : Standing C) (awaited : C → Option Ask) (numb
         let Q : List (ℕ × ℕ) → Type 0 = λ l. Takes standing awaited number made_due answers conv moment (Took moment events.Begun) (dial_of (awaited held.conversation)) (has l) held new_held shown new_shown old new out new_out in
         subst P (ap (λ s. dial_of (awaited s)) same ∙ ap dial_of free) (subst Q sides t)
 
-    pub at_key : (due : Due) {course : Course S} {now : AnswererState S} (table : Table C) (trace : Trace) (conv key : ℕ) → TableStands standing awaited number made_due answers due course now table trace →
+    pub at_key : (due : Due) {course : Course S} {now : AnswererState S} (table : Conversations C) (trace : Trace) (conv key : ℕ) → TableStands standing awaited number made_due answers due course now table trace →
         place_of table conv ≡ Some (place.Live key) → IsAtKey standing awaited number made_due conv key table
     at_key due table trace conv key stands at = by (slab.get table.live key) refl
       where
@@ -764,14 +622,14 @@ module _ {C : Type 0} (standing : Standing C) (awaited : C → Option Ask) (numb
     module _ (ended : C → Bool) (ends : (made state : C) (moves : List Move) (given : List Command) → standing made state moves given → ended state ≡ true →
         (more : List Move) (view : View) → seen_of view (made_due made (moves ++ more)) ≡ seen_of view (made_due made moves))
         (rests : (made state : C) (moves : List Move) (given : List Command) → standing made state moves given → ended state ≡ true → awaited state ≡ None) where
-      named_at : (due : Due) {course : Course S} {now : AnswererState S} (table : Table C) (trace : Trace) (conv key : ℕ) (held : Held C) → TableStands standing awaited number made_due answers due course now table trace →
+      named_at : (due : Due) {course : Course S} {now : AnswererState S} (table : Conversations C) (trace : Trace) (conv key : ℕ) (held : Held C) → TableStands standing awaited number made_due answers due course now table trace →
           place_of table conv ≡ Some (place.Live key) → slab.get table.live key ≡ Some held → number held.conversation ≡ conv
       named_at due table trace conv key held stands at is =
           let P : Found (Held C) → Type 0 = StandsIn standing awaited number made_due answers due conv trace in
           let w : IsLive standing awaited number made_due answers due conv held trace = subst P (ap (found_by table.live) at ∙ ap found_at is) (stands.at conv) in
           w.within.named
 
-      pub hands_live : (conv moment key : ℕ) (what : News) (before after : Table C) {old new : AnswererState S} (over_now : Bool) (out new_out : List Step) →
+      pub hands_live : (conv moment key : ℕ) (what : News) (before after : Conversations C) {old new : AnswererState S} (over_now : Bool) (out new_out : List Step) →
           IsTabled standing awaited number made_due answers before → place_of before conv ≡ Some (place.Live key) →
           HearsAt standing awaited number made_due answers ended conv moment what key before after old new over_now out new_out →
           Hands standing awaited number made_due answers conv moment what before after old new out new_out
@@ -781,7 +639,7 @@ module _ {C : Type 0} (standing : Standing C) (awaited : C → Option Ask) (numb
           (λ other apart. same_found before.live after.live (place_of before other) (place_of after other) key (h.places other) h.live_now.others
           (apart_keys due before trace conv other key h.held stands h.was (named_at due before trace conv key h.held stands at h.was) apart))
 
-      pub hands_ended : (conv moment key : ℕ) (what : News) (before between after : Table C) {old new : AnswererState S} (over_now : Bool) (out new_out : List Step) →
+      pub hands_ended : (conv moment key : ℕ) (what : News) (before between after : Conversations C) {old new : AnswererState S} (over_now : Bool) (out new_out : List Step) →
           IsTabled standing awaited number made_due answers before → place_of before conv ≡ Some (place.Live key) →
           HearsAt standing awaited number made_due answers ended conv moment what key before between old new over_now out new_out → over_now ≡ true →
           slab.Updates between.live after.live key None → after.flows ≡ between.flows → PutsPlace between after conv (Some place.Ended) →
@@ -795,7 +653,7 @@ module _ {C : Type 0} (standing : Standing C) (awaited : C → Option Ask) (numb
           (λ k k_apart. removed.others k k_apart ∙ h.live_now.others k k_apart)
           (apart_keys due before trace conv other key h.held stands h.was (named_at due before trace conv key h.held stands at h.was) apart))
 
-      pub admits_added : (conv moment key : ℕ) (conversation : C) (before after : Table C) (held new_held : Held C) (mid : Flows) {old new : AnswererState S} (out new_out : List Step) →
+      pub admits_added : (conv moment key : ℕ) (conversation : C) (before after : Conversations C) (held new_held : Held C) (mid : Flows) {old new : AnswererState S} (out new_out : List Step) →
           IsTabled standing awaited number made_due answers before → is_some (place_of before conv) ≡ false →
           held.conversation ≡ conversation → held.connected ≡ [] → held.draft ≡ None → held.marks ≡ [] → awaited conversation ≡ None → standing conversation conversation [] [] →
           Takes standing awaited number made_due answers conv moment (Took moment events.Begun) (dial_of (awaited held.conversation)) (has held.connected) held new_held before.flows mid old new out new_out → after.flows ≡ mid →
@@ -809,7 +667,7 @@ module _ {C : Type 0} (standing : Standing C) (awaited : C → Option Ask) (numb
           (λ other apart. same_found before.live after.live (place_of before other) (place_of after other) key (noted.others other apart) added.others
           (no_vacant_key due before trace other key stands vacant))
 
-      pub admits_ended : (conv moment : ℕ) (conversation : C) (before after : Table C) (held new_held : Held C) (mid : Flows) {old new : AnswererState S} (out new_out : List Step) → is_some (place_of before conv) ≡ false →
+      pub admits_ended : (conv moment : ℕ) (conversation : C) (before after : Conversations C) (held new_held : Held C) (mid : Flows) {old new : AnswererState S} (out new_out : List Step) → is_some (place_of before conv) ≡ false →
           held.conversation ≡ conversation → held.connected ≡ [] → held.draft ≡ None → held.marks ≡ [] → awaited conversation ≡ None → standing conversation conversation [] [] →
           Takes standing awaited number made_due answers conv moment (Took moment events.Begun) (dial_of (awaited held.conversation)) (has held.connected) held new_held before.flows mid old new out new_out → after.flows ≡ mid →
           ended new_held.conversation ≡ true → after.live ≡ before.live → PutsPlace before after conv (Some place.Ended) →

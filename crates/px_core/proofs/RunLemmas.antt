@@ -19,7 +19,7 @@ use Rattle.px_event.specs.Layer.{Move, Standing}
 use Rattle.px_event.specs.Trace.{Trace}
 use Rattle.px_core.specs.declared.news.News.{News}
 use Rattle.px_core.specs.declared.news.News.TheVariants as news
-use Rattle.px_core.specs.declared.table.Table.{Table}
+use Rattle.px_core.specs.declared.table.Conversations.{Conversations}
 use Rattle.px_core.specs.Answers.{Answering, AnswererState}
 use Rattle.px_core.specs.Calls.{number_end, addressed}
 use Rattle.px_core.specs.Course.{Course}
@@ -53,7 +53,7 @@ served_front answers due trace rest served = record {
 }
 
 module _ {C : Type 0} (standing : Standing C) (awaited : C → Option Ask) (number : C → ℕ) (made_due : C → List Move → List Command) {S : Type 0} (answers : Answering S) where
-  pub admitted : (conv moment : ℕ) (conversation : C) (before after : Table C) {old new : AnswererState S} (empty given : List Step) → empty ≡ [] →
+  pub admitted : (conv moment : ℕ) (conversation : C) (before after : Conversations C) {old new : AnswererState S} (empty given : List Step) → empty ≡ [] →
       Admits standing awaited number made_due answers conv moment conversation before after old new empty given →
       (due : Due) (course : Course S) (trace : Trace) (what : Heard) (peer : Address) → addressed what ≡ Some (conv, news.Begun peer) → ((moves : List Move) → made_due conversation moves ≡ due conv (Some peer) moves) →
       TableStands standing awaited number made_due answers due course old before trace →
@@ -63,12 +63,12 @@ module _ {C : Type 0} (standing : Standing C) (awaited : C → Option Ask) (numb
       let P : Trace → Type 0 = λ l. TableStands standing awaited number made_due answers due course new after ((trace ++ steps.Heard moment what ∷ []) ++ l) in
       subst P same (a.stands due course trace what peer is owes stands)
 
-  pub admitted_own : (conv moment : ℕ) (conversation : C) (before after : Table C) {old new : AnswererState S} (empty given : List Step) → empty ≡ [] →
+  pub admitted_own : (conv moment : ℕ) (conversation : C) (before after : Conversations C) {old new : AnswererState S} (empty given : List Step) → empty ≡ [] →
       Admits standing awaited number made_due answers conv moment conversation before after old new empty given → AllOf conv given
   admitted_own conv moment conversation before after empty given none a =
       let P : Trace → Type 0 = AllOf conv in subst P (sym (a.grown ∙ ap (λ l. l ++ a.more) none)) a.own
 
-  pub routed : (moment : ℕ) (what : Heard) (before after : Table C) {old new : AnswererState S} (empty given : List Step) → empty ≡ [] →
+  pub routed : (moment : ℕ) (what : Heard) (before after : Conversations C) {old new : AnswererState S} (empty given : List Step) → empty ≡ [] →
       Routes standing awaited number made_due answers moment what before after old new empty given →
       (due : Due) (course : Course S) (trace : Trace) → TableStands standing awaited number made_due answers due course old before trace →
       TableStands standing awaited number made_due answers due course new after ((trace ++ steps.Heard moment what ∷ []) ++ given)
@@ -76,7 +76,7 @@ module _ {C : Type 0} (standing : Standing C) (awaited : C → Option Ask) (numb
       let P : Trace → Type 0 = λ l. TableStands standing awaited number made_due answers due course new after ((trace ++ steps.Heard moment what ∷ []) ++ l) in
       subst P (sym (r.grown ∙ ap (λ l. l ++ r.more) none)) (r.stands due course trace stands)
 
-  pub routed_tellable : (moment : ℕ) (what : Heard) (before after : Table C) {old new : AnswererState S} (empty given : List Step) → empty ≡ [] →
+  pub routed_tellable : (moment : ℕ) (what : Heard) (before after : Conversations C) {old new : AnswererState S} (empty given : List Step) → empty ≡ [] →
       Routes standing awaited number made_due answers moment what before after old new empty given → AllTellable given
   routed_tellable moment what before after empty given none r = by (addressed what) refl
     where
@@ -235,7 +235,7 @@ begun_keeps_by (Ok t) what conv peer before after is kept = begun_keeps what con
 begun_keeps_by (Err e) what conv peer before after is kept = tt
 
 module _ {C : Type 0} (standing : Standing C) (awaited : C → Option Ask) (number : C → ℕ) (made_due : C → List Move → List Command) {S : Type 0} (answers : Answering S) where
-  pub routed_of_heard : (moment : ℕ) (what : Heard) (before after : Table C) {old new : AnswererState S} (empty given : List Step) → empty ≡ [] →
+  pub routed_of_heard : (moment : ℕ) (what : Heard) (before after : Conversations C) {old new : AnswererState S} (empty given : List Step) → empty ≡ [] →
       Routes standing awaited number made_due answers moment what before after old new empty given → IsOfHeard what given
   routed_of_heard moment what before after empty given none r =
       let same : r.more ≡ given = sym (r.grown ∙ ap (λ l. l ++ r.more) none) in

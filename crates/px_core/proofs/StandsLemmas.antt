@@ -18,7 +18,7 @@ use Rattle.px_core.specs.declared.news.News.{News}
 use Rattle.px_core.specs.declared.news.News.TheVariants as news
 use Rattle.px_core.specs.declared.table.Entry.{Entry}
 use Rattle.px_core.specs.declared.table.Entry.TheVariants as place
-use Rattle.px_core.specs.declared.table.Table.{Table}
+use Rattle.px_core.specs.declared.table.Conversations.{Conversations}
 use Rattle.px_core.specs.Answered.{GivenTo, RestsBy}
 use Rattle.px_core.specs.Answers.{Answering, AnswererState}
 use Rattle.px_core.specs.Calls.{addressed, calls}
@@ -43,7 +43,7 @@ module _ {C : Type 0} (standing : Standing C) (awaited : C → Option Ask) (numb
   begun_by conv trace held (Some (place.Live key)) w = sym (begun_at conv trace (slab.get held key) w)
 
   -- a number is known exactly where its conversation has begun
-  pub known_begun : {course : Course S} {now : AnswererState S} (table : Table C) (trace : Trace) (conv : ℕ) → TableStands standing awaited number made_due answers due course now table trace →
+  pub known_begun : {course : Course S} {now : AnswererState S} (table : Conversations C) (trace : Trace) (conv : ℕ) → TableStands standing awaited number made_due answers due course now table trace →
       is_some (place_of table conv) ≡ is_some (calls conv trace).peer
   known_begun table trace conv stands = begun_by conv trace table.live (place_of table conv) (stands.at conv)
 
@@ -68,7 +68,7 @@ module _ {C : Type 0} (standing : Standing C) (awaited : C → Option Ask) (numb
       (kept.draft, is ∙ (ap (λ h. waiting h held.draft) opened ∙ ap (waiting (Some ask)) kept.is))
 
   -- the trace rests
-  pub rests_by : {course : Course S} {now : AnswererState S} (table : Table C) (trace : Trace) → TableStands standing awaited number made_due answers due course now table trace →
+  pub rests_by : {course : Course S} {now : AnswererState S} (table : Conversations C) (trace : Trace) → TableStands standing awaited number made_due answers due course now table trace →
       RestsBy answers due course trace
   rests_by {course} {now} table trace stands = record {
     made = course;
@@ -82,7 +82,7 @@ module _ {C : Type 0} (standing : Standing C) (awaited : C → Option Ask) (numb
   -- what is heard of a number that has not begun changes nothing
   pub nobody_heard : (gave : (made state : C) (moves : List Move) (given : List Command) → standing made state moves given → (view : View) → seen_of view given ≡ seen_of view (made_due made moves))
       (grows : (made : C) (moves : List Move) (move : Move) (view : View) → IsPrefixOf (seen_of view (made_due made moves)) (seen_of view (made_due made (moves ++ move ∷ []))))
-      {course : Course S} {now : AnswererState S} (table : Table C) (trace : Trace) (moment : ℕ) (what : Heard) (conv : ℕ) (told : News) → addressed what ≡ Some (conv, told) →
+      {course : Course S} {now : AnswererState S} (table : Conversations C) (trace : Trace) (moment : ℕ) (what : Heard) (conv : ℕ) (told : News) → addressed what ≡ Some (conv, told) →
       ((peer : Address) → told ≢ news.Begun peer) → (calls conv trace).peer ≡ None → TableStands standing awaited number made_due answers due course now table trace →
       TableStands standing awaited number made_due answers due course now table (trace ++ steps.Heard moment what ∷ [])
   nobody_heard gave grows {course} {now} table trace moment what conv told is begins none stands =

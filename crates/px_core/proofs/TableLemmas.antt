@@ -6,7 +6,7 @@ use Rattle.std.specs.BTreeMap.{BTreeMap}
 use Rattle.std.specs.Map.{lookup}
 use Rattle.std.specs.Ordering.{nat_cmp}
 use Rattle.px_core.specs.declared.table.Entry.TheVariants as place
-use Rattle.px_core.specs.declared.table.Table.{Table}
+use Rattle.px_core.specs.declared.table.Conversations.{Conversations}
 use Rattle.px_core.specs.Router.{placed, place_of, PutsPlace}
 use Rattle.px_core.specs.Runs.{has}
 use Rattle.px_core.proofs.CallLemmas.{same_number}
@@ -26,7 +26,7 @@ no_place ended keys conv none empty =
     placed_by false (has ended conv) None (tree.get nat_cmp keys conv) (ap (λ r. has r conv) none) (ap (lookup (tree.is_at (nat_cmp conv))) empty)
 
 -- a key is put in for a number that had no place
-pub place_added : {C : Type 0} (before after : Table C) (conv key : ℕ) → after.ended ≡ before.ended → tree.Updates nat_cmp before.keys after.keys conv (Some key) → place_of before conv ≡ None →
+pub place_added : {C : Type 0} (before after : Conversations C) (conv key : ℕ) → after.ended ≡ before.ended → tree.Updates nat_cmp before.keys after.keys conv (Some key) → place_of before conv ≡ None →
     PutsPlace before after conv (Some (place.Live key))
 place_added before after conv key same put unknown = record {
   here = placed_by false (has after.ended conv) (Some key) (tree.get nat_cmp after.keys conv)
@@ -36,7 +36,7 @@ place_added before after conv key same put unknown = record {
 }
 
 -- a number is added to those that have ended, and its key is taken out
-pub place_ended : {C : Type 0} (before after : Table C) (conv : ℕ) → ((other : ℕ) → has after.ended other ≡ ((conv == other) || has before.ended other)) →
+pub place_ended : {C : Type 0} (before after : Conversations C) (conv : ℕ) → ((other : ℕ) → has after.ended other ≡ ((conv == other) || has before.ended other)) →
     tree.Updates nat_cmp before.keys after.keys conv None → PutsPlace before after conv (Some place.Ended)
 place_ended before after conv added taken = record {
   here = ap (λ b. placed b (tree.get nat_cmp after.keys conv)) (added conv ∙ ap (λ b. b || has before.ended conv) (same_number conv));

@@ -25,7 +25,7 @@ use Rattle.px_core.specs.declared.news.News.TheVariants as news
 use Rattle.px_core.specs.declared.table.Entry.{Entry}
 use Rattle.px_core.specs.declared.table.Entry.TheVariants as place
 use Rattle.px_core.specs.declared.router.Router.{Router}
-use Rattle.px_core.specs.declared.table.Table.{Table}
+use Rattle.px_core.specs.declared.table.Conversations.{Conversations}
 use Rattle.px_core.specs.Addons.{has_name}
 use Rattle.px_core.specs.Answered.{Pending, Answers}
 use Rattle.px_core.specs.Answers.{Answering, AnswererState, ByAnswers, FilesMeaning}
@@ -62,15 +62,15 @@ placed false None = None
 placed false (Some key) = Some (place.Live key)
 
 -- It has ended where the runs have its number; else it is where the map of live ones says.
-abbrev pub place_of : {C : Type 0} → Table C → ℕ → Option Entry
+abbrev pub place_of : {C : Type 0} → Conversations C → ℕ → Option Entry
 place_of table conv = placed (has table.ended conv) (tree.get nat_cmp table.keys conv)
 
 -- this number's place is so from then on, and that of each other is what it was
-pub record PutsPlace {C : Type 0} (before after : Table C) (conv : ℕ) (now : Option Entry) : Type 0 where
+pub record PutsPlace {C : Type 0} (before after : Conversations C) (conv : ℕ) (now : Option Entry) : Type 0 where
   pub here : place_of after conv ≡ now
   pub others : (other : ℕ) → conv ≢ other → place_of after other ≡ place_of before other
 
-abbrev pub found : {C : Type 0} → Table C → ℕ → Found (Held C)
+abbrev pub found : {C : Type 0} → Conversations C → ℕ → Found (Held C)
 found table conv = found_by table.live (place_of table conv)
 
 -- a conversation of this number was admitted
@@ -93,7 +93,7 @@ hook_at awaited index (live held) = hook_in index (awaited held.conversation)
 hook_at awaited index _ = None
 
 -- no conversation that has ended is held
-abbrev pub HoldsNoEnded : {C : Type 0} → (C → Bool) → Table C → Type 0
+abbrev pub HoldsNoEnded : {C : Type 0} → (C → Bool) → Conversations C → Type 0
 HoldsNoEnded {C = C} ended table = (key : ℕ) (held : Held C) → slab.get table.live key ≡ Some held → ended held.conversation ≡ false
 
 -- nothing of this number was admitted
@@ -165,7 +165,7 @@ AwaitsFor awaited conv operation (live held) = IsReleased awaited conv operation
 AwaitsFor awaited conv operation _ = ⊥
 
 -- the flow of this index is marked in what is held under a key, and nothing else changes
-pub record MarksAt {C : Type 0} (key index : ℕ) (held : Held C) (before after : Table C) : Type 0 where
+pub record MarksAt {C : Type 0} (key index : ℕ) (held : Held C) (before after : Conversations C) : Type 0 where
   pub new_held : Held C
   pub live_now : slab.Updates before.live after.live key (Some new_held)
   pub places : (other : ℕ) → place_of after other ≡ place_of before other
@@ -182,7 +182,7 @@ AllOfAny (Some conv) more = AllOf conv more
 
 module _ {C : Type 0} (standing : Standing C) (awaited : C → Option Ask) (number : C → ℕ) (made_due : C → List Move → List Command) where
   -- under this key the table has the conversation of this number
-  pub record IsAtKey (conv key : ℕ) (table : Table C) : Type 0 where
+  pub record IsAtKey (conv key : ℕ) (table : Conversations C) : Type 0 where
     pub held : Held C
     pub is : slab.get table.live key ≡ Some held
     pub sound : IsSound standing held.conversation
@@ -206,7 +206,7 @@ module _ {C : Type 0} (standing : Standing C) (awaited : C → Option Ask) (numb
     -- At a step's end: under each number the table has what the trace says, and the trace is served. The answerer came over the trace
     -- from what it was at first to what it is now, and of each hook that is open the draft that the table keeps is pending. Marks are kept as
     -- the course made them, and live flows as they were asked about last.
-    pub record TableStands (due : Due) (course : Course S) (now : AnswererState S) (table : Table C) (trace : Trace) : Type 0 where
+    pub record TableStands (due : Due) (course : Course S) (now : AnswererState S) (table : Conversations C) (trace : Trace) : Type 0 where
       pub at : (conv : ℕ) → StandsIn due conv trace (found table conv)
       pub served : IsServed answers due trace
       pub pending : Pending
@@ -216,7 +216,7 @@ module _ {C : Type 0} (standing : Standing C) (awaited : C → Option Ask) (numb
       pub shown : (conv index : ℕ) → pending.shown conv index ≡ shown_in table.flows conv index
 
     -- it stands for something
-    abbrev pub IsTabled : Table C → Type 0
+    abbrev pub IsTabled : Conversations C → Type 0
     IsTabled table = (due : Due) × (course : Course S) × (now : AnswererState S) × (trace : Trace) × TableStands due course now table trace
 
     -- so has a router, by the state of its own answerer and what files mean
@@ -228,7 +228,7 @@ module _ {C : Type 0} (standing : Standing C) (awaited : C → Option Ask) (numb
     IsRouted router = router.poisoned ≡ false → IsTabled router.table
 
     -- News that the conversation under this key took.
-    pub record HearsAt (ended : C → Bool) (conv moment : ℕ) (what : News) (key : ℕ) (before after : Table C) (old new : AnswererState S) (over_now : Bool) (out new_out : List Step) : Type 0 where
+    pub record HearsAt (ended : C → Bool) (conv moment : ℕ) (what : News) (key : ℕ) (before after : Conversations C) (old new : AnswererState S) (over_now : Bool) (out new_out : List Step) : Type 0 where
       pub held : Held C
       pub new_held : Held C
       pub was : slab.get before.live key ≡ Some held
@@ -239,7 +239,7 @@ module _ {C : Type 0} (standing : Standing C) (awaited : C → Option Ask) (numb
 
     -- Steps that were added for news of a conversation are its own, and nothing of another changes; whatever trace the table
     -- stood for, it stands for that trace with what was heard and these steps more.
-    pub record Hands (conv moment : ℕ) (what : News) (before after : Table C) (old new : AnswererState S) (out new_out : List Step) : Type 0 where
+    pub record Hands (conv moment : ℕ) (what : News) (before after : Conversations C) (old new : AnswererState S) (out new_out : List Step) : Type 0 where
       pub more : List Step
       pub grown : new_out ≡ out ++ more
       pub own : AllOf conv more
@@ -249,7 +249,7 @@ module _ {C : Type 0} (standing : Standing C) (awaited : C → Option Ask) (numb
 
     -- So are those of a conversation that was admitted, where what is due of it is what is due under its number where its client
     -- is.
-    pub record Admits (conv moment : ℕ) (conversation : C) (before after : Table C) (old new : AnswererState S) (out new_out : List Step) : Type 0 where
+    pub record Admits (conv moment : ℕ) (conversation : C) (before after : Conversations C) (old new : AnswererState S) (out new_out : List Step) : Type 0 where
       pub more : List Step
       pub grown : new_out ≡ out ++ more
       pub own : AllOf conv more
@@ -263,7 +263,7 @@ module _ {C : Type 0} (standing : Standing C) (awaited : C → Option Ask) (numb
 
     -- Something heard that a router took: it adds steps of that conversation alone, and changes nothing of another; whatever
     -- trace it stood for, it stands for that trace with what was heard and these steps more.
-    pub record Routes (moment : ℕ) (heard : Heard) (before after : Table C) (old new : AnswererState S) (out new_out : List Step) : Type 0 where
+    pub record Routes (moment : ℕ) (heard : Heard) (before after : Conversations C) (old new : AnswererState S) (out new_out : List Step) : Type 0 where
       pub more : List Step
       pub grown : new_out ≡ out ++ more
       pub own : (conv : ℕ) (what : News) → addressed heard ≡ Some (conv, what) → AllOf conv more
@@ -272,7 +272,7 @@ module _ {C : Type 0} (standing : Standing C) (awaited : C → Option Ask) (numb
       pub stands : (due : Due) (course : Course S) (trace : Trace) → TableStands due course old before trace → TableStands due course new after ((trace ++ steps.Heard moment heard ∷ []) ++ more)
 
     -- An operation on a hook that the conversation under this key awaits.
-    pub record ReleasesAt (ended : C → Bool) (conv moment : ℕ) (operation : Operation) (key : ℕ) (before after : Table C) (old new : AnswererState S) (over_now : Bool) (out new_out : List Step) : Type 0 where
+    pub record ReleasesAt (ended : C → Bool) (conv moment : ℕ) (operation : Operation) (key : ℕ) (before after : Conversations C) (old new : AnswererState S) (over_now : Bool) (out new_out : List Step) : Type 0 where
       pub held : Held C
       pub new_held : Held C
       pub was : slab.get before.live key ≡ Some held
@@ -283,7 +283,7 @@ module _ {C : Type 0} (standing : Standing C) (awaited : C → Option Ask) (numb
 
     -- An operation that was done. It adds steps of its flow's conversation alone, and changes nothing of another; whatever trace the table stood for,
     -- at the moment of what was heard last, it stands for that trace with these steps more, by the course with this operation.
-    pub record Operates (moment : ℕ) (operation : Operation) (before after : Table C) (old new : AnswererState S) (out new_out : List Step) : Type 0 where
+    pub record Operates (moment : ℕ) (operation : Operation) (before after : Conversations C) (old new : AnswererState S) (out new_out : List Step) : Type 0 where
       pub more : List Step
       pub grown : new_out ≡ out ++ more
       pub own : AllOfAny (caused_in operation) more

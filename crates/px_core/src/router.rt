@@ -33,7 +33,7 @@ ghost use Rattle.px_event.specs.Trace.{Trace};
 use crate::held::{Call, Held};
 use crate::news::{News, news_of};
 use crate::runs::Runs;
-use crate::table::{Entry, Table};
+use crate::table::{Conversations, Entry};
 use crate::{Answerer, NoSuchAddon, OperateError, Operation, Owes};
 use px_event::{Ask, Event, Heard, Hook, Step};
 use px_message::{Flow, FlowId};
@@ -46,7 +46,7 @@ use std::alloc::Global;
 pub struct Router<C, A> {
     alloc: Global,
     answerer: A,
-    table: Table<C>,
+    table: Conversations<C>,
     poisoned: bool,
 }
 
@@ -62,7 +62,7 @@ impl<C: Owes, A: Answerer> Router<C, A> {
         Router {
             alloc,
             answerer,
-            table: Table::new(alloc),
+            table: Conversations::new(alloc),
             poisoned: false,
         }
     }

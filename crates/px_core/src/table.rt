@@ -30,21 +30,21 @@ pub enum Entry {
 
 /// The live conversations with their keys by number, the numbers of those that have ended, and the live flows of all.
 #[derive(Drop)]
-pub struct Table<C> {
+pub struct Conversations<C> {
     pub(crate) live: Slab<Held<C>>,
     keys: BTreeMap<u32, usize>,
     ended: Runs,
     pub(crate) flows: Flows,
 }
 
-impl<C: Drop> Table<C> {
+impl<C: Drop> Conversations<C> {
     /// No conversation was admitted.
-    pub(crate) fn new(alloc: Global) -> Table<C>
+    pub(crate) fn new(alloc: Global) -> Conversations<C>
         ensures empty { (conv : _) → place_of result conv ≡ None }
         ensures vacant { (key : _) → held_under result.live key ≡ None }
         ensures flows { (conv index : _) → shown_in result.flows conv index ≡ None }
     {
-        Table {
+        Conversations {
             live: Slab::new(alloc),
             keys: BTreeMap::new(alloc),
             ended: Runs::new(alloc),

@@ -10,7 +10,7 @@ use Rattle.px_event.specs.Trace.{Trace}
 use Rattle.px_core.specs.declared.operation.OperateError.{OperateError}
 use Rattle.px_core.specs.declared.operation.OperateError.TheVariants as refused
 use Rattle.px_core.specs.declared.operation.Operation.{Operation}
-use Rattle.px_core.specs.declared.table.Table.{Table}
+use Rattle.px_core.specs.declared.table.Conversations.{Conversations}
 use Rattle.px_core.specs.Answers.{Answering, AnswererState, Failing, FilesAfter, FilesMeaning}
 use Rattle.px_core.specs.Course.{Course, with_operation}
 use Rattle.px_core.specs.Due.{Due}
@@ -78,18 +78,18 @@ pub sound_on : {S : Type 0} {answers : Answering S} {drops : List ℕ → S → 
 sound_on g s = let a = g.adds s.due s.course s.trace s.stands s.at_moment in record { due = s.due; course = a.last.course; trace = a.last.trace; stands = a.stands; at_moment = a.at_moment }
 
 module _ {C : Type 0} (standing : Standing C) (awaited : C → Option Ask) (number : C → ℕ) (made_due : C → List Move → List Command) {S : Type 0} (answers : Answering S) where
-  pub rests : (now : AnswererState S) (table : Table C) (due : Due) (course : Course S) (trace : Trace) → TableStands standing awaited number made_due answers due course now table trace →
+  pub rests : (now : AnswererState S) (table : Conversations C) (due : Due) (course : Course S) (trace : Trace) → TableStands standing awaited number made_due answers due course now table trace →
       Rests answers due course trace now
   rests now table due course trace s = record { served = s.served; pending = s.pending; answered = s.answered }
 
-  pub kept_stands : (old new : AnswererState S) (table new_table : Table C) → new ≡ old → new_table ≡ table → (due : Due) (course : Course S) (trace : Trace) →
+  pub kept_stands : (old new : AnswererState S) (table new_table : Conversations C) → new ≡ old → new_table ≡ table → (due : Due) (course : Course S) (trace : Trace) →
       TableStands standing awaited number made_due answers due course old table trace → TableStands standing awaited number made_due answers due course new new_table trace
   kept_stands old new table new_table same kept due course trace s =
       let P : AnswererState S → Type 0 = λ n. TableStands standing awaited number made_due answers due course n table trace in
-      let Q : Table C → Type 0 = λ t. TableStands standing awaited number made_due answers due course new t trace in
+      let Q : Conversations C → Type 0 = λ t. TableStands standing awaited number made_due answers due course new t trace in
       subst Q (sym kept) (subst P (sym same) s)
 
-  pub tabled : (now : AnswererState S) (table : Table C) (moment : ℕ) → StandsAt (λ due course trace. TableStands standing awaited number made_due answers due course now table trace) moment →
+  pub tabled : (now : AnswererState S) (table : Conversations C) (moment : ℕ) → StandsAt (λ due course trace. TableStands standing awaited number made_due answers due course now table trace) moment →
       IsTabled standing awaited number made_due answers table
   tabled now table moment s = (s.due, s.course, now, s.trace, s.stands)
 

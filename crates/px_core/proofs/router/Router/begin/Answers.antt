@@ -1,6 +1,7 @@
 use Rattle.std.proofs.Common.{sym, refl, None}
 use Rattle.std.proofs.lemmas.Result.{on_ok_weaker}
-use Rattle.px_core.proofs.RouteLemmas.{unplaced, admits_added, admits_ended, ended_stays}
+use Rattle.px_core.proofs.RouteLemmas.{unplaced, admits_added, admits_ended}
+use Rattle.px_core.proofs.NextLemmas.{ended_stays}
 use Rattle.px_core.proofs.LiveLemmas.{updated, same_live}
 use Rattle.px_core.proofs.ResultLemmas.{on_ok_of}
 use Rattle.px_core.proofs.router.Router.begin.Goals as goal

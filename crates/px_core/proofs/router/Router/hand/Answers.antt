@@ -1,7 +1,8 @@
 use Rattle.std.proofs.Common.{◌≡◌, Some, sym, ◌∙◌, ap, true, false, is_some}
 use Rattle.px_core.proofs.ResultLemmas.{on_ok_both}
 use Rattle.px_core.specs.Router.{found_by}
-use Rattle.px_core.proofs.RouteLemmas.{at_key, ended_stays, hands_live, hands_ended, over_hands, unknown_hands}
+use Rattle.px_core.proofs.RouteLemmas.{at_key, hands_live, hands_ended, over_hands, unknown_hands}
+use Rattle.px_core.proofs.NextLemmas.{ended_stays}
 use Rattle.px_core.proofs.AnswerLemmas.{after_none}
 use Rattle.px_core.specs.Answers.{by_none}
 use Rattle.std.proofs.lemmas.Result.{on_ok_weaker}

@@ -2,7 +2,7 @@ use Rattle.std.proofs.Common.{Some, sym, ◌∙◌, ap, true, is_some}
 use Rattle.px_core.specs.Router.{found_by, refusal_at}
 use Rattle.px_core.proofs.ResultLemmas.{on_ok_map, on_ok_of}
 use Rattle.px_core.proofs.LiveLemmas.{updated}
-use Rattle.px_core.proofs.RouteLemmas.{ended_stays}
+use Rattle.px_core.proofs.NextLemmas.{ended_stays}
 use Rattle.px_core.proofs.OperateLemmas.{at_held, operates_marked, operates_unkept, table_live, unknown_not_live}
 use Rattle.px_core.proofs.router.Router.mark_shown.Goals as goal
 

@@ -1,5 +1,6 @@
 use Rattle.px_core.proofs.ResultLemmas.{on_ok_both}
-use Rattle.px_core.proofs.RouteLemmas.{at_key, ended_stays}
+use Rattle.px_core.proofs.RouteLemmas.{at_key}
+use Rattle.px_core.proofs.NextLemmas.{ended_stays}
 use Rattle.px_core.proofs.OperateLemmas.{operates_live_at, operates_ended_at}
 use Rattle.px_core.proofs.router.Router.release_in.Goals as goal
 

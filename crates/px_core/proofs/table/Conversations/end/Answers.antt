@@ -2,7 +2,7 @@ use Rattle.std.proofs.Common.{sym, subst, None}
 use Rattle.slab.specs.Slab.{Slab, Updates}
 use Rattle.px_core.proofs.ResultLemmas.{on_ok_map, on_ok_of}
 use Rattle.px_core.specs.declared.held.Held.{Held}
-use Rattle.px_core.proofs.table.Table.end.Goals as goal
+use Rattle.px_core.proofs.table.Conversations.end.Goals as goal
 
 pub returns-clause-live : goal.returns-clause-live
 returns-clause-live g c = on_ok_of c.note_end.result
