@@ -7,6 +7,7 @@ ghost use Rattle.px_exchange.specs.Endings.{connection_goes_on, ends_by_fault, e
 ghost use Rattle.px_exchange.specs.Requests.{is_head as asks_head};
 
 use crate::asked::is_head;
+use crate::boxed::Boxed;
 use crate::flows::{with_error, with_response, without_response};
 use crate::said::{close, done, send};
 use crate::terms::Now;
@@ -78,14 +79,14 @@ pub fn refuse(
 /// Ends the flow early with this error, and its conversation; nothing is said to the client.
 pub fn end_early(
     now: Now,
-    flow: Flow,
+    flow: Boxed<Flow>,
     message: &[u8],
     used: Used,
     out: &mut Vec<Command>,
 ) -> Result<(), NoMemory>
     ensures { OnOk result (out.new.items ≡ out.old.items ++ ends_early flow message.now now.moment used now.client_closed) }
 {
-    done(with_error(now, flow, message)?, out)?;
+    done(with_error(now, flow, message)?.into_inner(), out)?;
     shut_server(used, out)?;
     shut_client(now.client_closed, out)
 }
@@ -93,7 +94,7 @@ pub fn end_early(
 /// Ends the flow by a fault, before a byte of the response was sent: its text tells the client.
 pub fn end_by_fault(
     now: Now,
-    flow: Flow,
+    flow: Boxed<Flow>,
     fault: Fault,
     used: Used,
     out: &mut Vec<Command>,
@@ -160,7 +161,7 @@ fn connection_goes_on(index: u32, request: &Request, response: &Response, sent: 
 // The text, the flow, and the close of its server's side. The response was settled to the one that is sent.
 fn finish_flow(
     now: Now,
-    flow: Flow,
+    flow: Boxed<Flow>,
     response: Shared<Response>,
     sent: &Response,
     used: Used,
@@ -174,7 +175,7 @@ fn finish_flow(
         returned_text(now.alloc, flow.request.get(), sent)?,
         out,
     )?;
-    done(with_response(flow, response), out)?;
+    done(with_response(flow, response).into_inner(), out)?;
     shut_server(used, out)
 }
 
@@ -183,7 +184,7 @@ fn finish_flow(
 pub fn finish(
     now: Now,
     index: u32,
-    flow: Flow,
+    flow: Boxed<Flow>,
     response: Shared<Response>,
     used: Used,
     out: &mut Vec<Command>,

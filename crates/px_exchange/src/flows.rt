@@ -7,6 +7,7 @@ ghost use Rattle.px_exchange.specs.Places.{address_of, dialled_by, dialled_for, 
 ghost use Rattle.px_exchange.specs.Requests.{flow_of, is_http11};
 
 use crate::asked::is_http11;
+use crate::boxed::Boxed;
 use crate::content::Content;
 use crate::place::Place;
 use crate::terms::{Now, Terms};
@@ -26,16 +27,17 @@ pub fn begin(
     index: u32,
     request: Request,
     moment: u64,
-) -> Result<Flow, NoMemory>
+) -> Result<Boxed<Flow>, NoMemory>
     ensures { IfOk result (λ flow. flow ≡ flow_of terms.now index request moment) }
 {
     let request = Shared::new(alloc, request)?;
-    Ok(Flow {
+    let client = client_of(alloc, terms)?;
+    let flow = Flow {
         id: FlowId {
             conv: terms.conv,
             index,
         },
-        client: client_of(alloc, terms)?,
+        client,
         server: None,
         request,
         response: None,
@@ -50,7 +52,8 @@ pub fn begin(
         marked: false,
         websocket: false,
         message: None,
-    })
+    };
+    Boxed::new(alloc, flow)
 }
 
 // Where the client is, to be shared by the copies of a flow.
@@ -64,7 +67,7 @@ fn client_of(alloc: Global, terms: &Terms) -> Result<Option<Shared<Address>>, No
 }
 
 /// The flow with this request in place of its own.
-pub fn with_request(flow: Flow, request: Shared<Request>) -> Flow
+pub fn with_request(flow: Boxed<Flow>, request: Shared<Request>) -> Boxed<Flow>
     ensures { result ≡ record flow { request = request } }
 {
     let mut flow = flow;
@@ -73,7 +76,7 @@ pub fn with_request(flow: Flow, request: Shared<Request>) -> Flow
 }
 
 /// The flow with this response.
-pub fn with_response(flow: Flow, response: Shared<Response>) -> Flow
+pub fn with_response(flow: Boxed<Flow>, response: Shared<Response>) -> Boxed<Flow>
     ensures { result ≡ record flow { response = Some response } }
 {
     let mut flow = flow;
@@ -82,7 +85,7 @@ pub fn with_response(flow: Flow, response: Shared<Response>) -> Flow
 }
 
 /// The flow with the server that it uses.
-pub fn with_server(flow: Flow, server: Shared<Address>) -> Flow
+pub fn with_server(flow: Boxed<Flow>, server: Shared<Address>) -> Boxed<Flow>
     ensures { result ≡ record flow { server = Some server } }
 {
     let mut flow = flow;
@@ -91,7 +94,12 @@ pub fn with_server(flow: Flow, server: Shared<Address>) -> Flow
 }
 
 /// The flow with its whole request.
-pub fn with_body(now: Now, flow: Flow, body: Content, trailers: Fields) -> Result<Flow, NoMemory>
+pub fn with_body(
+    now: Now,
+    flow: Boxed<Flow>,
+    body: Content,
+    trailers: Fields,
+) -> Result<Boxed<Flow>, NoMemory>
     ensures { IfOk result (λ whole. whole ≡ with_body flow body trailers now.moment) }
 {
     let mut flow = flow;
@@ -124,7 +132,7 @@ fn whole_request(
 }
 
 /// The flow with the head of its response.
-pub fn with_answer(now: Now, flow: Flow, response: Response) -> Result<Flow, NoMemory>
+pub fn with_answer(now: Now, flow: Boxed<Flow>, response: Response) -> Result<Boxed<Flow>, NoMemory>
     ensures { IfOk result (λ answered. answered ≡ with_answer flow response now.moment) }
 {
     let mut flow = flow;
@@ -136,10 +144,10 @@ pub fn with_answer(now: Now, flow: Flow, response: Response) -> Result<Flow, NoM
 /// The flow with its whole response.
 pub fn with_returned(
     now: Now,
-    flow: Flow,
+    flow: Boxed<Flow>,
     body: Content,
     trailers: Fields,
-) -> Result<Flow, NoMemory>
+) -> Result<Boxed<Flow>, NoMemory>
     ensures { IfOk result (λ whole. whole ≡ with_returned flow body trailers now.moment) }
 {
     let mut flow = flow;
@@ -176,7 +184,7 @@ fn whole_response(
 }
 
 /// The flow with the start of its response.
-pub fn with_start(flow: Flow, moment: u64) -> Flow
+pub fn with_start(flow: Boxed<Flow>, moment: u64) -> Boxed<Flow>
     ensures { result ≡ with_start flow moment }
 {
     let mut flow = flow;
@@ -185,7 +193,7 @@ pub fn with_start(flow: Flow, moment: u64) -> Flow
 }
 
 /// The flow with the end of its response.
-pub fn with_end(flow: Flow, moment: u64) -> Flow
+pub fn with_end(flow: Boxed<Flow>, moment: u64) -> Boxed<Flow>
     ensures { result ≡ with_end flow moment }
 {
     let mut flow = flow;
@@ -194,7 +202,7 @@ pub fn with_end(flow: Flow, moment: u64) -> Flow
 }
 
 /// The flow without a response, which was not whole.
-pub fn without_response(flow: Flow) -> Flow
+pub fn without_response(flow: Boxed<Flow>) -> Boxed<Flow>
     ensures { result ≡ without_response flow }
 {
     let mut flow = flow;
@@ -205,7 +213,7 @@ pub fn without_response(flow: Flow) -> Flow
 }
 
 /// The flow with an error at this moment.
-pub fn with_error(now: Now, flow: Flow, message: &[u8]) -> Result<Flow, NoMemory>
+pub fn with_error(now: Now, flow: Boxed<Flow>, message: &[u8]) -> Result<Boxed<Flow>, NoMemory>
     ensures { IfOk result (λ told. told ≡ with_error flow message.now now.moment) }
 {
     let mut flow = flow;

@@ -14,7 +14,7 @@
 //! one that no server sent becomes 502 (RFC 9110 section 15.2.2).
 //!
 //! `flows`: a flow as it is told so far, each part with the moment at which it came. `content` is a body while it comes, and `body`
-//! reads it, part by part.
+//! reads it, part by part. A flow is handed on in a place of its own (`Boxed`): what a step makes of it is changed there, and one word moves.
 //!
 //! `texts`: what is sent: the request onward and the response, each with its framing made true to its body, an interim
 //! response, `100 Continue` (RFC 9110 section 15.2.1), and the answer to a CONNECT whose server is connected (section 9.3.6).
@@ -35,6 +35,7 @@
 
 pub mod asked;
 pub mod body;
+mod boxed;
 pub mod content;
 pub mod ending;
 pub mod flows;
@@ -47,6 +48,7 @@ pub mod taken;
 pub mod terms;
 pub mod texts;
 
+pub use boxed::Boxed;
 pub use mode::Mode;
 pub use outcome::Outcome;
 pub use place::Place;
