@@ -4,6 +4,7 @@ ghost use Rattle.px_stream.specs.Calls.{IsSome};
 ghost use Rattle.px_stream.specs.Stands.{awaited_in};
 
 use crate::phase::{Asked, Phase, Wanted};
+use px_exchange::Boxed;
 use px_message::Flow;
 use std::mem;
 
@@ -33,7 +34,7 @@ pub(crate) fn take_asked(phase: &mut Phase) -> Asked
 pub(crate) fn enter(phase: &mut Phase, next: Phase)
     ensures { phase.new ≡ next }
 {
-    leave(mem::replace(phase, next));
+    *phase = next;
 }
 
 pub(crate) fn leave(phase: Phase) {
@@ -71,4 +72,4 @@ pub(crate) fn leave_asked(asked: Asked) {
     }
 }
 
-pub(crate) fn leave_flow(_flow: Flow) {}
+pub(crate) fn leave_flow(_flow: Boxed<Flow>) {}

@@ -43,13 +43,6 @@ impl Link {
         }
     }
 
-    /// The same, where nothing more is read of it.
-    pub fn into_used(self) -> Used
-        ensures { result ≡ Used.ByServer self.server self.closed }
-    {
-        self.used()
-    }
-
     /// What was fed and not used of this side.
     pub fn into_rest(self) -> Result<Bytes, NoMemory>
         ensures { IfOk result (λ rest. rest ≡ self.responses.rest) }

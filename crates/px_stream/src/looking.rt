@@ -13,11 +13,11 @@ use crate::looking::request::{look_for_body, look_for_head};
 use crate::numbers::Numbers;
 use crate::phase::{Asked, Phase, Wanted};
 use px_event::{Command, Hook};
-use px_exchange::Place;
 use px_exchange::ending::{Used, end_by_fault, end_early};
 use px_exchange::flows::{self, dialled_for};
 use px_exchange::said::ask;
 use px_exchange::terms::{Now, Terms};
+use px_exchange::{Boxed, Place};
 use px_message::{Fault, Flow};
 use px_read::MessageReader;
 use px_text::NoMemory;
@@ -55,7 +55,12 @@ pub fn look(
 }
 
 // Dials what the request goes to.
-fn dial(place: &Place, server: u32, flow: Flow, out: &mut Vec<Command>) -> Result<Phase, NoMemory>
+fn dial(
+    place: &Place,
+    server: u32,
+    flow: Boxed<Flow>,
+    out: &mut Vec<Command>,
+) -> Result<Phase, NoMemory>
     ensures gives { OnOk result (out.new.items ≡ out.old.items ++ commands.Dial server (dialled_for place.now flow.request) None ∷ []) }
     ensures phase { IfOk result (λ next. next ≡ Phase.Asked (Asked.Dial flow server)) }
 {
@@ -68,7 +73,7 @@ fn dial(place: &Place, server: u32, flow: Flow, out: &mut Vec<Command>) -> Resul
 }
 
 // Asks the hook of the head of a response that was given in place of the server's.
-fn ask_given_head(now: Now, flow: Flow, out: &mut Vec<Command>) -> Result<Phase, NoMemory>
+fn ask_given_head(now: Now, flow: Boxed<Flow>, out: &mut Vec<Command>) -> Result<Phase, NoMemory>
     ensures gives { OnOk result (out.new.items ≡ out.old.items ++ ask_of (with_start flow now.moment) AtHead ∷ []) }
     ensures phase { IfOk result (λ next. next ≡ Phase.Asked (Asked.GivenHead (with_start flow now.moment))) }
 {
@@ -78,7 +83,7 @@ fn ask_given_head(now: Now, flow: Flow, out: &mut Vec<Command>) -> Result<Phase,
 }
 
 // And that of the whole of it.
-fn ask_given_body(now: Now, flow: Flow, out: &mut Vec<Command>) -> Result<Phase, NoMemory>
+fn ask_given_body(now: Now, flow: Boxed<Flow>, out: &mut Vec<Command>) -> Result<Phase, NoMemory>
     ensures gives { OnOk result (out.new.items ≡ out.old.items ++ ask_of (with_end flow now.moment) AtBody ∷ []) }
     ensures phase { IfOk result (λ next. next ≡ Phase.Asked (Asked.GivenBody (with_end flow now.moment))) }
 {
@@ -90,7 +95,7 @@ fn ask_given_body(now: Now, flow: Flow, out: &mut Vec<Command>) -> Result<Phase,
 // Ends the flow by a fault.
 fn fail(
     now: Now,
-    flow: Flow,
+    flow: Boxed<Flow>,
     fault: Fault,
     used: Used,
     out: &mut Vec<Command>,
@@ -103,7 +108,7 @@ fn fail(
 }
 
 // Ends the flow by the client's close.
-fn leave(now: Now, flow: Flow, used: Used, out: &mut Vec<Command>) -> Result<Phase, NoMemory>
+fn leave(now: Now, flow: Boxed<Flow>, used: Used, out: &mut Vec<Command>) -> Result<Phase, NoMemory>
     ensures gives { OnOk result (out.new.items ≡ out.old.items ++ ends_early flow closed_message now.moment used now.client_closed) }
     ensures phase { IfOk result (λ next. next ≡ is_over) }
 {

@@ -4,6 +4,7 @@ ghost use Rattle.px_stream.specs.Stands.{asked_of, awaited_in};
 
 use crate::link::Link;
 use px_event::{Ask, Hook};
+use px_exchange::Boxed;
 use px_exchange::content::Content;
 use px_exchange::flows::hook_of;
 use px_message::{Address, Flow, Response, Shared};
@@ -15,32 +16,32 @@ pub enum Wanted {
     Idle,
     /// The request's body; a response may be given already.
     Receiving {
-        flow: Flow,
+        flow: Boxed<Flow>,
         given: Option<Shared<Response>>,
         body: Content,
     },
     /// The request is whole: its server is to be dialled.
     Dialling {
-        flow: Flow,
+        flow: Boxed<Flow>,
     },
     /// The head of the final response.
     Answering {
-        flow: Flow,
-        link: Link,
+        flow: Boxed<Flow>,
+        link: Boxed<Link>,
     },
     /// The response's body.
     Returning {
-        flow: Flow,
-        link: Link,
+        flow: Boxed<Flow>,
+        link: Boxed<Link>,
         body: Content,
     },
     /// A response was given in place of the server's: the hook of its head is to be asked.
     GivenHead {
-        flow: Flow,
+        flow: Boxed<Flow>,
     },
     /// And that of the whole of it.
     GivenBody {
-        flow: Flow,
+        flow: Boxed<Flow>,
     },
     /// Nothing: the flow is finished, and the client's connection goes on.
     Finished,
@@ -50,8 +51,8 @@ pub enum Wanted {
     },
     /// Nothing: a response of code 101 was sent, and what follows on both sides is of another protocol.
     Upgraded {
-        flow: Flow,
-        link: Link,
+        flow: Boxed<Flow>,
+        link: Boxed<Link>,
     },
     /// Nothing: the conversation has ended.
     Over,
@@ -61,19 +62,37 @@ pub enum Wanted {
 #[derive(Drop)]
 pub enum Asked {
     /// The hook of the request's head; whether the client waits to send the body.
-    Head { flow: Flow, expects: bool },
+    Head {
+        flow: Boxed<Flow>,
+        expects: bool,
+    },
     /// The hook of the whole request.
-    Body { flow: Flow },
+    Body {
+        flow: Boxed<Flow>,
+    },
     /// The dial of this server.
-    Dial { flow: Flow, server: u32 },
+    Dial {
+        flow: Boxed<Flow>,
+        server: u32,
+    },
     /// The hook of the response's head.
-    Answer { flow: Flow, link: Link },
+    Answer {
+        flow: Boxed<Flow>,
+        link: Boxed<Link>,
+    },
     /// The hook of the whole response.
-    Returned { flow: Flow, link: Link },
+    Returned {
+        flow: Boxed<Flow>,
+        link: Boxed<Link>,
+    },
     /// The hook of the head of a response that was given in place of the server's.
-    GivenHead { flow: Flow },
+    GivenHead {
+        flow: Boxed<Flow>,
+    },
     /// And that of the whole of it.
-    GivenBody { flow: Flow },
+    GivenBody {
+        flow: Boxed<Flow>,
+    },
 }
 
 /// Where the present flow stands.

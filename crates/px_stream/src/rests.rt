@@ -6,6 +6,7 @@ use crate::leaving::{leave, leave_asked, leave_flow, leave_ready};
 use crate::link::Link;
 use crate::phase::{Asked, Phase, Wanted};
 use px_event::Rests;
+use px_exchange::Boxed;
 use px_message::Flow;
 use px_read::MessageReader;
 use px_text::{Bytes, NoMemory};
@@ -43,7 +44,10 @@ fn rest_of_phase(phase: Phase) -> Result<(Bytes, Option<Flow>), NoMemory>
     ensures flow { IfOk result (λ left. left.1 ≡ phase_flow phase) }
 {
     match phase {
-        Phase::Ready(Wanted::Upgraded { flow, link }) => Ok((link.into_rest()?, Some(flow))),
+        Phase::Ready(Wanted::Upgraded { flow, link }) => Ok((
+            link.into_inner().into_rest()?,
+            Some(flow.into_inner()),
+        )),
         Phase::Ready(ready) => Ok((rest_of_ready(ready)?, None)),
         Phase::Asked(asked) => Ok((rest_of_asked(asked)?, None)),
     }
@@ -76,9 +80,9 @@ fn rest_of_asked(asked: Asked) -> Result<Bytes, NoMemory>
     }
 }
 
-fn rest_of_link(flow: Flow, link: Link) -> Result<Bytes, NoMemory>
+fn rest_of_link(flow: Boxed<Flow>, link: Boxed<Link>) -> Result<Bytes, NoMemory>
     ensures { IfOk result (λ rest. rest ≡ link.responses.rest) }
 {
     leave_flow(flow);
-    link.into_rest()
+    link.into_inner().into_rest()
 }

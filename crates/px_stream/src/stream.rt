@@ -38,7 +38,7 @@ use px_event::{Ask, Command, Event, Reply, Rests};
 use px_exchange::ending::Used;
 use px_exchange::flows::address_of;
 use px_exchange::terms::{Now, Terms};
-use px_exchange::{Outcome, Place};
+use px_exchange::{Boxed, Outcome, Place};
 use px_message::{Address, Flow, FlowId};
 use px_read::MessageReader;
 use px_text::{Bytes, NoMemory};
@@ -192,7 +192,7 @@ impl Stream {
     pub fn go_on_with(
         &mut self,
         moment: u64,
-        flow: Flow,
+        flow: Boxed<Flow>,
         out: &mut Vec<Command>,
     ) -> Result<(), NoMemory>
         requires new { IsNew self.old }
@@ -562,16 +562,7 @@ impl Stream {
                 begin_again(self.alloc, &mut self.requests)?;
                 Ok(Wanted::Idle)
             }
-            Wanted::Idle => Ok(Wanted::Idle),
-            Wanted::Receiving { flow, given, body } => Ok(Wanted::Receiving { flow, given, body }),
-            Wanted::Dialling { flow } => Ok(Wanted::Dialling { flow }),
-            Wanted::Answering { flow, link } => Ok(Wanted::Answering { flow, link }),
-            Wanted::Returning { flow, link, body } => Ok(Wanted::Returning { flow, link, body }),
-            Wanted::GivenHead { flow } => Ok(Wanted::GivenHead { flow }),
-            Wanted::GivenBody { flow } => Ok(Wanted::GivenBody { flow }),
-            Wanted::Connects { address } => Ok(Wanted::Connects { address }),
-            Wanted::Upgraded { flow, link } => Ok(Wanted::Upgraded { flow, link }),
-            Wanted::Over => Ok(Wanted::Over),
+            other => Ok(other),
         }
     }
 
@@ -600,7 +591,7 @@ impl Stream {
 }
 
 // What is looked for where a flow's request is whole and was asked about.
-fn wanted_for(flow: Flow) -> Wanted
+fn wanted_for(flow: Boxed<Flow>) -> Wanted
     ensures { result ≡ wanted_by flow.response flow }
 {
     if flow.response.is_some() {

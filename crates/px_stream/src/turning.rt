@@ -15,7 +15,6 @@ ghost use Rattle.px_exchange.specs.Replies.{taken_at_body_of, taken_at_head_of, 
 use crate::link::Link;
 use crate::phase::{Asked, Wanted};
 use px_event::{Command, Reply, Side};
-use px_exchange::Place;
 use px_exchange::asked::is_head;
 use px_exchange::content::Content;
 use px_exchange::ending::{Used, end_by_fault, end_early, finish, settled};
@@ -26,6 +25,7 @@ use px_exchange::taken::{
 };
 use px_exchange::terms::Now;
 use px_exchange::texts::{onward_text, returned_text};
+use px_exchange::{Boxed, Place};
 use px_message::{Flow, Request, Response, Shared};
 use px_text::NoMemory;
 
@@ -55,7 +55,7 @@ pub fn turn(
 }
 
 // A flow that lacks the response that its hook is about.
-fn give_up(flow: Flow) -> Wanted
+fn give_up(flow: Boxed<Flow>) -> Wanted
     ensures { result ≡ Wanted.Over }
 {
     let _flow = flow;
@@ -63,7 +63,7 @@ fn give_up(flow: Flow) -> Wanted
 }
 
 // Ends the flow, and says nothing to the client.
-fn kill(now: Now, flow: Flow, used: Used, out: &mut Vec<Command>) -> Result<Wanted, NoMemory>
+fn kill(now: Now, flow: Boxed<Flow>, used: Used, out: &mut Vec<Command>) -> Result<Wanted, NoMemory>
     ensures gives { OnOk result (out.new.items ≡ out.old.items ++ (kills_flow flow now.moment used now.client_closed).owed) }
     ensures ready { IfOk result (λ next. next ≡ Wanted.Over) }
 {
@@ -74,7 +74,7 @@ fn kill(now: Now, flow: Flow, used: Used, out: &mut Vec<Command>) -> Result<Want
 // The hook of the request's head is answered.
 fn turn_head(
     now: Now,
-    flow: Flow,
+    flow: Boxed<Flow>,
     expected: bool,
     reply: Reply,
     out: &mut Vec<Command>,
@@ -89,7 +89,7 @@ fn turn_head(
 // The request's body is awaited, unless the flow is killed.
 fn receive(
     now: Now,
-    flow: Flow,
+    flow: Boxed<Flow>,
     expected: bool,
     taken: Taken<Shared<Request>>,
     out: &mut Vec<Command>,
@@ -122,7 +122,7 @@ fn receive(
 fn turn_body(
     place: &Place,
     now: Now,
-    flow: Flow,
+    flow: Boxed<Flow>,
     spare: &mut Option<Link>,
     reply: Reply,
     out: &mut Vec<Command>,
@@ -139,7 +139,7 @@ fn turn_body(
 fn send_onward(
     place: &Place,
     now: Now,
-    flow: Flow,
+    flow: Boxed<Flow>,
     spare: &mut Option<Link>,
     taken: Taken<Shared<Request>>,
     out: &mut Vec<Command>,
@@ -176,7 +176,7 @@ fn take_home(place: &Place, request: &Request, spare: &mut Option<Link>) -> Opti
 fn go_on(
     place: &Place,
     now: Now,
-    flow: Flow,
+    flow: Boxed<Flow>,
     link: Option<Link>,
     out: &mut Vec<Command>,
 ) -> Result<Wanted, NoMemory>
@@ -193,7 +193,7 @@ fn go_on(
 fn go_home(
     place: &Place,
     now: Now,
-    flow: Flow,
+    flow: Boxed<Flow>,
     link: Link,
     out: &mut Vec<Command>,
 ) -> Result<Wanted, NoMemory>
@@ -202,6 +202,7 @@ fn go_home(
 {
     let server = link.server;
     let link = link.into_unread(now.alloc, is_head(flow.request.get().method.bytes()))?;
+    let link = Boxed::new(now.alloc, link)?;
     send_request(place, now, flow, server, link, out)
 }
 
@@ -209,7 +210,7 @@ fn go_home(
 fn turn_dial(
     place: &Place,
     now: Now,
-    flow: Flow,
+    flow: Boxed<Flow>,
     server: u32,
     reply: Reply,
     out: &mut Vec<Command>,
@@ -231,7 +232,7 @@ fn turn_dial(
 fn connect(
     place: &Place,
     now: Now,
-    flow: Flow,
+    flow: Boxed<Flow>,
     server: u32,
     out: &mut Vec<Command>,
 ) -> Result<Wanted, NoMemory>
@@ -243,6 +244,7 @@ fn connect(
         server,
         is_head(flow.request.get().method.bytes()),
     );
+    let link = Boxed::new(now.alloc, link)?;
     send_request(place, now, flow, server, link, out)
 }
 
@@ -250,9 +252,9 @@ fn connect(
 fn send_request(
     place: &Place,
     now: Now,
-    flow: Flow,
+    flow: Boxed<Flow>,
     server: u32,
-    link: Link,
+    link: Boxed<Link>,
     out: &mut Vec<Command>,
 ) -> Result<Wanted, NoMemory>
     ensures gives { OnOk result (out.new.items ≡ out.old.items ++ connected_owes place.now flow server) }
@@ -273,8 +275,8 @@ fn send_request(
 // The hook of the response's head is answered.
 fn turn_answer(
     now: Now,
-    flow: Flow,
-    link: Link,
+    flow: Boxed<Flow>,
+    link: Boxed<Link>,
     reply: Reply,
     out: &mut Vec<Command>,
 ) -> Result<Wanted, NoMemory>
@@ -290,8 +292,8 @@ fn turn_answer(
 // The response's body is awaited, unless the flow is killed.
 fn receive_response(
     now: Now,
-    flow: Flow,
-    link: Link,
+    flow: Boxed<Flow>,
+    link: Boxed<Link>,
     taken: Taken<Shared<Response>>,
     out: &mut Vec<Command>,
 ) -> Result<Wanted, NoMemory>
@@ -304,14 +306,14 @@ fn receive_response(
             link,
             body: Content::new(now.alloc),
         }),
-        _ => kill(now, flows::without_response(flow), link.into_used(), out),
+        _ => kill(now, flows::without_response(flow), link.used(), out),
     }
 }
 
 // The hook of the head of a response that was given in place of the server's is answered.
 fn turn_given_head(
     now: Now,
-    flow: Flow,
+    flow: Boxed<Flow>,
     reply: Reply,
     out: &mut Vec<Command>,
 ) -> Result<Wanted, NoMemory>
@@ -327,7 +329,7 @@ fn turn_given_head(
 // The hook of the whole of it is to be asked, unless the flow is killed.
 fn give_body(
     now: Now,
-    flow: Flow,
+    flow: Boxed<Flow>,
     taken: Taken<Shared<Response>>,
     out: &mut Vec<Command>,
 ) -> Result<Wanted, NoMemory>
@@ -346,8 +348,8 @@ fn give_body(
 fn turn_returned(
     now: Now,
     index: u32,
-    flow: Flow,
-    link: Link,
+    flow: Boxed<Flow>,
+    link: Boxed<Link>,
     reply: Reply,
     out: &mut Vec<Command>,
 ) -> Result<Wanted, NoMemory>
@@ -364,8 +366,8 @@ fn turn_returned(
 fn end_exchange(
     now: Now,
     index: u32,
-    flow: Flow,
-    link: Link,
+    flow: Boxed<Flow>,
+    link: Boxed<Link>,
     taken: Taken<Shared<Response>>,
     out: &mut Vec<Command>,
 ) -> Result<Wanted, NoMemory>
@@ -374,7 +376,7 @@ fn end_exchange(
 {
     match taken {
         Taken::GoesOn(response) => answer_client(now, index, flow, link, response, out),
-        _ => kill(now, flow, link.into_used(), out),
+        _ => kill(now, flow, link.used(), out),
     }
 }
 
@@ -382,8 +384,8 @@ fn end_exchange(
 fn answer_client(
     now: Now,
     index: u32,
-    flow: Flow,
-    link: Link,
+    flow: Boxed<Flow>,
+    link: Boxed<Link>,
     response: Shared<Response>,
     out: &mut Vec<Command>,
 ) -> Result<Wanted, NoMemory>
@@ -393,14 +395,14 @@ fn answer_client(
     if response.get().status.code() == 101 {
         return upgrade(now, flow, link, response, out);
     }
-    finish_flow(now, index, flow, response, link.into_used(), out)
+    finish_flow(now, index, flow, response, link.used(), out)
 }
 
 // Sends a response of code 101: what follows on both sides is of another protocol, and the flow is not finished.
 fn upgrade(
     now: Now,
-    flow: Flow,
-    link: Link,
+    flow: Boxed<Flow>,
+    link: Boxed<Link>,
     response: Shared<Response>,
     out: &mut Vec<Command>,
 ) -> Result<Wanted, NoMemory>
@@ -423,7 +425,7 @@ fn upgrade(
 fn turn_given_body(
     now: Now,
     index: u32,
-    flow: Flow,
+    flow: Boxed<Flow>,
     reply: Reply,
     out: &mut Vec<Command>,
 ) -> Result<Wanted, NoMemory>
@@ -440,7 +442,7 @@ fn turn_given_body(
 fn end_flow(
     now: Now,
     index: u32,
-    flow: Flow,
+    flow: Boxed<Flow>,
     taken: Taken<Shared<Response>>,
     out: &mut Vec<Command>,
 ) -> Result<Wanted, NoMemory>
@@ -457,7 +459,7 @@ fn end_flow(
 fn finish_flow(
     now: Now,
     index: u32,
-    flow: Flow,
+    flow: Boxed<Flow>,
     response: Shared<Response>,
     used: Used,
     out: &mut Vec<Command>,

@@ -12,6 +12,7 @@ use crate::link::Link;
 use crate::phase::{Asked, Phase, Wanted};
 use crate::reading::{FinalHead, read_answer};
 use px_event::{Command, Hook};
+use px_exchange::Boxed;
 use px_exchange::body::{Progress, read_body};
 use px_exchange::content::Content;
 use px_exchange::flows::{self, asks_http11, response_of, status_of};
@@ -24,8 +25,8 @@ use px_text::NoMemory;
 /// Looks for the head of the final response.
 pub fn look_for_answer(
     now: Now,
-    flow: Flow,
-    link: Link,
+    flow: Boxed<Flow>,
+    link: Boxed<Link>,
     out: &mut Vec<Command>,
 ) -> Result<Phase, NoMemory>
     requires kept { IsKept link }
@@ -40,8 +41,8 @@ pub fn look_for_answer(
 // What is made of the final response's head, if it has come.
 fn look_at_answer(
     now: Now,
-    flow: Flow,
-    link: Link,
+    flow: Boxed<Flow>,
+    link: Boxed<Link>,
     answer: FinalHead,
     out: &mut Vec<Command>,
 ) -> Result<Phase, NoMemory>
@@ -51,12 +52,12 @@ fn look_at_answer(
     match answer {
         FinalHead::Head(head) => relay_head(now, flow, link, head, out),
         FinalHead::Bad(fault) => {
-            let used = link.into_used();
+            let used = link.used();
             fail(now, flow, fault, used, out)
         }
         FinalHead::Missing => {
             if now.client_closed {
-                let used = link.into_used();
+                let used = link.used();
                 return leave(now, flow, used, out);
             }
             Ok(Phase::Ready(Wanted::Answering { flow, link }))
@@ -67,8 +68,8 @@ fn look_at_answer(
 // Asks the hook of the response's head, unless its code is none of a final response.
 fn relay_head(
     now: Now,
-    flow: Flow,
-    link: Link,
+    flow: Boxed<Flow>,
+    link: Boxed<Link>,
     head: ResponseHead,
     out: &mut Vec<Command>,
 ) -> Result<Phase, NoMemory>
@@ -77,7 +78,7 @@ fn relay_head(
 {
     match status_of(head.code) {
         None => {
-            let used = link.into_used();
+            let used = link.used();
             fail(now, flow, Fault::BadResponse, used, out)
         }
         Some(status) => {
@@ -92,8 +93,8 @@ fn relay_head(
 /// Looks for the rest of the response's body.
 pub fn look_for_returned(
     now: Now,
-    flow: Flow,
-    link: Link,
+    flow: Boxed<Flow>,
+    link: Boxed<Link>,
     body: Content,
     out: &mut Vec<Command>,
 ) -> Result<Phase, NoMemory>
@@ -109,8 +110,8 @@ pub fn look_for_returned(
 // What is made of the body, as far as it has come.
 fn look_at_returned(
     now: Now,
-    flow: Flow,
-    link: Link,
+    flow: Boxed<Flow>,
+    link: Boxed<Link>,
     progress: Progress,
     body: Content,
     out: &mut Vec<Command>,
@@ -125,12 +126,12 @@ fn look_at_returned(
             Ok(Phase::Asked(Asked::Returned { flow, link }))
         }
         Progress::Bad(fault) => {
-            let used = link.into_used();
+            let used = link.used();
             fail(now, flow, fault, used, out)
         }
         Progress::Missing => {
             if now.client_closed {
-                let used = link.into_used();
+                let used = link.used();
                 return leave(now, flows::without_response(flow), used, out);
             }
             Ok(Phase::Ready(Wanted::Returning { flow, link, body }))

@@ -23,9 +23,9 @@ use px_exchange::asked::{Judged, expects, is_head, judge};
 use px_exchange::body::{Progress, read_body};
 use px_exchange::content::Content;
 use px_exchange::ending::{Used, refuse};
-use px_exchange::flows;
 use px_exchange::said::ask;
 use px_exchange::terms::{Now, Terms};
+use px_exchange::{Boxed, flows};
 use px_message::{Address, Fault, Flow, Request, Response, Shared};
 use px_read::{MessageReader, Part, RequestHead};
 use px_text::NoMemory;
@@ -150,7 +150,7 @@ fn ask_head(
 pub fn look_for_body(
     now: Now,
     requests: &mut MessageReader,
-    flow: Flow,
+    flow: Boxed<Flow>,
     given: Option<Shared<Response>>,
     body: Content,
     out: &mut Vec<Command>,
@@ -166,7 +166,7 @@ pub fn look_for_body(
 // What is made of the body, as far as it has come.
 fn look_at_body(
     now: Now,
-    flow: Flow,
+    flow: Boxed<Flow>,
     given: Option<Shared<Response>>,
     progress: Progress,
     body: Content,
@@ -199,7 +199,7 @@ fn look_at_body(
 // The request is whole: its hook is asked, unless a response is given already.
 fn ask_whole(
     now: Now,
-    flow: Flow,
+    flow: Boxed<Flow>,
     given: Option<Shared<Response>>,
     out: &mut Vec<Command>,
 ) -> Result<Phase, NoMemory>
