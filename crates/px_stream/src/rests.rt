@@ -2,7 +2,6 @@
 ghost use Rattle.std.specs.Prelude.{◌≡◌, IfOk};
 ghost use Rattle.px_stream.specs.Rests.{asked_rest, phase_flow, phase_rest, ready_rest};
 
-use crate::leaving::{leave, leave_asked, leave_flow, leave_ready};
 use crate::link::Link;
 use crate::phase::{Asked, Phase, Wanted};
 use px_event::Rests;
@@ -23,7 +22,7 @@ pub(crate) fn rests_of(
     match requests.into_rest() {
         Ok(client) => rests_with(client, phase),
         Err(NoMemory) => {
-            leave(phase);
+            drop(phase);
             Err(NoMemory)
         }
     }
@@ -61,7 +60,7 @@ fn rest_of_ready(ready: Wanted) -> Result<Bytes, NoMemory>
         Wanted::Returning { flow, link, .. } => rest_of_link(flow, link),
         Wanted::Upgraded { flow, link } => rest_of_link(flow, link),
         other => {
-            leave_ready(other);
+            drop(other);
             Ok(Bytes::empty())
         }
     }
@@ -74,7 +73,7 @@ fn rest_of_asked(asked: Asked) -> Result<Bytes, NoMemory>
         Asked::Answer { flow, link } => rest_of_link(flow, link),
         Asked::Returned { flow, link } => rest_of_link(flow, link),
         other => {
-            leave_asked(other);
+            drop(other);
             Ok(Bytes::empty())
         }
     }
@@ -83,6 +82,6 @@ fn rest_of_asked(asked: Asked) -> Result<Bytes, NoMemory>
 fn rest_of_link(flow: Boxed<Flow>, link: Boxed<Link>) -> Result<Bytes, NoMemory>
     ensures { IfOk result (λ rest. rest ≡ link.responses.rest) }
 {
-    leave_flow(flow);
+    drop(flow);
     link.into_inner().into_rest()
 }

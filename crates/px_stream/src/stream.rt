@@ -26,7 +26,7 @@ ghost use Rattle.px_stream.specs.Turns.{asked_leads, behind_asked, behind_ready}
 ghost use Rattle.px_stream.specs.declared.phase.Wanted.{Wanted as Looked};
 
 use crate::hearing::{hear, hear_server};
-use crate::leaving::{enter, leave_ready, take_asked, take_looked};
+use crate::leaving::{enter, take_asked, take_looked};
 use crate::link::{Link, open_number, spare_side};
 use crate::looking::look;
 use crate::numbers::Numbers;
@@ -336,7 +336,7 @@ impl Stream {
         ) {
             Ok(()) => self.advance(moment, ready, out),
             Err(NoMemory) => {
-                leave_ready(ready);
+                drop(ready);
                 Err(NoMemory)
             }
         }
@@ -444,7 +444,7 @@ impl Stream {
             &mut looked,
             event,
         );
-        leave_ready(looked);
+        drop(looked);
         heard
     }
 
@@ -468,7 +468,7 @@ impl Stream {
         match hear_server(&mut turned, server, rest) {
             Ok(()) => self.advance(moment, turned, out),
             Err(NoMemory) => {
-                leave_ready(turned);
+                drop(turned);
                 Err(NoMemory)
             }
         }
