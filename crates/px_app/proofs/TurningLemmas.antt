@@ -37,7 +37,7 @@ use Rattle.px_core.proofs.StandsLemmas.{known_begun, nobody_heard}
 use Rattle.px_obey.specs.declared.outcome.Outcome.{Outcome}
 use Rattle.px_obey.specs.declared.outcome.Outcome.TheVariants.{GoesOn, Leaves, Quits}
 use Rattle.px_obey.specs.Obeyed as obeyed
-use Rattle.px_obey.specs.Obeyed.{ByOrders, FilesAfterOrders, ObeysAll, ObeysLine, ObeysLines, Point, StandsAt, closed, outcome_of, point}
+use Rattle.px_obey.specs.Obeyed.{ByOrders, FilesAfterOrders, ObeysAll, ObeysLine, ObeysLines, Point, closed, outcome_of, point}
 use Rattle.px_obey.specs.Over.{AddsAnswers, BreaksAnswers}
 use Rattle.px_view.specs.declared.command.Order.{Order}
 use Rattle.px_view.specs.declared.command.Order.TheVariants as order

@@ -16,7 +16,7 @@ use Rattle.px_core.specs.Run.{AllTellable}
 use Rattle.px_obey.specs.declared.outcome.Outcome.{Outcome}
 use Rattle.px_obey.specs.declared.outcome.Outcome.TheVariants.{GoesOn}
 use Rattle.px_obey.specs.Obeyed as obeyed
-use Rattle.px_obey.specs.Obeyed.{ObeysLine, ObeysLines, Point, closed, outcome_of}
+use Rattle.px_obey.specs.Obeyed.{ObeysLine, ObeysLines, Point, outcome_of}
 use Rattle.px_view.specs.Commands.{order_of}
 use Rattle.px_view.specs.Desk.{Stand}
 use Rattle.px_view.specs.declared.command.Order.{Order}

@@ -28,7 +28,7 @@ use Rattle.px_exchange.specs.Replies.{taken_at_request_head, taken_at_request_bo
 use Rattle.px_chain.specs.Chain.{look as look_of, pass as pass_of, sequence, turn as turn_of}
 use Rattle.px_chain.specs.Left.{stage_left}
 use Rattle.px_chain.specs.Sights.{Sight, answers_in, server_in, sight_over}
-use Rattle.px_chain.specs.Stages.{At, busy, connection, given_body, given_head, idle, next, request_body, response_body, response_head, upgraded}
+use Rattle.px_chain.specs.Stages.{busy, connection, given_body, given_head, idle, next, request_body, response_body, response_head, upgraded}
 use Rattle.px_chain.specs.Stages as flows
 use Rattle.px_chain.proofs.Quiet.{AllQuiet, IsBehind, LooksQuiet, any_flow}
 use Rattle.px_chain.proofs.QuietLemmas.{IsGoing, turn_behind, turn_quiet}

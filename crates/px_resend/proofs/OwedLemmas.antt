@@ -13,7 +13,7 @@ use Rattle.px_exchange.specs.declared.terms.Terms.{Terms}
 use Rattle.px_exchange.specs.Endings.{shut_server}
 use Rattle.px_chain.specs.Chain.{look as look_of}
 use Rattle.px_chain.specs.Sights.{Sight, server_in}
-use Rattle.px_chain.specs.Stages.{Doing, busy, connection, given_body, given_head, idle, next, request_body, response_body, response_head, upgraded}
+use Rattle.px_chain.specs.Stages.{busy, connection, given_body, given_head, idle, next, request_body, response_body, response_head, upgraded}
 use Rattle.px_chain.specs.Stages as flows
 use Rattle.px_chain.proofs.Quiet.{AllQuiet, IsOf, LooksQuiet, any_flow}
 use Rattle.px_chain.proofs.QuietLemmas.{IsGoing, finds_quiet_end}

@@ -1,5 +1,5 @@
 -- What is due of conversations in each mode.
-use Rattle.std.specs.Prelude.{ℕ, List, Some}
+use Rattle.std.specs.Prelude.{ℕ, List}
 use Rattle.px_event.specs.Stands.{due_by}
 use Rattle.px_core.specs.Due.{Due}
 use Rattle.px_exchange.specs.declared.mode.Mode.{Mode}

@@ -1,7 +1,6 @@
 use Rattle.std.proofs.Common.{List, [], ◌++◌, ℕ, refl, subst}
 use Rattle.px_core.specs.Answers.{files_meaning}
 use Rattle.px_map.proofs.ReadsLemmas.{made_both}
-use Rattle.px_options.specs.View.{settings}
 use Rattle.px_app.specs.Loaded.{LoadsFiles, loaded}
 use Rattle.px_app.specs.Loading.{stop_of}
 use Rattle.px_app.proofs.LoadLemmas.{not_loaded}

@@ -1,4 +1,4 @@
-use Rattle.std.proofs.Common.{Some, refl}
+use Rattle.std.proofs.Common.{refl}
 use Rattle.px_stack.specs.Chain.{begins}
 use Rattle.px_stack.proofs.OrderLemmas.{ordered_from}
 use Rattle.px_stack.proofs.laws.no_hook_is_asked_behind_its_end.Goals as goal
