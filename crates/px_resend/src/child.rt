@@ -3,6 +3,7 @@ ghost use Rattle.std.specs.Prelude.{◌≡◌, ◌^◌, ◌-◌, min};
 ghost use Rattle.px_resend.specs.Kept.{awaited_by, is_over, kept_by};
 
 use px_event::{Ask, Hook, Layer};
+use px_exchange::Boxed;
 use px_exchange::flows::hook_of;
 use px_message::Flow;
 use px_stream::Stream;
@@ -13,9 +14,9 @@ pub enum Child {
     /// It has not begun.
     Waiting,
     /// The hook of its request's head is asked.
-    AsksHead(Flow),
+    AsksHead(Boxed<Flow>),
     /// And that of the whole request.
-    AsksWhole(Flow),
+    AsksWhole(Boxed<Flow>),
     /// Its request goes on, or a response was given in place of the server's.
     GoesOn(Box<Stream>),
     /// It has ended.

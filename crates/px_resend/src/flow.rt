@@ -5,7 +5,7 @@ ghost use Rattle.px_resend.specs.Chain.{first_flow, head_of, place_by, proxy_in,
 
 use px_exchange::flows::begin;
 use px_exchange::terms::Terms;
-use px_exchange::{Mode, Place};
+use px_exchange::{Boxed, Mode, Place};
 use px_message::{Address, Body, Fields, Flow, Replayed, Request, Shared};
 use px_text::NoMemory;
 use std::alloc::Global;
@@ -37,7 +37,7 @@ pub fn first_flow(
     proxy: &Option<Address>,
     request: &Request,
     moment: u64,
-) -> Result<Flow, NoMemory>
+) -> Result<Boxed<Flow>, NoMemory>
     ensures { IfOk result (λ flow. flow ≡ first_flow (terms_by conv proxy.now) request.now moment) }
 {
     let terms = Terms {
@@ -50,7 +50,7 @@ pub fn first_flow(
 }
 
 // The flow, which is one of a recorded request.
-fn replayed(flow: Flow) -> Flow
+fn replayed(flow: Boxed<Flow>) -> Boxed<Flow>
     ensures { result ≡ record flow { replayed = Replayed.Request } }
 {
     let mut flow = flow;
@@ -78,7 +78,11 @@ fn without_body(alloc: Global, request: Request) -> Request
 }
 
 /// The flow with all of the recorded request, which was there when it began.
-pub fn whole_flow(alloc: Global, request: &Request, flow: Flow) -> Result<Flow, NoMemory>
+pub fn whole_flow(
+    alloc: Global,
+    request: &Request,
+    flow: Boxed<Flow>,
+) -> Result<Boxed<Flow>, NoMemory>
     ensures { IfOk result (λ whole. whole ≡ whole_flow request.now flow) }
 {
     let mut flow = flow;

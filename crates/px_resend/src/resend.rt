@@ -21,7 +21,7 @@ use px_exchange::flows::{with_request, with_response};
 use px_exchange::said::{ask, close, done};
 use px_exchange::taken::{Taken, take_at_request_body, take_at_request_head};
 use px_exchange::terms::Now;
-use px_exchange::{Mode, Outcome};
+use px_exchange::{Boxed, Mode, Outcome};
 use px_message::{Address, Flow, FlowId, Request, Shared};
 use px_stream::Stream;
 use px_text::NoMemory;
@@ -172,7 +172,7 @@ impl Resend {
     // The reply to the hook of the request's head: the whole request is asked about, or a response was given.
     fn answer_head(
         &self,
-        flow: Flow,
+        flow: Boxed<Flow>,
         moment: u64,
         reply: Reply,
         out: &mut Vec<Command>,
@@ -192,7 +192,7 @@ impl Resend {
     }
 
     // The hook of the whole request is asked.
-    fn ask_whole(&self, flow: Flow, out: &mut Vec<Command>) -> Result<Child, NoMemory>
+    fn ask_whole(&self, flow: Boxed<Flow>, out: &mut Vec<Command>) -> Result<Child, NoMemory>
         ensures next { IfOk result (λ next. next ≡ Child.AsksWhole (whole_flow self.now.request flow)) }
         ensures gives { OnOk result (out.new.items ≡ out.old.items ++ ask_of (whole_flow self.now.request flow) AtWhole ∷ []) }
     {
@@ -204,7 +204,7 @@ impl Resend {
     // The reply to the hook of the whole request: it goes to its server, or a response was given.
     fn answer_whole(
         &self,
-        flow: Flow,
+        flow: Boxed<Flow>,
         moment: u64,
         reply: Reply,
         out: &mut Vec<Command>,
@@ -221,7 +221,12 @@ impl Resend {
     }
 
     // The flow, whose request is whole, goes on.
-    fn go_on(&self, flow: Flow, moment: u64, out: &mut Vec<Command>) -> Result<Child, NoMemory>
+    fn go_on(
+        &self,
+        flow: Boxed<Flow>,
+        moment: u64,
+        out: &mut Vec<Command>,
+    ) -> Result<Child, NoMemory>
         ensures goes_on { IfOk result (λ next. Adds (GoesOnAs (terms_in self.now) self.now.request flow moment next) out.old.items out.new.items) }
         ensures asks { IfOk result (λ next. AsksOnly (awaited_by next) out.old.items out.new.items) }
         ensures left { IfOk result (λ next. left_by next ≤ going_left) }
@@ -238,7 +243,12 @@ impl Resend {
     }
 
     // Ends the flow by a kill.
-    fn kill(&self, flow: Flow, moment: u64, out: &mut Vec<Command>) -> Result<Child, NoMemory>
+    fn kill(
+        &self,
+        flow: Boxed<Flow>,
+        moment: u64,
+        out: &mut Vec<Command>,
+    ) -> Result<Child, NoMemory>
         ensures over { IfOk result (λ next. next ≡ Child.Over) }
         ensures gives { OnOk result (out.new.items ≡ out.old.items ++ (killed flow moment).owed) }
     {
