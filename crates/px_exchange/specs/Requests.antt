@@ -118,6 +118,7 @@ flow_of terms index request moment = record {
   marked = false;
   websocket = false;
   message = None;
+  messages = [];
 }
 
 -- the fault of its length comes last

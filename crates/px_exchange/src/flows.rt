@@ -13,8 +13,8 @@ use crate::place::Place;
 use crate::terms::{Now, Terms};
 use px_event::{Ask, Hook};
 use px_message::{
-    Address, Body, Fields, Flow, FlowError, FlowId, Replayed, Request, Response, Shared, Status,
-    Times,
+    Address, Body, Fields, Flow, FlowError, FlowId, Messages, Replayed, Request, Response, Shared,
+    Status, Times,
 };
 use px_read::ResponseHead;
 use px_text::{Bytes, NoMemory};
@@ -52,6 +52,7 @@ pub fn begin(
         marked: false,
         websocket: false,
         message: None,
+        messages: Messages::new(alloc),
     };
     Boxed::new(alloc, flow)
 }

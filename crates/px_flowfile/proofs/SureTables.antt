@@ -256,3 +256,4 @@ flow_one pairs f g bare base h k =
     (one_at key.Marked truth sure_truth pairs f.marked g.marked h.1.1.1.1.1.1.1.1.1.0 k.1.1.1.1.1.1.1.1.1.0)
     (one_at key.Websocket truth sure_truth pairs f.websocket g.websocket h.1.1.1.1.1.1.1.1.1.1.0 k.1.1.1.1.1.1.1.1.1.1.0)
     (bare.no_message ∙ sym base.no_message)
+    (bare.no_messages ∙ sym base.no_messages)

@@ -69,9 +69,10 @@ abbrev pub unknown : Pairs → Pairs
 unknown no_pair = no_pair
 unknown (pair key value pairs) = if is_known key.bytes then unknown pairs else (pair key value (unknown pairs))
 
--- what no key tells is not there: the message of a WebSocket's hook, and moments of a response that is not there
+-- what no key tells is not there: the message of a WebSocket's hook and those before it, and moments of a response that is not there
 pub record IsBare (f : Flow) : Type 0 where
   pub no_message : f.message ≡ None
+  pub no_messages : f.messages ≡ []
   pub no_start : f.response ≡ None → f.times.response_start ≡ None
   pub no_end : f.response ≡ None → f.times.response_end ≡ None
 

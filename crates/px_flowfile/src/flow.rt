@@ -13,7 +13,7 @@ use crate::request::request_at;
 use crate::response::response_at;
 use crate::simple::{form_at, id_at, replay_at, truth_at, type_at};
 use crate::{FlowFileError, Key};
-use px_message::{Address, Flow, FlowError, FlowId, Replayed, Response, Shared, Times};
+use px_message::{Address, Flow, FlowError, FlowId, Messages, Replayed, Response, Shared, Times};
 use px_tnet::TnetDict;
 use std::alloc::Global;
 
@@ -41,7 +41,7 @@ pub(crate) fn flow_in(alloc: Global, dict: &TnetDict) -> Result<Flow, FlowFileEr
         both(of_type, both(id, both(client, both(server, messages)))),
     );
     match read {
-        Ok(parts) => Ok(flow_of(parts)),
+        Ok(parts) => Ok(flow_of(alloc, parts)),
         Err(e) => Err(e),
     }
 }
@@ -71,7 +71,7 @@ type Parts = (
 );
 
 // The flow of these parts.
-fn flow_of(parts: Parts) -> Flow
+fn flow_of(alloc: Global, parts: Parts) -> Flow
     ensures parts { flow_parts result ≡ parts }
     ensures bare { IsBare result }
 {
@@ -107,6 +107,7 @@ fn flow_of(parts: Parts) -> Flow
         marked,
         websocket,
         message: None,
+        messages: Messages::new(alloc),
     }
 }
 

@@ -16,10 +16,11 @@ built f = record {
   marked = f.marked;
   websocket = f.websocket;
   message = f.message;
+  messages = f.messages;
 }
 
 pub flow_eq : (a b : Flow) → a.id ≡ b.id → a.client ≡ b.client → a.server ≡ b.server → a.request ≡ b.request →
     a.response ≡ b.response → a.error ≡ b.error → a.times ≡ b.times → a.replayed ≡ b.replayed → a.marked ≡ b.marked →
-    a.websocket ≡ b.websocket → a.message ≡ b.message → a ≡ b
-flow_eq a b id client server request response error times replayed marked websocket message =
+    a.websocket ≡ b.websocket → a.message ≡ b.message → a.messages ≡ b.messages → a ≡ b
+flow_eq a b id client server request response error times replayed marked websocket message messages =
     let same : built a ≡ built b = cc in same

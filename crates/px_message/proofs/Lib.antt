@@ -16,3 +16,4 @@ mod StatedLemmas
 pub mod DecimalLemmas
 pub mod SettleLemmas
 mod FramingLemmas
+mod MessageLemmas

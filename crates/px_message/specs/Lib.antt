@@ -16,3 +16,4 @@ pub mod Codings
 pub mod Stated
 pub mod Settle
 pub mod Valid
+pub mod Messages

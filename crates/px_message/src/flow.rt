@@ -1,7 +1,7 @@
 //! Flows: a request with what became of it.
 ghost use Rattle.std.specs.Prelude.{◌≡◌, IfOk};
 
-use crate::{Address, Request, Response, Shared};
+use crate::{Address, Messages, Request, Response, Shared};
 use px_text::{Bytes, NoMemory};
 use std::alloc::AllocError;
 
@@ -67,6 +67,8 @@ pub struct Flow {
     /// Whether it was upgraded to a WebSocket.
     pub websocket: bool,
     pub message: Option<Shared<WsMessage>>,
+    /// The messages of its WebSocket that were relayed or discarded, in their order.
+    pub messages: Messages,
 }
 
 impl Clone for FlowError {
@@ -126,6 +128,7 @@ impl Clone for Flow {
             marked: self.marked,
             websocket: self.websocket,
             message: self.message.clone()?,
+            messages: self.messages.clone()?,
         })
     }
 }

@@ -7,8 +7,8 @@
 //! directions.
 //!
 //! Copies share what they hold: the bytes of names, values, paths and bodies, and a list of fields as a whole until one of
-//! its copies is changed. Copies of a flow share its messages, its addresses and its error whole. So a copy costs the same
-//! whatever its length, and a change of one copy is seen in no other.
+//! its copies is changed. Copies of a flow share its request and response, its addresses, its error, the message of a WebSocket
+//! and the messages before it. So a copy costs the same whatever its length, and a change of one copy is seen in no other.
 //!
 //! Contracts see a `Name`, a `Value`, a `Host`, a `Path` and a `Body` as the list of their bytes, a `Status` as its
 //! number and `Fields` as the list of their pairs, in the sender's order and spelling.
@@ -25,6 +25,7 @@ mod flow;
 mod host;
 mod length;
 mod measured;
+mod messages;
 mod name;
 mod path;
 mod request;
@@ -48,6 +49,7 @@ pub use fields::{Fields, FieldsOf, fields_are_valid, settle_streamed};
 pub use flow::{Flow, FlowError, FlowId, Replayed, Times, WsMessage};
 pub use host::{BadHost, Host};
 pub use length::{Length, has_no_body, length_of_request, length_of_response};
+pub use messages::{Messages, WsRecord};
 pub use name::{BadName, Name};
 pub use path::{BadPath, Path};
 pub use request::Request;

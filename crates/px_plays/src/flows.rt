@@ -2,7 +2,9 @@
 use crate::changes::{change_request, change_response};
 use crate::fields::new_request;
 use crate::parts::{address_at, status_of};
-use px_message::{Address, Flow, FlowError, FlowId, Replayed, Request, Shared, Times, WsMessage};
+use px_message::{
+    Address, Flow, FlowError, FlowId, Messages, Replayed, Request, Shared, Times, WsMessage,
+};
 use px_rows::{RowError, unescape};
 use px_text::Bytes;
 use px_write::short_response;
@@ -52,6 +54,7 @@ fn plain_flow(alloc: Global) -> Result<Flow, RowError> {
         marked: false,
         websocket: false,
         message: None,
+        messages: Messages::new(alloc),
     })
 }
 

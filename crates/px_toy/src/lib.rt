@@ -11,7 +11,5 @@
 
 mod chained;
 mod echo;
-#[cfg(test)]
-mod tests;
 
 pub use echo::LineEcho;

@@ -12,5 +12,5 @@ returns c =
     let message = same_option _ _ c.in_ok-clone-6.ensures.cases in
     record {
       cases =
-          flow_eq _ _ refl client server c.in_ok-clone-3.ensures.cases response error refl refl refl refl message;
+          flow_eq _ _ refl client server c.in_ok-clone-3.ensures.cases response error refl refl refl refl message c.in_ok-clone-7.ensures.cases;
     }
