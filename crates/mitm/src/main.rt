@@ -10,8 +10,6 @@
 mod cause;
 mod real_files;
 mod std_sink;
-#[cfg(test)]
-mod tests;
 
 use crate::cause::tell_cause;
 use crate::real_files::RealFiles;

@@ -59,8 +59,6 @@ mod numbering;
 mod parts;
 mod replaying;
 mod rules;
-#[cfg(test)]
-mod tests;
 mod waiting;
 
 pub use addon::Addon;

@@ -29,8 +29,6 @@ mod notes;
 mod nowhere;
 mod places;
 mod rule_lists;
-#[cfg(test)]
-mod tests;
 mod word;
 
 pub use counting::{Counts, counts_of, counts_text};

@@ -20,8 +20,6 @@ mod notice;
 mod share;
 mod socket;
 mod sockets;
-#[cfg(test)]
-mod tests;
 mod wire;
 
 pub use listen_fault::ListenFault;

@@ -44,8 +44,6 @@ mod layer;
 mod peer;
 mod phase;
 mod sender;
-#[cfg(test)]
-mod tests;
 
 pub use failure::Failure;
 pub use layer::WsLayer;

@@ -9,8 +9,6 @@ mod blank;
 mod no_memory;
 mod number;
 mod shared;
-#[cfg(test)]
-mod tests;
 
 pub use ascii::eq_ignore_case;
 pub use blank::find_blank;

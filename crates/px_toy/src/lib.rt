@@ -11,7 +11,6 @@
 
 mod chained;
 mod echo;
-#[cfg(test)]
-mod tests;
+mod numbered;
 
 pub use echo::LineEcho;

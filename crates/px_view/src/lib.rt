@@ -26,8 +26,6 @@ mod desk;
 mod laws;
 mod line;
 mod show;
-#[cfg(test)]
-mod tests;
 
 pub use answer::{OperatorAnswer, answer_line};
 pub use command::{CommandError, Order, read_command};
