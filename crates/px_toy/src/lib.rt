@@ -11,6 +11,5 @@
 
 mod chained;
 mod echo;
-mod numbered;
 
 pub use echo::LineEcho;
