@@ -514,6 +514,24 @@ def answers_of(operator, rest):
     return got
 
 
+def case_operator_who_never_reads_and_leaves():
+    """Its answers are not taken any more, though they held it back from being read: its socket is closed, and others are answered."""
+    with Operated(REQUESTS) as mitm, Operator() as operator:
+        clients = [sender(get(f"/held/{number}")) for number in range(FEW)]
+        names = operator.held(FEW)
+        before = mitm.sockets()
+        for leave in (close, reset):
+            flooding = Operator(room=16_384)
+            flood(flooding.socket, b"list\n" * FLOOD)
+            same(mitm.sockets(), before + 1)
+            flooding.stream.close()
+            leave(flooding.socket)
+            wait_for(lambda: mitm.sockets() == before, "its socket to be closed")
+            same(list(operator.flows()), names)
+        for client in clients:
+            client.close()
+
+
 def case_a_thousand_operators():
     """All are open at once; each gets its own answers."""
     with Operated(REQUESTS) as mitm, sender(get("/held")) as client:
@@ -640,7 +658,7 @@ OPERATOR_CASES = [
     case_no_door_without_the_option, case_door_that_cannot_be_had, case_held_request, case_held_response, case_both_are_held, case_killed_flows_give_no_byte, case_resumed_in_the_other_order,
     case_many_held_and_let_go_in_any_order, case_pipelined_behind_a_held_one, case_flow_that_does_not_wait, case_marks, case_rules_come_first,
     case_lines_that_are_no_orders, case_dropped_addon, case_longest_line, case_lines_in_any_pieces, case_operator_closes_its_side, case_operators_leave,
-    case_client_leaves_while_its_flow_is_held, case_operator_ends_the_run, case_operator_who_never_reads, case_a_thousand_operators, case_line_without_end,
-    case_page_that_posts_to_the_door, case_held_message_of_a_websocket, case_library_whose_messages_are_held, case_page_in_a_browser_ends_the_run,
-    case_browser_is_held_and_let_go,
+    case_client_leaves_while_its_flow_is_held, case_operator_ends_the_run, case_operator_who_never_reads, case_operator_who_never_reads_and_leaves,
+    case_a_thousand_operators, case_line_without_end, case_page_that_posts_to_the_door, case_held_message_of_a_websocket,
+    case_library_whose_messages_are_held, case_page_in_a_browser_ends_the_run, case_browser_is_held_and_let_go,
 ]

@@ -1,3 +1,2 @@
 pub mod EchoGoes
 pub mod EchoSteps
-pub mod EchoRunLemmas

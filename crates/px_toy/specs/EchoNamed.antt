@@ -1,6 +1,5 @@
--- For the tests: the server that echoes lines names its own flow alone.
+-- The server that echoes lines names its own flow alone.
 use Rattle.std.proofs.Common.{◌≡◌, ℕ, Bool, true, false, List, Option, Some, None, refl, ap}
-use Rattle.px_message.specs.declared.address.Address.{Address}
 use Rattle.px_message.specs.declared.flow.Flow.{Flow}
 use Rattle.px_event.specs.declared.event.Event.{Event}
 use Rattle.px_event.specs.declared.reply.Reply.{Reply}
@@ -14,10 +13,6 @@ use Rattle.px_toy.specs.Echo.{EchoStage, Reading, Over, unread, first_line, is_c
 use Rattle.px_toy.specs.Stands.{IsAt, EchoStands}
 use Rattle.px_core.specs.Conversation.{AllNamed}
 use Rattle.px_core.proofs.ChainNamedLemmas.{all_named}
-
--- the flow with this number and this client
-abbrev pub flow_of : Flow → ℕ → Option Address → Flow
-flow_of flow conv peer = record flow { id = record flow.id { conv = conv }; client = peer }
 
 same_flow : (flow : Flow) (state : LineEcho) (stage : EchoStage) (prefix : List (Timed Event)) → IsAt flow state stage prefix → state.flow ≡ flow
 same_flow flow state (Reading used) prefix at = at.same_flow

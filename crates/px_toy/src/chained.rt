@@ -1,9 +1,12 @@
-//! What is due of the server is a chain of stages; so the laws of every chain hold of it.
+//! What is due of the server is a chain of stages, and names this conversation alone; so the laws of every chain hold of it, and behind a gate it
+//! is a conversation.
 ghost use Rattle.px_toy.specs.Echo.{EchoStage, Reading, echo_chain};
 ghost use Rattle.px_toy.specs.Stands.{IsAt};
+ghost use Rattle.px_toy.specs.EchoNamed.{echo_keeps_number, echo_names};
 ghost use Rattle.px_toy.specs.Laws.{settles, so_far_grows, awaits_what_it_asks, ends_where_it_ends};
 
 use crate::LineEcho;
+use px_core::Numbered;
 use px_event::Chained;
 
 impl Chained for LineEcho {
@@ -24,4 +27,12 @@ impl Chained for LineEcho {
     ghost asks = { λ made. awaits_what_it_asks made.flow };
 
     ghost ends = { λ made. ends_where_it_ends made.flow };
+}
+
+impl Numbered for LineEcho {
+    ghost number = { λ made. made.flow.id.conv };
+
+    ghost keeps_number = { echo_keeps_number };
+
+    ghost names = { echo_names };
 }
