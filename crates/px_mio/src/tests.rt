@@ -1,5 +1,4 @@
 //! A wire of real sockets against sockets of std, on loopback.
-mod lines;
 
 use crate::{ListenFault, MioWire};
 use px_event::{Said, Side, Step};

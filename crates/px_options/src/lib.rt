@@ -31,8 +31,6 @@ mod put;
 mod rules;
 mod shown;
 mod table;
-#[cfg(test)]
-mod tests;
 mod texts;
 mod truth;
 

@@ -15,8 +15,6 @@ mod plan;
 mod script_net;
 mod sink;
 mod stored;
-#[cfg(test)]
-mod tests;
 mod vec_sink;
 
 pub use files::{FileCall, FileError, Files};
