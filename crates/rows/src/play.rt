@@ -3,7 +3,6 @@ use crate::conversation::play_conversation;
 use crate::diagram::{Diagram, read_diagram};
 use crate::replies::hooks_of;
 use crate::run::play_run;
-use px_plays::play;
 use px_rows::{Cut, Cuts, Row, RowError, Trouble, add_cuts, plain_cuts, report};
 use std::alloc::Global;
 
@@ -11,7 +10,9 @@ use std::alloc::Global;
 pub(crate) fn play_row(alloc: Global, row: &Row) -> Result<Option<String>, Trouble> {
     match row.kind.as_str() {
         "conversations" | "runs" => play_diagram(alloc, row),
-        _ => play(alloc, row),
+        "sinks" | "files" | "networks" | "wires" => px_scenarios::play(alloc, row),
+        "options" | "options in full" => px_scenarios::play(alloc, row),
+        _ => px_plays::play(alloc, row),
     }
 }
 

@@ -1,0 +1,98 @@
+//! Lines over a wire in memory.
+use crate::net_calls;
+use crate::parts::{address, begin_answer, halves, push_bytes, word_of};
+use px_event::Door;
+use px_rows::{RowError, read_u32, unescape};
+use px_wire::{Lines, MemWire, Ready};
+use std::alloc::Global;
+
+/// What the calls of lines over a wire answer.
+pub(crate) fn answer(alloc: Global, input: &str) -> Result<String, RowError> {
+    let (given, calls) = halves(input);
+    let mut lines = Lines::new(alloc, new_wire(alloc, given)?);
+    let mut out = String::new(alloc);
+    for call in calls.split("; ") {
+        begin_answer(&mut out)?;
+        play_call(alloc, &mut lines, call, &mut out)?;
+    }
+    Ok(out)
+}
+
+fn new_wire(alloc: Global, given: &str) -> Result<MemWire, RowError> {
+    let mut script = Vec::new(alloc);
+    let mut takes = Vec::new(alloc);
+    let mut gives = Vec::new(alloc);
+    for part in given.split("; ") {
+        match word_of(part) {
+            ("takes", numbers) => push_takes(numbers, &mut takes)?,
+            ("gives", text) => gives.push(unescape(alloc, text)?)?,
+            (moment, told) => push_told(alloc, moment, told, &mut script)?,
+        }
+    }
+    Ok(MemWire::new(alloc, script, takes, gives))
+}
+
+fn push_takes(numbers: &str, takes: &mut Vec<usize>) -> Result<(), RowError> {
+    for number in numbers.split(", ") {
+        takes.push(read_u32(number)? as usize)?;
+    }
+    Ok(())
+}
+
+fn push_told(
+    alloc: Global,
+    moment: &str,
+    told: &str,
+    script: &mut Vec<(u64, Ready)>,
+) -> Result<(), RowError> {
+    let moment = u64::from(read_u32(moment)?);
+    script.push((moment, ready_of(alloc, told)?))?;
+    Ok(())
+}
+
+// What a wire tells: a word, and the number of a slot.
+fn ready_of(alloc: Global, told: &str) -> Result<Ready, RowError> {
+    let (word, slot) = word_of(told);
+    let slot = read_u32(slot)?;
+    match word {
+        "accepted" => accepted(alloc, slot),
+        "readable" => Ok(Ready::Readable(slot)),
+        "writable" => Ok(Ready::Writable(slot)),
+        "connected" => Ok(Ready::Dialled(slot, true)),
+        "refused" => Ok(Ready::Dialled(slot, false)),
+        _ => Err(RowError::Bad),
+    }
+}
+
+fn accepted(alloc: Global, slot: u32) -> Result<Ready, RowError> {
+    let peer = address(alloc)?;
+    Ok(Ready::Accepted {
+        slot,
+        door: Door::Proxy,
+        peer,
+    })
+}
+
+fn play_call(
+    alloc: Global,
+    lines: &mut Lines<MemWire>,
+    call: &str,
+    out: &mut String,
+) -> Result<(), RowError> {
+    match word_of(call) {
+        ("taken", slot) => show_taken(out, lines.wire(), slot),
+        ("flush", slot) => flush(out, lines, slot),
+        _ => net_calls::play_call(alloc, lines, call, out),
+    }
+}
+
+fn show_taken(out: &mut String, wire: &MemWire, slot: &str) -> Result<(), RowError> {
+    let bytes = wire.taken(read_u32(slot)?)?;
+    push_bytes(out, &bytes)
+}
+
+fn flush(out: &mut String, lines: &mut Lines<MemWire>, slot: &str) -> Result<(), RowError> {
+    let flushed = lines.flush(read_u32(slot)?);
+    write!(out, "{flushed:?}")?;
+    Ok(())
+}
