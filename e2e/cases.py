@@ -19,6 +19,7 @@ from option_cases import OPTION_CASES
 from page_cases import PAGE_CASES
 from replay_cases import REPLAY_CASES
 from resend_cases import RESEND_CASES
+from rows_cases import ROWS_CASES
 from saving_cases import SAVING_CASES
 from tools import (
     ORIGIN, PROXY, TOP, Mitm, Origin, Tally, curl, get, line, raise_limit, raise_loopback, read_all, read_answers, same, talk, url, wait_for,
@@ -205,7 +206,7 @@ CASES = [
 # The cases that have a run of their own.
 OWN_CASES = [
     *BUSY_CASES, *OPTION_CASES, *MODE_CASES, *TUNNEL_CASES, *UPSTREAM_CASES, *WEBSOCKET_CASES, *PAGE_CASES, *SAVING_CASES, *REPLAY_CASES,
-    *RESEND_CASES, *OPERATOR_CASES,
+    *RESEND_CASES, *OPERATOR_CASES, *ROWS_CASES,
 ]
 
 # The cases whose lines come in no order.
