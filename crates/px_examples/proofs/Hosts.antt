@@ -1,5 +1,5 @@
 -- Whether a text is a host, as a test that computes; and so the addresses and targets in which hosts stand.
-use Rattle.std.specs.Prelude.{◌≡◌, ◌≢◌, ℕ, zero, suc, ◌-◌, ◌<◌, ◌≤◌, ◌⊎◌, Bool, true, false, ◌&&◌, ◌||◌, ◌==◌, not, nat_lt, nat_le, List, [], ◌∷◌, length, map, take, drop, slice_index, bytes_eq, codes, All, IsTrue, MatchBool, Option, Some, None, if◌then◌else◌}
+use Rattle.std.specs.Prelude.{◌≡◌, ◌≢◌, ℕ, zero, suc, ◌-◌, ◌<◌, ◌≤◌, ◌⊎◌, Bool, true, false, ◌&&◌, ◌||◌, ◌==◌, not, nat_lt, nat_le, List, [], ◌∷◌, length, map, take, drop, slice_index, bytes_eq, codes, All, IsTrue, Option, Some, None, if◌then◌else◌}
 use Rattle.std.specs.Bool.{Decides}
 use Rattle.std.specs.Option.{option_map}
 use Rattle.std.proofs.Common.{inl, inr, refl, sym}
@@ -12,7 +12,6 @@ use Rattle.px_message.specs.Host.{IsHost}
 use Rattle.px_message.specs.TellHost.{tell_host}
 use Rattle.px_message.specs.Authority.{address_from, address_of, after_host, host_of, port_of}
 use Rattle.px_message.specs.Target.{Form, origin, absolute, authority, asterisk, absolute_form, after_scheme, authority_form, authority_len, has_http_scheme, located, path_form, rooted, target_form}
-use Rattle.px_message.specs.Url.{url_text}
 use Rattle.px_examples.specs.Rows.{Tell}
 
 where_told : {P Q : Type 0} (x y : Bool) → Decides x P → Decides y Q → Decides (not x || y) (P → Q)

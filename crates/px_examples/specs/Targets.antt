@@ -1,5 +1,5 @@
 -- The targets of requests, hosts, and URLs.
-use Rattle.std.specs.Prelude.{ℕ, Bool, true, false, List, [], ◌∷◌, ◌++◌, Option, Some, None, codes}
+use Rattle.std.specs.Prelude.{ℕ, Bool, true, false, List, [], ◌∷◌, Option, Some, None, codes}
 use Rattle.px_message.specs.Target.{Form, origin, absolute, authority, asterisk}
 use Rattle.px_examples.specs.Rows.{◌gives◌}
 

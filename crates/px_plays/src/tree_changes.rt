@@ -56,13 +56,19 @@ fn change_pair(
     name: &str,
     change: Change<'_>,
 ) -> Result<Vec<u8>, RowError> {
+    match change {
+        Change::Add(_) => {}
+        _ => {
+            item_under(alloc, tree, name)?;
+        }
+    }
     let mut out = Vec::new(alloc);
     for (key, item) in &pairs_in(alloc, tree)? {
-        let named = payload_in(key)? == name.as_bytes();
+        let named = payload_in(*key)? == name.as_bytes();
         match (named, change) {
             (true, Change::Remove) => {}
-            (true, Change::Set(new)) => push_pair(&mut out, key, new)?,
-            _ => push_pair(&mut out, key, item)?,
+            (true, Change::Set(new)) => push_pair(&mut out, *key, new)?,
+            _ => push_pair(&mut out, *key, *item)?,
         }
     }
     if let Change::Add(new) = change {
@@ -84,8 +90,8 @@ fn push_pair(out: &mut Vec<u8>, key: &[u8], item: &[u8]) -> Result<(), RowError>
 // What stands at this key, which is there.
 fn item_under<'a>(alloc: Global, tree: &'a [u8], name: &str) -> Result<&'a [u8], RowError> {
     for (key, item) in &pairs_in(alloc, tree)? {
-        if payload_in(key)? == name.as_bytes() {
-            return Ok(item);
+        if payload_in(*key)? == name.as_bytes() {
+            return Ok(*item);
         }
     }
     Err(RowError::Bad)
@@ -153,11 +159,12 @@ fn framed(alloc: Global, payload: &[u8], tag: u8) -> Result<Vec<u8>, RowError> {
 
 fn backwards(alloc: Global, tree: &[u8]) -> Result<Vec<u8>, RowError> {
     let mut out = Vec::new(alloc);
-    for (key, item) in pairs_in(alloc, tree)?.iter().rev() {
+    let pairs = pairs_in(alloc, tree)?;
+    for (key, item) in pairs.iter().rev() {
         if item.ends_with(b"}") {
-            push_pair(&mut out, key, turned(alloc, item)?.as_slice())?;
+            push_pair(&mut out, *key, turned(alloc, *item)?.as_slice())?;
         } else {
-            push_pair(&mut out, key, item)?;
+            push_pair(&mut out, *key, *item)?;
         }
     }
     framed(alloc, out.as_slice(), b'}')
@@ -166,8 +173,9 @@ fn backwards(alloc: Global, tree: &[u8]) -> Result<Vec<u8>, RowError> {
 // A dictionary within, its pairs turned.
 fn turned(alloc: Global, tree: &[u8]) -> Result<Vec<u8>, RowError> {
     let mut out = Vec::new(alloc);
-    for (key, item) in pairs_in(alloc, tree)?.iter().rev() {
-        push_pair(&mut out, key, item)?;
+    let pairs = pairs_in(alloc, tree)?;
+    for (key, item) in pairs.iter().rev() {
+        push_pair(&mut out, *key, *item)?;
     }
     framed(alloc, out.as_slice(), b'}')
 }
