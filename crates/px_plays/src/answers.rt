@@ -1,7 +1,5 @@
 //! What comes of a row's input, by the first word of its kind.
-use crate::{
-    chunks, filters, flow_files, heads, lengths, messages, rules, settled, trees, values, written,
-};
+use crate::{chunks, filters, flow_files, heads, messages, rules, trees};
 use px_rows::{Cut, RowError};
 use std::alloc::Global;
 
@@ -42,25 +40,8 @@ fn answer_whole(alloc: Global, word: &str, more: &str, bytes: &[u8]) -> Result<S
     match word {
         "filters" => filters::answer(alloc, more, bytes),
         "flow" => flow_files::answer(alloc, more, bytes),
-        "lengths" => lengths::answer(alloc, more, bytes),
-        "settled" => settled::answer(alloc, more, bytes),
-        "shown" => filters::shown_answer(alloc, more, bytes),
         "trees" => trees::answer(alloc, bytes),
-        "written" => written::answer(alloc, more, bytes),
-        _ => answer_of_rules(alloc, word, more, bytes),
-    }
-}
-
-fn answer_of_rules(
-    alloc: Global,
-    word: &str,
-    more: &str,
-    bytes: &[u8],
-) -> Result<String, RowError> {
-    match word {
-        "parts" => rules::parts_answer(alloc, more, bytes),
-        "requests" => rules::request_answer(alloc, more, bytes),
         "rules" => rules::answer(alloc, more, bytes),
-        _ => values::answer(alloc, word, more, bytes),
+        _ => Err(RowError::Bad),
     }
 }

@@ -1,9 +1,9 @@
 //! Filters.
 use crate::flows::flow_of;
 use crate::parts::utf8_of;
-use px_filter::{Filter, FilterError, show_refusal};
+use px_filter::{Filter, FilterError};
 use px_message::Flow;
-use px_rows::{RowError, write_escaped};
+use px_rows::RowError;
 use std::alloc::Global;
 
 /// What comes of a filter's text: `reads` or its refusal; `on` a flow whether it holds there, and `!` before it does not.
@@ -63,27 +63,4 @@ fn matches(filter: Filter, flow: &Flow) -> Result<bool, RowError> {
     let answer = filter.matches(flow);
     drop(filter);
     Ok(answer?)
-}
-
-/// The two lines that show a person where a text is refused, in rows `shown refusals`.
-pub(crate) fn shown_answer(alloc: Global, what: &str, bytes: &[u8]) -> Result<String, RowError> {
-    if what != "refusals" {
-        return Err(RowError::Bad);
-    }
-    let text = utf8_of(bytes)?;
-    match Filter::parse(alloc, text) {
-        Ok(filter) => {
-            drop(filter);
-            Err(RowError::Bad)
-        }
-        Err(error) => shown_refusal(alloc, text, &error),
-    }
-}
-
-fn shown_refusal(alloc: Global, text: &str, error: &FilterError) -> Result<String, RowError> {
-    let mut lines = Vec::new(alloc);
-    show_refusal(text, error, &mut lines)?;
-    let mut out = String::new(alloc);
-    write_escaped(&mut out, lines.as_slice())?;
-    Ok(out)
 }

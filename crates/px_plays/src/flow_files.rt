@@ -1,13 +1,12 @@
 //! Flow files: what is written of a flow, and what is read of a file that was changed.
 use crate::flows::flow_of;
 use crate::parts::utf8_of;
-use crate::tree_changes::{change_tree, tree_of};
-use crate::trees::text_of;
+use crate::tree_changes::change_tree;
 use px_flowfile::{Entry, FlowReader, Others, ReadFault, write_flow};
 use px_message::Flow;
 use px_rows::{RowError, write_escaped};
 use px_text::Bytes;
-use px_tnet::{Tnet, WriteError};
+use px_tnet::WriteError;
 use std::alloc::Global;
 
 /// Of rows `flow files`, `flow files of FLOW` and `flow texts of FLOW`.
@@ -26,41 +25,41 @@ pub(crate) fn answer(alloc: Global, what: &str, bytes: &[u8]) -> Result<String, 
 
 // The text of a file with this flow.
 fn flow_text(alloc: Global, flow: &str) -> Result<String, RowError> {
-    let text = write_alone(alloc, flow_of(alloc, flow)?)?;
+    let text = text_of(alloc, flow)?;
     let mut out = String::new(alloc);
     write_escaped(&mut out, text.as_slice())?;
     Ok(out)
 }
 
-// What is read of a file with this flow whose tree was changed, and whether that is written as it was read; or the fault.
-fn changed_file(alloc: Global, flow: &str, changes: &str) -> Result<String, RowError> {
-    let flow = flow_of(alloc, flow)?;
-    let answer = change_file(alloc, &flow, changes);
-    drop(flow);
-    answer
-}
-
-fn change_file(alloc: Global, flow: &Flow, changes: &str) -> Result<String, RowError> {
-    let text = write_alone(alloc, flow.try_clone()?)?;
-    let text = change_text(alloc, text, changes)?;
-    show_file(alloc, flow, text.as_slice())
-}
-
-// The text of a tree, changed.
-fn change_text(alloc: Global, text: Vec<u8>, changes: &str) -> Result<Vec<u8>, RowError> {
-    let mut tree = tree_of(alloc, text)?;
-    for change in changes.split("; ") {
-        tree = change_once(alloc, tree, change)?;
-    }
-    let text = text_of(alloc, &tree);
-    drop(tree);
+fn text_of(alloc: Global, flow: &str) -> Result<Vec<u8>, RowError> {
+    let entry = entry_of(alloc, flow)?;
+    let text = write_entry(alloc, &entry);
+    drop(entry);
     text
 }
 
-fn change_once(alloc: Global, tree: Tnet, change: &str) -> Result<Tnet, RowError> {
-    let changed = change_tree(alloc, &tree, change);
-    drop(tree);
-    changed
+// The flow without other pairs.
+fn entry_of(alloc: Global, flow: &str) -> Result<Entry, RowError> {
+    Ok(Entry {
+        flow: flow_of(alloc, flow)?,
+        others: Others::new(alloc),
+    })
+}
+
+// What is read of a file with this flow whose tree was changed, and whether that is written as it was read; or the fault.
+fn changed_file(alloc: Global, flow: &str, changes: &str) -> Result<String, RowError> {
+    let entry = entry_of(alloc, flow)?;
+    let answer = change_file(alloc, &entry, changes);
+    drop(entry);
+    answer
+}
+
+fn change_file(alloc: Global, entry: &Entry, changes: &str) -> Result<String, RowError> {
+    let mut text = write_entry(alloc, entry)?;
+    for change in changes.split("; ") {
+        text = change_tree(alloc, text.as_slice(), change)?;
+    }
+    show_file(alloc, &entry.flow, text.as_slice())
 }
 
 // The lines of the flows of a file, and the fault where it has one.
@@ -108,17 +107,6 @@ fn show_line(out: &mut String, flow: &Flow) -> Result<bool, RowError> {
     }
     out.push_str(", ")?;
     Ok(true)
-}
-
-// The text of a flow without other pairs.
-fn write_alone(alloc: Global, flow: Flow) -> Result<Vec<u8>, RowError> {
-    let entry = Entry {
-        flow,
-        others: Others::new(alloc),
-    };
-    let text = write_entry(alloc, &entry);
-    drop(entry);
-    text
 }
 
 fn write_entry(alloc: Global, entry: &Entry) -> Result<Vec<u8>, RowError> {

@@ -1,9 +1,9 @@
 //! Flows that a row is about.
 use crate::changes::{change_request, change_response};
-use crate::fields::new_request;
-use crate::parts::{address_at, status_of};
+use crate::parts::{address_at, host_of, name_of, path_of, status_of};
 use px_message::{
-    Address, Flow, FlowError, FlowId, Messages, Replayed, Request, Shared, Times, WsMessage,
+    Address, Body, Fields, Flow, FlowError, FlowId, Messages, Replayed, Request, Shared, Times,
+    Version, WsMessage,
 };
 use px_rows::{RowError, unescape};
 use px_text::Bytes;
@@ -29,10 +29,25 @@ fn change_parts(alloc: Global, flow: &mut Flow, text: &str) -> Result<(), RowErr
     Ok(())
 }
 
+// `GET http://h/` without fields.
 fn plain_request(alloc: Global) -> Result<Request, RowError> {
-    let mut request = new_request(alloc)?;
-    change_request(alloc, &mut request, "method GET; port 80; path /")?;
-    Ok(request)
+    let method = name_of(alloc, "GET")?;
+    if method.bytes() == b"CONNECT".as_slice() {
+        return Err(RowError::Bad);
+    }
+    let host = host_of(alloc, "h")?;
+    let path = path_of(alloc, "/")?;
+    Ok(Request {
+        method,
+        host,
+        port: 80,
+        path,
+        version: Version::Http11,
+        fields: Fields::new(alloc),
+        body: Body::empty(),
+        trailers: Fields::new(alloc),
+        streamed: false,
+    })
 }
 
 fn plain_flow(alloc: Global) -> Result<Flow, RowError> {

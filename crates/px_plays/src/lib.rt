@@ -1,5 +1,5 @@
-//! Players of rows of one line, `INPUT => ANSWER`: heads, messages, lengths, values, filters, rules, trees, flow files. docs/rows.md has
-//! the notation.
+//! Players of rows of one line, `INPUT => ANSWER`, of what only a run shows: heads, messages, filters, rules, trees, flow files. What
+//! definitions say by themselves is in the tables of px_examples. docs/rows.md has the notation.
 //!
 //! `play` plays one such row. The first word of a row's kind says which file has its player (`answers`): a further kind is a file and a line there.
 //! Beside it stands what a row may change of a message (`change_request`, `change_response`), which rows of conversations share.
@@ -10,21 +10,16 @@
 mod answers;
 mod changes;
 mod chunks;
-mod fields;
 mod filters;
 mod flow_files;
 mod flows;
 mod heads;
-mod lengths;
 mod messages;
 mod parts;
 mod rules;
-mod settled;
 mod tables;
 mod tree_changes;
 mod trees;
-mod values;
-mod written;
 
 pub use changes::{change_request, change_response};
 pub use parts::{address_at, status_of};

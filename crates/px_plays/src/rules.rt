@@ -1,48 +1,10 @@
-//! Rules: their parts, and what they make of a flow.
-ghost use Rattle.std.specs.Prelude.{◌≤◌, IfOk};
-
-use crate::fields::{read_fields, show_fields};
+//! Rules: what they make of a flow.
 use crate::flows::flow_of;
 use crate::parts::utf8_of;
 use px_message::{Fields, Flow};
 use px_rows::{RowError, write_escaped};
-use px_rule::{
-    BodyRules, HeaderRules, RuleCause, RuleError, Spec, anticache, anticomp, split_spec,
-};
+use px_rule::{BodyRules, HeaderRules, RuleCause, RuleError};
 use std::alloc::Global;
-
-/// The parts of a rule's text, in rows `parts of at most 1` or `2`, with ` + ` between them.
-pub(crate) fn parts_answer(alloc: Global, most: &str, bytes: &[u8]) -> Result<String, RowError> {
-    let text = utf8_of(bytes)?;
-    let most = most_of(most)?;
-    let mut out = String::new(alloc);
-    match split_spec(text, most) {
-        Ok(spec) => show_parts(&mut out, &spec)?,
-        Err(error) => write!(out, "{error:?}")?,
-    }
-    Ok(out)
-}
-
-fn most_of(text: &str) -> Result<usize, RowError>
-    ensures some { IfOk result (λ most. 1 ≤ most) }
-    ensures few { IfOk result (λ most. most ≤ 2) }
-{
-    match text {
-        "of at most 1" => Ok(1),
-        "of at most 2" => Ok(2),
-        _ => Err(RowError::Bad),
-    }
-}
-
-fn show_parts(out: &mut String, spec: &Spec<'_>) -> Result<(), RowError> {
-    for i in 0..spec.len() {
-        if i > 0 {
-            out.push_str(" + ")?;
-        }
-        write_escaped(out, spec.part(i).as_bytes())?;
-    }
-    Ok(())
-}
 
 /// What rules, one a line, make of a flow: of the fields or the body of its request, of its response or of its message. Where one
 /// is refused, its index and cause.
@@ -137,6 +99,20 @@ fn show_fields_of(out: &mut String, flow: &Flow, response: bool) -> Result<(), R
     }
 }
 
+// One a line, as `A: 1`.
+fn show_fields(out: &mut String, fields: &Fields) -> Result<(), RowError> {
+    for i in 0..fields.len() {
+        if i > 0 {
+            out.push_str("\\n")?;
+        }
+        let (name, value) = fields.pair(i);
+        write_escaped(out, name.bytes())?;
+        out.push_str(": ")?;
+        write_escaped(out, value.bytes())?;
+    }
+    Ok(())
+}
+
 fn show_nothing(out: &mut String) -> Result<(), RowError> {
     out.push('-')?;
     Ok(())
@@ -181,17 +157,4 @@ fn show_bytes(out: &mut String, flow: &Flow, place: Place) -> Result<(), RowErro
         (Place::Message, _, Some(message)) => write_escaped(out, message.get().payload.as_slice()),
         _ => show_nothing(out),
     }
-}
-
-/// The fields of a request that asks for an answer that is not kept elsewhere, or in no coding.
-pub(crate) fn request_answer(alloc: Global, what: &str, bytes: &[u8]) -> Result<String, RowError> {
-    let mut fields: Fields = read_fields(alloc, bytes)?;
-    match what {
-        "without caching" => anticache(&mut fields)?,
-        "without coding" => anticomp(alloc, &mut fields)?,
-        _ => return Err(RowError::Bad),
-    }
-    let mut out = String::new(alloc);
-    show_fields(&mut out, &fields)?;
-    Ok(out)
 }

@@ -1,215 +1,181 @@
-//! Trees of flows that are changed.
+//! Trees of flows that are changed. A tree stands as its text: a dictionary is a row of pairs, each a key's text and an item's.
 use px_rows::{RowError, unescape};
-use px_text::Bytes;
-use px_tnet::{Tnet, TnetDict, TnetKey, read};
+use px_text::push_decimal;
 use std::alloc::Global;
 
-/// The tree with a change: `as it is`, `backwards` (the pairs of each dictionary), `without request.path`, `request.port = 1:0#`
-/// or `x also 3:1.5^`, which puts a pair more behind the others, as `request.x also 3:1.5^` does within.
-pub(crate) fn change_tree(alloc: Global, tree: &Tnet, change: &str) -> Result<Tnet, RowError> {
+/// The text of a tree with a change: `as it is`, `backwards` (the pairs of each dictionary), `without request.path`,
+/// `request.port = 1:0#` or `x also 3:1.5^`, which puts a pair more behind the others, as `request.x also 3:1.5^` does within.
+pub(crate) fn change_tree(alloc: Global, tree: &[u8], change: &str) -> Result<Vec<u8>, RowError> {
     match change {
-        "as it is" => Ok(tree.clone()?),
+        "as it is" => Ok(Vec::from_slice(alloc, tree)?),
         "backwards" => backwards(alloc, tree),
         _ => change_pairs(alloc, tree, change),
     }
 }
 
-fn change_pairs(alloc: Global, tree: &Tnet, change: &str) -> Result<Tnet, RowError> {
+fn change_pairs(alloc: Global, tree: &[u8], change: &str) -> Result<Vec<u8>, RowError> {
     if let Some(path) = change.strip_prefix("without ") {
         return change_at(alloc, tree, path, Change::Remove);
     }
     if let Some((path, text)) = change.split_once(" = ") {
-        let new = tree_of(alloc, unescape(alloc, text)?)?;
-        return change_at(alloc, tree, path, Change::Set(&new));
+        let new = unescape(alloc, text)?;
+        return change_at(alloc, tree, path, Change::Set(new.as_slice()));
     }
     let Some((path, text)) = change.split_once(" also ") else {
         return Err(RowError::Bad);
     };
-    let new = tree_of(alloc, unescape(alloc, text)?)?;
-    change_at(alloc, tree, path, Change::Add(&new))
-}
-
-/// The tree of which this is the text.
-pub(crate) fn tree_of(alloc: Global, text: Vec<u8>) -> Result<Tnet, RowError> {
-    match read(alloc, &Bytes::new(text)?) {
-        Ok((tree, _)) => Ok(tree),
-        Err(_) => Err(RowError::Bad),
-    }
+    let new = unescape(alloc, text)?;
+    change_at(alloc, tree, path, Change::Add(new.as_slice()))
 }
 
 // What is done with the pair of a key, or of a new one behind the others.
 #[derive(Clone, Copy)]
 enum Change<'a> {
     Remove,
-    Set(&'a Tnet),
-    Add(&'a Tnet),
+    Set(&'a [u8]),
+    Add(&'a [u8]),
 }
 
 // The tree with a change at a path of one or two keys.
-fn change_at(alloc: Global, tree: &Tnet, path: &str, change: Change<'_>) -> Result<Tnet, RowError> {
+fn change_at(
+    alloc: Global,
+    tree: &[u8],
+    path: &str,
+    change: Change<'_>,
+) -> Result<Vec<u8>, RowError> {
     let Some((outer, inner)) = path.split_once('.') else {
         return change_pair(alloc, tree, path, change);
     };
-    let changed = change_pair(alloc, item_of(tree, outer)?, inner, change)?;
-    replace(alloc, tree, outer, &changed)
+    let changed = change_pair(alloc, item_under(alloc, tree, outer)?, inner, change)?;
+    change_pair(alloc, tree, outer, Change::Set(changed.as_slice()))
 }
 
 fn change_pair(
     alloc: Global,
-    tree: &Tnet,
+    tree: &[u8],
     name: &str,
     change: Change<'_>,
-) -> Result<Tnet, RowError> {
+) -> Result<Vec<u8>, RowError> {
     match change {
-        Change::Remove => remove(alloc, tree, name),
-        Change::Set(new) => replace(alloc, tree, name, new),
-        Change::Add(new) => append(alloc, tree, name, new),
+        Change::Add(_) => {}
+        _ => {
+            item_under(alloc, tree, name)?;
+        }
     }
+    let mut out = Vec::new(alloc);
+    for (key, item) in &pairs_in(alloc, tree)? {
+        let named = payload_in(*key)? == name.as_bytes();
+        match (named, change) {
+            (true, Change::Remove) => {}
+            (true, Change::Set(new)) => push_pair(&mut out, *key, new)?,
+            _ => push_pair(&mut out, *key, *item)?,
+        }
+    }
+    if let Change::Add(new) = change {
+        push_pair(
+            &mut out,
+            framed(alloc, name.as_bytes(), b';')?.as_slice(),
+            new,
+        )?;
+    }
+    framed(alloc, out.as_slice(), b'}')
 }
 
-fn pairs_of(tree: &Tnet) -> Result<&[(TnetKey, Tnet)], RowError> {
-    match tree {
-        Tnet::Dict(dict) => Ok(dict.as_slice()),
-        _ => Err(RowError::Bad),
-    }
+fn push_pair(out: &mut Vec<u8>, key: &[u8], item: &[u8]) -> Result<(), RowError> {
+    out.extend_from_slice(key)?;
+    out.extend_from_slice(item)?;
+    Ok(())
 }
 
 // What stands at this key, which is there.
-fn item_of<'a>(tree: &'a Tnet, name: &str) -> Result<&'a Tnet, RowError> {
-    for (key, item) in pairs_of(tree)? {
-        if is_named(key, name) {
-            return Ok(item);
+fn item_under<'a>(alloc: Global, tree: &'a [u8], name: &str) -> Result<&'a [u8], RowError> {
+    for (key, item) in &pairs_in(alloc, tree)? {
+        if payload_in(*key)? == name.as_bytes() {
+            return Ok(*item);
         }
     }
     Err(RowError::Bad)
 }
 
-fn is_named(key: &TnetKey, name: &str) -> bool {
-    key.bytes.as_slice() == name.as_bytes()
-}
-
-fn remove(alloc: Global, tree: &Tnet, name: &str) -> Result<Tnet, RowError> {
-    item_of(tree, name)?;
+// The pairs of a dictionary, a hundred at most.
+fn pairs_in<'a>(alloc: Global, tree: &'a [u8]) -> Result<Vec<(&'a [u8], &'a [u8])>, RowError> {
+    let mut rest = payload_in(tree)?;
     let mut pairs = Vec::new(alloc);
-    let filled = push_others(&mut pairs, tree, name);
-    dict_of(pairs, filled)
-}
-
-fn push_others(pairs: &mut Vec<(TnetKey, Tnet)>, tree: &Tnet, name: &str) -> Result<(), RowError> {
-    for (key, item) in pairs_of(tree)? {
-        if !is_named(key, name) {
-            push_copy(pairs, key, item)?;
+    for _ in 0..100 {
+        if rest.is_empty() {
+            return Ok(pairs);
         }
+        let (key, behind) = cut(rest)?;
+        let (item, behind) = cut(behind)?;
+        pairs.push((key, item))?;
+        rest = behind;
     }
-    Ok(())
+    Err(RowError::Bad)
 }
 
-fn replace(alloc: Global, tree: &Tnet, name: &str, new: &Tnet) -> Result<Tnet, RowError> {
-    item_of(tree, name)?;
-    let mut pairs = Vec::new(alloc);
-    let filled = push_replaced(&mut pairs, tree, name, new);
-    dict_of(pairs, filled)
-}
-
-fn push_replaced(
-    pairs: &mut Vec<(TnetKey, Tnet)>,
-    tree: &Tnet,
-    name: &str,
-    new: &Tnet,
-) -> Result<(), RowError> {
-    for (key, item) in pairs_of(tree)? {
-        push_copy(pairs, key, if is_named(key, name) { new } else { item })?;
+// The item at the front, and what stands behind it.
+fn cut(text: &[u8]) -> Result<(&[u8], &[u8]), RowError> {
+    let (_, end) = payload_at(text)?;
+    match text.split_at_checked(end.saturating_add(1)) {
+        Some(halves) => Ok(halves),
+        None => Err(RowError::Bad),
     }
-    Ok(())
 }
 
-fn append(alloc: Global, tree: &Tnet, name: &str, new: &Tnet) -> Result<Tnet, RowError> {
-    let mut pairs = Vec::new(alloc);
-    let filled = push_with(alloc, &mut pairs, tree, name, new);
-    dict_of(pairs, filled)
-}
-
-fn push_with(
-    alloc: Global,
-    pairs: &mut Vec<(TnetKey, Tnet)>,
-    tree: &Tnet,
-    name: &str,
-    new: &Tnet,
-) -> Result<(), RowError> {
-    for (key, item) in pairs_of(tree)? {
-        push_copy(pairs, key, item)?;
+// What stands within an item.
+fn payload_in(text: &[u8]) -> Result<&[u8], RowError> {
+    let (start, end) = payload_at(text)?;
+    match text.get(start..end) {
+        Some(payload) => Ok(payload),
+        None => Err(RowError::Bad),
     }
-    let key = TnetKey {
-        text: true,
-        bytes: Bytes::copied(alloc, name.as_bytes())?,
+}
+
+// Where the payload of the item at the front stands: behind a colon, and as long as the digits before it say.
+fn payload_at(text: &[u8]) -> Result<(usize, usize), RowError> {
+    let mut halves = text.splitn(2, |byte| *byte == b':');
+    let Some(digits) = halves.next() else {
+        return Err(RowError::Bad);
     };
-    push_copy(pairs, &key, new)
+    let start = digits.len().saturating_add(1);
+    let Ok(digits) = str::from_utf8(digits) else {
+        return Err(RowError::Bad);
+    };
+    match digits.parse::<usize>() {
+        Ok(len) => Ok((start, start.saturating_add(len))),
+        Err(_) => Err(RowError::Bad),
+    }
 }
 
-// The dictionary of these pairs, where all of them are there.
-fn dict_of(pairs: Vec<(TnetKey, Tnet)>, filled: Result<(), RowError>) -> Result<Tnet, RowError> {
-    match filled {
-        Ok(()) => Ok(Tnet::Dict(TnetDict::new(pairs))),
-        Err(error) => {
-            drop(pairs);
-            Err(error)
+// An item of this payload and this tag.
+fn framed(alloc: Global, payload: &[u8], tag: u8) -> Result<Vec<u8>, RowError> {
+    let mut out = Vec::new(alloc);
+    push_decimal(&mut out, payload.len() as u64)?;
+    out.push(b':')?;
+    out.extend_from_slice(payload)?;
+    out.push(tag)?;
+    Ok(out)
+}
+
+fn backwards(alloc: Global, tree: &[u8]) -> Result<Vec<u8>, RowError> {
+    let mut out = Vec::new(alloc);
+    let pairs = pairs_in(alloc, tree)?;
+    for (key, item) in pairs.iter().rev() {
+        if item.ends_with(b"}") {
+            push_pair(&mut out, *key, turned(alloc, *item)?.as_slice())?;
+        } else {
+            push_pair(&mut out, *key, *item)?;
         }
     }
+    framed(alloc, out.as_slice(), b'}')
 }
 
-fn push_copy(pairs: &mut Vec<(TnetKey, Tnet)>, key: &TnetKey, item: &Tnet) -> Result<(), RowError> {
-    push_pair(pairs, key, item.clone()?)
-}
-
-fn push_pair(pairs: &mut Vec<(TnetKey, Tnet)>, key: &TnetKey, item: Tnet) -> Result<(), RowError> {
-    match key.clone() {
-        Ok(key) => push(pairs, key, item),
-        Err(_) => {
-            drop(item);
-            Err(RowError::NoMemory)
-        }
+// A dictionary within, its pairs turned.
+fn turned(alloc: Global, tree: &[u8]) -> Result<Vec<u8>, RowError> {
+    let mut out = Vec::new(alloc);
+    let pairs = pairs_in(alloc, tree)?;
+    for (key, item) in pairs.iter().rev() {
+        push_pair(&mut out, *key, *item)?;
     }
-}
-
-fn push(pairs: &mut Vec<(TnetKey, Tnet)>, key: TnetKey, item: Tnet) -> Result<(), RowError> {
-    pairs.push((key, item))?;
-    Ok(())
-}
-
-fn backwards(alloc: Global, tree: &Tnet) -> Result<Tnet, RowError> {
-    let mut pairs = Vec::new(alloc);
-    let filled = push_backwards(alloc, &mut pairs, tree);
-    dict_of(pairs, filled)
-}
-
-fn push_backwards(
-    alloc: Global,
-    pairs: &mut Vec<(TnetKey, Tnet)>,
-    tree: &Tnet,
-) -> Result<(), RowError> {
-    for (key, item) in pairs_of(tree)?.iter().rev() {
-        push_pair(pairs, key, turned_inside(alloc, item)?)?;
-    }
-    Ok(())
-}
-
-// A dictionary within has its pairs turned too.
-fn turned_inside(alloc: Global, tree: &Tnet) -> Result<Tnet, RowError> {
-    match tree {
-        Tnet::Dict(dict) => turned(alloc, dict),
-        _ => Ok(tree.clone()?),
-    }
-}
-
-fn turned(alloc: Global, dict: &TnetDict) -> Result<Tnet, RowError> {
-    let mut pairs = Vec::new(alloc);
-    let filled = push_turned(&mut pairs, dict);
-    dict_of(pairs, filled)
-}
-
-fn push_turned(pairs: &mut Vec<(TnetKey, Tnet)>, dict: &TnetDict) -> Result<(), RowError> {
-    for (key, item) in dict.as_slice().iter().rev() {
-        push_copy(pairs, key, item)?;
-    }
-    Ok(())
+    framed(alloc, out.as_slice(), b'}')
 }

@@ -53,8 +53,8 @@ fn show_front(
     Ok(())
 }
 
-/// The text of a tree.
-pub(crate) fn text_of(alloc: Global, tree: &Tnet) -> Result<Vec<u8>, RowError> {
+// The text of a tree.
+fn text_of(alloc: Global, tree: &Tnet) -> Result<Vec<u8>, RowError> {
     let mut text = Vec::new(alloc);
     match write(tree, &mut text) {
         Ok(()) => Ok(text),

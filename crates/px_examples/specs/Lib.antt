@@ -1,0 +1,10 @@
+pub mod Fields
+pub mod Lengths
+pub mod Messages
+pub mod Parts
+pub mod Rows
+pub mod Settled
+pub mod Shown
+pub mod Targets
+pub mod Valid
+pub mod Written
