@@ -2,3 +2,4 @@ pub mod KeyLemmas
 pub mod PlaceLemmas
 pub mod RunLemmas
 pub mod ParameterLemmas
+pub mod LeftLemmas

@@ -114,14 +114,14 @@ as_many how (request ∷ requests) s = ap suc (as_many how requests (after s (pl
 
 -- ---- before the first ask
 
-abbrev Unused : Recording → Type 0
+abbrev pub Unused : Recording → Type 0
 Unused r = r.used ≡ false
 
 one_unused : (key : MatchKey) (response : Option Response) → All Unused (with_response key response)
 one_unused key None = All-nil Unused
 one_unused key (Some response) = All-cons Unused _ [] refl (All-nil Unused)
 
-all_unused : (how : KeyOptions) (flows : List Flow) → All Unused (recordings how flows)
+pub all_unused : (how : KeyOptions) (flows : List Flow) → All Unused (recordings how flows)
 all_unused how [] = All-nil Unused
 all_unused how (flow ∷ flows) =
     All-append Unused (recording how flow) (recordings how flows) (one_unused (key_of how flow.request) flow.response) (all_unused how flows)

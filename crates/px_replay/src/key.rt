@@ -5,22 +5,41 @@ ghost use Rattle.px_replay.specs.Key.{bare_path, key_of, query, unless};
 ghost use Rattle.px_replay.specs.Same.{is_same_key};
 
 use crate::KeyOptions;
+use crate::ordered::{OrderedBody, OrderedBytes, OrderedHost, OrderedName};
 use crate::parameters::Parameters;
 use crate::values::NamedValues;
-use px_message::{Body, Host, Name, Request};
+use px_message::Request;
 use px_text::{Bytes, NoMemory};
-use std::alloc::Global;
+use std::alloc::{AllocError, Global};
 
 /// What counts of a request when a recorded one is looked for: its parts as they are. A part that an option ignores is none.
-#[derive(Debug, Drop, PartialEq, Eq)]
+///
+/// Keys have an order: by these parts, one after the other, each byte by byte.
+#[derive(Debug, Drop, PartialEq, Eq, PartialOrd, Ord)]
 pub struct MatchKey {
-    method: Name,
-    path: Bytes,
+    method: OrderedName,
+    path: OrderedBytes,
     parameters: Parameters,
-    content: Option<Body>,
-    host: Option<Host>,
+    content: Option<OrderedBody>,
+    host: Option<OrderedHost>,
     port: Option<u16>,
     values: NamedValues,
+}
+
+impl Clone for MatchKey {
+    ghost is_clone = { λ x y. y ≡ x };
+
+    fn clone(&self) -> Result<MatchKey, AllocError> {
+        Ok(MatchKey {
+            method: self.method.clone()?,
+            path: self.path.clone()?,
+            parameters: self.parameters.clone()?,
+            content: self.content.clone()?,
+            host: self.host.clone()?,
+            port: self.port,
+            values: self.values.clone()?,
+        })
+    }
 }
 
 impl MatchKey {
@@ -36,8 +55,8 @@ impl MatchKey {
         let content = content_of(request, how)?;
         let host = host_of(request, how)?;
         Ok(MatchKey {
-            method,
-            path,
+            method: OrderedName::new(method),
+            path: OrderedBytes::new(path),
             parameters,
             content,
             host,
@@ -52,6 +71,13 @@ impl MatchKey {
     {
         self == other
     }
+
+    /// A copy of the same key. It shares the bytes.
+    pub fn try_clone(&self) -> Result<MatchKey, NoMemory>
+        ensures { IfOk result (λ copy. copy ≡ self.now) }
+    {
+        Ok(self.clone()?)
+    }
 }
 
 // The path in front of its first `?`, and the query behind it.
@@ -65,22 +91,22 @@ fn split_path(path: &[u8]) -> (&[u8], &[u8])
     }
 }
 
-fn content_of(request: &Request, how: &KeyOptions) -> Result<Option<Body>, NoMemory>
+fn content_of(request: &Request, how: &KeyOptions) -> Result<Option<OrderedBody>, NoMemory>
     ensures { IfOk result (λ part. part ≡ unless how.now.ignore_content request.now.body) }
 {
     if how.ignore_content {
         return Ok(None);
     }
-    Ok(Some(request.body.try_clone()?))
+    Ok(Some(OrderedBody::new(request.body.try_clone()?)))
 }
 
-fn host_of(request: &Request, how: &KeyOptions) -> Result<Option<Host>, NoMemory>
+fn host_of(request: &Request, how: &KeyOptions) -> Result<Option<OrderedHost>, NoMemory>
     ensures { IfOk result (λ part. part ≡ unless how.now.ignore_host request.now.host) }
 {
     if how.ignore_host {
         return Ok(None);
     }
-    Ok(Some(request.host.try_clone()?))
+    Ok(Some(OrderedHost::new(request.host.try_clone()?)))
 }
 
 fn port_of(request: &Request, how: &KeyOptions) -> Option<u16>

@@ -12,14 +12,22 @@
 //! of whole lists of asks and answers (`specs/Replayed.antt`), and the calls by one step of it (`specs/Replaying.antt`). Where there is
 //! no such place, the answer is what the options name for that: go on to the server, end the conversation, or a status.
 //!
-//! Keys share their bytes with the requests that they are made of, but for path and parameters, which are copied.
+//! Those are definitions by a search from the front of the list. No list is searched when a request is asked: an index, which is an ordered
+//! map from keys to their places in rising order, has what is left of each key (`specs/Left.antt`). That it has exactly these places is
+//! the invariant of `Recorded`. It is made with the list; an ask only counts one more place of its key as given, so it takes no memory there.
+//!
+//! Keys share their bytes with the requests that they are made of, but for path and parameters, which are copied once. Their order, part by part
+//! and byte by byte, serves the index alone.
 #![tactic(auto)]
 
+mod index;
 mod key;
 mod laws;
 mod names;
 mod options;
+mod ordered;
 mod parameters;
+mod places;
 mod recorded;
 mod replay;
 mod values;

@@ -1,20 +1,24 @@
 //! The parameters of a query that count.
 ghost use Rattle.std.specs.Prelude.{◌≡◌, ◌++◌, ◌∷◌, [], IfOk, OnOk, nat_eq};
-ghost use Rattle.std.specs.Ordering.{eq_of_both, on};
-ghost use Rattle.std.specs.Cmp.Lexicographic.{pointwise};
+ghost use Rattle.std.specs.Ordering.{as_partial_cmp, eq_of_both, nat_cmp, on, then_cmp};
+ghost use Rattle.std.specs.Cmp.{partial_order_from_own_ties};
+ghost use Rattle.std.specs.Cmp.Lexicographic.{pointwise, slice_cmp};
 ghost use Rattle.std.proofs.Common.{rules};
 ghost use Rattle.std.specs.Cmp.Rules.{comparing};
 ghost use Rattle.px_replay.specs.Key.{counted, decoded, decoded_pair, parameters};
+ghost use Rattle.px_replay.specs.Ties.{pairs_tie};
 
 use crate::Names;
+use crate::ordered::OrderedBytes;
 use px_text::{Bytes, NoMemory};
-use std::alloc::Global;
+use std::alloc::{AllocError, Global};
+use std::cmp::Ordering;
 use std::marker::Model;
 
 /// Names with their values, decoded, in their order.
 #[derive(Debug, Drop)]
 pub struct Parameters {
-    pairs: Vec<(Bytes, Bytes)>,
+    pairs: Vec<(OrderedBytes, OrderedBytes)>,
 }
 
 impl Model for Parameters {
@@ -39,6 +43,40 @@ impl Eq for Parameters {
     ghost laws = { Prim.search (comparing, rules) };
 }
 
+impl Ord for Parameters {
+    ghost cmp = { slice_cmp (then_cmp (on (λ p. p.0) (slice_cmp nat_cmp)) (on (λ p. p.1) (slice_cmp nat_cmp))) };
+
+    ghost total = { Prim.search (comparing, rules) };
+
+    ghost matches_partial_cmp = { Prim.search (comparing, rules) };
+
+    ghost matches_eq = { pairs_tie };
+
+    fn cmp(&self, other: &Parameters) -> Ordering {
+        self.pairs.as_slice().cmp(other.pairs.as_slice())
+    }
+}
+
+impl PartialOrd for Parameters {
+    ghost partial_cmp = { as_partial_cmp (slice_cmp (then_cmp (on (λ p. p.0) (slice_cmp nat_cmp)) (on (λ p. p.1) (slice_cmp nat_cmp)))) };
+
+    ghost laws = { partial_order_from_own_ties (Prim.search (comparing, rules)) pairs_tie };
+
+    fn partial_cmp(&self, other: &Parameters) -> Option<Ordering> {
+        Some(self.cmp(other))
+    }
+}
+
+impl Clone for Parameters {
+    ghost is_clone = { λ x y. y ≡ x };
+
+    fn clone(&self) -> Result<Parameters, AllocError> {
+        Ok(Parameters {
+            pairs: self.pairs.clone()?,
+        })
+    }
+}
+
 impl Parameters {
     /// The parameters of the query but those whose names are ignored.
     pub fn of(alloc: Global, query: &[u8], ignored: &Names) -> Result<Parameters, NoMemory>
@@ -56,7 +94,7 @@ impl Parameters {
 // Adds the pair, decoded, unless its name is ignored.
 fn add(
     alloc: Global,
-    pairs: &mut Vec<(Bytes, Bytes)>,
+    pairs: &mut Vec<(OrderedBytes, OrderedBytes)>,
     ignored: &Names,
     name: &[u8],
     value: &[u8],
@@ -68,7 +106,7 @@ fn add(
         return Ok(());
     }
     let value = decoded(alloc, value)?;
-    pairs.push((name, value))?;
+    pairs.push((OrderedBytes::new(name), OrderedBytes::new(value)))?;
     Ok(())
 }
 

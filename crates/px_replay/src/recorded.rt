@@ -1,19 +1,23 @@
-//! The recorded list, and the search in it.
+//! The recorded list, and what it answers.
 ghost use Rattle.std.specs.Prelude.{◌≡◌, ◌<◌, ◌++◌, Some, map, length, slice_get, IfOk, OnOk, OnErr};
 ghost use Rattle.std.specs.List.{position};
 ghost use Rattle.px_replay.specs.Key.{key_of};
-ghost use Rattle.px_replay.specs.Replaying.{IsAnswer, after, got, is_free, is_used, may_answer, place_of, recording, recordings, started, use_at};
+ghost use Rattle.px_replay.specs.Left.{IsAnswerTo, left};
+ghost use Rattle.px_replay.specs.Replaying.{IsAnswer, after, got, is_used, may_answer, recording, recordings, started, use_at};
 
+use crate::index::{give_unless, index_of};
+use crate::places::Places;
 use crate::{Extra, KeyOptions, MatchKey, Replay};
 use px_message::{Flow, Request, Response, Shared};
 use px_text::NoMemory;
 use std::alloc::Global;
+use std::collections::BTreeMap;
 use std::marker::Model;
 
 /// A recorded flow: the key of its request, its response, and whether an ask got it.
 #[derive(Debug, Drop)]
 pub struct Recording {
-    key: MatchKey,
+    pub(crate) key: MatchKey,
     response: Shared<Response>,
     used: bool,
 }
@@ -26,14 +30,19 @@ pub struct Recorded {
     reuse: bool,
     extra: Extra,
     recordings: Vec<Recording>,
+    // The places that are left of each key.
+    index: BTreeMap<MatchKey, Places>,
 }
 
 impl Model for Recorded {
-    ghost use Rattle.px_replay.specs.Replaying.{Replaying};
+    ghost use Rattle.px_replay.specs.Left.{IsIndex, places_from};
+    ghost use Rattle.px_replay.specs.Replaying.{Replaying, may_answer};
 
     ghost Value = { Replaying };
 
     ghost view = { λ r. record { how = r.how; reuse = r.reuse; extra = r.extra; recordings = r.recordings.items } };
+
+    ghost invariant = { λ r. IsIndex ⟦<MatchKey as Ord>⟧.cmp r.index (λ key. places_from 0 (may_answer r.reuse key) r.recordings.items) };
 }
 
 impl Recorded {
@@ -49,12 +58,14 @@ impl Recorded {
         ensures { IfOk result (λ made. made ≡ started how reuse extra flows.items) }
     {
         let recordings = recordings_of(alloc, flows.as_slice(), &how)?;
+        let index = index_of(alloc, recordings.as_slice())?;
         Ok(Recorded {
             alloc,
             how,
             reuse,
             extra,
             recordings,
+            index,
         })
     }
 
@@ -73,30 +84,76 @@ impl Recorded {
         ensures after { IfOk result (λ replay. self.new ≡ after self.old (got replay)) }
         ensures unchanged { OnErr result (self.new ≡ self.old) }
     {
-        match self.place_of(request)? {
+        let key = self.key_of(request)?;
+        self.answer_to(&key)
+    }
+
+    // The key of the request.
+    fn key_of(&self, request: &Request) -> Result<MatchKey, NoMemory>
+        ensures { IfOk result (λ key. key ≡ key_of self.now.how request.now) }
+    {
+        MatchKey::of(self.alloc, request, &self.how)
+    }
+
+    // The answer to a request with that key.
+    fn answer_to(&mut self, key: &MatchKey) -> Result<Replay, NoMemory>
+        ensures answer { IfOk result (IsAnswerTo self.old key.now) }
+        ensures after { IfOk result (λ replay. self.new ≡ after self.old (got replay)) }
+        ensures unchanged { OnErr result (self.new ≡ self.old) }
+    {
+        match self.first_left(key) {
             None => Ok(Replay::Extra(self.extra)),
-            Some(place) => Ok(Replay::Found(place, self.give(place)?)),
+            Some(place) => Ok(Replay::Found(place, self.give(key, place)?)),
         }
     }
 
-    // The least place that may answer the request.
-    fn place_of(&self, request: &Request) -> Result<Option<usize>, NoMemory>
-        ensures { IfOk result (λ place. place ≡ place_of self.now request.now) }
+    /// The places of the flows with that key that no earlier ask got, or with reuse of all flows with that key, in rising order;
+    /// none of a key that no flow has. It takes no memory.
+    pub fn left(&self, key: &MatchKey) -> &[usize]
+        ensures left { result.now ≡ left self.now key.now }
     {
-        let key = MatchKey::of(self.alloc, request, &self.how)?;
-        Ok(first_place(&self.recordings, self.reuse, &key))
+        match self.index.get(key) {
+            Some(places) => places.left(),
+            None => &[],
+        }
     }
 
-    // A copy of the response at that place, which counts as used from then on.
-    fn give(&mut self, place: usize) -> Result<Response, NoMemory>
-        requires { place < length self.old.recordings }
+    // The first of them.
+    fn first_left(&self, key: &MatchKey) -> Option<usize>
+        ensures { result ≡ position (may_answer self.now.reuse key.now) self.now.recordings }
+    {
+        self.left(key).first().copied()
+    }
+
+    // A copy of the response at that place, the first that is left of the key. It counts as used from then on.
+    fn give(&mut self, key: &MatchKey, place: usize) -> Result<Response, NoMemory>
+        requires first { position (may_answer self.old.reuse key.now) self.old.recordings ≡ Some place }
+        requires within { place < length self.old.recordings }
         ensures response { IfOk result (λ response. slice_get (map (λ r. r.response) self.old.recordings) place ≡ Some response) }
         ensures after { OnOk result (self.new ≡ after self.old (Some place)) }
         ensures unchanged { OnErr result (self.new ≡ self.old) }
     {
-        let response = self.recordings[place].response.get().try_clone()?;
-        use_place(&mut self.recordings, place);
+        let response = self.response_at(place)?;
+        self.mark(key, place);
         Ok(response)
+    }
+
+    // A copy of the response at that place.
+    fn response_at(&self, place: usize) -> Result<Response, NoMemory>
+        requires { place < length self.now.recordings }
+        ensures { IfOk result (λ response. slice_get (map (λ r. r.response) self.now.recordings) place ≡ Some response) }
+    {
+        self.recordings[place].response.get().try_clone()
+    }
+
+    // The place, the first that is left of the key, counts as used from then on. It takes no memory.
+    fn mark(&mut self, key: &MatchKey, place: usize)
+        requires first { position (may_answer self.old.reuse key.now) self.old.recordings ≡ Some place }
+        requires within { place < length self.old.recordings }
+        ensures after { self.new ≡ after self.old (Some place) }
+    {
+        use_place(&mut self.recordings, place);
+        give_unless(self.reuse, &mut self.index, key);
     }
 
     /// Whether an ask got that place. It takes no memory.
@@ -146,33 +203,10 @@ fn add(
     Ok(())
 }
 
-// The least place that may answer a request of this key.
-fn first_place(recordings: &[Recording], reuse: bool, key: &MatchKey) -> Option<usize>
-    ensures { result ≡ position (may_answer reuse key.now) recordings.now }
-{
-    recordings
-        .iter()
-        .position(|recording| may_answer(recording, reuse, key))
-}
-
 // Marks the place as used.
 fn use_place(recordings: &mut Vec<Recording>, place: usize)
     requires { place < length recordings.old.items }
     ensures { recordings.new.items ≡ use_at place recordings.old.items }
 {
     recordings[place].used = true;
-}
-
-// Whether the recorded flow may answer a request of this key.
-fn may_answer(recording: &Recording, reuse: bool, key: &MatchKey) -> bool
-    ensures { result ≡ may_answer reuse key.now recording.now }
-{
-    is_free(recording, reuse) && recording.key.is_same(key)
-}
-
-// Whether no ask got it, or each may.
-fn is_free(recording: &Recording, reuse: bool) -> bool
-    ensures { result ≡ is_free reuse recording.now }
-{
-    reuse || !recording.used
 }
