@@ -17,16 +17,23 @@ pub(crate) fn answer(alloc: Global, input: &str) -> Result<String, RowError> {
     let (given, calls) = halves(input);
     let mut net = new_net(alloc, given)?;
     let mut out = String::new(alloc);
-    let proxy = address(alloc)?;
-    match net.listen(&proxy, Some(&proxy)) {
-        Ok(()) => push_word(&mut out, "ok")?,
-        Err(error) => push_fault(&mut out, error)?,
-    }
+    listen(alloc, &mut net, &mut out)?;
     for call in calls.split("; ") {
         begin_answer(&mut out)?;
         play_call(alloc, &mut net, call, &mut out)?;
     }
     Ok(out)
+}
+
+// At both doors.
+fn listen(alloc: Global, net: &mut ScriptNet, out: &mut String) -> Result<(), RowError>
+    requires { net.old.listening ≡ idle }
+{
+    let address = address(alloc)?;
+    match net.listen(&address, Some(&address)) {
+        Ok(()) => push_word(out, "ok"),
+        Err(error) => push_fault(out, error),
+    }
 }
 
 fn new_net(alloc: Global, given: &str) -> Result<ScriptNet, RowError>
@@ -44,11 +51,7 @@ fn new_net(alloc: Global, given: &str) -> Result<ScriptNet, RowError>
 }
 
 // A moment, and a line of what is heard.
-fn push_heard(
-    alloc: Global,
-    part: &str,
-    script: &mut Vec<(u64, Heard)>,
-) -> Result<(), RowError> {
+fn push_heard(alloc: Global, part: &str, script: &mut Vec<(u64, Heard)>) -> Result<(), RowError> {
     if part.is_empty() {
         return Ok(());
     }

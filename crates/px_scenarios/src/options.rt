@@ -70,7 +70,10 @@ fn show_refusal(out: &mut String, error: &OptionsError) -> Result<(), RowError> 
         OptionsError::UnknownOption(name) => show_name(out, "UnknownOption ", name),
         OptionsError::WrongKind(name) => show_name(out, "WrongKind ", name),
         OptionsError::BadRule {
-            name, index, cause, ..
+            name,
+            index,
+            cause,
+            ..
         } => {
             show_name(out, "BadRule ", name)?;
             write!(out, " {index} {cause:?}")?;

@@ -9,7 +9,7 @@ use std::alloc::Global;
 /// What the calls of lines over a wire answer.
 pub(crate) fn answer(alloc: Global, input: &str) -> Result<String, RowError> {
     let (given, calls) = halves(input);
-    let mut lines = Lines::new(alloc, new_wire(alloc, given)?);
+    let mut lines = new_lines(alloc, given)?;
     let mut out = String::new(alloc);
     for call in calls.split("; ") {
         begin_answer(&mut out)?;
@@ -18,7 +18,7 @@ pub(crate) fn answer(alloc: Global, input: &str) -> Result<String, RowError> {
     Ok(out)
 }
 
-fn new_wire(alloc: Global, given: &str) -> Result<MemWire, RowError> {
+fn new_lines(alloc: Global, given: &str) -> Result<Lines<MemWire>, RowError> {
     let mut script = Vec::new(alloc);
     let mut takes = Vec::new(alloc);
     let mut gives = Vec::new(alloc);
@@ -29,7 +29,8 @@ fn new_wire(alloc: Global, given: &str) -> Result<MemWire, RowError> {
             (moment, told) => push_told(alloc, moment, told, &mut script)?,
         }
     }
-    Ok(MemWire::new(alloc, script, takes, gives))
+    let wire = MemWire::new(alloc, script, takes, gives);
+    Ok(Lines::new(alloc, wire))
 }
 
 fn push_takes(numbers: &str, takes: &mut Vec<usize>) -> Result<(), RowError> {
