@@ -1,8 +1,6 @@
-//! A client that connects and is answered, and a server that is dialled.
-use px_event::{Said, Side, Step};
+//! A client that connects, is read and is answered.
 use px_message::{Address, Host};
 use px_mio::MioWire;
-use px_text::NoMemory;
 use px_wire::{Got, Put, Ready, Wire};
 use std::alloc::Global;
 use std::io::{self, Read, Write};
@@ -40,6 +38,14 @@ fn accepted_slot(told: &Ready) -> Option<u32> {
     }
 }
 
+// Whether this tells that the slot is readable.
+fn is_readable(told: &Ready, slot: u32) -> bool {
+    match told {
+        Ready::Readable(other) => *other == slot,
+        _ => false,
+    }
+}
+
 // The slot of the next connection that is accepted.
 fn accepted<R: Net + Wait + Clock + Alloc<A = Global> + Drop>(
     wire: &mut MioWire<R>,
@@ -51,90 +57,47 @@ fn accepted<R: Net + Wait + Clock + Alloc<A = Global> + Drop>(
     }
 }
 
-// Whether this tells that the slot is readable.
-fn is_readable(told: &Ready, slot: u32) -> bool {
-    match told {
-        Ready::Readable(other) => *other == slot,
-        _ => false,
-    }
-}
-
-// What the slot gives once it is readable.
-fn given<R: Net + Wait + Clock + Alloc<A = Global> + Drop>(
+// Whether the slot is readable next, gives `hello`, and takes `world` before it is shut.
+fn answers<R: Net + Wait + Clock + Alloc<A = Global> + Drop>(
     wire: &mut MioWire<R>,
     slot: u32,
-    room: &mut [u8; 16],
-) -> Result<Got, Fail> {
+) -> Result<bool, Fail> {
     let (_, told) = wire.ready()?;
-    if !is_readable(&told, slot) {
-        return Err("something else was told".into());
-    }
-    Ok(wire.get(slot, room))
+    let mut room = [0; 16];
+    let got = wire.get(slot, &mut room);
+    let put = wire.put(slot, b"world");
+    wire.shut(slot);
+    Ok(
+        is_readable(&told, slot)
+            && got == Got::Gave(5)
+            && room.starts_with(b"hello")
+            && put == Put::Took(5),
+    )
 }
 
-// Whether this tells that the slot is connected.
-fn is_connected(told: &Ready, slot: u32) -> bool {
-    match told {
-        Ready::Dialled(other, ok) => *other == slot && *ok,
-        _ => false,
-    }
-}
-
-// The slot that a dial of this address is given, once it is connected.
-fn dialled<R: Net + Wait + Clock + Alloc<A = Global> + Drop>(
+// Whether what the client sends is answered so, and the answer is all that it reads.
+fn talks<R: Net + Wait + Clock + Alloc<A = Global> + Drop, S: Read + Write>(
     wire: &mut MioWire<R>,
-    address: &Address,
-) -> Result<u32, Fail> {
-    let slot = dial(wire, address)?;
-    let (_, told) = wire.ready()?;
-    if !is_connected(&told, slot) {
-        return Err("something else was told".into());
-    }
-    Ok(slot)
-}
-
-// Dials. Sockets only look at the step that a dial is handed.
-fn dial<R: Net + Wait + Clock + Alloc<A = Global> + Drop>(
-    wire: &mut MioWire<R>,
-    address: &Address,
-) -> Result<u32, NoMemory> {
-    let side = Side::Client;
-    let step = Step::Said {
-        conv: 0,
-        said: Said::Close { side },
-    };
-    let slot = wire.dial(address, &step);
-    drop(step);
-    slot
+    client: &mut S,
+) -> Result<bool, Fail> {
+    let slot = accepted(wire)?;
+    client.write_all(b"hello")?;
+    let answered = answers(wire, slot)?;
+    let mut room = [0; 5];
+    client.read_exact(&mut room)?;
+    Ok(answered && room == *b"world" && client.read(&mut room)? == 0)
 }
 
 #[test]
 fn a_client_is_read_and_answered(rt: HostRuntime) -> Result<(), Fail> {
     let port = free_port(&rt)?;
+    let address = address(rt.alloc(), port)?;
     let mut wire = MioWire::new(rt)?;
-    wire.listen(&address(rt.alloc(), port)?, None)?;
+    wire.listen(&address, None)?;
     let mut client = TcpStream::connect(&rt, local(port))?;
-    let slot = accepted(&mut wire)?;
-    client.write_all(b"hello")?;
-    let mut room = [0; 16];
-    assert_eq!(rt; given(&mut wire, slot, &mut room)?, Got::Gave(5));
-    assert!(rt; room.starts_with(b"hello"));
-    assert_eq!(rt; wire.put(slot, b"world"), Put::Took(5));
-    wire.shut(slot);
-    let mut answer = Vec::new(rt.alloc());
-    client.read_to_end(&mut answer)?;
-    assert_eq!(rt; answer.as_slice(), b"world".as_slice());
-    Ok(())
-}
-
-#[test]
-fn a_server_is_dialled_and_closes(rt: HostRuntime) -> Result<(), Fail> {
-    let listener = TcpListener::bind(&rt, local(0))?;
-    let mut wire = MioWire::new(rt)?;
-    let server = address(rt.alloc(), listener.local_addr()?.port())?;
-    let slot = dialled(&mut wire, &server)?;
-    drop(listener.accept()?);
-    let mut room = [0; 16];
-    assert_eq!(rt; given(&mut wire, slot, &mut room)?, Got::Ended);
+    let talked = talks(&mut wire, &mut client);
+    drop(client);
+    drop(wire);
+    assert!(rt; talked?);
     Ok(())
 }
