@@ -3,7 +3,7 @@ use Rattle.std.specs.Prelude.{nat_lt, if◌then◌else◌}
 use Rattle.std.proofs.Common.{◌≡◌, ℕ, ◌+◌, ◌/◌, ◌≤◌, [], ◌∷◌, codes, refl, ap, arith, inl, inr}
 use Rattle.std.proofs.lemmas.Bool.{cases_lt, lt-ltb, le-ltb}
 use Rattle.base64.proofs.OnLiterals.{base64_on_literals}
-use Rattle.px_har.specs.Moment.{capped, date_after, last_moment, millis_text, moment_text}
+use Rattle.px_har.specs.Moment.{date_after, last_moment, millis_text, moment_text}
 use Rattle.px_har.specs.Text.{base64_text}
 
 pub bytes_are : base64_text (255 ∷ []) ≡ codes "/w=="
