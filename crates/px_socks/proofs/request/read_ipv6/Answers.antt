@@ -1,4 +1,4 @@
-use Rattle.std.proofs.Common.{◌+◌, ◌-◌, [], length, take, drop, refl, sym}
+use Rattle.std.proofs.Common.{◌-◌, [], length, take, drop, refl, sym}
 use Rattle.std.proofs.lemmas.List.{take_rest}
 use Rattle.px_socks.specs.Request.{ipv6}
 use Rattle.px_socks.proofs.RequestLemmas.{address_said, address_short}
