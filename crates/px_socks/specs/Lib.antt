@@ -1,0 +1,4 @@
+pub mod Greeting
+pub mod Request
+pub mod Answer
+pub mod Laws

@@ -1,0 +1,26 @@
+//! What a client of SOCKS5 (RFC 1928) says before its own bytes come, read from all bytes so far, and the answers to it.
+//!
+//! A client greets with 05, the number of its methods and the methods, a byte each (section 3). Then it asks: 05, a command, 00, the
+//! type of an address, the address, and a port in two bytes, the higher one first (section 4). An address of type 1 is four bytes, one
+//! of type 3 a length and so many bytes, which are a name, and one of type 4 sixteen bytes (section 5). The answer is 05, a code, 00 and
+//! an address (section 6). Of the methods only 00, no authentication, is served here, and of the commands only CONNECT.
+//!
+//! What the bytes are is a machine that goes over them one by one (`specs/Greeting.antt`, `specs/Request.antt`): each byte is judged as it
+//! comes, so the first that is wrong decides, and what follows changes nothing. What an address says is the text of a host: decimal digits
+//! with dots, the name as it is, or eight groups in hexadecimal digits in brackets. Whether that is a host `px_message::Host` decides, when
+//! the port is there; so does the port, which is not 0. Both readers equal that machine for every text, and begin anew with all bytes at
+//! each call: a request has at most 262 of them.
+//!
+//! The laws say that what was decided stays, whatever follows, that more is awaited only where nothing was decided, and that the bytes
+//! that a greeting or a request is said to have are there.
+#![tactic(auto)]
+
+mod answer;
+mod greeting;
+mod host;
+pub mod laws;
+mod request;
+
+pub use answer::push_answer;
+pub use greeting::{Greeting, read_greeting};
+pub use request::{SocksStep, read_request};
