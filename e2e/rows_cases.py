@@ -6,8 +6,8 @@ import tempfile
 from tools import TOP, Skipped, same
 
 ROWS = os.path.abspath(os.environ.get("ROWS", os.path.join(TOP, "crates", "rows", "out", "rows")))
-SAME = "kind hosts\n=> no\nh => yes\n"
-DIFFERS = "kind hosts\nh => no\n"
+SAME = "kind options\n=> regular\nmode = \"socks\" => BadMode\n"
+DIFFERS = "kind options\n=> upstream h:80\n"
 
 
 def rows(*words, files=()):
