@@ -4,7 +4,7 @@ use Rattle.px_gate.specs.declared.gate.Gate.{Gate}
 use Rattle.px_gate.specs.Gate.{GateStands}
 use Rattle.px_http.specs.declared.conversation.HttpConv.{HttpConv}
 use Rattle.px_http.specs.Stands.{HttpStands, awaits}
-use Rattle.px_measures.proofs.conversation.answer.Goals as goal
+use Rattle.measure.proofs.conversation.answer.Goals as goal
 
 pub returns-in-Err-NotAwaited : goal.returns-in-Err-NotAwaited
 returns-in-Err-NotAwaited c =

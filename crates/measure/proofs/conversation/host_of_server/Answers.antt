@@ -3,7 +3,7 @@ use Rattle.std.specs.Prelude.{codes}
 use Rattle.px_message.specs.Host.{IsHost}
 use Rattle.px_message.specs.BadHost.{IsRefused}
 use Rattle.px_message.specs.TellHost.{tell_host}
-use Rattle.px_measures.proofs.conversation.host_of_server.Goals as goal
+use Rattle.measure.proofs.conversation.host_of_server.Goals as goal
 
 is_host : IsHost (codes "h")
 is_host = search rules

@@ -1,5 +1,5 @@
 use Rattle.std.proofs.Common.{◌≡◌, false}
-use Rattle.px_measures.proofs.reading.count_body.Given as goal
+use Rattle.measure.proofs.count_body.Given as goal
 
 abbrev pub invariant-loop : goal.invariant-loop
 invariant-loop l = l.reader.closed ≡ false

@@ -28,15 +28,6 @@ struct Run {
     sent: Sent,
 }
 
-/// A body of so many pieces that are alike, and how long it is.
-#[derive(Drop)]
-struct Pieces {
-    framing: Framing,
-    piece: Bytes,
-    count: u64,
-    total: u64,
-}
-
 /// What is given of a POST and its response, each with a body of so many pieces of this size.
 pub(crate) fn post(
     alloc: Global,
@@ -44,35 +35,19 @@ pub(crate) fn post(
     size: u64,
     pieces: u64,
 ) -> Result<Sent, NoMemory> {
-    let body = Pieces {
-        framing,
-        piece: Bytes::new(make_piece(alloc, framing, size)?)?,
-        count: pieces,
-        total: size.saturating_mul(pieces),
-    };
+    let total = size.saturating_mul(pieces);
+    let piece = Bytes::new(make_piece(alloc, framing, size)?)?;
+    let end = Bytes::copied(alloc, end_of(framing))?;
+    let request = make_framed(alloc, b"POST / HTTP/1.1\r\nHost: h\r\n", framing, total)?;
+    let response = make_framed(alloc, b"HTTP/1.1 200 OK\r\n", framing, total)?;
     let mut run = begin(alloc)?;
-    let request = b"POST / HTTP/1.1\r\nHost: h\r\n";
-    say_message(alloc, &mut run, Side::Client, request, &body)?;
-    let response = b"HTTP/1.1 200 OK\r\n";
-    say_message(alloc, &mut run, Side::Server(0), response, &body)?;
+    say(&mut run, Side::Client, Bytes::new(request)?)?;
+    say_often(&mut run, Side::Client, &piece, pieces)?;
+    say(&mut run, Side::Client, end.try_clone()?)?;
+    say(&mut run, Side::Server(0), Bytes::new(response)?)?;
+    say_often(&mut run, Side::Server(0), &piece, pieces)?;
+    say(&mut run, Side::Server(0), end)?;
     Ok(run.sent)
-}
-
-// The side says a message with these first lines and this body.
-fn say_message(
-    alloc: Global,
-    run: &mut Run,
-    side: Side,
-    start: &[u8],
-    body: &Pieces,
-) -> Result<(), NoMemory>
-    requires { IsSound (GateStands HttpStands awaits) run.old.gate }
-    ensures { OnOk result (IsSound (GateStands HttpStands awaits) run.new.gate) }
-{
-    let head = Bytes::new(make_framed(alloc, start, body.framing, body.total)?)?;
-    say(run, side, head)?;
-    say_often(run, side, &body.piece, body.count)?;
-    say(run, side, Bytes::copied(alloc, end_of(body.framing))?)
 }
 
 /// What is given of so many GETs that come in one piece, and of their responses, each in a piece of its own. Each request
