@@ -30,7 +30,7 @@ def flow(number, filler):
         "version": 1,
         "type": "http",
         "id": f"{number}.0",
-        "client_conn": {"address": [b"127.0.0.1", 40000 + number]},
+        "client_conn": {"address": [b"127.0.0.1", 40000 + number % 20_000]},
         "server_conn": {"address": [b"127.0.0.1", 9000]},
         "request": {
             "http_version": b"HTTP/1.1",
