@@ -1,0 +1,5 @@
+use Rattle.px_har.proofs.PutLemmas.{◌▸◌, all, token}
+use Rattle.px_har.proofs.values.put_string_member.Goals as goal
+
+pub returns : goal.returns
+returns c = all (token c.in_ok-key.ensures ▸ token c.in_ok-string.ensures)
