@@ -1,4 +1,5 @@
 pub mod Fields
+pub mod Har
 pub mod Lengths
 pub mod Messages
 pub mod Parts
