@@ -1,5 +1,6 @@
 #!/usr/bin/env python3
-"""Prints a line for each flow of a flow file: method, URL, status, and the sizes of the two bodies.
+"""Prints a line for each flow of a flow file: method, URL, status, and the sizes of the two bodies; and under it one for each message of its
+WebSocket: who sent it, whether it is text or binary, and its payload, a text in quotes and else in hexadecimal.
 
 The file is a run of tnetstrings, a dictionary for each flow; docs/flow-files.md has the format. This program is a reader of its own, on
 Python's standard library alone, and shows that a flow file can be read without the proxy.
@@ -64,7 +65,7 @@ def size(message: dict | None) -> str:
 
 
 def line_of(flow: dict) -> str:
-    if flow["version"] != 1 or flow["type"] != "http":
+    if flow["version"] not in (1, 2) or flow["type"] != "http":
         raise BadFile("another version or type")
     request, response = flow["request"], flow["response"]
     port = "" if request["port"] == 80 else f":{request['port']}"
@@ -74,13 +75,27 @@ def line_of(flow: dict) -> str:
     return " ".join([request["method"].decode("latin-1"), url, status, size(request), size(response)])
 
 
+def messages_of(flow: dict) -> list[dict]:
+    """The messages of its WebSocket, in their order; version 1 tells none."""
+    if flow["version"] == 1 or flow["websocket"] is None:
+        return []
+    return flow["websocket"]["messages"]
+
+
+def message_line(message: dict) -> str:
+    sender = "client" if message["from_client"] else "server"
+    content = message["content"]
+    shown = f"text {content.decode('utf-8', 'backslashreplace')!a}" if message["text"] else f"binary {content.hex(' ')}"
+    return f"    {sender} {shown}{' dropped' if message['dropped'] else ''}"
+
+
 def main() -> int:
     with open(sys.argv[1], "rb") as file:
         data = file.read()
     place = 0
     while place < len(data):
         flow, behind = read_item(data, place)
-        print(line_of(flow))
+        print(line_of(flow), *map(message_line, messages_of(flow)), sep="\n")
         place = behind
     return 0
 

@@ -3,6 +3,9 @@
 
 Every key of the tables of docs/flow-files.md is filled, the body has all byte values, and behind the tables stand two pairs that the
 proxy keeps as they are.
+
+    write_flows.py        in version 2, which the proxy writes
+    write_flows.py 1      in version 1, which tells no messages of a WebSocket
 """
 
 import sys
@@ -30,8 +33,13 @@ def written(value: object) -> bytes:
     return item(b"".join(written(key) + written(inner) for key, inner in value.items()), b"}")
 
 
+MESSAGES = [
+    {"from_client": True, "text": True, "content": b"Hello", "timestamp": 5, "dropped": False},
+    {"from_client": False, "text": False, "content": b"\x00\xff", "timestamp": 6, "dropped": True},
+]
+
 FLOW = {
-    "version": 1,
+    "version": 2,
     "type": "http",
     "id": "0.0",
     "client_conn": {"address": [b"127.0.0.1", 40000]},
@@ -63,10 +71,16 @@ FLOW = {
     "error": {"msg": b"reset", "timestamp": 4},
     "is_replay": "response",
     "marked": True,
-    "websocket": False,
+    "websocket": {"messages": MESSAGES},
     b"x": 1.5,
     "comment": "kept",
 }
 
+
+def in_version_1(flow: dict) -> dict:
+    """The flow as version 1 has it: whether it was a WebSocket, and none of its messages."""
+    return {**flow, "version": 1, "websocket": flow["websocket"] is not None}
+
+
 if __name__ == "__main__":
-    sys.stdout.buffer.write(written(FLOW))
+    sys.stdout.buffer.write(written(in_version_1(FLOW) if sys.argv[1:] == ["1"] else FLOW))

@@ -14,6 +14,8 @@ use Rattle.px_event.specs.declared.command.Command.{Command}
 use Rattle.px_event.specs.declared.event.Event.{Event}
 use Rattle.px_event.specs.declared.reply.Reply.{Reply}
 use Rattle.px_event.specs.declared.reply.Reply.TheVariants as reply
+use Rattle.px_event.specs.declared.side.Side.{Side}
+use Rattle.px_event.specs.declared.side.Side.TheVariants.{Server}
 use Rattle.px_event.specs.Chain.{Timed, Look, NotYet, Asks, Ends, Turn, found}
 use Rattle.px_event.specs.Layer.{Move}
 use Rattle.px_event.specs.Stands.{due_by}
@@ -94,9 +96,9 @@ beyond_by server answer over before = tt
 
 module _ (server : ℕ) where
   -- a close has no bytes
-  close_silent : (same : Bool) → bytes_in (cond same (close ∷ []) [] ++ []) ≡ []
-  close_silent true = refl
-  close_silent false = refl
+  close_silent : (side : Side) (same : Bool) → bytes_in (cond same (close side ∷ []) [] ++ []) ≡ []
+  close_silent side true = refl
+  close_silent side false = refl
 
   -- ---- ends
 
@@ -107,7 +109,7 @@ module _ (server : ℕ) where
   server_silent : (used : Used) → IsSilent server (shut_server used)
   server_silent NoServer = refl
   server_silent (ByServer number true) = refl
-  server_silent (ByServer number false) = close_silent (number == server)
+  server_silent (ByServer number false) = close_silent (Server number) (number == server)
 
   pub early_silent : (flow : Flow) (message : List ℕ) (moment : ℕ) (used : Used) (closed : Bool) → IsSilent server (ends_early flow message moment used closed)
   early_silent flow message moment used closed = silent_both server (shut_server used) (shut_client closed) (server_silent used) (client_silent closed)

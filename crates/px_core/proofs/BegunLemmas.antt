@@ -6,7 +6,7 @@ use Rattle.px_event.specs.declared.ask.Ask.{Ask}
 use Rattle.px_event.specs.declared.reply.Reply.{Reply}
 use Rattle.px_event.specs.declared.step.Step.TheVariants as steps
 use Rattle.px_event.specs.Trace.{Trace}
-use Rattle.px_event.specs.View.{View, line, questions, course, flows, seen_in, step_atoms}
+use Rattle.px_event.specs.View.{View, line, questions, course, flows, order, seen_in, step_atoms}
 use Rattle.px_core.specs.Answered.{Pending, at_other}
 use Rattle.px_core.specs.Answers.{Answering, AnswererState}
 use Rattle.px_core.specs.Calls.{begins, calls}
@@ -23,6 +23,7 @@ begun_seen (line side) conv number = refl
 begun_seen questions conv number = refl
 begun_seen course conv number = refl
 begun_seen flows conv number = refl
+begun_seen order conv number = refl
 
 pub seen_begun : (view : View) (conv number : ℕ) (trace : Trace) → seen_in view conv (trace ++ steps.Begun number ∷ []) ≡ seen_in view conv trace
 seen_begun view conv number trace =

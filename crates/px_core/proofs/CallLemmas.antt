@@ -9,10 +9,11 @@ use Rattle.px_event.specs.declared.command.Command.{Command}
 use Rattle.px_event.specs.declared.command.Command.TheVariants as commands
 use Rattle.px_event.specs.declared.said.Said.{Said}
 use Rattle.px_event.specs.declared.said.Said.TheVariants as said
+use Rattle.px_event.specs.declared.side.Side.TheVariants.{Client, Server}
 use Rattle.px_event.specs.declared.step.Step.{Step}
 use Rattle.px_event.specs.declared.step.Step.TheVariants as steps
 use Rattle.px_event.specs.Trace.{Trace}
-use Rattle.px_event.specs.View.{View, line, questions, course, flows, IsTold, said_atoms, command_atoms, step_atoms, seen_in}
+use Rattle.px_event.specs.View.{View, line, questions, course, flows, order, IsTold, said_atoms, command_atoms, step_atoms, seen_in}
 use Rattle.px_core.specs.Calls.{Calls, calls_on, calls_from, calls, no_calls}
 use Rattle.px_core.specs.Conversation.{IsNamed}
 use Rattle.px_core.specs.Held.{step_of, IsOf, AllOf, dial_by}
@@ -55,6 +56,7 @@ other_seen view conv other (steps.Asked number ask) is apart = by view
     by (line side) = refl
     by course = rw no refl
     by flows = refl
+    by order = rw no refl
 other_seen view conv other (steps.Answered number ask reply) is apart = by view
   where
     by : (view : View) → step_atoms view other (steps.Answered number ask reply) ≡ []
@@ -62,6 +64,7 @@ other_seen view conv other (steps.Answered number ask reply) is apart = by view
     by (line side) = refl
     by course = refl
     by flows = refl
+    by order = refl
 other_seen view conv other (steps.Said number what) is apart =
     let no : (number == other) ≡ false = ne_eqb number other (λ same. apart (sym is ∙ same)) in rw no refl
 other_seen view conv other (steps.Done flow) is apart = by view
@@ -74,6 +77,7 @@ other_seen view conv other (steps.Done flow) is apart = by view
     by (line side) = rw no refl
     by course = rw no refl
     by flows = refl
+    by order = rw no refl
 
 -- steps of another conversation
 pub others_calls : (conv other : ℕ) (trace more : Trace) → AllOf conv more → conv ≢ other → calls other (trace ++ more) ≡ calls other trace
@@ -106,30 +110,36 @@ send_seen (line to) side text = refl
 send_seen questions side text = refl
 send_seen course side text = refl
 send_seen flows side text = refl
+send_seen order Client text = refl
+send_seen order (Server number) text = refl
 
 close_seen : (view : View) (side : _) → said_atoms view (said.Close side) ≡ command_atoms view (commands.Close side)
 close_seen (line to) side = refl
 close_seen questions side = refl
 close_seen course side = refl
 close_seen flows side = refl
+close_seen order side = refl
 
 dial_seen : (view : View) (server : ℕ) (address : _) (inside : _) → said_atoms view (said.Dial server address) ≡ command_atoms view (commands.Dial server address inside)
 dial_seen (line to) server address inside = refl
 dial_seen questions server address inside = refl
 dial_seen course server address inside = refl
 dial_seen flows server address inside = refl
+dial_seen order server address inside = refl
 
 ask_seen : (view : View) (conv : ℕ) (ask : Ask) (flow : Flow) → IsTold view → step_atoms view conv (steps.Asked conv ask) ≡ command_atoms view (commands.Ask ask flow)
 ask_seen (line to) conv ask flow told = refl
 ask_seen questions conv ask flow told = rw (same_number conv) refl
 ask_seen course conv ask flow told = rw (same_number conv) refl
 ask_seen flows conv ask flow told = absurd told
+ask_seen order conv ask flow told = rw (same_number conv) refl
 
 done_seen : (view : View) (conv : ℕ) (flow : Flow) → (flow.id.conv == conv) ≡ true → step_atoms view conv (steps.Done flow) ≡ command_atoms view (commands.Done flow)
 done_seen (line to) conv flow is = rw is refl
 done_seen questions conv flow is = refl
 done_seen course conv flow is = rw is refl
 done_seen flows conv flow is = refl
+done_seen order conv flow is = rw is refl
 
 pub told_seen : (view : View) (conv : ℕ) (command : Command) → IsTold view → IsNamed conv command → step_atoms view conv (step_of conv command) ≡ command_atoms view command
 told_seen view conv (commands.Send side text) told named = said_seen view conv (said.Send side text) ∙ send_seen view side text

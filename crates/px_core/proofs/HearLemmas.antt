@@ -15,7 +15,7 @@ use Rattle.px_event.specs.declared.step.Step.TheVariants as steps
 use Rattle.px_event.specs.Layer.{Move, Took, Replied, Standing, Goes, asks_in}
 use Rattle.px_event.specs.Trace.{Trace}
 use Rattle.px_event.proofs.Seen.{seen_append}
-use Rattle.px_event.specs.View.{View, line, questions, course, flows, seen_of, seen_in, step_atoms}
+use Rattle.px_event.specs.View.{View, line, questions, course, flows, order, seen_of, seen_in, step_atoms}
 use Rattle.px_core.specs.declared.answerer.Draft.{Draft}
 use Rattle.px_core.specs.declared.flows.Flows.{Flows}
 use Rattle.px_core.specs.declared.held.Held.{Held}
@@ -41,6 +41,7 @@ heard_seen (line side) conv moment heard = refl
 heard_seen questions conv moment heard = refl
 heard_seen course conv moment heard = refl
 heard_seen flows conv moment heard = refl
+heard_seen order conv moment heard = refl
 
 pub seen_heard : (view : View) (conv : ℕ) (trace : Trace) (moment : ℕ) (heard : Heard) → seen_in view conv (trace ++ steps.Heard moment heard ∷ []) ≡ seen_in view conv trace
 seen_heard view conv trace moment heard =

@@ -7,9 +7,11 @@ use Rattle.px_text.specs.Prefix.{IsPrefixOf}
 use Rattle.px_event.specs.declared.ask.Ask.{Ask}
 use Rattle.px_event.specs.declared.command.Command.{Command}
 use Rattle.px_event.specs.declared.command.Command.TheVariants as commands
+use Rattle.px_event.specs.declared.side.Side.{Side}
+use Rattle.px_event.specs.declared.side.Side.TheVariants.{Client, Server}
 use Rattle.px_event.specs.Layer.{asks_in}
 use Rattle.px_event.specs.Trace.{is_same_side}
-use Rattle.px_event.specs.View.{View, Atom, line, questions, course, flows, byte, close, asked, dialled, done, about, bytes_in, seen_of, command_atoms}
+use Rattle.px_event.specs.View.{View, Atom, line, questions, course, flows, order, byte, close, asked, dialled, done, about, bytes_in, seen_of, command_atoms}
 use Rattle.px_core.specs.Conversation.{AllNamed}
 use Rattle.px_core.specs.Held.{dial_from}
 use Rattle.px_core.specs.Hooks.{AsksInTurn}
@@ -28,7 +30,7 @@ unmarked_prefix a b (rest, whole) = (all_unmarked rest, ap all_unmarked whole �
 pub bytes_unmarked : (atoms : List Atom) → bytes_in (all_unmarked atoms) ≡ bytes_in atoms
 bytes_unmarked [] = refl
 bytes_unmarked (byte value ∷ atoms) = ap (λ l. value ∷ l) (bytes_unmarked atoms)
-bytes_unmarked (close ∷ atoms) = bytes_unmarked atoms
+bytes_unmarked (close side ∷ atoms) = bytes_unmarked atoms
 bytes_unmarked (asked ask ∷ atoms) = bytes_unmarked atoms
 bytes_unmarked (dialled server address ∷ atoms) = bytes_unmarked atoms
 bytes_unmarked (done flow ∷ atoms) = bytes_unmarked atoms
@@ -46,13 +48,13 @@ one_unmarked view command = by view command
     sent true text = bytes_kept text
     sent false text = refl
 
-    closed : (t : Bool) → all_unmarked (if t then close ∷ [] else []) ≡ (if t then close ∷ [] else [])
-    closed true = refl
-    closed false = refl
+    closed : (t : Bool) (side : Side) → all_unmarked (if t then close side ∷ [] else []) ≡ (if t then close side ∷ [] else [])
+    closed true side = refl
+    closed false side = refl
 
     by : (view : View) (command : Command) → all_unmarked (command_atoms view command) ≡ command_atoms view (mark_on (λ index. false) command)
     by (line side) (commands.Send other text) = sent (is_same_side other side) text
-    by (line side) (commands.Close other) = closed (is_same_side other side)
+    by (line side) (commands.Close other) = closed (is_same_side other side) other
     by (line side) (commands.Dial server address inside) = refl
     by (line side) (commands.Ask ask flow) = refl
     by (line side) (commands.Done flow) = refl
@@ -71,6 +73,12 @@ one_unmarked view command = by view command
     by flows (commands.Dial server address inside) = refl
     by flows (commands.Ask ask flow) = refl
     by flows (commands.Done flow) = refl
+    by order (commands.Send Client text) = bytes_kept text
+    by order (commands.Send (Server number) text) = refl
+    by order (commands.Close other) = refl
+    by order (commands.Dial server address inside) = refl
+    by order (commands.Ask ask flow) = refl
+    by order (commands.Done flow) = refl
 
 pub seen_unmarked : (view : View) (given : List Command) → all_unmarked (seen_of view given) ≡ seen_of view (none_marked given)
 seen_unmarked view [] = refl

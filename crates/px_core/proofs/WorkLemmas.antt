@@ -11,7 +11,7 @@ use Rattle.px_event.specs.declared.step.Step.{Step}
 use Rattle.px_event.specs.declared.step.Step.TheVariants as steps
 use Rattle.px_event.specs.Layer.{Move, Replied, Standing, Goes, asks_in}
 use Rattle.px_event.specs.Trace.{Trace}
-use Rattle.px_event.specs.View.{View, line, questions, course, flows, about, seen_of, seen_in, step_atoms}
+use Rattle.px_event.specs.View.{View, line, questions, course, flows, order, about, seen_of, seen_in, step_atoms}
 use Rattle.px_core.specs.declared.answerer.Answer.{Answer}
 use Rattle.px_core.specs.declared.answerer.Answer.TheVariants as answer
 use Rattle.px_core.specs.declared.answerer.Draft.{Draft}
@@ -50,6 +50,7 @@ answered_seen (line side) conv other ask reply = refl
 answered_seen questions conv other ask reply = refl
 answered_seen course conv other ask reply = refl
 answered_seen flows conv other ask reply = refl
+answered_seen order conv other ask reply = refl
 
 answered_calls : (conv : ℕ) (c : Calls) (ask : Ask) (reply : Reply) → calls_on conv c (steps.Answered conv ask reply) ≡ moved (Replied c.moment reply) c
 answered_calls conv c ask reply = rw (same_number conv) refl

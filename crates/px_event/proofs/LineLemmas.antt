@@ -29,8 +29,8 @@ pub close_first : (side : Side) (value : ℕ) (text : List ℕ) →
 close_first side value text same =
     let is = same_side side in
     let first : seen_of (line side) (commands.Close side ∷ commands.Send side (value ∷ text) ∷ [])
-    ≡ close ∷ (map byte (value ∷ text) ++ []) = rw is refl in
+    ≡ close side ∷ (map byte (value ∷ text) ++ []) = rw is refl in
     let second : seen_of (line side) (commands.Send side (value ∷ text) ∷ commands.Close side ∷ [])
-    ≡ byte value ∷ (map byte text ++ close ∷ []) = rw is refl in
-    let e : close ∷ (map byte (value ∷ text) ++ []) ≡ byte value ∷ (map byte text ++ close ∷ []) = sym first ∙ (same ∙ second) in
+    ≡ byte value ∷ (map byte text ++ close side ∷ []) = rw is refl in
+    let e : close side ∷ (map byte (value ∷ text) ++ []) ≡ byte value ∷ (map byte text ++ close side ∷ []) = sym first ∙ (same ∙ second) in
     absurd (cc)

@@ -8,6 +8,7 @@ use Rattle.px_flowfile.specs.FlowTable.{flow_table, is_known, is_known_in}
 use Rattle.px_flowfile.specs.Keys.{name_of}
 use Rattle.px_flowfile.specs.Table.{Line, lines}
 use Rattle.px_flowfile.specs.Unknown.{AreUnknown}
+use Rattle.px_flowfile.specs.declared.form.Form.TheVariants as forms
 
 -- no line has the name of a later one
 abbrev pub HasApart : {S : Type 0} → List (Line S) → Type 0
@@ -58,7 +59,7 @@ lines_apart (l ∷ table) s behind own strange apart = (
 pub none_strange : {S : Type 0} (table : List (Line S)) → AreStrange table no_pair
 none_strange table name h = absurd (nothing_in_none name h)
 
-pub unknown_strange : (pairs : Pairs) → AreUnknown pairs → AreStrange flow_table pairs
+pub unknown_strange : (pairs : Pairs) → AreUnknown pairs → AreStrange (flow_table forms.Second) pairs
 unknown_strange no_pair unknown name h = absurd (nothing_in_none name h)
 unknown_strange (pair key v pairs) unknown name (zero, within, is) = subst (λ n. is_known n ≡ false) is unknown.0
 unknown_strange (pair key v pairs) unknown name (suc i, within, is) = unknown_strange pairs unknown.1 name (i, omega (arith, within), is)

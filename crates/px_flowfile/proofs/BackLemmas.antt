@@ -3,19 +3,24 @@ use Rattle.std.proofs.Common.{◌≡◌, ◌∙◌, ℕ, ◌^◌, ◌-◌, ◌<�
 use Rattle.px_message.specs.declared.address.Address.{Address}
 use Rattle.px_message.specs.declared.flow.Flow.{Flow}
 use Rattle.px_message.specs.declared.flow.FlowError.{FlowError}
+use Rattle.px_message.specs.declared.messages.WsRecord.{WsRecord}
 use Rattle.px_tnet.specs.Tree.{int, Pairs, no_pair, pair}
 use Rattle.px_flowfile.specs.Answered.{response_table}
 use Rattle.px_flowfile.specs.Asked.{request_table}
 use Rattle.px_flowfile.specs.Ends.{end_table, error_table}
-use Rattle.px_flowfile.specs.FlowTable.{IsLoadable, Loads, answered, asked, flow_table, flow_tree, is_known, unknown}
+use Rattle.px_flowfile.specs.FlowTable.{IsLoadable, IsLoadableBy, Loads, answered, asked, flow_table, is_known, socket_of, tree_by, unknown}
 use Rattle.px_flowfile.specs.Kind.{Kind, or_null}
-use Rattle.px_flowfile.specs.Message.{AreRead, content, field, headers, row_of, trailers}
+use Rattle.px_flowfile.specs.Message.{AreRead, content, each, field, headers, row_of, trailers}
 use Rattle.px_flowfile.specs.Simple.{moment}
+use Rattle.px_flowfile.specs.Sockets.{message_table, messages, second_socket, socket, socket_table}
 use Rattle.px_flowfile.specs.Table.{IsGoodBy, Meets, dictionary, lines}
 use Rattle.px_flowfile.specs.Unknown.{AreUnknown}
 use Rattle.px_flowfile.specs.declared.answered.Answered.{Answered}
 use Rattle.px_flowfile.specs.declared.asked.Asked.{Asked}
+use Rattle.px_flowfile.specs.declared.form.Form.{Form}
+use Rattle.px_flowfile.specs.declared.form.Form.TheVariants as forms
 use Rattle.px_flowfile.specs.declared.held.Held.{Held}
+use Rattle.px_flowfile.specs.declared.socket.Socket.{Socket}
 
 -- a good value is read from its tree
 pub Back : {A : Type 0} → Kind A → Type 0
@@ -30,12 +35,17 @@ pub null_back : {A : Type 0} (kind : Kind A) → ((a : A) → kind.Good a → ki
 null_back kind back None good = refl
 null_back kind back (Some a) good = back a good
 
-row_back : (fs : List (List ℕ × List ℕ)) → headers.Good fs → AreRead field (row_of field fs) fs
-row_back [] good = tt
-row_back (f ∷ fs) good = ((refl, good.0), row_back fs good.1)
+row_back : {A : Type 0} (kind : Kind A) → ((a : A) → kind.Good a → kind.Reads (kind.write a) a) → (xs : List A) → (each kind).Good xs
+    → AreRead kind (row_of kind xs) xs
+row_back kind back [] good = tt
+row_back kind back (a ∷ xs) good = (back a good.0, row_back kind back xs good.1)
+
+pub each_back : {A : Type 0} (kind : Kind A) → ((a : A) → kind.Good a → kind.Reads (kind.write a) a) → (xs : List A) → (each kind).Good xs
+    → (each kind).Reads ((each kind).write xs) xs
+each_back kind back xs good = (row_of kind xs, refl, row_back kind back xs good)
 
 pub headers_back : (fs : List (List ℕ × List ℕ)) → headers.Good fs → headers.Reads (headers.write fs) fs
-headers_back fs good = (row_of field fs, refl, row_back fs good)
+headers_back fs good = each_back field (λ f is. (refl, is)) fs good
 
 pub trailers_back : (fs : List (List ℕ × List ℕ)) → trailers.Good fs → trailers.Reads (trailers.write fs) fs
 trailers_back [] good = inl (refl, refl)
@@ -115,8 +125,25 @@ end_back a g = (lines end_table a no_pair, refl, ((refl, g.0), tt))
 error_back : (e : FlowError) → IsGoodBy error_table e → (dictionary error_table).Reads ((dictionary error_table).write e) e
 error_back e g = (lines error_table e no_pair, refl, ((refl, tt), (moment_back e.moment g.1.0, tt)))
 
-pub flow_back : (f : Flow) (others : Pairs) → IsGoodBy flow_table f → Meets flow_table (lines flow_table f others) f
-flow_back f others g = (
+message_back : (m : WsRecord) → IsGoodBy message_table m → (dictionary message_table).Reads ((dictionary message_table).write m) m
+message_back m g =
+    (lines message_table m no_pair, refl, ((refl, tt), ((refl, tt), ((refl, tt), (moment_back m.moment g.1.1.1.0, ((refl, tt), tt))))))
+
+messages_back : (ms : List WsRecord) → messages.Good ms → (dictionary socket_table).Reads ((dictionary socket_table).write ms) ms
+messages_back ms good = (lines socket_table ms no_pair, refl, (each_back (dictionary message_table) message_back ms good, tt))
+
+second_back : (websocket : Bool) (ms : List WsRecord) → second_socket.Good (record { websocket = websocket; messages = ms })
+    → second_socket.Reads (second_socket.write (record { websocket = websocket; messages = ms })) (record { websocket = websocket; messages = ms })
+second_back false ms good = inl (refl, refl, good.0 refl)
+second_back true ms good = inr (refl, messages_back ms good.1)
+
+socket_back : (of_form : Form) (s : Socket) → (socket of_form).Good s → (socket of_form).Reads ((socket of_form).write s) s
+socket_back forms.First s good = (refl, good)
+socket_back forms.Second s good = second_back s.websocket s.messages good
+
+pub flow_back : (of_form : Form) (f : Flow) (others : Pairs) → IsGoodBy (flow_table of_form) f
+    → Meets (flow_table of_form) (lines (flow_table of_form) f others) f
+flow_back of_form f others g = (
   refl,
   (
     (refl, tt),
@@ -136,7 +163,7 @@ flow_back f others g = (
                   refl,
                   (
                     (refl, tt),
-                    ((refl, tt), tt),
+                    (socket_back of_form (socket_of f) g.1.1.1.1.1.1.1.1.1.1.0, tt),
                   ),
                 ),
               ),
@@ -157,6 +184,24 @@ others_stay no_pair h = refl
 others_stay (pair k v ps) h =
     by_test (unknown ps) (pair k v (unknown ps)) (is_known k.bytes) h.0 ∙ ap (pair k v) (others_stay ps h.1)
 
-pub flow_comes_back : (f : Flow) (others : Pairs) → IsLoadable f → AreUnknown others → Loads (flow_tree f others) f others
-flow_comes_back f others loadable strange =
-    (lines flow_table f others, refl, flow_back f others loadable.good, loadable.bare, sym (others_stay others strange))
+pub flow_comes_back : (of_form : Form) (f : Flow) (others : Pairs) → IsLoadableBy of_form f → AreUnknown others
+    → Loads (tree_by of_form f others) f others
+flow_comes_back of_form f others loadable strange = (
+  lines (flow_table of_form) f others,
+  of_form,
+  refl,
+  flow_back of_form f others loadable.good,
+  loadable.bare,
+  sym (others_stay others strange),
+)
+
+-- a flow without messages that is loadable by what is written is loadable by version 1
+pub first_loadable : (f : Flow) → IsLoadable f → f.messages ≡ [] → IsLoadableBy forms.First f
+first_loadable f loadable none =
+    let g = loadable.good in record {
+      bare = loadable.bare;
+      good = (
+        g.0,
+        (g.1.0, (g.1.1.0, (g.1.1.1.0, (g.1.1.1.1.0, (g.1.1.1.1.1.0, (g.1.1.1.1.1.1.0, (g.1.1.1.1.1.1.1.0, (g.1.1.1.1.1.1.1.1.0, (g.1.1.1.1.1.1.1.1.1.0, (none, tt)))))))))),
+      );
+    }

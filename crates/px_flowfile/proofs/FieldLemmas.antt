@@ -1,12 +1,14 @@
 -- Lists of two trees, and fields one by one.
-use Rattle.std.proofs.Common.{◌≡◌, ◌∙◌, ℕ, suc, Bool, true, false, ◌&&◌, List, [], ◌∷◌, ◌++◌, length, get_or, refl, sym, ap, ap₂, subst, arith, ◌⊎◌, inl, inr, append-nil}
+use Rattle.std.proofs.Common.{◌≡◌, ◌∙◌, ℕ, suc, Bool, true, false, ◌&&◌, List, [], ◌∷◌, ◌++◌, length, get_or, refl, sym, ap, ap₂, subst, arith, ◌⊎◌, inl, inr, append-nil, Result, Ok, Err, IfErr, IsErrAnd}
+use Rattle.std.proofs.lemmas.List.{append_assoc}
 use Rattle.httparse.specs.Grammar.{is_token}
 use Rattle.px_message.specs.Value.{is_value}
 use Rattle.px_message.specs.Valid.{is_field}
 use Rattle.px_tnet.specs.Tree.{Tree, list, Trees, no_tree, tree}
 use Rattle.px_tnet.specs.View.{trees_view, view}
 use Rattle.px_tnet.specs.declared.tree.Tnet.{Tnet}
-use Rattle.px_flowfile.specs.Message.{AreRead, field, field_tree}
+use Rattle.px_flowfile.specs.Kind.{Kind}
+use Rattle.px_flowfile.specs.Message.{AreRead, FirstIsRefused, field, field_tree}
 use Rattle.px_flowfile.specs.declared.key.Key.{Key}
 use Rattle.px_flowfile.specs.declared.error.FlowFileError.{FlowFileError}
 use Rattle.px_flowfile.specs.declared.error.FlowFileError.TheVariants as error
@@ -58,7 +60,37 @@ value_refused name t n v e is (inl full) = inl full
 value_refused name t n v e is (inr bad) = inr (inr (bad.0, bad_value t n v is bad.1))
 
 -- nothing is left to read
-pub all_read : (fields : List (List ℕ × List ℕ)) (rest : List Tnet) (all : Trees) → length rest ≡ 0
-    → ((more : List (List ℕ × List ℕ)) → AreRead field (trees_view rest) more → AreRead field all (fields ++ more)) → AreRead field all fields
-all_read fields [] all none step = subst (λ fs. AreRead field all fs) (append-nil fields) (step [] tt)
-all_read fields (t ∷ ts) all none step = absurd (omega arith)
+pub all_read : {A : Type 0} (kind : Kind A) (read : List A) (rest : List Tnet) (all : Trees) → length rest ≡ 0
+    → ((more : List A) → AreRead kind (trees_view rest) more → AreRead kind all (read ++ more)) → AreRead kind all read
+all_read kind read [] all none step = subst (λ xs. AreRead kind all xs) (append-nil read) (step [] tt)
+all_read kind read (t ∷ ts) all none step = absurd (omega arith)
+
+module _ {A : Type 0} (kind : Kind A) (all : Trees) (tree : Tnet) (rest others : List Tnet) (is : rest ≡ tree ∷ others) where
+  -- one more is read, and what is left is read behind it
+  pub one_read : (read next : List A) (a : A) → kind.Reads (view tree) a → next ≡ read ++ a ∷ []
+      → ((more : List A) → AreRead kind (trees_view rest) more → AreRead kind all (read ++ more))
+      → (more : List A) → AreRead kind (trees_view others) more → AreRead kind all (next ++ more)
+  one_read read next a reads pushed step more left =
+      let P : List Tnet → Type 0 = λ ts. AreRead kind (trees_view ts) (a ∷ more) in
+      let Q : List A → Type 0 = λ xs. AreRead kind all xs in
+      subst Q (sym (append_assoc read (a ∷ []) more) ∙ ap (λ xs. xs ++ more) (sym pushed)) (step (a ∷ more) (subst P (sym is) (reads, left)))
+
+  -- one more is read, and the first that is refused of what is left is the first of all
+  pub none_refused : (name : Key) (a : A) → kind.Reads (view tree) a
+      → ((e : FlowFileError) → FirstIsRefused kind name (trees_view rest) e → FirstIsRefused kind name all e)
+      → (e : FlowFileError) → FirstIsRefused kind name (trees_view others) e → FirstIsRefused kind name all e
+  none_refused name a reads step e bad =
+      let P : List Tnet → Type 0 = λ ts. FirstIsRefused kind name (trees_view ts) e in step e (subst P (sym is) (inr ((a, reads), bad)))
+
+  -- one more is refused
+  pub one_refused : (name : Key) (e : FlowFileError) → (e ≡ error.NoMemory) ⊎ kind.Refuses name (view tree) e
+      → ((e : FlowFileError) → FirstIsRefused kind name (trees_view rest) e → FirstIsRefused kind name all e)
+      → (e ≡ error.NoMemory) ⊎ FirstIsRefused kind name all e
+  one_refused name e (inl full) step = inl full
+  one_refused name e (inr bad) step =
+      let P : List Tnet → Type 0 = λ ts. FirstIsRefused kind name (trees_view ts) e in inr (step e (subst P (sym is) (inl bad)))
+
+-- what holds of an error holds where it is handed on
+pub error_as : {T : Type 0} (r : Result T FlowFileError) (e : FlowFileError) (P : FlowFileError → Type 0) → IsErrAnd r (λ d. d ≡ e) → P e → IfErr r P
+error_as (Ok _) e P is holds = tt
+error_as (Err d) e P is holds = subst P (sym is) holds

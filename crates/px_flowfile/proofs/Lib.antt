@@ -9,6 +9,7 @@ pub mod PutLemmas
 pub mod KindLaws
 pub mod SureLemmas
 pub mod SureMore
+pub mod SureSockets
 pub mod SureTables
 pub mod BackLemmas
 pub mod ExactLemmas
@@ -16,3 +17,5 @@ pub mod ApartLemmas
 pub mod SoundLemmas
 pub mod SoundTables
 pub mod PlainLemmas
+pub mod TextLemmas
+pub mod LoadedLemmas

@@ -1,9 +1,11 @@
 -- A flow whose types guarantee their parts is loadable where it is plain.
 use Rattle.std.proofs.Common.{◌≡◌, ℕ, suc, arith, ◌^◌, ◌<◌, true, List, [], ◌∷◌, Option, Some, None, IfSome}
-use Rattle.std.specs.List.{AllPass}
+use Rattle.std.specs.List.{All, AllPass}
+use Rattle.std.proofs.lemmas.List.Elements.{All-head, All-tail}
 use Rattle.px_message.specs.Valid.{is_field}
 use Rattle.px_message.specs.declared.flow.Flow.{Flow}
 use Rattle.px_message.specs.declared.flow.FlowError.{FlowError}
+use Rattle.px_message.specs.declared.messages.WsRecord.{WsRecord}
 use Rattle.px_message.specs.declared.response.Response.{Response}
 use Rattle.px_flowfile.specs.Answered.{response_table}
 use Rattle.px_flowfile.specs.Asked.{request_table}
@@ -13,6 +15,7 @@ use Rattle.px_flowfile.specs.Kind.{or_null}
 use Rattle.px_flowfile.specs.Message.{headers}
 use Rattle.px_flowfile.specs.Plain.{IsPlain, IsValidRequest, IsValidResponse}
 use Rattle.px_flowfile.specs.Simple.{IsId, moment}
+use Rattle.px_flowfile.specs.Sockets.{messages}
 use Rattle.px_flowfile.specs.Table.{IsGoodBy, dictionary}
 
 pub fields_good : (fs : List (List ℕ × List ℕ)) → AllPass is_field fs → headers.Good fs
@@ -33,6 +36,11 @@ error_good : (e : Option FlowError) → IfSome e (λ x. x.moment < 2 ^ 63) → (
 error_good None early = tt
 error_good (Some e) early = (tt, (early, tt))
 
+messages_good : (ms : List WsRecord) → All (λ m. m.moment < 2 ^ 63) ms → messages.Good ms
+messages_good [] early = tt
+messages_good (m ∷ ms) early =
+    ((tt, (tt, (tt, (All-head (λ m. m.moment < 2 ^ 63) m ms early, (tt, tt))))), messages_good ms (All-tail (λ m. m.moment < 2 ^ 63) m ms early))
+
 pub plain_is_loadable : (f : Flow) → IsId f.id → (or_null (dictionary end_table)).Good f.client → (or_null (dictionary end_table)).Good f.server
     → IsValidRequest f.request → IfSome f.response IsValidResponse → IsPlain f → IsLoadable f
 plain_is_loadable f id client server request response plain = record {
@@ -51,7 +59,7 @@ plain_is_loadable f id client server request response plain = record {
               request_good f request plain,
               (
                 response_good f.times.response_start f.times.response_end f.response response plain.response_body plain.response_start plain.response_end,
-                (error_good f.error plain.error, (tt, (tt, (tt, tt)))),
+                (error_good f.error plain.error, (tt, (tt, ((plain.no_messages, messages_good f.messages plain.messages), tt)))),
               ),
             ),
           ),

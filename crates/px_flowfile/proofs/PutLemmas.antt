@@ -7,7 +7,8 @@ use Rattle.px_tnet.specs.Tree.{Key, Tree, Trees, no_tree, tree, Pairs, no_pair, 
 use Rattle.px_tnet.specs.View.{pairs_view, trees_view, view}
 use Rattle.px_tnet.specs.declared.tree.Tnet.{Tnet}
 use Rattle.px_tnet.specs.declared.tree.TnetKey.{TnetKey}
-use Rattle.px_flowfile.specs.Message.{field, field_tree, row_of}
+use Rattle.px_flowfile.specs.Kind.{Kind}
+use Rattle.px_flowfile.specs.Message.{row_of}
 use Rattle.px_flowfile.specs.Unknown.{joined}
 
 abbrev snoc : Trees → Tree → Trees
@@ -18,22 +19,23 @@ view_push : (trees : List Tnet) (t : Tnet) → trees_view (trees ++ t ∷ []) �
 view_push [] t = refl
 view_push (u ∷ trees) t = ap (tree (view u)) (view_push trees t)
 
-row_push : (fs : List (List ℕ × List ℕ)) (f : List ℕ × List ℕ) → row_of field (fs ++ f ∷ []) ≡ snoc (row_of field fs) (field_tree f)
-row_push [] f = refl
-row_push (g ∷ fs) f = ap (tree (field_tree g)) (row_push fs f)
+module _ {A : Type 0} (kind : Kind A) where
+  row_push : (xs : List A) (a : A) → row_of kind (xs ++ a ∷ []) ≡ snoc (row_of kind xs) (kind.write a)
+  row_push [] a = refl
+  row_push (b ∷ xs) a = ap (tree (kind.write b)) (row_push xs a)
 
-taken : (fs : List (List ℕ × List ℕ)) (i : ℕ) (f : List ℕ × List ℕ) → slice_get fs i ≡ Some f → take (i + 1) fs ≡ take i fs ++ f ∷ []
-taken fs i f at =
-    let next : suc i ≡ i + 1 = omega arith in
-    ap (λ n. take n fs) (sym next) ∙ take-suc fs i f (slice_get_within fs i f at)
-    ∙ ap (λ (g : List ℕ × List ℕ). take i fs ++ g ∷ []) (get_or_from_slice_get fs i f f at)
+  taken : (xs : List A) (i : ℕ) (a : A) → slice_get xs i ≡ Some a → take (i + 1) xs ≡ take i xs ++ a ∷ []
+  taken xs i a at =
+      let next : suc i ≡ i + 1 = omega arith in
+      ap (λ n. take n xs) (sym next) ∙ take-suc xs i a (slice_get_within xs i a at)
+      ∙ ap (λ (b : A). take i xs ++ b ∷ []) (get_or_from_slice_get xs i a a at)
 
-pub one_field_more : (trees new : List Tnet) (fs : List (List ℕ × List ℕ)) (i : ℕ) (f g : List ℕ × List ℕ) (t : Tnet)
-    → trees_view trees ≡ row_of field (take i fs) → slice_get fs i ≡ Some f → g ≡ f → view t ≡ field_tree g → new ≡ trees ++ t ∷ []
-    → trees_view new ≡ row_of field (take (i + 1) fs)
-one_field_more trees new fs i f g t so at same is pushed =
-    ap trees_view pushed ∙ view_push trees t ∙ ap₂ snoc so (is ∙ ap field_tree same) ∙ sym (row_push (take i fs) f)
-    ∙ ap (row_of field) (sym (taken fs i f at))
+  -- the tree of one more value is put behind those of the values before it
+  pub one_more : (trees new : List Tnet) (xs : List A) (i : ℕ) (a b : A) (t : Tnet) → trees_view trees ≡ row_of kind (take i xs)
+      → slice_get xs i ≡ Some a → b ≡ a → view t ≡ kind.write b → new ≡ trees ++ t ∷ [] → trees_view new ≡ row_of kind (take (i + 1) xs)
+  one_more trees new xs i a b t so at same is pushed =
+      ap trees_view pushed ∙ view_push trees t ∙ ap₂ snoc so (is ∙ ap kind.write same) ∙ sym (row_push (take i xs) a)
+      ∙ ap (row_of kind) (sym (taken xs i a at))
 
 joined_end : (ps : Pairs) → joined ps no_pair ≡ ps
 joined_end no_pair = refl

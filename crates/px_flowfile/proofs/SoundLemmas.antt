@@ -14,7 +14,7 @@ use Rattle.px_tnet.specs.Tree.{Tree, dict, Pairs, no_pair, pair, keys}
 use Rattle.px_tnet.specs.Written.{AreSound, AreSoundPairs, IsSound, IsSoundKey, kind_of, payload, written_pairs, written_trees}
 use Rattle.px_flowfile.specs.Keys.{name_of}
 use Rattle.px_flowfile.specs.Kind.{Kind, or_null}
-use Rattle.px_flowfile.specs.Message.{content, field, headers, row_of, trailers}
+use Rattle.px_flowfile.specs.Message.{content, each, field, headers, row_of, trailers}
 use Rattle.px_flowfile.specs.Simple.{IsId, flow_id, id_text, moment, replay, status}
 use Rattle.px_flowfile.specs.Table.{IsGoodBy, Line, dictionary, lines, text_key}
 use Rattle.px_flowfile.specs.declared.held.Held.{Held}
@@ -75,6 +75,10 @@ name_is_text key.Error = refl
 name_is_text key.IsReplay = refl
 name_is_text key.Marked = refl
 name_is_text key.Websocket = refl
+name_is_text key.Messages = refl
+name_is_text key.FromClient = refl
+name_is_text key.Text = refl
+name_is_text key.Dropped = refl
 name_is_text key.Address = refl
 name_is_text key.Msg = refl
 name_is_text key.Timestamp = refl
@@ -147,15 +151,18 @@ field_sound depth f good short =
     let value = in_frame f.1 44 [] name.1 in
     (short, (name.0, (value.0, tt)))
 
-row_sound : (depth : ℕ) (fs : List (List ℕ × List ℕ)) → headers.Good fs → length (written_trees (row_of field fs)) < too_many
-    → AreSound (row_of field fs) (suc depth)
-row_sound depth [] good short = tt
-row_sound depth (f ∷ fs) good short =
-    let first = in_frame (payload (field.write f)) 93 (written_trees (row_of field fs)) short in
-    (field_sound depth f good.0 first.0, row_sound depth fs good.1 first.1)
+row_sound : {A : Type 0} (depth : ℕ) (kind : Kind A) → SoundAt depth kind → (xs : List A) → (each kind).Good xs
+    → length (written_trees (row_of kind xs)) < too_many → AreSound (row_of kind xs) depth
+row_sound depth kind sound [] good short = tt
+row_sound depth kind sound (a ∷ xs) good short =
+    let first = in_frame (payload (kind.write a)) (tag_of (kind_of (kind.write a))) (written_trees (row_of kind xs)) short in
+    (sound a good.0 first.0, row_sound depth kind sound xs good.1 first.1)
+
+pub each_sound : {A : Type 0} (depth : ℕ) (kind : Kind A) → SoundAt depth kind → SoundAt (suc depth) (each kind)
+each_sound depth kind sound xs good short = (short, row_sound depth kind sound xs good short)
 
 pub headers_sound : (depth : ℕ) → SoundAt (suc (suc depth)) headers
-headers_sound depth fs good short = (short, row_sound depth fs good short)
+headers_sound depth = each_sound (suc depth) field (field_sound depth)
 
 pub trailers_sound : (depth : ℕ) → SoundAt (suc (suc depth)) trailers
 trailers_sound depth [] good short = tt

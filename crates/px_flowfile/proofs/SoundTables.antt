@@ -1,7 +1,8 @@
 -- The tree of a flow may be read wherever it has a text.
-use Rattle.std.proofs.Common.{◌≡◌, ◌^◌, ◌<◌, ◌≤◌, ℕ, suc, List, length, refl, arith, codes}
+use Rattle.std.proofs.Common.{◌≡◌, ◌^◌, ◌<◌, ◌≤◌, ℕ, suc, Bool, true, false, List, length, refl, arith, codes}
 use Rattle.px_message.specs.declared.address.Address.{Address}
 use Rattle.px_message.specs.declared.flow.Flow.{Flow}
+use Rattle.px_message.specs.declared.messages.WsRecord.{WsRecord}
 use Rattle.px_tnet.specs.Frame.{too_many}
 use Rattle.px_tnet.specs.Items.{most_deep}
 use Rattle.px_tnet.specs.Tree.{Pairs}
@@ -9,12 +10,15 @@ use Rattle.px_tnet.specs.Written.{IsSound, IsTooLong, payload}
 use Rattle.px_flowfile.specs.Answered.{response_table}
 use Rattle.px_flowfile.specs.Asked.{request_table}
 use Rattle.px_flowfile.specs.Ends.{end_table, error_table, place}
-use Rattle.px_flowfile.specs.FlowTable.{IsLoadable, answered, asked, flow_table, flow_tree}
-use Rattle.px_flowfile.specs.Simple.{moment}
+use Rattle.px_flowfile.specs.FlowTable.{IsLoadableBy, answered, asked, flow_table, socket_of, tree_by}
+use Rattle.px_flowfile.specs.Simple.{form, moment}
+use Rattle.px_flowfile.specs.Sockets.{message_table, messages, second_socket, socket, socket_table}
 use Rattle.px_flowfile.specs.Table.{dictionary}
-use Rattle.px_flowfile.specs.Unknown.{AreOthers}
-use Rattle.px_flowfile.proofs.ApartLemmas.{HasApart, lines_apart, unknown_strange}
-use Rattle.px_flowfile.proofs.SoundLemmas.{AllSound, SoundAt, ascii_is_utf8, content_sound, dict_sound, dictionary_sound, headers_sound, id_sound, in_frame, moment_sound, null_sound, replay_sound, status_sound, trailers_sound}
+use Rattle.px_flowfile.specs.Unknown.{AreOthers, AreUnknown}
+use Rattle.px_flowfile.specs.declared.form.Form.{Form}
+use Rattle.px_flowfile.specs.declared.form.Form.TheVariants as forms
+use Rattle.px_flowfile.proofs.ApartLemmas.{AreStrange, HasApart, lines_apart, unknown_strange}
+use Rattle.px_flowfile.proofs.SoundLemmas.{AllSound, SoundAt, ascii_is_utf8, content_sound, dict_sound, dictionary_sound, each_sound, headers_sound, id_sound, in_frame, moment_sound, null_sound, replay_sound, status_sound, trailers_sound}
 
 place_sound : (depth : ℕ) → SoundAt (suc depth) place
 place_sound depth a good short =
@@ -106,12 +110,45 @@ response_lines depth = (
 response_sound : (depth : ℕ) → SoundAt (suc (suc (suc depth))) (dictionary response_table)
 response_sound depth = dictionary_sound (suc (suc depth)) response_table response_apart (response_lines depth)
 
-flow_apart : HasApart flow_table
-flow_apart = (refl, (refl, (refl, (refl, (refl, (refl, (refl, (refl, (refl, (refl, (refl, tt)))))))))))
+message_sound : (depth : ℕ) → SoundAt (suc depth) (dictionary message_table)
+message_sound depth = dictionary_sound depth message_table (refl, (refl, (refl, (refl, (refl, tt))))) (
+  (λ m good short. tt),
+  (
+    (λ m good short. tt),
+    (
+      (λ m good short. short),
+      (
+        (λ m good short. moment_sound depth m.moment good short),
+        ((λ m good short. tt), tt),
+      ),
+    ),
+  ),
+)
 
-flow_lines : (depth : ℕ) → AllSound (suc (suc (suc depth))) flow_table
-flow_lines depth = (
-  (λ f good short. omega arith),
+messages_sound : (depth : ℕ) → SoundAt (suc (suc (suc depth))) (dictionary socket_table)
+messages_sound depth = dictionary_sound (suc (suc depth)) socket_table (refl, tt)
+    ((λ ms good short. each_sound (suc depth) (dictionary message_table) (message_sound depth) ms good short), tt)
+
+second_sound : (depth : ℕ) (websocket : Bool) (ms : List WsRecord) → messages.Good ms
+    → length (payload (second_socket.write (record { websocket = websocket; messages = ms }))) < too_many
+    → IsSound (second_socket.write (record { websocket = websocket; messages = ms })) (suc (suc (suc depth)))
+second_sound depth false ms good short = tt
+second_sound depth true ms good short = messages_sound depth ms (good, tt) short
+
+socket_sound : (depth : ℕ) (of_form : Form) → SoundAt (suc (suc (suc depth))) (socket of_form)
+socket_sound depth forms.First s good short = tt
+socket_sound depth forms.Second s good short = second_sound depth s.websocket s.messages good.1 short
+
+flow_apart : (of_form : Form) → HasApart (flow_table of_form)
+flow_apart of_form = (refl, (refl, (refl, (refl, (refl, (refl, (refl, (refl, (refl, (refl, (refl, tt)))))))))))
+
+form_sound : (depth : ℕ) → SoundAt depth form
+form_sound depth forms.First good short = omega arith
+form_sound depth forms.Second good short = omega arith
+
+flow_lines : (depth : ℕ) (of_form : Form) → AllSound (suc (suc (suc depth))) (flow_table of_form)
+flow_lines depth of_form = (
+  (λ f good short. form_sound (suc (suc (suc depth))) of_form good short),
   (
     (λ f good short. (short, ascii_is_utf8 (codes "http") refl)),
     (
@@ -131,7 +168,7 @@ flow_lines depth = (
                   (
                     (λ f good short. tt),
                     (
-                      (λ f good short. tt),
+                      (λ f good short. socket_sound depth of_form (socket_of f) good short),
                       tt,
                     ),
                   ),
@@ -149,10 +186,14 @@ flow_lines depth = (
 short_enough : (n : ℕ) → ¬ (too_many ≤ n) → n < too_many
 short_enough n h = omega arith
 
-pub flow_sound : (f : Flow) (others : Pairs) → IsLoadable f → AreOthers others → ¬ (IsTooLong (flow_tree f others))
-    → IsSound (flow_tree f others) most_deep
-flow_sound f others loadable strange short =
-    dict_sound 63 flow_table (flow_lines 60) f others loadable.good
-    (lines_apart flow_table f others flow_apart (unknown_strange others strange.unknown) strange.apart)
-    (short_enough (length (payload (flow_tree f others))) short)
+-- pairs that are unknown are so in both forms, which have the same keys
+strange_to : (of_form : Form) (others : Pairs) → AreUnknown others → AreStrange (flow_table of_form) others
+strange_to of_form others strange = unknown_strange others strange
+
+pub flow_sound : (of_form : Form) (f : Flow) (others : Pairs) → IsLoadableBy of_form f → AreOthers others → ¬ (IsTooLong (tree_by of_form f others))
+    → IsSound (tree_by of_form f others) most_deep
+flow_sound of_form f others loadable strange short =
+    dict_sound 63 (flow_table of_form) (flow_lines 60 of_form) f others loadable.good
+    (lines_apart (flow_table of_form) f others (flow_apart of_form) (strange_to of_form others strange.unknown) strange.apart)
+    (short_enough (length (payload (tree_by of_form f others))) short)
     strange.sound

@@ -1,9 +1,11 @@
 -- Each kind of a flow's tables is sure.
-use Rattle.std.proofs.Common.{◌≡◌, ◌∙◌, ℕ, ◌^◌, ◌<◌, ℤ, pos, nat_abs, Bool, false, List, [], refl, sym, ap, inl, inr}
+use Rattle.std.proofs.Common.{◌≡◌, ◌∙◌, ℕ, ◌^◌, ◌<◌, ℤ, pos, nat_abs, Bool, false, List, [], refl, sym, ap, arith, inl, inr}
 use Rattle.px_tnet.specs.Tree.{Tree, blob, int, bool, null, list, dict, Trees, no_tree, tree}
 use Rattle.px_tnet.specs.Tree as of
 use Rattle.px_flowfile.specs.Kind.{plain, shown}
-use Rattle.px_flowfile.specs.Simple.{Any, truth, word, word_bytes, unused, moment, form}
+use Rattle.px_flowfile.specs.Simple.{Any, truth, word, word_bytes, unused, moment, form, form_number}
+use Rattle.px_flowfile.specs.declared.form.Form.{Form}
+use Rattle.px_flowfile.specs.declared.form.Form.TheVariants as forms
 use Rattle.px_flowfile.specs.declared.key.Key.{Key}
 use Rattle.px_flowfile.specs.declared.error.FlowFileError.{FlowFileError}
 use Rattle.px_flowfile.specs.declared.error.FlowFileError.TheVariants as error
@@ -59,9 +61,15 @@ sure_moment = record {
 pub sure_number : (Good : ℕ → Type 0) → Sure (shown int pos Good)
 sure_number Good = sure_shown int pos Good one_int (λ a b _ _ h. one_pos a b h)
 
-form_apart : (name : Key) (t : Tree) (e : FlowFileError) → t ≡ int (pos 1) → ¬ (form.Refuses name t e)
-form_apart name t e h (inl bad) = bad.1 (pos 1) h
-form_apart name t e h (inr bad) = bad.3 (one_int bad.0 (pos 1) (sym bad.1 ∙ h))
+one_form : (a b : Form) → form_number a ≡ form_number b → a ≡ b
+one_form forms.First forms.First h = refl
+one_form forms.Second forms.Second h = refl
+one_form forms.First forms.Second h = absurd (let e : 1 ≡ 2 = one_pos 1 2 h in omega arith)
+one_form forms.Second forms.First h = absurd (let e : 2 ≡ 1 = one_pos 2 1 h in omega arith)
+
+form_apart : (name : Key) (t : Tree) (of_form : Form) (e : FlowFileError) → t ≡ int (form_number of_form) → ¬ (form.Refuses name t e)
+form_apart name t of_form e h (inl bad) = bad.1 (form_number of_form) h
+form_apart name t of_form e h (inr bad) = bad.3 of_form (one_int bad.0 (form_number of_form) (sym bad.1 ∙ h))
 
 form_cause : (name : Key) (t : Tree) (e d : FlowFileError) → form.Refuses name t e → form.Refuses name t d → e ≡ d
 form_cause name t e d (inl h) (inl g) = h.0 ∙ sym g.0
@@ -70,4 +78,8 @@ form_cause name t e d (inr h) (inl g) = absurd (g.1 h.0 h.1)
 form_cause name t e d (inr h) (inr g) = h.2 ∙ ap (λ n. error.OtherVersion n) (one_int h.0 g.0 (sym h.1 ∙ g.1)) ∙ sym g.2
 
 pub sure_form : Sure form
-sure_form = record { one = λ t a b h g. refl; apart = λ name t a e h. form_apart name t e h; cause = form_cause }
+sure_form = record {
+  one = λ t a b h g. one_form a b (one_int (form_number a) (form_number b) (sym h ∙ g));
+  apart = form_apart;
+  cause = form_cause;
+}

@@ -15,18 +15,22 @@ use Rattle.px_tnet.specs.Tree.{Pairs}
 use Rattle.px_flowfile.specs.Answered.{response_table}
 use Rattle.px_flowfile.specs.Asked.{request_table}
 use Rattle.px_flowfile.specs.Ends.{end_table, error_table, place}
-use Rattle.px_flowfile.specs.FlowTable.{IsBare, answered, answered_by, asked, flow_table}
+use Rattle.px_flowfile.specs.FlowTable.{IsBare, answered, answered_by, asked, lines_of, socket_of}
 use Rattle.px_flowfile.specs.Kind.{or_null}
 use Rattle.px_flowfile.specs.Message.{IsMethod, content, headers, host, method, path, reason, trailers}
-use Rattle.px_flowfile.specs.Simple.{Any, IsPort, bytes, flow_id, form, http_version, moment, port, replay, status, truth, unused, word, word_bytes}
+use Rattle.px_flowfile.specs.Simple.{Any, IsPort, bytes, flow_id, http_version, moment, port, replay, status, truth, unused, word, word_bytes}
+use Rattle.px_flowfile.specs.Sockets.{socket}
 use Rattle.px_flowfile.specs.Table.{Meets, dictionary}
 use Rattle.px_flowfile.specs.declared.answered.Answered.{Answered}
 use Rattle.px_flowfile.specs.declared.asked.Asked.{Asked}
+use Rattle.px_flowfile.specs.declared.form.Form.{Form}
 use Rattle.px_flowfile.specs.declared.held.Held.{Held}
 use Rattle.px_flowfile.specs.declared.key.Key.TheVariants as key
+use Rattle.px_flowfile.specs.declared.socket.Socket.{Socket}
 use Rattle.px_flowfile.proofs.KindLaws.{AllSure, Sure, dictionary_no_null, one_at, sure_dictionary, sure_line, sure_or_null}
-use Rattle.px_flowfile.proofs.SureLemmas.{sure_bytes, sure_form, sure_moment, sure_number, sure_truth, sure_unused, sure_word, sure_word_bytes}
+use Rattle.px_flowfile.proofs.SureLemmas.{sure_bytes, sure_moment, sure_number, sure_truth, sure_unused, sure_word, sure_word_bytes}
 use Rattle.px_flowfile.proofs.SureMore.{null_no_int, sure_content, sure_headers, sure_id, sure_place, sure_replay, sure_trailers, sure_version}
+use Rattle.px_flowfile.proofs.SureSockets.{sure_socket}
 
 sure_optional : Sure (or_null moment)
 sure_optional = sure_or_null moment sure_moment (λ a h. null_no_int _ h.0)
@@ -167,29 +171,26 @@ answered_one pairs a b h g =
 pub sure_response : Sure (or_null (dictionary response_table))
 sure_response = sure_or_null (dictionary response_table) (sure_dictionary response_table response_sure answered_one) (dictionary_no_null response_table response_sure)
 
-pub flow_sure : AllSure flow_table
-flow_sure = (
-  sure_line key.Version form sure_form (λ (_ : Flow). tt),
+pub flow_sure : (of_form : Form) → AllSure (lines_of of_form)
+flow_sure of_form = (
+  sure_line key.Type (word (codes "http")) (sure_word (codes "http")) (λ (_ : Flow). tt),
   (
-    sure_line key.Type (word (codes "http")) (sure_word (codes "http")) (λ (_ : Flow). tt),
+    sure_line key.Id flow_id sure_id (λ (f : Flow). f.id),
     (
-      sure_line key.Id flow_id sure_id (λ (f : Flow). f.id),
+      sure_line key.ClientConn (or_null (dictionary end_table)) sure_end (λ (f : Flow). f.client),
       (
-        sure_line key.ClientConn (or_null (dictionary end_table)) sure_end (λ (f : Flow). f.client),
+        sure_line key.ServerConn (or_null (dictionary end_table)) sure_end (λ (f : Flow). f.server),
         (
-          sure_line key.ServerConn (or_null (dictionary end_table)) sure_end (λ (f : Flow). f.server),
+          sure_line key.Request (dictionary request_table) sure_request asked,
           (
-            sure_line key.Request (dictionary request_table) sure_request asked,
+            sure_line key.Response (or_null (dictionary response_table)) sure_response answered,
             (
-              sure_line key.Response (or_null (dictionary response_table)) sure_response answered,
+              sure_line key.Error (or_null (dictionary error_table)) sure_error (λ (f : Flow). f.error),
               (
-                sure_line key.Error (or_null (dictionary error_table)) sure_error (λ (f : Flow). f.error),
+                sure_line key.IsReplay replay sure_replay (λ (f : Flow). f.replayed),
                 (
-                  sure_line key.IsReplay replay sure_replay (λ (f : Flow). f.replayed),
-                  (
-                    sure_line key.Marked truth sure_truth (λ (f : Flow). f.marked),
-                    (sure_line key.Websocket truth sure_truth (λ (f : Flow). f.websocket), tt),
-                  ),
+                  sure_line key.Marked truth sure_truth (λ (f : Flow). f.marked),
+                  (sure_line key.Websocket (socket of_form) (sure_socket of_form) socket_of, tt),
                 ),
               ),
             ),
@@ -224,10 +225,12 @@ back_end : (start end : Option ℕ) (r : Option Response) → (r ≡ None → en
 back_end start end None none = sym (none refl)
 back_end start end (Some r) none = refl
 
-pub flow_one : (pairs : Pairs) (f g : Flow) → IsBare f → IsBare g → Meets flow_table pairs f → Meets flow_table pairs g → f ≡ g
-flow_one pairs f g bare base h k =
-    let whole = one_at key.Request (dictionary request_table) sure_request pairs (asked f) (asked g) h.1.1.1.1.1.0 k.1.1.1.1.1.0 in
-    let answer = one_at key.Response (or_null (dictionary response_table)) sure_response pairs (answered f) (answered g) h.1.1.1.1.1.1.0 k.1.1.1.1.1.1.0 in
+pub flow_one : (of_form : Form) (pairs : Pairs) (f g : Flow) → IsBare f → IsBare g → Meets (lines_of of_form) pairs f
+    → Meets (lines_of of_form) pairs g → f ≡ g
+flow_one of_form pairs f g bare base h k =
+    let whole = one_at key.Request (dictionary request_table) sure_request pairs (asked f) (asked g) h.1.1.1.1.0 k.1.1.1.1.0 in
+    let answer = one_at key.Response (or_null (dictionary response_table)) sure_response pairs (answered f) (answered g) h.1.1.1.1.1.0 k.1.1.1.1.1.0 in
+    let last = one_at key.Websocket (socket of_form) (sure_socket of_form) pairs (socket_of f) (socket_of g) h.1.1.1.1.1.1.1.1.1.0 k.1.1.1.1.1.1.1.1.1.0 in
     let ft = f.times in
     let gt = g.times in
     let start : ft.response_start ≡ gt.response_start =
@@ -245,15 +248,15 @@ flow_one pairs f g bare base h k =
       response_end = end i;
     } in
     flow_eq f g
-    (one_at key.Id flow_id sure_id pairs f.id g.id h.1.1.0 k.1.1.0)
-    (one_at key.ClientConn (or_null (dictionary end_table)) sure_end pairs f.client g.client h.1.1.1.0 k.1.1.1.0)
-    (one_at key.ServerConn (or_null (dictionary end_table)) sure_end pairs f.server g.server h.1.1.1.1.0 k.1.1.1.1.0)
+    (one_at key.Id flow_id sure_id pairs f.id g.id h.1.0 k.1.0)
+    (one_at key.ClientConn (or_null (dictionary end_table)) sure_end pairs f.client g.client h.1.1.0 k.1.1.0)
+    (one_at key.ServerConn (or_null (dictionary end_table)) sure_end pairs f.server g.server h.1.1.1.0 k.1.1.1.0)
     (ap (λ (a : Asked). a.request) whole)
     response
-    (one_at key.Error (or_null (dictionary error_table)) sure_error pairs f.error g.error h.1.1.1.1.1.1.1.0 k.1.1.1.1.1.1.1.0)
+    (one_at key.Error (or_null (dictionary error_table)) sure_error pairs f.error g.error h.1.1.1.1.1.1.0 k.1.1.1.1.1.1.0)
     times
-    (one_at key.IsReplay replay sure_replay pairs f.replayed g.replayed h.1.1.1.1.1.1.1.1.0 k.1.1.1.1.1.1.1.1.0)
-    (one_at key.Marked truth sure_truth pairs f.marked g.marked h.1.1.1.1.1.1.1.1.1.0 k.1.1.1.1.1.1.1.1.1.0)
-    (one_at key.Websocket truth sure_truth pairs f.websocket g.websocket h.1.1.1.1.1.1.1.1.1.1.0 k.1.1.1.1.1.1.1.1.1.1.0)
+    (one_at key.IsReplay replay sure_replay pairs f.replayed g.replayed h.1.1.1.1.1.1.1.0 k.1.1.1.1.1.1.1.0)
+    (one_at key.Marked truth sure_truth pairs f.marked g.marked h.1.1.1.1.1.1.1.1.0 k.1.1.1.1.1.1.1.1.0)
+    (ap (λ (s : Socket). s.websocket) last)
     (bare.no_message ∙ sym base.no_message)
-    (bare.no_messages ∙ sym base.no_messages)
+    (ap (λ (s : Socket). s.messages) last)

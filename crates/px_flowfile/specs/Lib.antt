@@ -4,6 +4,7 @@ pub mod Table
 pub mod Simple
 pub mod Message
 pub mod Ends
+pub mod Sockets
 pub mod Asked
 pub mod Answered
 pub mod FlowTable

@@ -1,5 +1,5 @@
 -- What the types of a flow guarantee, and what they leave open.
-use Rattle.std.specs.Prelude.{◌≡◌, ℕ, ◌^◌, ◌<◌, true, [], IfSome}
+use Rattle.std.specs.Prelude.{◌≡◌, ℕ, ◌^◌, ◌<◌, true, false, [], All, IfSome}
 use Rattle.px_message.specs.Host.{IsHost}
 use Rattle.px_message.specs.Path.{is_path}
 use Rattle.px_message.specs.Status.{is_status}
@@ -28,8 +28,8 @@ pub record IsValidResponse (r : Response) : Type 0 where
   pub fields : headers.Good r.fields
   pub trailers : headers.Good r.trailers
 
--- what the types leave open of a flow that is loaded from its own tree: it is bare, its moments are below 2^63, and a body that passed by is
--- empty
+-- what the types leave open of a flow that is loaded from what is written of it: it is bare, its moments are below 2^63, a body that passed
+-- by is empty, and only a WebSocket has messages
 pub record IsPlain (f : Flow) : Type 0 where
   pub bare : IsBare f
   pub request_start : f.times.request_start < 2 ^ 63
@@ -39,3 +39,5 @@ pub record IsPlain (f : Flow) : Type 0 where
   pub error : IfSome f.error (λ e. e.moment < 2 ^ 63)
   pub request_body : f.request.streamed ≡ true → f.request.body ≡ []
   pub response_body : IfSome f.response (λ r. r.streamed ≡ true → r.body ≡ [])
+  pub no_messages : f.websocket ≡ false → f.messages ≡ []
+  pub messages : All (λ m. m.moment < 2 ^ 63) f.messages

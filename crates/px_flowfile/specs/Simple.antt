@@ -9,6 +9,8 @@ use Rattle.px_message.specs.declared.version.Version.{Version}
 use Rattle.px_message.specs.declared.version.Version.TheVariants as version
 use Rattle.px_flowfile.specs.Kind.{Kind, plain, shown}
 use Rattle.px_flowfile.specs.declared.error.FlowFileError.TheVariants as error
+use Rattle.px_flowfile.specs.declared.form.Form.{Form}
+use Rattle.px_flowfile.specs.declared.form.Form.TheVariants as forms
 
 -- any value of the shape is good
 abbrev pub Any : {A : Type 0} → A → Type 0
@@ -59,15 +61,20 @@ port = shown int pos IsPort
 abbrev pub status : Kind ℕ
 status = shown int pos (λ n. is_status n ≡ true)
 
--- the form of a flow's dictionary: this one is 1
-abbrev pub form : Kind (Unit {0})
+-- the number of a form
+abbrev pub form_number : Form → ℤ
+form_number forms.First = pos 1
+form_number forms.Second = pos 2
+
+-- the form of a flow's dictionary
+abbrev pub form : Kind Form
 form = record {
   Good = Any;
-  write = λ _. int (pos 1);
-  Reads = λ t _. t ≡ int (pos 1);
+  write = λ of_form. int (form_number of_form);
+  Reads = λ t of_form. t ≡ int (form_number of_form);
   Refuses = λ name t e.
       ((e ≡ error.WrongKind name) × ((n : ℤ) → ¬ (t ≡ int n)))
-      ⊎ ((n : ℤ) × (t ≡ int n) × (e ≡ error.OtherVersion n) × (¬ (n ≡ pos 1)));
+      ⊎ ((n : ℤ) × (t ≡ int n) × (e ≡ error.OtherVersion n) × ((of_form : Form) → ¬ (n ≡ form_number of_form)));
 }
 
 -- the number of the conversation, a full stop, and the place in it

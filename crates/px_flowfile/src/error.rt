@@ -14,7 +14,7 @@ pub enum FlowFileError {
     WrongKind(Key),
     /// What stands under the key is of its kind, and is a value that no message or flow has.
     BadMessage(Key),
-    /// The dictionary has another form than 1.
+    /// The dictionary has another form than 1 and 2.
     OtherVersion(i64),
     /// No memory.
     NoMemory,

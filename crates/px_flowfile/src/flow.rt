@@ -1,29 +1,42 @@
-//! The dictionary of a flow.
+//! The dictionary of a flow, in its two forms.
 ghost use Rattle.std.specs.Prelude.{◌≡◌, ◌⊎◌, None, IfOk, IfErr};
 ghost use Rattle.px_tnet.specs.View.{paired, pairs_view};
-ghost use Rattle.px_flowfile.specs.FlowTable.{IsBare, answered_by, flow_parts, flow_table};
+ghost use Rattle.px_flowfile.specs.FlowTable.{IsBare, IsRefusedFlow, answered_by, flow_parts, flow_table, lines_of};
 ghost use Rattle.px_flowfile.specs.Table.{IsRefusedBy, Meets};
 ghost use Rattle.px_flowfile.specs.declared.error.FlowFileError.TheVariants as error;
+ghost use Rattle.px_flowfile.specs.declared.form.Form.{Form};
 
 use crate::answered::Answered;
 use crate::asked::Asked;
 use crate::both::both;
 use crate::ends::{end_at, error_at};
+use crate::form::Form;
 use crate::request::request_at;
 use crate::response::response_at;
 use crate::simple::{form_at, id_at, replay_at, truth_at, type_at};
+use crate::socket::Socket;
+use crate::sockets::socket_at;
 use crate::{FlowFileError, Key};
-use px_message::{Address, Flow, FlowError, FlowId, Messages, Replayed, Response, Shared, Times};
+use px_message::{Address, Flow, FlowError, FlowId, Replayed, Response, Shared, Times};
 use px_tnet::TnetDict;
 use std::alloc::Global;
 
-/// The flow. Each line is read by itself, and the first that is refused tells.
+/// The flow, by the table of the form that it tells.
 pub(crate) fn flow_in(alloc: Global, dict: &TnetDict) -> Result<Flow, FlowFileError>
-    ensures ok { IfOk result (λ r. Meets flow_table (pairs_view (paired dict.now)) r) }
+    ensures ok { IfOk result (λ r. (f : Form) × Meets (flow_table f) (pairs_view (paired dict.now)) r) }
     ensures bare { IfOk result (λ r. IsBare r) }
-    ensures err { IfErr result (λ e. (e ≡ error.NoMemory) ⊎ IsRefusedBy flow_table (pairs_view (paired dict.now)) e) }
+    ensures err { IfErr result (λ e. (e ≡ error.NoMemory) ⊎ IsRefusedFlow (pairs_view (paired dict.now)) e) }
 {
-    let form = form_at(dict);
+    let form = form_at(dict)?;
+    flow_by(alloc, dict, form)
+}
+
+// What stands behind the version. Each line is read by itself, and the first that is refused tells.
+fn flow_by(alloc: Global, dict: &TnetDict, form: Form) -> Result<Flow, FlowFileError>
+    ensures ok { IfOk result (λ r. Meets (lines_of form) (pairs_view (paired dict.now)) r) }
+    ensures bare { IfOk result (λ r. IsBare r) }
+    ensures err { IfErr result (λ e. (e ≡ error.NoMemory) ⊎ IsRefusedBy (lines_of form) (pairs_view (paired dict.now)) e) }
+{
     let of_type = type_at(dict);
     let id = id_at(dict);
     let client = end_at(alloc, dict, Key::ClientConn);
@@ -33,15 +46,12 @@ pub(crate) fn flow_in(alloc: Global, dict: &TnetDict) -> Result<Flow, FlowFileEr
     let error = error_at(alloc, dict);
     let replayed = replay_at(dict);
     let marked = truth_at(dict, Key::Marked);
-    let websocket = truth_at(dict, Key::Websocket);
-    let marks = both(replayed, both(marked, both(websocket, Ok(()))));
+    let socket = socket_at(alloc, dict, form);
+    let marks = both(replayed, both(marked, both(socket, Ok(()))));
     let messages = both(request, both(response, both(error, marks)));
-    let read = both(
-        form,
-        both(of_type, both(id, both(client, both(server, messages)))),
-    );
+    let read = both(of_type, both(id, both(client, both(server, messages))));
     match read {
-        Ok(parts) => Ok(flow_of(alloc, parts)),
+        Ok(parts) => Ok(flow_of(parts)),
         Err(e) => Err(e),
     }
 }
@@ -50,19 +60,16 @@ pub(crate) fn flow_in(alloc: Global, dict: &TnetDict) -> Result<Flow, FlowFileEr
 type Parts = (
     (),
     (
-        (),
+        FlowId,
         (
-            FlowId,
+            Option<Shared<Address>>,
             (
                 Option<Shared<Address>>,
                 (
-                    Option<Shared<Address>>,
+                    Asked,
                     (
-                        Asked,
-                        (
-                            Option<Answered>,
-                            (Option<Shared<FlowError>>, (Replayed, (bool, (bool, ())))),
-                        ),
+                        Option<Answered>,
+                        (Option<Shared<FlowError>>, (Replayed, (bool, (Socket, ())))),
                     ),
                 ),
             ),
@@ -71,22 +78,13 @@ type Parts = (
 );
 
 // The flow of these parts.
-fn flow_of(alloc: Global, parts: Parts) -> Flow
+fn flow_of(parts: Parts) -> Flow
     ensures parts { flow_parts result ≡ parts }
     ensures bare { IsBare result }
 {
     let (
         _,
-        (
-            _,
-            (
-                id,
-                (
-                    client,
-                    (server, (asked, (answered, (error, (replayed, (marked, (websocket, _))))))),
-                ),
-            ),
-        ),
+        (id, (client, (server, (asked, (answered, (error, (replayed, (marked, (socket, _))))))))),
     ) = parts;
     let (response, response_start, response_end) = opened(answered);
     let times = Times {
@@ -105,9 +103,9 @@ fn flow_of(alloc: Global, parts: Parts) -> Flow
         times,
         replayed,
         marked,
-        websocket,
+        websocket: socket.websocket,
         message: None,
-        messages: Messages::new(alloc),
+        messages: socket.messages,
     }
 }
 

@@ -23,6 +23,7 @@ mod fault;
 mod field_list;
 mod find;
 mod flow;
+mod form;
 mod held;
 mod id;
 mod key;
@@ -32,10 +33,13 @@ mod others;
 mod plain;
 mod put;
 mod put_message;
+mod put_socket;
 mod reader;
 mod request;
 mod response;
 mod simple;
+mod socket;
+mod sockets;
 mod unknown;
 mod write;
 mod write_parts;
@@ -45,8 +49,9 @@ pub use error::FlowFileError;
 pub use fault::{ReadCause, ReadFault};
 pub use key::Key;
 pub use laws::{
-    each_tree_has_one_flow, each_tree_has_one_refusal, flow_tree_is_sound, loaded_is_not_refused,
-    written_entry_is_read, written_flow_is_read, written_is_loaded,
+    each_tree_has_one_flow, each_tree_has_one_refusal, first_text_is_read, flow_tree_is_sound,
+    loaded_is_loadable, loaded_is_not_refused, written_entry_is_read, written_flow_is_read,
+    written_is_loaded,
 };
 pub use others::Others;
 pub use plain::plain_flow_is_loadable;

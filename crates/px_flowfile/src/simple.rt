@@ -6,10 +6,12 @@ ghost use Rattle.px_flowfile.specs.Kind.{or_null};
 ghost use Rattle.px_flowfile.specs.Simple as specs;
 ghost use Rattle.px_flowfile.specs.Table.{ReadsAt, RefusesAt};
 ghost use Rattle.px_flowfile.specs.declared.error.FlowFileError.TheVariants as error;
+ghost use Rattle.px_flowfile.specs.declared.form.Form.{Form};
 ghost use Rattle.px_flowfile.specs.declared.key.Key.TheVariants as key;
 ghost use Rattle.px_message.specs.Status.{is_status};
 
 use crate::find::{blob_in, bool_in, find, int_in, text_in};
+use crate::form::Form;
 use crate::id::read_id;
 use crate::{FlowFileError, Key};
 use px_message::{FlowId, Replayed, Status, Version};
@@ -146,21 +148,33 @@ fn port_of(n: i64) -> Option<u16>
     }
 }
 
-/// The form of the dictionary, which is 1.
-pub(crate) fn form_at(dict: &TnetDict) -> Result<(), FlowFileError>
-    ensures ok { IfOk result (λ _. ReadsAt key.Version specs.form (pairs_view (paired dict.now)) tt) }
+/// The form of the dictionary.
+pub(crate) fn form_at(dict: &TnetDict) -> Result<Form, FlowFileError>
+    ensures ok { IfOk result (λ r. ReadsAt key.Version specs.form (pairs_view (paired dict.now)) r) }
     ensures err { IfErr result (λ e. (e ≡ error.NoMemory) ⊎ RefusesAt key.Version specs.form (pairs_view (paired dict.now)) e) }
 {
     read_form(Key::Version, find(dict, Key::Version)?)
 }
 
-fn read_form(key: Key, tree: &Tnet) -> Result<(), FlowFileError>
-    ensures ok { IfOk result (λ _. specs.form.Reads (view tree.now) tt) }
+fn read_form(key: Key, tree: &Tnet) -> Result<Form, FlowFileError>
+    ensures ok { IfOk result (λ r. specs.form.Reads (view tree.now) r) }
     ensures err { IfErr result (λ e. (e ≡ error.NoMemory) ⊎ specs.form.Refuses key (view tree.now) e) }
 {
-    match int_in(key, tree)? {
-        1 => Ok(()),
-        other => Err(FlowFileError::OtherVersion(other)),
+    let version = int_in(key, tree)?;
+    match form_of(version) {
+        Some(form) => Ok(form),
+        None => Err(FlowFileError::OtherVersion(version)),
+    }
+}
+
+// The form of that number.
+fn form_of(version: i64) -> Option<Form>
+    ensures { MatchOption result ((f : Form) → ¬ (version ≡ specs.form_number f)) (λ f. version ≡ specs.form_number f) }
+{
+    match version {
+        1 => Some(Form::First),
+        2 => Some(Form::Second),
+        _ => None,
     }
 }
 

@@ -13,9 +13,11 @@ ghost use Rattle.px_flowfile.specs.OthersView.{others_view};
 ghost use Rattle.px_flowfile.specs.Simple as specs;
 ghost use Rattle.px_flowfile.specs.Table.{dictionary, lines, text_key};
 ghost use Rattle.px_flowfile.specs.Unknown.{joined};
+ghost use Rattle.px_flowfile.specs.declared.form.Form.TheVariants as forms;
 ghost use Rattle.px_flowfile.specs.declared.key.Key.TheVariants as key;
 
 use crate::put::{dict_tree, put, put_number, put_text};
+use crate::put_socket::put_socket;
 use crate::unknown::keep;
 use crate::write_parts::{end_tree, error_tree, request_tree, response_tree};
 use crate::{Entry, Key, Others};
@@ -24,7 +26,7 @@ use px_text::{Bytes, NoMemory, push_decimal};
 use px_tnet::{Tnet, TnetKey, WriteError, write};
 use std::alloc::Global;
 
-/// Appends the text of an entry: the keys of the tables as texts, in their order, and the other pairs behind them. Refused exactly where a
+/// Appends the text of an entry in version 2: the keys of the tables as texts, in their order, and the other pairs behind them. Refused exactly where a
 /// payload has 1,000,000,000 bytes or more; after an error nothing is appended. The bytes of the flow are copied.
 pub fn write_flow(alloc: Global, entry: &Entry, out: &mut Vec<u8>) -> Result<(), WriteError>
     ensures ok { OnOk result (out.new.items ≡ out.old.items ++ written (flow_tree entry.now.flow (others_view entry.now.others))) }
@@ -59,7 +61,7 @@ fn entry_tree(alloc: Global, entry: &Entry) -> Result<Tnet, NoMemory>
 
 fn put_flow(alloc: Global, pairs: &mut Vec<(TnetKey, Tnet)>, flow: &Flow) -> Result<(), NoMemory>
     ensures { OnOk result ((more : Pairs) → joined (pairs_view pairs.new.items) more
-        ≡ joined (pairs_view pairs.old.items) (lines flow_table flow.now more)) }
+        ≡ joined (pairs_view pairs.old.items) (lines (flow_table forms.Second) flow.now more)) }
 {
     put_front(alloc, pairs, flow)?;
     put_messages(alloc, pairs, flow)?;
@@ -70,9 +72,9 @@ fn put_flow(alloc: Global, pairs: &mut Vec<(TnetKey, Tnet)>, flow: &Flow) -> Res
 // The first five lines.
 fn put_front(alloc: Global, pairs: &mut Vec<(TnetKey, Tnet)>, flow: &Flow) -> Result<(), NoMemory>
     ensures { OnOk result ((more : Pairs) → joined (pairs_view pairs.new.items) more
-        ≡ joined (pairs_view pairs.old.items) (lines (take 5 flow_table) flow.now more)) }
+        ≡ joined (pairs_view pairs.old.items) (lines (take 5 (flow_table forms.Second)) flow.now more)) }
 {
-    put_number(alloc, pairs, Key::Version, 1)?;
+    put_number(alloc, pairs, Key::Version, 2)?;
     put_text(alloc, pairs, Key::Type, b"http")?;
     put_id(alloc, pairs, flow.id)?;
     put_end(alloc, pairs, Key::ClientConn, &flow.client)?;
@@ -87,7 +89,7 @@ fn put_messages(
     flow: &Flow,
 ) -> Result<(), NoMemory>
     ensures { OnOk result ((more : Pairs) → joined (pairs_view pairs.new.items) more
-        ≡ joined (pairs_view pairs.old.items) (lines (take 3 (drop 5 flow_table)) flow.now more)) }
+        ≡ joined (pairs_view pairs.old.items) (lines (take 3 (drop 5 (flow_table forms.Second))) flow.now more)) }
 {
     put_asked(alloc, pairs, flow)?;
     put_answered(alloc, pairs, flow)?;
@@ -98,11 +100,11 @@ fn put_messages(
 // The last three lines.
 fn put_marks(alloc: Global, pairs: &mut Vec<(TnetKey, Tnet)>, flow: &Flow) -> Result<(), NoMemory>
     ensures { OnOk result ((more : Pairs) → joined (pairs_view pairs.new.items) more
-        ≡ joined (pairs_view pairs.old.items) (lines (drop 8 flow_table) flow.now more)) }
+        ≡ joined (pairs_view pairs.old.items) (lines (drop 8 (flow_table forms.Second)) flow.now more)) }
 {
     put_replay(alloc, pairs, flow.replayed)?;
     put(alloc, pairs, Key::Marked, Tnet::Bool(flow.marked))?;
-    put(alloc, pairs, Key::Websocket, Tnet::Bool(flow.websocket))?;
+    put_socket(alloc, pairs, flow.websocket, &flow.messages)?;
     Ok(())
 }
 

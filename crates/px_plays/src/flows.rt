@@ -3,7 +3,7 @@ use crate::changes::{change_request, change_response};
 use crate::parts::{address_at, host_of, name_of, path_of, status_of};
 use px_message::{
     Address, Body, Fields, Flow, FlowError, FlowId, Messages, Replayed, Request, Shared, Times,
-    Version, WsMessage,
+    Version, WsMessage, WsRecord,
 };
 use px_rows::{RowError, unescape};
 use px_text::Bytes;
@@ -86,6 +86,8 @@ fn change_flow(alloc: Global, flow: &mut Flow, part: &str) -> Result<(), RowErro
         "client" => put_client(alloc, flow, text),
         "server" => put_server(alloc, flow, text),
         "message" => put_message(alloc, flow, text),
+        "record" => put_record(alloc, flow, text, false),
+        "discarded" => put_record(alloc, flow, text, true),
         _ => change_plainly(alloc, flow, what, text),
     }
 }
@@ -136,13 +138,46 @@ fn address_of(alloc: Global, text: &str) -> Result<Address, RowError> {
     address_at(alloc, host, port)
 }
 
-// `client TEXT` or `server TEXT`: whose message it is.
-fn put_message(alloc: Global, flow: &mut Flow, text: &str) -> Result<(), RowError> {
-    let (from_client, text) = match text.split_once(' ') {
-        Some(("client", text)) => (true, text),
-        Some(("server", text)) => (false, text),
-        _ => return Err(RowError::Bad),
+// `client TEXT` or `server TEXT`: whether it is the client's message, and what stands behind.
+fn sender_of(text: &str) -> Result<(bool, &str), RowError> {
+    match text.split_once(' ') {
+        Some(("client", text)) => Ok((true, text)),
+        Some(("server", text)) => Ok((false, text)),
+        _ => Err(RowError::Bad),
+    }
+}
+
+// `text TEXT` or `binary TEXT`: whether it is a text, and what stands behind.
+fn opcode_of(text: &str) -> Result<(bool, &str), RowError> {
+    match text.split_once(' ') {
+        Some(("text", text)) => Ok((true, text)),
+        Some(("binary", text)) => Ok((false, text)),
+        _ => Err(RowError::Bad),
+    }
+}
+
+// `client text 5 Hello`: a message that was relayed or discarded: its sender, its kind, when it was whole, and its payload.
+fn put_record(alloc: Global, flow: &mut Flow, text: &str, dropped: bool) -> Result<(), RowError> {
+    let (from_client, rest) = sender_of(text)?;
+    let (text, rest) = opcode_of(rest)?;
+    let (moment, payload) = match rest.split_once(' ') {
+        Some(halves) => halves,
+        None => (rest, ""),
     };
+    let moment = number_of(moment)?;
+    let payload = Bytes::new(unescape(alloc, payload)?)?;
+    flow.messages.push(WsRecord {
+        from_client,
+        text,
+        payload,
+        moment,
+        dropped,
+    })?;
+    Ok(())
+}
+
+fn put_message(alloc: Global, flow: &mut Flow, text: &str) -> Result<(), RowError> {
+    let (from_client, text) = sender_of(text)?;
     let payload = Bytes::new(unescape(alloc, text)?)?;
     let message = WsMessage {
         from_client,

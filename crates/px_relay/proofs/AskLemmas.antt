@@ -20,13 +20,13 @@ use Rattle.px_relay.specs.declared.peer.Peer.TheVariants.{Client, Server}
 use Rattle.px_relay.specs.declared.phase.Held.{Held}
 use Rattle.px_relay.specs.declared.phase.Phase.{Phase}
 use Rattle.px_relay.specs.declared.phase.Phase.TheVariants as phases
-use Rattle.px_relay.specs.Chain.{Course, at_rest, behind_course, closes_with, control_course, data_course, drain_server, drain_within, ends, fails, frame_course, front_course, goes_on, killed, look, looked, message_course, most_whole, pass, past, shut_client, shut_server, stops, turn, turn_by, unread}
+use Rattle.px_relay.specs.Chain.{Course, at_rest, behind_course, closes_with, control_course, data_course, drain_both, drain_server, drain_within, ends, fails, frame_course, front_course, goes_on, killed, look, looked, message_course, most_whole, pass, past, shut_client, shut_server, stops, terms_at, turn, turn_by, unread}
 use Rattle.px_relay.specs.Failures.{failure_payload}
 use Rattle.px_relay.specs.Messages.{Message, Verdict, drops, gathered, is_bad_text, kills, sends, verdict}
 use Rattle.px_relay.specs.Peers.{other}
 use Rattle.px_relay.specs.Sending.{Terms, close_both, counted, send_to}
 use Rattle.px_relay.specs.Sights.{Sight, come_with}
-use Rattle.px_relay.specs.Stages.{At, Stage, half_of, holding, next_in, over, relaying, with_half}
+use Rattle.px_relay.specs.Stages.{At, Stage, half_of, holding, next_in, over, relaying, rested, with_half}
 use Rattle.px_relay.specs.Stands.{Answers, BeginsWith, HearsEvent, IsIn, Leads, Somewhere, awaited_in, awaits, passed, sight_opened}
 
 -- ---- nothing is asked in what a turn owes
@@ -46,7 +46,7 @@ client_none : (closed : Bool) → NoAsks (shut_client closed)
 client_none true = refl
 client_none false = refl
 
-ends_none : (terms : Terms) (seen : Sight) (flow : Flow) → NoAsks (ends terms seen flow)
+pub ends_none : (terms : Terms) (seen : Sight) (flow : Flow) → NoAsks (ends terms seen flow)
 ends_none terms seen flow =
     both_none (shut_server terms.server seen.shut) (shut_client seen.closed) (server_none terms.server seen.shut) (client_none seen.closed)
 
@@ -101,7 +101,7 @@ drain_none terms seen peer (suc most) onward out at =
     (λ next. drain_none terms seen peer most onward out next) out
 
 rest_by : (terms : Terms) (seen : Sight) (at : At) (b : Bool) →
-    let turned : Turn Stage Command = if b then record { owed = ends terms seen terms.flow; stage = over } else record { owed = []; stage = relaying at } in
+    let turned : Turn Stage Command = if b then record { owed = ends terms seen terms.flow; stage = over } else record { owed = []; stage = relaying (rested at) } in
     NoAsks turned.owed
 rest_by terms seen at true = ends_none terms seen terms.flow
 rest_by terms seen at false = refl
@@ -112,8 +112,11 @@ rest_none terms seen at = rest_by terms seen at (seen.closed || seen.shut)
 server_side_none : (terms : Terms) (seen : Sight) (at : At) → NoAsks (drain_server terms seen at).owed
 server_side_none terms seen at = drain_none terms seen Server (suc (length (unread Server seen at))) (at_rest terms seen) (rest_none terms seen) at
 
+both_sides_none : (terms : Terms) (seen : Sight) (at : At) → NoAsks (drain_both terms seen at).owed
+both_sides_none terms seen at = drain_none terms seen Client (suc (length (unread Client seen at))) (drain_server terms seen) (server_side_none terms seen) at
+
 pub pass_none : (terms : Terms) (stage : Stage) (seen : Sight) → NoAsks (pass terms stage seen).owed
-pass_none terms (relaying at) seen = drain_none terms seen Client (suc (length (unread Client seen at))) (drain_server terms seen) (server_side_none terms seen) at
+pass_none terms (relaying at) seen = both_sides_none (terms_at terms at) seen at
 pass_none terms (holding from message at) seen = refl
 pass_none terms over seen = refl
 
@@ -121,7 +124,7 @@ verdict_none : (terms : Terms) (from : Peer) (message : Message) (at : At) (seen
     NoAsks (turn_by terms from message at seen said moment).owed
 verdict_none terms from message at seen (sends payload) moment = refl
 verdict_none terms from message at seen drops moment = refl
-verdict_none terms from message at seen kills moment = ends_none terms seen (killed terms.flow moment)
+verdict_none terms from message at seen kills moment = ends_none terms seen (killed (terms_at terms at).flow moment)
 
 pub turn_none : (terms : Terms) (from : Peer) (message : Message) (at : At) (seen : Sight) (reply : Reply) (moment : ℕ) →
     NoAsks (passed terms seen (turn terms (holding from message at) seen reply moment)).owed
@@ -166,33 +169,34 @@ holding_at terms (relaying at) seen state held is phase =
 holding_at terms (holding from message at) seen state held is phase = (from, message, at, is)
 holding_at terms over seen state held is phase = absurd (let no : phases.Over ≡ phases.Holding held = sym is ∙ phase in cc)
 
-pub begin_asks : (shut : Bool) (before after : WsLayer) (out longer : List Command) → Somewhere before → before.phase ≡ phases.Relaying →
-    BeginsWith shut before after out longer → AsksOnly (awaits after) out longer
-begin_asks shut before after out longer (terms, stage, seen, is) phase begins =
+pub begin_asks : (moment : ℕ) (shut : Bool) (before after : WsLayer) (out longer : List Command) → Somewhere before → before.phase ≡ phases.Relaying →
+    BeginsWith moment shut before after out longer → AsksOnly (awaits after) out longer
+begin_asks moment shut before after out longer (terms, stage, seen, is) phase begins =
     let there = relaying_at terms stage seen before is phase in
+    let next : At = record there.0 { since = Some moment } in
     let now = sight_opened seen before.rests shut in
-    leads_asks terms (pass terms (relaying there.0) now) now after begins.more out longer begins.grown (begins.leads terms there.0 seen there.1)
-    (pass_none terms (relaying there.0) now)
+    leads_asks terms (pass terms (relaying next) now) now after begins.more out longer begins.grown (begins.leads terms there.0 seen seen.now there.1)
+    (pass_none terms (relaying next) now)
 
-event_by : (event : Event) (before after : WsLayer) (out longer : List Command) (phase : Phase) → before.phase ≡ phase → Somewhere before → awaits before ≡ None →
-    HearsEvent event before after out longer → AsksOnly (awaits after) out longer
-event_by event before after out longer phases.Relaying is (terms, stage, seen, there) free hears =
+event_by : (moment : ℕ) (event : Event) (before after : WsLayer) (out longer : List Command) (phase : Phase) → before.phase ≡ phase → Somewhere before → awaits before ≡ None →
+    HearsEvent moment event before after out longer → AsksOnly (awaits after) out longer
+event_by moment event before after out longer phases.Relaying is (terms, stage, seen, there) free hears =
     let at = relaying_at terms stage seen before there is in
-    let come = come_with terms.server (record { seen = seen; left = before.rests }) event in
+    let come = come_with terms.server (record { seen = seen; left = before.rests }) (record { moment = moment; value = event }) in
     leads_asks terms (pass terms (relaying at.0) come.seen) come.seen after hears.more out longer hears.grown (hears.leads terms at.0 seen at.1).0
     (pass_none terms (relaying at.0) come.seen)
-event_by event before after out longer (phases.Holding held) is (terms, stage, seen, there) free hears =
+event_by moment event before after out longer (phases.Holding held) is (terms, stage, seen, there) free hears =
     absurd (let no : Some _ ≡ None = ap (λ p. awaited_in before.flow p) (sym is) ∙ free in cc)
-event_by event before after out longer phases.Over is (terms, stage, seen, there) free hears =
+event_by moment event before after out longer phases.Over is (terms, stage, seen, there) free hears =
     let ended = hears.past_end is in (
       hears.more,
       hears.grown,
       ap (flat_map asks_in) ended.1 ∙ ap (λ p. option_to_list (awaited_in after.flow p)) (sym ended.0),
     )
 
-pub event_asks : (event : Event) (before after : WsLayer) (out longer : List Command) → Somewhere before → awaits before ≡ None →
-    HearsEvent event before after out longer → AsksOnly (awaits after) out longer
-event_asks event before after out longer somewhere free hears = event_by event before after out longer before.phase refl somewhere free hears
+pub event_asks : (moment : ℕ) (event : Event) (before after : WsLayer) (out longer : List Command) → Somewhere before → awaits before ≡ None →
+    HearsEvent moment event before after out longer → AsksOnly (awaits after) out longer
+event_asks moment event before after out longer somewhere free hears = event_by moment event before after out longer before.phase refl somewhere free hears
 
 pub answer_asks : (moment : ℕ) (reply : Reply) (held : Held) (before after : WsLayer) (out longer : List Command) → Somewhere before → before.phase ≡ phases.Holding held →
     Answers moment reply before after out longer → AsksOnly (awaits after) out longer
@@ -203,27 +207,28 @@ answer_asks moment reply held before after out longer (terms, stage, seen, is) p
 
 -- ---- and it stands somewhere again
 
-pub begin_somewhere : (shut : Bool) (before after : WsLayer) (out longer : List Command) → Somewhere before → before.phase ≡ phases.Relaying →
-    BeginsWith shut before after out longer → Somewhere after
-begin_somewhere shut before after out longer (terms, stage, seen, is) phase begins =
+pub begin_somewhere : (moment : ℕ) (shut : Bool) (before after : WsLayer) (out longer : List Command) → Somewhere before → before.phase ≡ phases.Relaying →
+    BeginsWith moment shut before after out longer → Somewhere after
+begin_somewhere moment shut before after out longer (terms, stage, seen, is) phase begins =
     let there = relaying_at terms stage seen before is phase in
-    let leads = begins.leads terms there.0 seen there.1 in
-    (terms, (pass terms (relaying there.0) (sight_opened seen before.rests shut)).stage, sight_opened seen before.rests shut, leads.is_in)
+    let next : At = record there.0 { since = Some moment } in
+    let leads = begins.leads terms there.0 seen seen.now there.1 in
+    (terms, (pass terms (relaying next) (sight_opened seen before.rests shut)).stage, sight_opened seen before.rests shut, leads.is_in)
 
-somewhere_by : (event : Event) (before after : WsLayer) (out longer : List Command) (phase : Phase) → before.phase ≡ phase → Somewhere before → awaits before ≡ None →
-    HearsEvent event before after out longer → Somewhere after
-somewhere_by event before after out longer phases.Relaying is (terms, stage, seen, there) free hears =
+somewhere_by : (moment : ℕ) (event : Event) (before after : WsLayer) (out longer : List Command) (phase : Phase) → before.phase ≡ phase → Somewhere before →
+    awaits before ≡ None → HearsEvent moment event before after out longer → Somewhere after
+somewhere_by moment event before after out longer phases.Relaying is (terms, stage, seen, there) free hears =
     let at = relaying_at terms stage seen before there is in
-    let come = come_with terms.server (record { seen = seen; left = before.rests }) event in
+    let come = come_with terms.server (record { seen = seen; left = before.rests }) (record { moment = moment; value = event }) in
     let leads = (hears.leads terms at.0 seen at.1).0 in
     (terms, (pass terms (relaying at.0) come.seen).stage, come.seen, leads.is_in)
-somewhere_by event before after out longer (phases.Holding held) is (terms, stage, seen, there) free hears =
+somewhere_by moment event before after out longer (phases.Holding held) is (terms, stage, seen, there) free hears =
     absurd (let none : Some _ ≡ None = ap (λ p. awaited_in before.flow p) (sym is) ∙ free in cc)
-somewhere_by event before after out longer phases.Over is (terms, stage, seen, there) free hears = (terms, over, seen, (hears.past_end is).0)
+somewhere_by moment event before after out longer phases.Over is (terms, stage, seen, there) free hears = (terms, over, seen, (hears.past_end is).0)
 
-pub event_somewhere : (event : Event) (before after : WsLayer) (out longer : List Command) → Somewhere before → awaits before ≡ None →
-    HearsEvent event before after out longer → Somewhere after
-event_somewhere event before after out longer somewhere free hears = somewhere_by event before after out longer before.phase refl somewhere free hears
+pub event_somewhere : (moment : ℕ) (event : Event) (before after : WsLayer) (out longer : List Command) → Somewhere before → awaits before ≡ None →
+    HearsEvent moment event before after out longer → Somewhere after
+event_somewhere moment event before after out longer somewhere free hears = somewhere_by moment event before after out longer before.phase refl somewhere free hears
 
 pub answer_somewhere : (moment : ℕ) (reply : Reply) (held : Held) (before after : WsLayer) (out longer : List Command) → Somewhere before → before.phase ≡ phases.Holding held →
     Answers moment reply before after out longer → Somewhere after

@@ -40,6 +40,7 @@ kept_made Server half terms sent seen before after is made =
 pub record KeepsOthers (from : Peer) (before after : WsLayer) : Type 0 where
   pub phase : after.phase ≡ before.phase
   pub messages : after.messages ≡ before.messages
+  pub moment : after.moment ≡ before.moment
   pub rests : after.rests ≡ before.rests
   pub pending : after.pending ≡ before.pending
   pub beside : half_in (other from) after ≡ half_in (other from) before
@@ -48,6 +49,7 @@ pub keeps_others : (from : Peer) (half : HalfState) (before after : WsLayer) →
 keeps_others Client half before after is = record {
   phase = ap (λ (s : WsLayer). s.phase) is;
   messages = ap (λ (s : WsLayer). s.messages) is;
+  moment = ap (λ (s : WsLayer). s.moment) is;
   rests = ap (λ (s : WsLayer). s.rests) is;
   pending = ap (λ (s : WsLayer). s.pending) is;
   beside = ap (λ (s : WsLayer). s.server) is;
@@ -55,6 +57,7 @@ keeps_others Client half before after is = record {
 keeps_others Server half before after is = record {
   phase = ap (λ (s : WsLayer). s.phase) is;
   messages = ap (λ (s : WsLayer). s.messages) is;
+  moment = ap (λ (s : WsLayer). s.moment) is;
   rests = ap (λ (s : WsLayer). s.rests) is;
   pending = ap (λ (s : WsLayer). s.pending) is;
   beside = ap (λ (s : WsLayer). s.client) is;
@@ -95,6 +98,8 @@ popped_from terms from at seen frame before after works pops =
         made = kept_made from (half_in from after) terms at.sent seen before after pops.rest works.made;
         phase = others.phase ∙ works.phase;
         messages = others.messages ∙ works.messages;
+        records = works.records;
+        moment = others.moment ∙ works.moment;
         end = queued.end;
         frames = first.later;
         ended = ends_behind from half at.messages queued.end (half_in from before) (half_in from after) frame pops.pops.reader pops.pops.fault pops.pops.queue queued.ended;
@@ -124,6 +129,8 @@ popped_none terms from at seen before after works pops =
       made = kept_made from (half_in from after) terms at.sent seen before after pops.rest works.made;
       phase = others.phase ∙ works.phase;
       messages = others.messages ∙ works.messages;
+      records = works.records;
+      moment = others.moment ∙ works.moment;
       queued = record {
         end = queued.end;
         frames = subst (λ (l : List Frame). IsFrames (is_client from) (standing half at.messages) (drop half.used (bytes_of from seen)) l queued.end) (sym same) queued.frames;
@@ -308,17 +315,22 @@ drains_stops from initial before mid after frame first out longer so pops works 
 drained_at : (terms : Terms) (from : Peer) (at : At) (seen : Sight) (state : WsLayer) → IsWorking terms from at seen state →
     IsEmptied from (half_of from at) at.messages (bytes_of from seen) (half_in from state) → IsDrained terms from (looked from seen at) seen state
 drained_at terms Client at seen state works empty = record {
-  made = record { flow = works.made.flow; server = works.made.server; keys = works.made.keys; closed = works.made.closed; shut = works.made.shut };
-  phase = works.phase;
-  messages = works.messages;
-  client = empty.unheard;
-  server = works.beside;
+  between = record {
+    made = record { flow = works.made.flow; server = works.made.server; keys = works.made.keys; closed = works.made.closed; shut = works.made.shut };
+    phase = works.phase;
+    messages = works.messages;
+    records = works.records;
+    client = empty.unheard;
+    server = works.beside;
+  };
+  moment = works.moment;
 }
 drained_at terms Server at seen state works empty = record {
   between = record {
     made = record { flow = works.made.flow; server = works.made.server; keys = works.made.keys; closed = works.made.closed; shut = works.made.shut };
     phase = works.phase;
     messages = works.messages;
+    records = works.records;
     client = works.beside.0;
     server = subst (λ (p : List ℕ). IsUnheard Server (looked Server seen at).server seen.server p state.server) (sym works.beside.1) empty.unheard;
   };

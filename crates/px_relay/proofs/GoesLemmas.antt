@@ -1,25 +1,29 @@
 -- Both sides, one behind the other, and where they rest.
-use Rattle.std.proofs.Common.{◌≡◌, ◌∙◌, ℕ, suc, ◌-◌, ◌||◌, ◌==◌, Bool, true, false, List, [], ◌∷◌, ◌++◌, append_assoc, append-nil, length, refl, sym, ap, ap₂, subst, arith}
+use Rattle.std.proofs.Common.{◌≡◌, ◌∙◌, ℕ, suc, ◌-◌, ◌||◌, ◌==◌, if◌then◌else◌, Bool, true, false, List, [], ◌∷◌, ◌++◌, append_assoc, append-nil, length, refl, sym, ap, ap₂, subst, arith}
 use Rattle.std.proofs.lemmas.Bool.{eqb-true}
 use Rattle.px_event.specs.declared.command.Command.{Command}
 use Rattle.px_event.specs.Chain.{Turn}
+use Rattle.px_message.specs.declared.messages.WsRecord.{WsRecord}
 use Rattle.px_frame.specs.Frames.{front}
 use Rattle.px_frame.specs.Head.{has_length}
 use Rattle.px_relay.specs.declared.half.Half.{Half as HalfState}
 use Rattle.px_relay.specs.declared.layer.WsLayer.{WsLayer}
 use Rattle.px_relay.specs.declared.peer.Peer.{Peer}
 use Rattle.px_relay.specs.declared.peer.Peer.TheVariants.{Client, Server}
-use Rattle.px_relay.specs.Calls.{Hears}
-use Rattle.px_relay.specs.Chain.{at_rest, drain_both, drain_server, pass, unread}
+use Rattle.px_relay.specs.declared.phase.Phase.TheVariants as phases
+use Rattle.px_relay.specs.Calls.{Hears, ends_of}
+use Rattle.px_relay.specs.Chain.{at_rest, drain_both, drain_server, ends, terms_at, unread}
 use Rattle.px_relay.specs.Laws.{IsIdle, both_idle, drain_idle}
 use Rattle.px_relay.specs.Messages.{payload_so_far}
 use Rattle.px_relay.specs.Peers.{is_client}
-use Rattle.px_relay.specs.Sending.{Terms}
+use Rattle.px_relay.specs.Sending.{Terms, with_records}
 use Rattle.px_relay.specs.Sights.{Sight, bytes_of}
-use Rattle.px_relay.specs.Stages.{At, Stage, half_of, most_messages, relaying}
-use Rattle.px_relay.specs.Stands.{ComesToRest, Drains, GoesOn, HearsPending, IsUnheard, IsWorking, Leads, drain_from}
-use Rattle.px_relay.proofs.DrainLemmas.{leads_onward}
+use Rattle.px_relay.specs.Stages.{At, Stage, half_of, holding, most_messages, over, relaying, rested}
+use Rattle.px_relay.specs.Stands.{ComesToRest, Drains, GoesOn, HearsPending, IsReady, IsRelaying, IsUnheard, Leads}
+use Rattle.px_relay.proofs.DrainLemmas.{leads_onward, over_leads}
 use Rattle.px_relay.proofs.HalfLemmas.{hears_queued, unheard_queued}
+use Rattle.px_relay.proofs.SendLemmas.{ends_same}
+use Rattle.px_relay.proofs.WorkLemmas.{same_terms}
 
 pub joined : (first second third : List Command) (one two : List Command) → second ≡ first ++ one → third ≡ second ++ two → third ≡ first ++ (one ++ two)
 joined first second third one two p q = q ∙ (ap (λ (l : List Command). l ++ two) p ∙ append_assoc first one two)
@@ -68,10 +72,12 @@ client_stops before after out longer drains = record {
 
 pub pending_none : (state : WsLayer) → state.pending ≡ [] → HearsPending state state
 pending_none state none = record {
-  leads = λ terms at seen is. record {
+  leads = λ terms at seen halfway. let is = halfway.between in record {
     made = is.made;
     phase = is.phase;
     messages = is.messages;
+    records = is.records;
+    moment = halfway.moment;
     queued = unheard_queued Server at.server at.messages seen.server state.server
         (subst (λ (p : List ℕ). IsUnheard Server at.server seen.server p state.server) none is.server);
     beside = (is.client, none);
@@ -88,10 +94,12 @@ pending_empty state none is empty = pending_none state (empty_bytes state.pendin
 pub pending_heard : (before : WsLayer) (heard : HalfState) → Hears before.server before.pending (most_messages - before.messages) heard →
     HearsPending before (record before { pending = []; server = heard })
 pending_heard before heard hears = record {
-  leads = λ terms at seen is. record {
+  leads = λ terms at seen halfway. let is = halfway.between in record {
     made = record { flow = is.made.flow; server = is.made.server; keys = is.made.keys; closed = is.made.closed; shut = is.made.shut };
     phase = is.phase;
     messages = is.messages;
+    records = is.records;
+    moment = halfway.moment;
     queued = hears_queued Server at.server at.messages seen.server before.pending before.server heard is.server
         (subst (λ n. Hears before.server before.pending (most_messages - n) heard) is.messages hears);
     beside = (is.client, refl);
@@ -119,16 +127,70 @@ pub client_first : (terms : Terms) (at : At) (seen : Sight) (state : HalfState) 
 client_first terms at seen state is =
     drain_idle terms seen Client (length (unread Client seen at)) (drain_server terms seen) at (unheard_idle Client at seen state is)
 
-pub relaying_passes : (terms : Terms) (from : Peer) (at : At) (seen : Sight) (state : WsLayer) → IsWorking terms from at seen state →
-    pass terms (relaying at) seen ≡ drain_from from terms seen at
-relaying_passes terms Client at seen state works = refl
-relaying_passes terms Server at seen state works = client_first terms at seen state.client works.beside.0
-
 pub still_relaying : (terms : Terms) (at : At) (seen : Sight) → seen.closed ≡ false → seen.shut ≡ false →
-    at_rest terms seen at ≡ record { owed = []; stage = relaying at }
+    at_rest terms seen at ≡ record { owed = []; stage = relaying (rested at) }
 still_relaying terms at seen closed shut = rw (closed, shut) refl
 
 pub both_unheard : (terms : Terms) (at : At) (seen : Sight) (state : WsLayer) → IsUnheard Client at.client seen.client [] state.client →
-    IsUnheard Server at.server seen.server [] state.server → pass terms (relaying at) seen ≡ at_rest terms seen at
+    IsUnheard Server at.server seen.server [] state.server → drain_both terms seen at ≡ at_rest terms seen at
 both_unheard terms at seen state client server =
     both_idle terms seen at (unheard_idle Client at seen state.client client) (unheard_idle Server at seen state.server server)
+
+-- ---- what is found at a place does not hang on what the flow had before
+
+leads_by : (terms : Terms) (records : List WsRecord) (owed : List Command) (stage : Stage) (seen : Sight) (after : WsLayer) (more : List Command) →
+    Leads (with_records terms records) (record { owed = owed; stage = stage }) seen after more → Leads terms (record { owed = owed; stage = stage }) seen after more
+leads_by terms records owed (relaying at) seen after more leads = record { gives = leads.gives; is_in = leads.is_in }
+leads_by terms records owed (holding from message at) seen after more leads = record { gives = leads.gives; is_in = leads.is_in }
+leads_by terms records owed over seen after more leads = record { gives = leads.gives; is_in = leads.is_in }
+
+pub leads_there : (terms : Terms) (records : List WsRecord) (turn : Turn Stage Command) (seen : Sight) (after : WsLayer) (more : List Command) →
+    Leads (with_records terms records) turn seen after more → Leads terms turn seen after more
+leads_there terms records turn seen after more leads = leads_by terms records turn.owed turn.stage seen after more leads
+
+-- ---- where no frame waits
+
+-- it is there once all that stands there was worked off
+pub rested_there : (terms : Terms) (at : At) (seen : Sight) (state : WsLayer) → IsReady terms at seen state → seen.closed ≡ false → seen.shut ≡ false →
+    IsRelaying (terms_at terms at) (rested at) seen state
+rested_there terms at seen state ready open_still unshut =
+    let is = ready.between in
+    let by : IsRelaying terms (rested at) seen state = record {
+      ready = record {
+        between = record { made = is.made; phase = is.phase; messages = is.messages; records = is.records; client = is.client; server = is.server };
+        pending = ready.pending;
+      };
+      open_still = open_still;
+      unshut = unshut;
+      rests = refl;
+    } in
+    subst (λ (t : Terms). IsRelaying t (rested at) seen state) (sym (same_terms terms at.records is.records)) by
+
+pub rests_on : (state : WsLayer) (out : List Command) → state.closed ≡ false → state.shut ≡ false → ComesToRest state state out out
+rests_on state out closed shut = record {
+  more = [];
+  grown = sym (append-nil out);
+  leads = λ terms at seen ready.
+      let made = ready.between.made in
+      let open_still = sym made.closed ∙ closed in
+      let unshut = sym made.shut ∙ shut in
+      subst (λ (t : Turn Stage Command). Leads terms t seen state []) (sym (still_relaying terms at seen open_still unshut))
+      (record { gives = refl; is_in = rested_there terms at seen state ready open_still unshut });
+}
+
+ends_by : (terms : Terms) (at : At) (seen : Sight) (b : Bool) → b ≡ true →
+    (let turn : Turn Stage Command = if b then record { owed = ends terms seen terms.flow; stage = over } else record { owed = []; stage = relaying (rested at) } in turn)
+    ≡ record { owed = ends terms seen terms.flow; stage = over }
+ends_by terms at seen b is = ap (λ c. if c then record { owed = ends terms seen terms.flow; stage = over } else record { owed = []; stage = relaying (rested at) }) is
+
+pub rests_over : (before after : WsLayer) (out longer : List Command) → (before.closed || before.shut) ≡ true → after.phase ≡ phases.Over →
+    longer ≡ out ++ ends_of before → ComesToRest before after out longer
+rests_over before after out longer closed over_there grown = record {
+  more = ends_of before;
+  grown = grown;
+  leads = λ terms at seen ready.
+      let made = ready.between.made in
+      let ended = ends_by terms at seen (seen.closed || seen.shut) (ap₂ (λ (a b : Bool). a || b) (sym made.closed) (sym made.shut) ∙ closed) in
+      over_leads terms (at_rest terms seen at) seen after (ends_of before)
+      (ends_same terms at.sent seen before made ∙ sym (ap (λ (t : Turn Stage Command). t.owed) ended)) (ap (λ (t : Turn Stage Command). t.stage) ended) over_there;
+}

@@ -6,6 +6,8 @@ pub mod HalfLemmas
 pub mod HearLemmas
 pub mod KeepLemmas
 pub mod OrderLemmas
+pub mod OwedLemmas
+pub mod RecordLemmas
 pub mod ReplyLemmas
 pub mod SendLemmas
 pub mod StandLemmas

@@ -1,6 +1,7 @@
 -- The frames of a side, by the chain alone: those that complete nothing are passed, and the last of a message stops it.
 use Rattle.std.proofs.Common.{◌≡◌, ◌∙◌, ℕ, zero, suc, ◌+◌, ◌-◌, ◌<◌, ◌==◌, nat_lt, if◌then◌else◌, Bool, true, false, List, [], ◌∷◌, ◌++◌, append-nil, length, drop, Option, Some, None, refl, sym, ap, ap₂, subst, arith}
 use Rattle.std.proofs.lemmas.Bool.{lt-ltb}
+use Rattle.px_message.specs.declared.messages.WsRecord.{WsRecord}
 use Rattle.px_event.specs.declared.command.Command.{Command}
 use Rattle.px_event.specs.Chain.{Turn}
 use Rattle.px_frame.specs.declared.fault.FrameFault.TheVariants.{TooBig}
@@ -118,10 +119,11 @@ there_later from seen more at next begun sent messages frame frames end place th
     (subst (λ (b : List ℕ). IsFrames (is_client from) (behind (standing (half_of from at) at.messages) frame) b frames end) (sym rest) is)
 
 -- and behind the answer to a message, whatever was sent for it
-later_stands : (from : Peer) (seen : Sight) (at : At) (sent : ℕ) (frames : List Frame) (end : Ending) → StandThere from seen at (at.messages + 1) frames end →
-    StandThere from seen (record at { messages = at.messages + 1; sent = sent }) (at.messages + 1) frames end
-later_stands Client seen at sent frames end is = is
-later_stands Server seen at sent frames end is = is
+later_stands : (from : Peer) (seen : Sight) (at : At) (records : List WsRecord) (sent : ℕ) (since : Option ℕ) (frames : List Frame) (end : Ending) →
+    StandThere from seen at (at.messages + 1) frames end →
+    StandThere from seen (record at { messages = at.messages + 1; records = records; sent = sent; since = since }) (at.messages + 1) frames end
+later_stands Client seen at records sent since frames end is = is
+later_stands Server seen at records sent since frames end is = is
 
 -- ---- which course a frame takes
 
@@ -305,7 +307,7 @@ module _ (terms : Terms) (seen : Sight) (from : Peer) (onward : At → Turn Stag
         stopped = a.stopped;
         asks = p.is ∙ (ap (λ (t : Turn Stage Command). onward_with said t) a.is
             ∙ ap₂ (λ (l : List Command) (b : Option Message). record { owed = l; stage = holding from (gathered b last) a.stopped }) (append-nil said) p.begun);
-        answered = λ sent.
-            let next : At = record a.stopped { messages = a.stopped.messages + 1; sent = sent } in
-            passes_them next behind later end (later_stands from seen a.stopped sent (behind ++ later) end a.waits) still;
+        answered = λ records sent since.
+            let next : At = record a.stopped { messages = a.stopped.messages + 1; records = records; sent = sent; since = since } in
+            passes_them next behind later end (later_stands from seen a.stopped records sent since (behind ++ later) end a.waits) still;
       }

@@ -26,10 +26,10 @@ use Rattle.px_relay.specs.Stands.{Answers, HearsEvent, IsAt, IsBeside, IsIn, IsQ
 
 -- ---- what is seen over one event more
 
-come_append : (server : ℕ) (come : Come) (prefix : List (Timed Event)) (e : Timed Event) →
-    come_over server come (prefix ++ e ∷ []) ≡ come_with server (come_over server come prefix) e.value
+pub come_append : (server : ℕ) (come : Come) (prefix : List (Timed Event)) (e : Timed Event) →
+    come_over server come (prefix ++ e ∷ []) ≡ come_with server (come_over server come prefix) e
 come_append server come [] e = refl
-come_append server come (f ∷ prefix) e = come_append server (come_with server come f.value) prefix e
+come_append server come (f ∷ prefix) e = come_append server (come_with server come f) prefix e
 
 -- ---- an event
 
@@ -38,15 +38,15 @@ keeps_rests made after (relaying at) prefix is = is
 keeps_rests made after (holding from message at) prefix is = is
 keeps_rests made after over prefix is = tt
 
-event_takes : (made before after : WsLayer) (moment : ℕ) (event : Event) (out longer : List Command) (hears : HearsEvent event before after out longer) →
+event_takes : (made before after : WsLayer) (moment : ℕ) (event : Event) (out longer : List Command) (hears : HearsEvent moment event before after out longer) →
     awaits before ≡ None → (stage : Stage) (prefix : List (Timed Event)) → IsAt made before stage prefix →
     Takes (chain_of made) (IsAt made) after moment event hears.more stage prefix
 event_takes made before after moment event out longer hears free (relaying at) prefix there =
     let terms = terms_of made in
     let e : Timed Event = record { moment = moment; value = event } in
     let come : Come = record { seen = (come_of made prefix).seen; left = before.rests } in
-    let now : come_with terms.server come event ≡ come_of made (prefix ++ e ∷ []) =
-    ap (λ r. come_with terms.server (record { seen = (come_of made prefix).seen; left = r }) event) there.rests
+    let now : come_with terms.server come e ≡ come_of made (prefix ++ e ∷ []) =
+    ap (λ r. come_with terms.server (record { seen = (come_of made prefix).seen; left = r }) e) there.rests
     ∙ sym (come_append terms.server (first_come made.rests) prefix e) in
     let did = hears.leads terms at (come_of made prefix).seen there.is_in in
     let leads : Leads terms (pass terms (relaying at) (come_of made (prefix ++ e ∷ [])).seen) (come_of made (prefix ++ e ∷ [])).seen after hears.more =
@@ -64,7 +64,7 @@ event_takes made before after moment event out longer hears free over prefix the
     let ended = hears.past_end there.is_in in
     past_end [] refl (record { is_in = ended.0; rests = tt }) (λ view. ap (seen_of view) ended.1)
 
-pub event_goes : (before after : WsLayer) (moment : ℕ) (event : Event) (out longer : List Command) → awaits before ≡ None → HearsEvent event before after out longer →
+pub event_goes : (before after : WsLayer) (moment : ℕ) (event : Event) (out longer : List Command) → awaits before ≡ None → HearsEvent moment event before after out longer →
     Goes WsStands before after (Took moment event) out longer
 event_goes before after moment event out longer free hears =
     take_goes chain_of (λ made. settles (terms_of made) (seen_over (terms_of made).server made.rests)) (λ made. relaying first_at) (λ made. IsAt made)

@@ -1,10 +1,11 @@
 -- One frame: what the fields do for it is what the chain makes of it.
-use Rattle.std.proofs.Common.{◌≡◌, ◌∙◌, ℕ, ◌+◌, ◌-◌, ◌==◌, nat_lt, if◌then◌else◌, Bool, true, false, List, [], ◌∷◌, length, drop, Option, Some, None, refl, sym, ap, ap₂, subst, arith, length-append}
+use Rattle.std.proofs.Common.{◌≡◌, ◌∙◌, ℕ, ◌+◌, ◌-◌, ◌==◌, nat_lt, unwrap_or, if◌then◌else◌, Bool, true, false, List, [], ◌∷◌, length, drop, Option, Some, None, refl, sym, ap, ap₂, subst, arith, length-append}
 use Rattle.rand_chacha.specs.ChaCha.{ChaCha}
 use Rattle.px_event.specs.declared.ask.Ask.TheVariants as asks
 use Rattle.px_event.specs.declared.ask.Hook.TheVariants as hooks
 use Rattle.px_event.specs.declared.command.Command.TheVariants as commands
 use Rattle.px_message.specs.declared.flow.Flow.{Flow}
+use Rattle.px_message.specs.declared.messages.WsRecord.{WsRecord}
 use Rattle.px_frame.specs.declared.fault.FrameFault.TheVariants.{TooBig}
 use Rattle.px_frame.specs.declared.frame.Frame.{Frame}
 use Rattle.px_frame.specs.declared.frame.Standing.{Standing}
@@ -19,15 +20,15 @@ use Rattle.px_relay.specs.declared.peer.Peer.TheVariants.{Client, Server}
 use Rattle.px_relay.specs.declared.phase.Phase.TheVariants as phases
 use Rattle.px_relay.specs.declared.sender.Sender.{Sender}
 use Rattle.px_relay.specs.Calls.{Did, asked_of, asking, close_of, did_control, did_data, did_frame, did_message, ended, failed_of, goes, half_in, holds, keys_behind, sent_by, with_begun, with_keys}
-use Rattle.px_relay.specs.Chain.{Course, closes_with, control_course, data_course, fails, frame_course, goes_on, message_course, most_whole, past, stops, with_message}
+use Rattle.px_relay.specs.Chain.{Course, closes_with, control_course, data_course, fails, frame_course, goes_on, message_course, most_whole, past, stops, terms_at, with_message}
 use Rattle.px_relay.specs.Failures.{failure_payload}
 use Rattle.px_relay.specs.Messages.{Message, gathered, is_bad_text, payload_so_far}
 use Rattle.px_relay.specs.Peers.{is_client, other}
-use Rattle.px_relay.specs.Sending.{Terms, counted, send_to}
+use Rattle.px_relay.specs.Sending.{Terms, counted, send_to, with_records}
 use Rattle.px_relay.specs.Sights.{Sight, bytes_of}
-use Rattle.px_relay.specs.Stages.{At, Half, half_of, holding, most_messages, over, standing, with_half}
+use Rattle.px_relay.specs.Stages.{At, Half, half_of, holding, moment_at, most_messages, over, standing, with_half}
 use Rattle.px_relay.specs.Stands.{EndsAs, IsBeside, IsHolding, IsMade, IsQueued, IsUnheard, IsWorking, Leads, keys_at}
-use Rattle.px_relay.specs.Laws.{half_beside, half_messages, half_sent, half_there}
+use Rattle.px_relay.specs.Laws.{half_beside, half_messages, half_records, half_sent, half_since, half_there}
 use Rattle.px_relay.proofs.SendLemmas.{close_same, keys_step, sent_same}
 
 -- ---- halves of a state
@@ -47,8 +48,17 @@ begun_made Server begun terms sent seen state made = record { flow = made.flow; 
 
 begun_rest : (from : Peer) (begun : Option Message) (state : WsLayer) → ((with_begun from begun state).phase ≡ state.phase)
     × ((with_begun from begun state).messages ≡ state.messages) × ((with_begun from begun state).pending ≡ state.pending)
-begun_rest Client begun state = (refl, refl, refl)
-begun_rest Server begun state = (refl, refl, refl)
+    × ((with_begun from begun state).moment ≡ state.moment)
+begun_rest Client begun state = (refl, refl, refl, refl)
+begun_rest Server begun state = (refl, refl, refl, refl)
+
+-- a flow that has these records
+pub same_terms : (terms : Terms) (records : List WsRecord) → terms.flow.messages ≡ records → with_records terms records ≡ terms
+same_terms terms records is = ap (λ (r : List WsRecord). with_records terms r) (sym is)
+
+-- the moment of a place, where another one stands since the same
+pub same_moment : (one two : At) (seen : Sight) → two.since ≡ one.since → moment_at two seen ≡ moment_at one seen
+same_moment one two seen is = ap (λ (s : Option ℕ). unwrap_or s seen.now) is
 
 -- the other side does not see what is done for this one
 pub beside_same : (from : Peer) (one two : At) (seen now : Sight) (before after : WsLayer) → half_of (other from) two ≡ half_of (other from) one →
@@ -80,6 +90,8 @@ pub record IsPopped (terms : Terms) (from : Peer) (at : At) (seen : Sight) (fram
   pub made : IsMade terms at.sent seen state
   pub phase : state.phase ≡ phases.Relaying
   pub messages : state.messages ≡ at.messages
+  pub records : terms.flow.messages ≡ at.records
+  pub moment : state.moment ≡ moment_at at seen
   pub end : Ending
   pub frames : IsFrames (is_client from) (behind (standing (half_of from at) at.messages) frame) more (half_in from state).queue.items end
   pub ended : EndsBehind (is_client from) (behind (standing (half_of from at) at.messages) frame) end (half_in from state)
@@ -190,6 +202,12 @@ module _ (terms : Terms) (from : Peer) (at : At) (seen : Sight) (frame : Frame) 
   other_is : half_of (other from) behind_it ≡ half_of (other from) at
   other_is = half_beside from behind_half at
 
+  records_are : terms.flow.messages ≡ behind_it.records
+  records_are = popped.records ∙ sym (half_records from behind_half at)
+
+  since_is : behind_it.since ≡ at.since
+  since_is = half_since from behind_half at
+
   -- to the next place
   queued_at : (next : At) (two : WsLayer) (half : Half) (messages : ℕ) → half_of from next ≡ half → half.used ≡ behind_half.used → half.judged ≡ false →
       standing half messages ≡ behind (standing (half_of from at) at.messages) frame →
@@ -228,6 +246,8 @@ module _ (terms : Terms) (from : Peer) (at : At) (seen : Sight) (frame : Frame) 
         made = sent_made;
         phase = popped.phase;
         messages = popped.messages ∙ sym messages_are;
+        records = records_are;
+        moment = popped.moment ∙ sym (same_moment at next_sent seen since_is);
         queued = queued_at next_sent sent_on behind_half next_sent.messages (sent_half from behind_it next_sent.sent ∙ half_is) refl refl
             (ap (λ n. standing behind_half n) messages_are ∙ control_stands is)
             (ap (λ (h : HalfState). h.reader) side) (ap (λ (h : HalfState). h.fault) side) (ap (λ (h : HalfState). h.queue.items) side)
@@ -282,6 +302,13 @@ module _ (terms : Terms) (from : Peer) (at : At) (seen : Sight) (frame : Frame) 
   with_messages_are : (begun : Option Message) → (with_it begun).messages ≡ at.messages
   with_messages_are begun = half_messages from (record (half_of from behind_it) { begun = begun }) behind_it ∙ messages_are
 
+  with_records_are : (begun : Option Message) → terms.flow.messages ≡ (with_it begun).records
+  with_records_are begun = records_are ∙ sym (half_records from (record (half_of from behind_it) { begun = begun }) behind_it)
+
+  with_moment_is : (begun : Option Message) → state.moment ≡ moment_at (with_it begun) seen
+  with_moment_is begun =
+      popped.moment ∙ sym (same_moment at (with_it begun) seen (half_since from (record (half_of from behind_it) { begun = begun }) behind_it ∙ since_is))
+
   made_with : (begun : Option Message) (there : At) → there.sent ≡ at.sent → IsMade terms there.sent seen (with_begun from begun state)
   made_with begun there same =
       subst (λ n. IsMade terms n seen (with_begun from begun state)) (sym same) (begun_made from begun terms at.sent seen state popped.made)
@@ -305,6 +332,8 @@ module _ (terms : Terms) (from : Peer) (at : At) (seen : Sight) (frame : Frame) 
         made = made_with (Some message_now) next (with_sent_is (Some message_there));
         phase = others.0 ∙ popped.phase;
         messages = others.1 ∙ (popped.messages ∙ sym (with_messages_are (Some message_there)));
+        records = with_records_are (Some message_there);
+        moment = others.3 ∙ with_moment_is (Some message_there);
         queued = queued_at next two (record behind_half { begun = Some message_there }) next.messages (with_half_is (Some message_there)) refl refl
             (ap (λ n. standing (record behind_half { begun = Some message_there }) n) (with_messages_are (Some message_there)) ∙ fragment_stands plain not_last)
             (ap (λ (h : HalfState). h.reader) side) (ap (λ (h : HalfState). h.fault) side) (ap (λ (h : HalfState). h.queue.items) side)
@@ -334,7 +363,8 @@ module _ (terms : Terms) (from : Peer) (at : At) (seen : Sight) (frame : Frame) 
       let messages : without_it.messages ≡ ended_message.messages = others.1 ∙ (popped.messages ∙ sym (with_messages_are None)) in
       record {
         made = record { flow = made.flow; server = made.server; keys = made.keys; closed = made.closed; shut = made.shut };
-        phase = ap₂ (λ (n : ℕ) (m : Message). phases.Holding (record { from = from; number = n; message = m })) messages message_is;
+        phase = ap₂ (λ (n : ℕ) (m : Message). phases.Holding (record { from = from; number = n; moment = without_it.moment; message = m })) messages message_is
+            ∙ ap (λ (n : ℕ). phases.Holding (record { from = from; number = ended_message.messages; moment = n; message = message_there })) (others.3 ∙ with_moment_is None);
         messages = ap (λ n. n + 1) messages;
         queued = queued_at ended_message two (record behind_half { begun = None }) (ended_message.messages + 1) (with_half_is None) refl refl
             (ap (λ n. standing (record behind_half { begun = None }) (n + 1)) (with_messages_are None) ∙ last_stands plain last)
@@ -350,10 +380,12 @@ module _ (terms : Terms) (from : Peer) (at : At) (seen : Sight) (frame : Frame) 
       let others = begun_rest from None state in
       let made = begun_made from None terms at.sent seen state popped.made in
       let messages : without_it.messages ≡ ended_message.messages = others.1 ∙ (popped.messages ∙ sym (with_messages_are None)) in
+      let same : terms_at terms ended_message ≡ terms = same_terms terms ended_message.records (with_records_are None) in
       record {
         gives = ap₂ (λ (f : Flow) (n : ℕ). commands.Ask (asks.Hook f.id.index (hooks.WsMessage n)) (with_message f from message_now) ∷ []) made.flow messages
-            ∙ ap (λ (m : Message). commands.Ask (asks.Hook terms.flow.id.index (hooks.WsMessage ended_message.messages)) (with_message terms.flow from m) ∷ []) message_is;
-        is_in = holds_it plain last;
+            ∙ (ap (λ (m : Message). commands.Ask (asks.Hook terms.flow.id.index (hooks.WsMessage ended_message.messages)) (with_message terms.flow from m) ∷ []) message_is
+            ∙ ap (λ (t : Terms). commands.Ask (asks.Hook terms.flow.id.index (hooks.WsMessage ended_message.messages)) (with_message t.flow from message_there) ∷ []) (sym same));
+        is_in = subst (λ (t : Terms). IsHolding t from message_there ended_message seen (asking from message_now without_it)) (sym same) (holds_it plain last);
       }
 
   failed_follows : (failure : Failure) →

@@ -3,6 +3,7 @@ use Rattle.std.specs.Prelude.{◌≡◌, ℕ, ◌+◌, Bool, true, false, ◌==�
 use Rattle.std.specs.Int.{to_le_bytes, w32}
 use Rattle.rand_chacha.specs.ChaCha.{ChaCha, next_word}
 use Rattle.px_message.specs.declared.flow.Flow.{Flow}
+use Rattle.px_message.specs.declared.messages.WsRecord.{WsRecord}
 use Rattle.px_event.specs.declared.ask.Ask.{Ask}
 use Rattle.px_event.specs.declared.ask.Ask.TheVariants as asks
 use Rattle.px_event.specs.declared.ask.Hook.TheVariants as hooks
@@ -23,6 +24,7 @@ use Rattle.px_relay.specs.declared.half.Half.{Half}
 use Rattle.px_relay.specs.declared.layer.WsLayer.{WsLayer}
 use Rattle.px_relay.specs.declared.peer.Peer.{Peer}
 use Rattle.px_relay.specs.declared.peer.Peer.TheVariants.{Client, Server}
+use Rattle.px_relay.specs.declared.phase.Held.{Held}
 use Rattle.px_relay.specs.declared.phase.Phase.TheVariants as phases
 use Rattle.px_relay.specs.declared.sender.Sender.{Sender}
 use Rattle.px_relay.specs.Chain.{most_whole, shut_client, shut_server, with_message}
@@ -143,7 +145,7 @@ ask_of state number = asks.Hook state.flow.id.index (hooks.WsMessage number)
 abbrev pub asking : Peer → Message → WsLayer → WsLayer
 asking from message state = record state {
   messages = state.messages + 1;
-  phase = phases.Holding (record { from = from; number = state.messages; message = message });
+  phase = phases.Holding (record { from = from; number = state.messages; moment = state.moment; message = message });
 }
 
 abbrev pub asked_of : Peer → Message → WsLayer → List Command
@@ -189,3 +191,14 @@ abbrev pub StaysBeside : Bool → Peer → WsLayer → WsLayer → Type 0
 StaysBeside true from before after =
     (after.phase ≡ phases.Relaying) × (half_in (other from) after ≡ half_in (other from) before) × (after.pending ≡ before.pending)
 StaysBeside false from before after = ⊤
+
+-- ---- a message that is answered
+
+-- what is kept of it, with this payload
+abbrev pub record_by : Held → List ℕ → Bool → WsRecord
+record_by held payload dropped =
+    record { from_client = is_client held.from; text = held.message.text; payload = payload; moment = held.moment; dropped = dropped }
+
+-- behind what was kept before
+abbrev pub with_record : WsRecord → WsLayer → WsLayer
+with_record kept state = record state { flow = record state.flow { messages = state.flow.messages ++ kept ∷ [] } }

@@ -21,11 +21,11 @@ use Rattle.px_relay.specs.declared.failure.Failure.TheVariants.{BadFrame, NotTex
 use Rattle.px_relay.specs.declared.peer.Peer.{Peer}
 use Rattle.px_relay.specs.declared.peer.Peer.TheVariants.{Client, Server}
 use Rattle.px_relay.specs.Failures.{failure_payload}
-use Rattle.px_relay.specs.Messages.{Message, Verdict, gathered, is_bad_text, message_frames, sends, drops, kills, verdict}
+use Rattle.px_relay.specs.Messages.{Message, Verdict, gathered, is_bad_text, kept_of, message_frames, sends, drops, kills, verdict}
 use Rattle.px_relay.specs.Peers.{is_client, other}
-use Rattle.px_relay.specs.Sending.{Terms, close_both, counted, send_to, sent_behind}
+use Rattle.px_relay.specs.Sending.{Terms, close_both, counted, send_to, sent_behind, with_records}
 use Rattle.px_relay.specs.Sights.{Sight, bytes_of, seen_over}
-use Rattle.px_relay.specs.Stages.{At, Half, Stage, half_of, holding, most_messages, next_in, over, relaying, with_half}
+use Rattle.px_relay.specs.Stages.{At, Half, Stage, half_of, holding, moment_at, most_messages, next_in, over, relaying, rested, with_half}
 
 -- ---- the end: the flow is finished, and each side that has not closed is closed
 
@@ -127,7 +127,7 @@ drain terms seen peer onward at = drain_within terms seen peer (suc (length (unr
 abbrev pub at_rest : Terms → Sight → At → Turn Stage Command
 at_rest terms seen at =
     if seen.closed || seen.shut then record { owed = ends terms seen terms.flow; stage = over }
-    else record { owed = []; stage = relaying at }
+    else record { owed = []; stage = relaying (rested at) }
 
 abbrev pub drain_server : Terms → Sight → At → Turn Stage Command
 drain_server terms seen at = drain terms seen Server (at_rest terms seen) at
@@ -136,8 +136,12 @@ drain_server terms seen at = drain terms seen Server (at_rest terms seen) at
 abbrev pub drain_both : Terms → Sight → At → Turn Stage Command
 drain_both terms seen at = drain terms seen Client (drain_server terms seen) at
 
+-- At a place the flow has the records of the messages that were answered, and of no other.
+abbrev pub terms_at : Terms → At → Terms
+terms_at terms at = with_records terms at.records
+
 abbrev pub pass : Terms → Stage → Sight → Turn Stage Command
-pass terms (relaying at) seen = drain_both terms seen at
+pass terms (relaying at) seen = drain_both (terms_at terms at) seen at
 pass terms (holding from message at) seen = record { owed = []; stage = holding from message at }
 pass terms over seen = record { owed = []; stage = over }
 
@@ -151,7 +155,7 @@ message_ask terms at = asks.Hook terms.flow.id.index (hooks.WsMessage at.message
 
 abbrev pub look : Terms → Stage → Look Command
 look terms (relaying at) = NotYet
-look terms (holding from message at) = Asks (commands.Ask (message_ask terms at) (with_message terms.flow from message))
+look terms (holding from message at) = Asks (commands.Ask (message_ask terms at) (with_message (terms_at terms at).flow from message))
 look terms over = Ends []
 
 abbrev pub killed_message : List ℕ
@@ -160,15 +164,23 @@ killed_message = codes "killed"
 abbrev pub killed : Flow → ℕ → Flow
 killed flow moment = record flow { error = Some (record { msg = killed_message; moment = moment }) }
 
+-- the place behind an answer, with what is kept of the message
+abbrev pub answered : Peer → Message → At → Sight → Verdict → ℕ → At
+answered from message at seen said moment = record at {
+  messages = at.messages + 1;
+  records = at.records ++ kept_of (is_client from) message (moment_at at seen) said;
+  since = Some moment;
+}
+
 abbrev pub turn_by : Terms → Peer → Message → At → Sight → Verdict → ℕ → Turn Stage Command
 turn_by terms from message at seen (sends payload) moment =
     let frames = message_frames message payload in
     record {
       owed = send_to terms (other from) at.sent frames;
-      stage = relaying (record at { messages = at.messages + 1; sent = sent_behind (other from) at.sent frames });
+      stage = relaying (record (answered from message at seen (sends payload) moment) { sent = sent_behind (other from) at.sent frames });
     }
-turn_by terms from message at seen drops moment = record { owed = []; stage = relaying (record at { messages = at.messages + 1 }) }
-turn_by terms from message at seen kills moment = record { owed = ends terms seen (killed terms.flow moment); stage = over }
+turn_by terms from message at seen drops moment = record { owed = []; stage = relaying (answered from message at seen drops moment) }
+turn_by terms from message at seen kills moment = record { owed = ends terms seen (killed (terms_at terms at).flow moment); stage = over }
 
 abbrev pub turn : Terms → Stage → Sight → Reply → ℕ → Turn Stage Command
 turn terms (holding from message at) seen reply moment = turn_by terms from message at seen (verdict message reply) moment
@@ -189,7 +201,11 @@ abbrev pub first_half : Half
 first_half = record { used = 0; judged = false; begun = None }
 
 abbrev pub first_at : At
-first_at = record { client = first_half; server = first_half; messages = 0; sent = 0 }
+first_at = record { client = first_half; server = first_half; messages = 0; records = []; sent = 0; since = None }
+
+-- and where it begins behind something else, at this moment
+abbrev pub begins_at : ℕ → At
+begins_at moment = record first_at { since = Some moment }
 
 -- the chain of a WebSocket by itself, which was handed what was left of both sides
 abbrev pub own_chain : Terms → Rests → Chain Stage Event Reply Command

@@ -16,12 +16,12 @@ use Rattle.px_relay.specs.declared.failure.Failure.TheVariants.{BadFrame, NotTex
 use Rattle.px_relay.specs.declared.layer.WsLayer.{WsLayer}
 use Rattle.px_relay.specs.declared.peer.Peer.{Peer}
 use Rattle.px_relay.specs.declared.peer.Peer.TheVariants.{Client, Server}
-use Rattle.px_relay.specs.Chain.{Course, closes_with, goes_on, stops, at_rest, behind_course, control_course, data_course, drain_both, drain_server, drain_within, fails, frame_course, front_course, look, looked, message_course, most_whole, pass, past, relay_chain, unread}
+use Rattle.px_relay.specs.Chain.{Course, closes_with, goes_on, stops, at_rest, behind_course, control_course, data_course, drain_both, drain_server, drain_within, fails, frame_course, front_course, look, looked, message_course, most_whole, pass, past, relay_chain, terms_at, unread}
 use Rattle.px_relay.specs.Messages.{Message, gathered, is_bad_text, payload_so_far}
 use Rattle.px_relay.specs.Peers.{is_client, other}
 use Rattle.px_relay.specs.Sending.{Terms, counted, send_to}
 use Rattle.px_relay.specs.Sights.{Sight, bytes_of, seen_over}
-use Rattle.px_relay.specs.Stages.{At, Half, Stage, half_of, holding, most_messages, next_in, over, relaying, with_half}
+use Rattle.px_relay.specs.Stages.{At, Half, Stage, half_of, holding, most_messages, next_in, over, relaying, rested, with_half}
 use Rattle.px_relay.specs.Stands.{IsAt, awaited_in, awaits, chain_of, is_over, onward_with, terms_of}
 
 -- ---- halves
@@ -41,6 +41,14 @@ half_messages Server half at = refl
 pub half_sent : (peer : Peer) (half : Half) (at : At) → (with_half peer half at).sent ≡ at.sent
 half_sent Client half at = refl
 half_sent Server half at = refl
+
+pub half_records : (peer : Peer) (half : Half) (at : At) → (with_half peer half at).records ≡ at.records
+half_records Client half at = refl
+half_records Server half at = refl
+
+pub half_since : (peer : Peer) (half : Half) (at : At) → (with_half peer half at).since ≡ at.since
+half_since Client half at = refl
+half_since Server half at = refl
 
 same_half : (peer : Peer) (half : Half) (at : At) → half ≡ half_of peer at → with_half peer half at ≡ at
 same_half Client half at is = ap (λ h. record at { client = h }) is
@@ -240,42 +248,43 @@ stop_fixed terms seen over stop = (refl, refl)
 
 -- where both sides are idle
 pub both_idle : (terms : Terms) (seen : Sight) (at : At) → IsIdle Client seen at → IsIdle Server seen at →
-    pass terms (relaying at) seen ≡ at_rest terms seen at
+    drain_both terms seen at ≡ at_rest terms seen at
 both_idle terms seen at client server =
     drain_idle terms seen Client (length (unread Client seen at)) (drain_server terms seen) at client
     ∙ drain_idle terms seen Server (length (unread Server seen at)) (at_rest terms seen) at server
 
-rest_fixed : (terms : Terms) (seen : Sight) (at : At) (b : Bool) → (seen.closed || seen.shut) ≡ b → IsIdle Client seen at → IsIdle Server seen at →
-    IsFixed terms seen (at_rest terms seen at).stage
-rest_fixed terms seen at true is client server =
-    let over_there : (at_rest terms seen at).stage ≡ over = rw is refl in
-    subst (IsFixed terms seen) (sym over_there) (refl, refl)
-rest_fixed terms seen at false is client server =
-    let rests : at_rest terms seen at ≡ record { owed = []; stage = relaying at } = rw is refl in
-    let same = both_idle terms seen at client server ∙ rests in
-    subst (λ (t : Turn Stage Command). IsFixed terms seen t.stage) (sym rests)
-    (ap (λ (t : Turn Stage Command). t.stage) same, ap (λ (t : Turn Stage Command). t.owed) same)
+-- whatever its flow has by then
+module _ (terms now : Terms) (seen : Sight) where
+  rest_fixed : (at : At) (b : Bool) → (seen.closed || seen.shut) ≡ b → IsIdle Client seen at → IsIdle Server seen at → IsFixed terms seen (at_rest now seen at).stage
+  rest_fixed at true is client server =
+      let over_there : (at_rest now seen at).stage ≡ over = rw is refl in
+      subst (IsFixed terms seen) (sym over_there) (refl, refl)
+  rest_fixed at false is client server =
+      let rests : at_rest now seen at ≡ record { owed = []; stage = relaying (rested at) } = rw is refl in
+      let again : at_rest (terms_at terms at) seen (rested at) ≡ record { owed = []; stage = relaying (rested at) } = rw is refl in
+      let same = both_idle (terms_at terms at) seen (rested at) (idle_same Client seen at (rested at) refl refl client) (idle_same Server seen at (rested at) refl refl server)
+      ∙ again in
+      subst (λ (t : Turn Stage Command). IsFixed terms seen t.stage) (sym rests)
+      (ap (λ (t : Turn Stage Command). t.stage) same, ap (λ (t : Turn Stage Command). t.owed) same)
 
-server_fixed : (terms : Terms) (seen : Sight) (at : At) (turn : Turn Stage Command) → IsIdle Client seen at → Drained seen Server (at_rest terms seen) at turn →
-    IsFixed terms seen turn.stage
-server_fixed terms seen at turn client (inl stop) = stop_fixed terms seen turn.stage stop
-server_fixed terms seen at turn client (inr through) =
-    subst (λ (t : Turn Stage Command). IsFixed terms seen t.stage) (sym through.is)
-    (rest_fixed terms seen through.next (seen.closed || seen.shut) refl
-    (idle_same Client seen at through.next through.beside through.messages client) through.idle)
+  server_fixed : (at : At) (turn : Turn Stage Command) → IsIdle Client seen at → Drained seen Server (at_rest now seen) at turn → IsFixed terms seen turn.stage
+  server_fixed at turn client (inl stop) = stop_fixed terms seen turn.stage stop
+  server_fixed at turn client (inr through) =
+      subst (λ (t : Turn Stage Command). IsFixed terms seen t.stage) (sym through.is)
+      (rest_fixed through.next (seen.closed || seen.shut) refl (idle_same Client seen at through.next through.beside through.messages client) through.idle)
 
-both_fixed : (terms : Terms) (seen : Sight) (at : At) (turn : Turn Stage Command) → Drained seen Client (drain_server terms seen) at turn →
-    IsFixed terms seen turn.stage
-both_fixed terms seen at turn (inl stop) = stop_fixed terms seen turn.stage stop
-both_fixed terms seen at turn (inr through) =
-    subst (λ (t : Turn Stage Command). IsFixed terms seen t.stage) (sym through.is)
-    (server_fixed terms seen through.next (drain_server terms seen through.next) through.idle
-    (drained terms seen Server (at_rest terms seen) (suc (length (unread Server seen through.next))) through.next (omega arith)))
+  both_fixed : (at : At) (turn : Turn Stage Command) → Drained seen Client (drain_server now seen) at turn → IsFixed terms seen turn.stage
+  both_fixed at turn (inl stop) = stop_fixed terms seen turn.stage stop
+  both_fixed at turn (inr through) =
+      subst (λ (t : Turn Stage Command). IsFixed terms seen t.stage) (sym through.is)
+      (server_fixed through.next (drain_server now seen through.next) through.idle
+      (drained now seen Server (at_rest now seen) (suc (length (unread Server seen through.next))) through.next (omega arith)))
 
 passed_fixed : (terms : Terms) (seen : Sight) (stage : Stage) → IsFixed terms seen (pass terms stage seen).stage
 passed_fixed terms seen (relaying at) =
-    both_fixed terms seen at (drain_both terms seen at)
-    (drained terms seen Client (drain_server terms seen) (suc (length (unread Client seen at))) at (omega arith))
+    let now = terms_at terms at in
+    both_fixed terms now seen at (drain_both now seen at)
+    (drained now seen Client (drain_server now seen) (suc (length (unread Client seen at))) at (omega arith))
 passed_fixed terms seen (holding from message at) = (refl, refl)
 passed_fixed terms seen over = (refl, refl)
 

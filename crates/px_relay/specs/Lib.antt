@@ -7,6 +7,7 @@ pub mod Laws
 pub mod Messages
 pub mod Order
 pub mod Peers
+pub mod Records
 pub mod Sending
 pub mod Sights
 pub mod Stages

@@ -2,6 +2,7 @@
 use Rattle.std.specs.Prelude.{ℕ, zero, suc, ◌-◌, Bool, true, false, ◌==◌, ◌&&◌, not, nat_le, if◌then◌else◌, List, [], ◌∷◌, ◌++◌, length, take, drop, Option, Some, None}
 use Rattle.std.specs.Str.{is_utf8}
 use Rattle.px_message.specs.declared.flow.WsMessage.{WsMessage}
+use Rattle.px_message.specs.declared.messages.WsRecord.{WsRecord}
 use Rattle.px_event.specs.declared.reply.Reply.{Reply}
 use Rattle.px_event.specs.declared.reply.Reply.TheVariants as replies
 use Rattle.px_frame.specs.declared.frame.Frame.{Frame}
@@ -101,3 +102,14 @@ abbrev pub verdict : Message → Reply → Verdict
 verdict message replies.Discard = drops
 verdict message replies.Kill = kills
 verdict message reply = sends (payload_of message reply)
+
+-- ---- what is kept of a message that was answered
+
+-- Of one that is sent the payload that was sent, of one that is not sent the payload as it was read; of one that is killed nothing. The
+-- moment is that of the step at whose end it was asked about first.
+abbrev pub kept_of : Bool → Message → ℕ → Verdict → List WsRecord
+kept_of from_client message moment (sends payload) =
+    record { from_client = from_client; text = message.text; payload = payload; moment = moment; dropped = false } ∷ []
+kept_of from_client message moment drops =
+    record { from_client = from_client; text = message.text; payload = message.payload; moment = moment; dropped = true } ∷ []
+kept_of from_client message moment kills = []

@@ -3,6 +3,7 @@
 use Rattle.std.specs.Prelude.{◌≡◌, ℕ, ◌+◌, ◌<◌, Bool, true, false, ◌==◌, if◌then◌else◌, List, [], ◌∷◌, ◌++◌, Option, Some, None, ⊤}
 use Rattle.px_message.specs.declared.flow.Flow.{Flow}
 use Rattle.px_message.specs.declared.flow.WsMessage.{WsMessage}
+use Rattle.px_message.specs.declared.messages.WsRecord.{WsRecord}
 use Rattle.px_event.specs.declared.command.Command.{Command}
 use Rattle.px_event.specs.declared.reply.Reply.TheVariants as replies
 use Rattle.px_event.specs.Chain.{Turn}
@@ -72,14 +73,15 @@ ControlFramesOvertake = (terms : Terms) (seen : Sight) (from : Peer) (onward : A
     → PassesThem terms seen from onward at frames later end
 
 -- Across a message too: those in front of its last frame are sent before it is asked about, and those behind that once it is answered, whatever
--- was sent for it.
+-- was sent for it, whatever is kept of it, and whenever it was answered.
 pub record KeepsOrder (terms : Terms) (seen : Sight) (from : Peer) (onward : At → Turn Stage Command) (at : At) (frames : List Frame) (last : Frame) (behind later : List Frame) (end : Ending) : Type 0 where
   pub stopped : At
   pub asks : drain terms seen from onward at ≡ record {
     owed = sent_each terms (other from) at.sent (controls_in frames);
     stage = holding from (gathered (gathered_all (half_of from at).begun (data_in frames)) last) stopped;
   }
-  pub answered : (sent : ℕ) → PassesThem terms seen from onward (record stopped { messages = stopped.messages + 1; sent = sent }) behind later end
+  pub answered : (records : List WsRecord) (sent : ℕ) (since : Option ℕ) →
+      PassesThem terms seen from onward (record stopped { messages = stopped.messages + 1; records = records; sent = sent; since = since }) behind later end
 
 abbrev pub ControlFramesKeepTheirOrder : Type 0
 ControlFramesKeepTheirOrder = (terms : Terms) (seen : Sight) (from : Peer) (onward : At → Turn Stage Command) (at : At) (frames : List Frame) (last : Frame)

@@ -3,6 +3,7 @@ use Rattle.std.specs.Prelude.{ℕ, ◌+◌, ◌%◌, ◌^◌, true, List, [], �
 use Rattle.std.specs.Int.{to_le_bytes, w32}
 use Rattle.rand_chacha.specs.ChaCha.{word_at}
 use Rattle.px_message.specs.declared.flow.Flow.{Flow}
+use Rattle.px_message.specs.declared.messages.WsRecord.{WsRecord}
 use Rattle.px_event.specs.declared.command.Command.{Command}
 use Rattle.px_event.specs.declared.command.Command.TheVariants as commands
 use Rattle.px_frame.specs.declared.frame.Frame.{Frame}
@@ -16,6 +17,10 @@ pub record Terms : Type 0 where
   pub flow : Flow
   pub server : ℕ
   pub key : List ℕ
+
+-- the same where its flow has these messages
+abbrev pub with_records : Terms → List WsRecord → Terms
+with_records terms records = record terms { flow = record terms.flow { messages = records } }
 
 -- The key of the frame of this number among those that are sent to the server, from 0: the word at that place of ChaCha20, in
 -- the stream of the conversation's number, least byte first. The stream repeats after 2^68 words.

@@ -1,5 +1,6 @@
 -- Where a WebSocket stands.
-use Rattle.std.specs.Prelude.{ℕ, ◌-◌, Bool, List, drop, Option}
+use Rattle.std.specs.Prelude.{ℕ, ◌-◌, Bool, List, drop, Option, None, unwrap_or}
+use Rattle.px_message.specs.declared.messages.WsRecord.{WsRecord}
 use Rattle.px_frame.specs.declared.frame.Standing.{Standing}
 use Rattle.px_frame.specs.Frames.{Front, front}
 use Rattle.px_relay.specs.declared.peer.Peer.{Peer}
@@ -22,8 +23,20 @@ pub record At : Type 0 where
   pub server : Half
   -- how many messages were asked about and answered, of both sides together
   pub messages : ℕ
+  -- what is kept of these, in their order; of one that was killed nothing is
+  pub records : List WsRecord
   -- how many frames were sent to the server
   pub sent : ℕ
+  -- behind a reply, and where it begins: the moment, until what stands there is worked off
+  pub since : Option ℕ
+
+-- the moment at which a place is worked off: since when it stands, or that of the last event
+abbrev pub moment_at : At → Sight → ℕ
+moment_at at seen = unwrap_or at.since seen.now
+
+-- all that stands there was worked off
+abbrev pub rested : At → At
+rested at = record at { since = None }
 
 abbrev pub half_of : Peer → At → Half
 half_of Client at = at.client

@@ -25,12 +25,12 @@ use Rattle.px_relay.specs.declared.phase.Held.{Held}
 use Rattle.px_relay.specs.declared.phase.Phase.{Phase}
 use Rattle.px_relay.specs.declared.phase.Phase.TheVariants as phases
 use Rattle.px_relay.specs.Calls.{half_in}
-use Rattle.px_relay.specs.Chain.{at_rest, drain_both, drain_server, drain_within, first_at, look, own_chain, pass, turn, turn_by, unread}
+use Rattle.px_relay.specs.Chain.{at_rest, drain_both, drain_server, drain_within, first_at, look, own_chain, pass, terms_at, turn, turn_by, unread}
 use Rattle.px_relay.specs.Messages.{Message, payload_so_far, verdict}
 use Rattle.px_relay.specs.Peers.{is_client, other}
 use Rattle.px_relay.specs.Sending.{Terms, send_to, sent_behind}
 use Rattle.px_relay.specs.Sights.{Come, Sight, bytes_of, come_over, come_with, first_come, no_rests}
-use Rattle.px_relay.specs.Stages.{At, Half, Stage, half_of, holding, over, relaying, standing}
+use Rattle.px_relay.specs.Stages.{At, Half, Stage, half_of, holding, moment_at, over, relaying, standing}
 
 -- ---- what is awaited
 
@@ -99,11 +99,13 @@ abbrev pub IsBeside : Peer → At → Sight → WsLayer → Type 0
 IsBeside Client at seen state = IsUnheard Server at.server seen.server state.pending state.server
 IsBeside Server at seen state = IsUnheard Client at.client seen.client [] state.client × (state.pending ≡ [])
 
--- the frames of a side are worked off
+-- the frames of a side are worked off, at the moment of the place; the flow has the records of the place
 pub record IsWorking (terms : Terms) (from : Peer) (at : At) (seen : Sight) (state : WsLayer) : Type 0 where
   pub made : IsMade terms at.sent seen state
   pub phase : state.phase ≡ phases.Relaying
   pub messages : state.messages ≡ at.messages
+  pub records : terms.flow.messages ≡ at.records
+  pub moment : state.moment ≡ moment_at at seen
   pub queued : IsQueued from (half_of from at) at.messages (bytes_of from seen) (half_in from state)
   pub beside : IsBeside from at seen state
 
@@ -112,6 +114,7 @@ pub record IsBetween (terms : Terms) (at : At) (seen : Sight) (state : WsLayer) 
   pub made : IsMade terms at.sent seen state
   pub phase : state.phase ≡ phases.Relaying
   pub messages : state.messages ≡ at.messages
+  pub records : terms.flow.messages ≡ at.records
   pub client : IsUnheard Client at.client seen.client [] state.client
   pub server : IsUnheard Server at.server seen.server state.pending state.server
 
@@ -120,25 +123,38 @@ pub record IsReady (terms : Terms) (at : At) (seen : Sight) (state : WsLayer) : 
   pub between : IsBetween terms at seen state
   pub pending : state.pending ≡ []
 
+-- those of the client are, at the moment of the place
+pub record IsHalfway (terms : Terms) (at : At) (seen : Sight) (state : WsLayer) : Type 0 where
+  pub between : IsBetween terms at seen state
+  pub moment : state.moment ≡ moment_at at seen
+
 abbrev pub IsDrained : Terms → Peer → At → Sight → WsLayer → Type 0
-IsDrained terms Client at seen state = IsBetween terms at seen state
+IsDrained terms Client at seen state = IsHalfway terms at seen state
 IsDrained terms Server at seen state = IsReady terms at seen state
 
 pub record IsRelaying (terms : Terms) (at : At) (seen : Sight) (state : WsLayer) : Type 0 where
   pub ready : IsReady terms at seen state
   pub open_still : seen.closed ≡ false
   pub unshut : seen.shut ≡ false
+  pub rests : at.since ≡ None
+
+-- and where it was handed something at a moment
+pub record IsAwake (terms : Terms) (at : At) (seen : Sight) (state : WsLayer) : Type 0 where
+  pub ready : IsReady terms at seen state
+  pub open_still : seen.closed ≡ false
+  pub unshut : seen.shut ≡ false
+  pub moment : state.moment ≡ moment_at at seen
 
 pub record IsHolding (terms : Terms) (from : Peer) (message : Message) (at : At) (seen : Sight) (state : WsLayer) : Type 0 where
   pub made : IsMade terms at.sent seen state
-  pub phase : state.phase ≡ phases.Holding (record { from = from; number = at.messages; message = message })
+  pub phase : state.phase ≡ phases.Holding (record { from = from; number = at.messages; moment = moment_at at seen; message = message })
   pub messages : state.messages ≡ at.messages + 1
   pub queued : IsQueued from (half_of from at) (at.messages + 1) (bytes_of from seen) (half_in from state)
   pub beside : IsBeside from at seen state
 
 abbrev pub IsIn : Terms → WsLayer → Stage → Sight → Type 0
-IsIn terms state (relaying at) seen = IsRelaying terms at seen state
-IsIn terms state (holding from message at) seen = IsHolding terms from message at seen state
+IsIn terms state (relaying at) seen = IsRelaying (terms_at terms at) at seen state
+IsIn terms state (holding from message at) seen = IsHolding (terms_at terms at) from message at seen state
 IsIn terms state over seen = state.phase ≡ phases.Over
 
 -- it stands somewhere
@@ -187,7 +203,7 @@ pub record Drains (from : Peer) (before after : WsLayer) (goes : Bool) (out long
 
 -- what was left of the server was heard
 pub record HearsPending (before after : WsLayer) : Type 0 where
-  pub leads : (terms : Terms) (at : At) (seen : Sight) → IsBetween terms at seen before → IsWorking terms Server at seen after
+  pub leads : (terms : Terms) (at : At) (seen : Sight) → IsHalfway terms at seen before → IsWorking terms Server at seen after
 
 -- ---- the calls
 
@@ -211,15 +227,15 @@ pub record HearsPiece (peer : Option Peer) (bytes : List ℕ) (before after : Ws
   pub more : List Command
   pub grown : longer ≡ out ++ more
   pub rests : after.rests ≡ before.rests
-  pub leads : (terms : Terms) (at : At) (seen : Sight) → IsRelaying terms at seen before →
-      let now = with_bytes peer seen bytes in Leads terms (pass terms (relaying at) now) now after more
+  pub leads : (terms : Terms) (at : At) (seen : Sight) → IsAwake terms at seen before →
+      let now = with_bytes peer seen bytes in Leads terms (drain_both terms now at) now after more
 
 pub record HearsClose (peer : Option Peer) (before after : WsLayer) (out longer : List Command) : Type 0 where
   pub more : List Command
   pub grown : longer ≡ out ++ more
   pub rests : after.rests ≡ before.rests
-  pub leads : (terms : Terms) (at : At) (seen : Sight) → IsRelaying terms at seen before →
-      let now = with_close peer seen in Leads terms (pass terms (relaying at) now) now after more
+  pub leads : (terms : Terms) (at : At) (seen : Sight) → IsAwake terms at seen before →
+      let now = with_close peer seen in Leads terms (drain_both terms now at) now after more
 
 -- what was left of both sides is seen, and the server may have closed
 abbrev pub sight_opened : Sight → Rests → Bool → Sight
@@ -228,21 +244,30 @@ sight_opened seen rests shut = record {
   closed = seen.closed;
   server = seen.server ++ rests.server;
   shut = if shut then true else seen.shut;
+  now = seen.now;
 }
 
-pub record BeginsWith (shut : Bool) (before after : WsLayer) (out longer : List Command) : Type 0 where
+pub record Opens (shut : Bool) (before after : WsLayer) (out longer : List Command) : Type 0 where
   pub more : List Command
   pub grown : longer ≡ out ++ more
   pub rests : after.rests ≡ no_rests
-  pub leads : (terms : Terms) (at : At) (seen : Sight) → IsRelaying terms at seen before →
-      let now = sight_opened seen before.rests shut in Leads terms (pass terms (relaying at) now) now after more
+  pub leads : (terms : Terms) (at : At) (seen : Sight) → IsAwake terms at seen before →
+      let now = sight_opened seen before.rests shut in Leads terms (drain_both terms now at) now after more
 
--- an event, where nothing is asked
-pub record HearsEvent (event : Event) (before after : WsLayer) (out longer : List Command) : Type 0 where
+-- it begins at this moment, whenever the last event was
+pub record BeginsWith (moment : ℕ) (shut : Bool) (before after : WsLayer) (out longer : List Command) : Type 0 where
   pub more : List Command
   pub grown : longer ≡ out ++ more
-  pub leads : (terms : Terms) (at : At) (seen : Sight) → IsRelaying terms at seen before →
-      let come = come_with terms.server (record { seen = seen; left = before.rests }) event in
+  pub rests : after.rests ≡ no_rests
+  pub leads : (terms : Terms) (at : At) (seen : Sight) (last : ℕ) → IsIn terms before (relaying at) seen →
+      let now = sight_opened (record seen { now = last }) before.rests shut in Leads terms (pass terms (relaying (record at { since = Some moment })) now) now after more
+
+-- an event at this moment, where nothing is asked
+pub record HearsEvent (moment : ℕ) (event : Event) (before after : WsLayer) (out longer : List Command) : Type 0 where
+  pub more : List Command
+  pub grown : longer ≡ out ++ more
+  pub leads : (terms : Terms) (at : At) (seen : Sight) → IsIn terms before (relaying at) seen →
+      let come = come_with terms.server (record { seen = seen; left = before.rests }) (record { moment = moment; value = event }) in
       Leads terms (pass terms (relaying at) come.seen) come.seen after more × (after.rests ≡ come.left)
   pub past_end : before.phase ≡ phases.Over → (after.phase ≡ phases.Over) × (more ≡ [])
 
@@ -262,20 +287,24 @@ pub record SendsOn (from : Peer) (frames : List Frame) (before after : WsLayer) 
   pub rests : after.rests ≡ before.rests
   pub leads : (terms : Terms) (at : At) (seen : Sight) → IsWorking terms from at seen before → Leads terms (sends_on terms from seen at frames) seen after more
 
--- the reply to what was asked, where this was held
-pub record TakesReply (moment : ℕ) (held : Held) (reply : Reply) (before after : WsLayer) (out longer : List Command) : Type 0 where
+-- the reply to what was asked, where this was held: it is handed the reply at this moment
+pub record IsAnswered (terms : Terms) (held : Held) (at : At) (seen : Sight) (before : WsLayer) : Type 0 where
+  pub works : IsWorking (terms_at terms at) held.from (record at { messages = at.messages + 1; since = Some before.moment }) seen before
+  pub asked : held.moment ≡ moment_at at seen
+
+pub record TakesReply (held : Held) (reply : Reply) (before after : WsLayer) (out longer : List Command) : Type 0 where
   pub more : List Command
   pub grown : longer ≡ out ++ more
   pub rests : after.rests ≡ before.rests
-  pub leads : (terms : Terms) (at : At) (seen : Sight) → IsWorking terms held.from (record at { messages = at.messages + 1 }) seen before →
-      Leads terms (passed terms seen (turn_by terms held.from held.message at seen (verdict held.message reply) moment)) seen after more
+  pub leads : (terms : Terms) (at : At) (seen : Sight) → IsAnswered terms held at seen before →
+      Leads terms (passed terms seen (turn_by terms held.from held.message at seen (verdict held.message reply) before.moment)) seen after more
 
 -- the reply to what is asked
 pub record Answers (moment : ℕ) (reply : Reply) (before after : WsLayer) (out longer : List Command) : Type 0 where
   pub more : List Command
   pub grown : longer ≡ out ++ more
   pub rests : after.rests ≡ before.rests
-  pub leads : (terms : Terms) (from : Peer) (message : Message) (at : At) (seen : Sight) → IsHolding terms from message at seen before →
+  pub leads : (terms : Terms) (from : Peer) (message : Message) (at : At) (seen : Sight) → IsIn terms before (holding from message at) seen →
       Leads terms (passed terms seen (turn terms (holding from message at) seen reply moment)) seen after more
 
 -- ---- a WebSocket by itself

@@ -26,8 +26,8 @@ impl Layer for WsLayer {
 
     ghost ended = { λ state. is_over state.phase };
 
-    fn take(&mut self, _moment: u64, event: Event, out: &mut Vec<Command>) -> Result<(), NoMemory> {
-        self.hear(&event, out)
+    fn take(&mut self, moment: u64, event: Event, out: &mut Vec<Command>) -> Result<(), NoMemory> {
+        self.hear(moment, &event, out)
     }
 
     fn resume(

@@ -6,6 +6,7 @@ ghost use Rattle.px_event.specs.View.{View, seen_of};
 ghost use Rattle.px_event.specs.declared.event.Event.{Event as TakenEvent};
 ghost use Rattle.px_relay.specs.Chain.{relay_chain};
 ghost use Rattle.px_relay.specs.Order as law;
+ghost use Rattle.px_relay.specs.Records.{RecordsAreThoseAnswered};
 ghost use Rattle.px_relay.specs.Sending.{Terms};
 ghost use Rattle.px_relay.specs.Sights.{Sight};
 
@@ -32,4 +33,11 @@ pub fn control_frames_keep_their_order()
 /// A message that no reply changed is sent in the frames that it came in.
 pub fn unchanged_keeps_fragments()
     ensures { law.UnchangedKeepsFragments }
+{}
+
+/// A flow that is asked about has the records of the messages in front of its own, and the finished flow those of all: of a message that was sent the
+/// payload that was sent, of one that was discarded the payload as it was read, of one that was killed none; each with the moment of the first step at
+/// whose end it was asked about.
+pub fn records_are_those_answered()
+    ensures { RecordsAreThoseAnswered }
 {}

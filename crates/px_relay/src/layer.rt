@@ -7,14 +7,14 @@ ghost use Rattle.std.specs.Prelude.{◌≡◌, ◌≢◌, ◌≤◌, ◌<◌, �
 ghost use Rattle.rand_chacha.specs.ChaCha.{key_of};
 ghost use Rattle.px_frame.specs.Head.{is_control};
 ghost use Rattle.px_event.specs.Layer.{AsksOnly, weight};
-ghost use Rattle.px_relay.specs.Calls.{AllWritable, IsWritable, PopsFrom, StaysBeside, WorksBy, asked_of, asking, close_of, closes_of, did_control, did_data, did_frame, did_message, ends_of, failed_of, finish_of, half_in, with_begun};
+ghost use Rattle.px_relay.specs.Calls.{AllWritable, IsWritable, PopsFrom, StaysBeside, WorksBy, asked_of, asking, close_of, closes_of, did_control, did_data, did_frame, did_message, ends_of, failed_of, finish_of, half_in, record_by, with_begun, with_record};
 ghost use Rattle.px_relay.specs.Calls as call;
 ghost use Rattle.px_relay.specs.Chain.{first_at, killed, most_whole, with_message};
 ghost use Rattle.px_relay.specs.Kept.{sides_keep, ws_keeps, ws_left};
 ghost use Rattle.px_relay.specs.Messages.{message_frames, payload_of};
 ghost use Rattle.px_relay.specs.Sights.{no_rests, nothing_seen};
-ghost use Rattle.px_relay.specs.Stages.{most_messages};
-ghost use Rattle.px_relay.specs.Stands.{Answers, BeginsWith, ComesToRest, Drains, GoesOn, HearsClose, HearsEvent, HearsPending, HearsPiece, IsRelaying, SendsOn, Somewhere, TakesReply, WsStands, awaits, is_over, peer_in, terms_of};
+ghost use Rattle.px_relay.specs.Stages.{most_messages, relaying};
+ghost use Rattle.px_relay.specs.Stands.{Answers, BeginsWith, ComesToRest, Drains, GoesOn, HearsClose, HearsEvent, HearsPending, HearsPiece, IsIn, Opens, SendsOn, Somewhere, TakesReply, WsStands, awaits, is_over, peer_in};
 
 use crate::failure::Failure;
 use crate::gathered::{Gathered, gather};
@@ -24,7 +24,7 @@ use crate::phase::{Held, Phase};
 use crate::sender::Sender;
 use px_event::{Ask, Command, Event, Hook, Reply, Rests, Side};
 use px_frame::{Frame, FrameFault};
-use px_message::{Flow, FlowError, Shared, WsMessage};
+use px_message::{Flow, FlowError, Messages, Shared, WsMessage, WsRecord};
 use px_text::{Bytes, NoMemory};
 use std::alloc::Global;
 use std::mem;
@@ -39,6 +39,7 @@ const MOST_WHOLE: u64 = 1_000_000_002;
 #[derive(Drop)]
 pub struct WsLayer {
     alloc: Global,
+    // with what is kept of its messages so far
     flow: Flow,
     sender: Sender,
     // what was left of both sides, until it begins
@@ -48,6 +49,8 @@ pub struct WsLayer {
     // whether each side has closed
     closed: bool,
     shut: bool,
+    // of the call that it was handed last
+    moment: u64,
     // how many messages were asked about
     messages: u64,
     client: Half,
@@ -58,7 +61,7 @@ pub struct WsLayer {
 impl WsLayer {
     /// A WebSocket of this flow, between the client and the server of this number, which is connected. What was left of the two sides
     /// is worked off when it begins. The frames to the server are masked by words of ChaCha20 with this key, in the stream of the
-    /// conversation's number.
+    /// conversation's number. Messages that the flow has are none of it: it begins without any.
     ///
     /// It stands for itself by no moves, and has given nothing. It takes no memory, so the answer is always Ok.
     pub fn new(
@@ -69,13 +72,15 @@ impl WsLayer {
         rests: Rests,
     ) -> Result<WsLayer, NoMemory>
         ensures ok { IsOk result }
-        ensures terms { IfOk result (λ made. terms_of made ≡ record { flow = flow; server = server; key = key_of mask_key }) }
         ensures rests { IfOk result (λ made. made.rests ≡ rests) }
-        ensures relaying { IfOk result (λ made. IsRelaying (terms_of made) first_at nothing_seen made) }
+        ensures relaying { IfOk result (λ made. IsIn (record { flow = flow; server = server; key = key_of mask_key }) made (relaying first_at) nothing_seen) }
+        ensures phase { IfOk result (λ made. made.phase ≡ Phase.Relaying) }
         ensures somewhere { IfOk result (λ made. Somewhere made) }
         ensures stands { IfOk result (λ made. WsStands made made [] []) }
     {
         let sender = Sender::new(server, mask_key, flow.id.conv);
+        let mut flow = flow;
+        flow.messages = Messages::new(alloc);
         Ok(WsLayer {
             alloc,
             flow,
@@ -84,6 +89,7 @@ impl WsLayer {
             pending: Bytes::empty(),
             closed: false,
             shut: false,
+            moment: 0,
             messages: 0,
             client: Half::new(alloc, Peer::Client),
             server: Half::new(alloc, Peer::Server),
@@ -91,15 +97,16 @@ impl WsLayer {
         })
     }
 
-    /// Begins: works off what was left of both sides, the client's first. `shut` says whether the server has closed by then.
-    pub fn begin(&mut self, shut: bool, out: &mut Vec<Command>) -> Result<(), NoMemory>
+    /// Begins at this moment: works off what was left of both sides, the client's first. `shut` says whether the server has closed by then.
+    pub fn begin(&mut self, moment: u64, shut: bool, out: &mut Vec<Command>) -> Result<(), NoMemory>
         requires somewhere { Somewhere self.old }
         requires relaying { self.old.phase ≡ Phase.Relaying }
-        ensures begins { OnOk result (BeginsWith shut self.old self.new out.old.items out.new.items) }
+        ensures begins { OnOk result (BeginsWith moment shut self.old self.new out.old.items out.new.items) }
         ensures somewhere { OnOk result (Somewhere self.new) }
         ensures asks { OnOk result (AsksOnly (awaits self.new) out.old.items out.new.items) }
         ensures left { OnOk result (ws_left self.new ≤ ws_left self.old) }
     {
+        self.moment = moment;
         self.open(shut, out)
     }
 
@@ -107,7 +114,7 @@ impl WsLayer {
         requires relaying { self.old.phase ≡ Phase.Relaying }
         requires client { AllWritable self.old.client }
         requires server { AllWritable self.old.server }
-        ensures begins { OnOk result (BeginsWith shut self.old self.new out.old.items out.new.items) }
+        ensures opens { OnOk result (Opens shut self.old self.new out.old.items out.new.items) }
         ensures left { OnOk result (ws_left self.new ≤ ws_left self.old) }
     {
         let left = self.left();
@@ -132,28 +139,39 @@ impl WsLayer {
         mem::replace(&mut self.rests, none)
     }
 
-    /// Takes an event, while nothing is asked. After `NoMemory` the WebSocket may only be dropped.
-    pub fn hear(&mut self, event: &Event, out: &mut Vec<Command>) -> Result<(), NoMemory>
+    /// Takes an event at this moment, while nothing is asked. After `NoMemory` the WebSocket may only be dropped.
+    pub fn hear(
+        &mut self,
+        moment: u64,
+        event: &Event,
+        out: &mut Vec<Command>,
+    ) -> Result<(), NoMemory>
         requires somewhere { Somewhere self.old }
         requires free { awaits self.old ≡ None }
-        ensures hears { OnOk result (HearsEvent event.now self.old self.new out.old.items out.new.items) }
+        ensures hears { OnOk result (HearsEvent moment event.now self.old self.new out.old.items out.new.items) }
         ensures somewhere { OnOk result (Somewhere self.new) }
         ensures asks { OnOk result (AsksOnly (awaits self.new) out.old.items out.new.items) }
         ensures left { OnOk result (ws_left self.new ≤ ws_left self.old + weight event.now) }
     {
-        self.hear_event(event, out)
+        self.hear_event(moment, event, out)
     }
 
-    fn hear_event(&mut self, event: &Event, out: &mut Vec<Command>) -> Result<(), NoMemory>
+    fn hear_event(
+        &mut self,
+        moment: u64,
+        event: &Event,
+        out: &mut Vec<Command>,
+    ) -> Result<(), NoMemory>
         requires free { awaits self.old ≡ None }
         requires client { self.old.phase ≡ Phase.Relaying → AllWritable self.old.client }
         requires server { self.old.phase ≡ Phase.Relaying → AllWritable self.old.server }
-        ensures hears { OnOk result (HearsEvent event.now self.old self.new out.old.items out.new.items) }
+        ensures hears { OnOk result (HearsEvent moment event.now self.old self.new out.old.items out.new.items) }
         ensures left { OnOk result (ws_left self.new ≤ ws_left self.old + weight event.now) }
     {
         if self.has_ended() {
             return Ok(());
         }
+        self.moment = moment;
         match event {
             Event::Begun => self.open(false, out),
             Event::Piece { side, bytes } => self.hear_piece(*side, bytes, out),
@@ -179,7 +197,8 @@ impl WsLayer {
         let Phase::Holding(held) = mem::replace(&mut self.phase, Phase::Relaying) else {
             unreachable!()
         };
-        self.take_reply(moment, held, reply, out)
+        self.moment = moment;
+        self.take_reply(held, reply, out)
     }
 }
 
@@ -293,11 +312,16 @@ impl WsLayer {
         ensures left { OnOk result (ws_left self.new ≤ ws_left self.old) }
     {
         match self.peer(side) {
-            Some(Peer::Client) => self.closed = true,
-            Some(Peer::Server) => self.shut = true,
-            None => return Ok(()),
+            Some(Peer::Client) => {
+                self.closed = true;
+                self.come_to_rest(out)
+            }
+            Some(Peer::Server) => {
+                self.shut = true;
+                self.come_to_rest(out)
+            }
+            None => Ok(()),
         }
-        self.come_to_rest(out)
     }
 
     fn peer(&self, side: Side) -> Option<Peer>
@@ -323,7 +347,6 @@ impl WsLayer {
 impl WsLayer {
     fn take_reply(
         &mut self,
-        moment: u64,
         held: Held,
         reply: &Reply,
         out: &mut Vec<Command>,
@@ -331,37 +354,75 @@ impl WsLayer {
         requires relaying { self.old.phase ≡ Phase.Relaying }
         requires client { AllWritable self.old.client }
         requires server { AllWritable self.old.server }
-        ensures takes { OnOk result (TakesReply moment held reply.now self.old self.new out.old.items out.new.items) }
+        ensures takes { OnOk result (TakesReply held reply.now self.old self.new out.old.items out.new.items) }
         ensures left { OnOk result (ws_left self.new ≤ ws_left self.old) }
     {
         match reply {
             Reply::Kill => {
                 drop(held);
-                self.kill(moment, out)
+                self.kill(out)
             }
-            Reply::Discard => {
-                let from = held.from;
-                drop(held);
-                self.go_on_from(from, out)
-            }
-            _ => self.send_on(&held, reply, out),
+            Reply::Discard => self.discard(&held, out),
+            _ => self.pass_on(&held, sent_payload(&held.message, reply), out),
         }
     }
 
-    // Sends a message on, with the payload that the reply says.
-    fn send_on(
+    // Keeps a message as it was read, and goes on without sending it.
+    fn discard(&mut self, held: &Held, out: &mut Vec<Command>) -> Result<(), NoMemory>
+        requires relaying { self.old.phase ≡ Phase.Relaying }
+        requires client { AllWritable self.old.client }
+        requires server { AllWritable self.old.server }
+        ensures goes { OnOk result (GoesOn held.now.from (with_record (record_by held.now held.now.message.payload true) self.old) self.new out.old.items out.new.items) }
+        ensures rests { OnOk result (self.new.rests ≡ self.old.rests) }
+        ensures left { OnOk result (ws_left self.new ≤ ws_left self.old) }
+    {
+        self.keep(held, &held.message.payload, true)?;
+        self.go_on_from(held.from, out)
+    }
+
+    // Keeps a message with the payload that is sent, and sends it.
+    fn pass_on(
         &mut self,
         held: &Held,
-        reply: &Reply,
+        payload: &Bytes,
         out: &mut Vec<Command>,
     ) -> Result<(), NoMemory>
         requires relaying { self.old.phase ≡ Phase.Relaying }
         requires client { AllWritable self.old.client }
         requires server { AllWritable self.old.server }
-        ensures sends { OnOk result (SendsOn held.now.from (message_frames held.now.message (payload_of held.now.message reply.now)) self.old self.new out.old.items out.new.items) }
+        ensures sends { OnOk result (SendsOn held.now.from (message_frames held.now.message payload.now) (with_record (record_by held.now payload.now false) self.old) self.new out.old.items out.new.items) }
         ensures left { OnOk result (ws_left self.new ≤ ws_left self.old) }
     {
-        let payload = sent_payload(&held.message, reply);
+        self.keep(held, payload, false)?;
+        self.send_on(held, payload.as_slice(), out)
+    }
+
+    // Keeps a message that is answered, with this payload; `dropped` says whether it is not sent.
+    fn keep(&mut self, held: &Held, payload: &Bytes, dropped: bool) -> Result<(), NoMemory>
+        ensures { OnOk result (self.new ≡ with_record (record_by held.now payload.now dropped) self.old) }
+    {
+        self.flow.messages.push(WsRecord {
+            from_client: held.from.is_client(),
+            text: held.message.text,
+            payload: payload.try_clone()?,
+            moment: held.moment,
+            dropped,
+        })
+    }
+
+    // Sends a message on, with this payload.
+    fn send_on(
+        &mut self,
+        held: &Held,
+        payload: &[u8],
+        out: &mut Vec<Command>,
+    ) -> Result<(), NoMemory>
+        requires relaying { self.old.phase ≡ Phase.Relaying }
+        requires client { AllWritable self.old.client }
+        requires server { AllWritable self.old.server }
+        ensures sends { OnOk result (SendsOn held.now.from (message_frames held.now.message payload.now) self.old self.new out.old.items out.new.items) }
+        ensures left { OnOk result (ws_left self.new ≤ ws_left self.old) }
+    {
         self.sender
             .send_message(held.from.other(), &held.message, payload, out)?;
         self.go_on_from(held.from, out)
@@ -383,29 +444,29 @@ impl WsLayer {
     }
 
     // Ends it with the flow killed.
-    fn kill(&mut self, moment: u64, out: &mut Vec<Command>) -> Result<(), NoMemory>
+    fn kill(&mut self, out: &mut Vec<Command>) -> Result<(), NoMemory>
         ensures over { OnOk result (self.new.phase ≡ Phase.Over) }
         ensures rests { OnOk result (self.new.rests ≡ self.old.rests) }
-        ensures gives { OnOk result (out.new.items ≡ out.old.items ++ finish_of self.old (killed self.old.flow moment)) }
+        ensures gives { OnOk result (out.new.items ≡ out.old.items ++ finish_of self.old (killed self.old.flow self.old.moment)) }
     {
-        let flow = killed_copy(self.alloc, &self.flow, moment)?;
+        let flow = killed_copy(self.alloc, &self.flow, self.moment)?;
         self.finish(flow, out)
     }
 }
 
 // The payload that a reply sends: that of its message, if there is one, and it is no text that is no UTF-8 any more.
-fn sent_payload<'a>(message: &'a Gathered, reply: &'a Reply) -> &'a [u8]
+fn sent_payload<'a>(message: &'a Gathered, reply: &'a Reply) -> &'a Bytes
     ensures { result.now ≡ payload_of message.now reply.now }
 {
     let Reply::Go { flow, .. } = reply else {
-        return message.payload.as_slice();
+        return &message.payload;
     };
     let Some(changed) = &flow.message else {
-        return message.payload.as_slice();
+        return &message.payload;
     };
-    let changed = changed.get().payload.as_slice();
-    if message.refuses(changed) {
-        return message.payload.as_slice();
+    let changed = &changed.get().payload;
+    if message.refuses(changed.as_slice()) {
+        return &message.payload;
     }
     changed
 }
@@ -616,6 +677,7 @@ impl WsLayer {
         self.phase = Phase::Holding(Held {
             from,
             number,
+            moment: self.moment,
             message,
         });
         Ok(())

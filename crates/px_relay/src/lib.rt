@@ -15,6 +15,10 @@
 //! message that is sent with as many bytes as it came with keeps the lengths of its fragments; else it is cut into frames of 4,000 bytes, and an empty one
 //! is one empty frame.
 //!
+//! The flow keeps a record of each message that was answered, but of one that was killed: with the payload that was sent, or that was read where it was discarded,
+//! and with the moment of the first step at whose end it was asked about. A flow that is asked about has the records of the messages in front of its own, and the
+//! finished flow those of all; what a reply says of records does not count. Copies of a flow share them (`Messages`), so a message costs its record and no copy of those before.
+//!
 //! Frames to the server are masked (section 5.3). The key of the one of number n among them, from 0, is word n of ChaCha20 with the key that the layer was made
 //! with, in the stream of the conversation's number. So a message that is not sent uses up no key, and no word is the key of two frames (before 2^68 of them).
 //!
@@ -22,7 +26,8 @@
 //! each side that has not closed is closed, the server first.
 //!
 //! What is due is a chain of stages over the bytes of each side and nothing else (`specs/Chain.antt`): not pieces, queues or readers. A stage says of each side how
-//! many bytes were used, and what has come of a message (`specs/Stages.antt`); where it stands in the bytes the next frame is read by computing. The layer reads
+//! many bytes were used, what has come of a message, and the records so far (`specs/Stages.antt`); where it stands in the bytes the next frame is read by computing.
+//! `specs/Records.antt` says what the records are without stages, and `laws` has that as a law. The layer reads
 //! bytes once, into a queue of frames; `specs/Stands.antt` says what its fields are at a stage and in a sight. Units are worked off in the order of the events that
 //! complete them, and within an event in the order of its bytes. What the layer before had read of both sides already (`Rests`) is worked off when it begins
 //! (`Event::Begun`), the client's first.

@@ -13,10 +13,11 @@ pub(crate) enum Phase {
     Over,
 }
 
-/// A message that is asked about: whose it is, its number among those of both sides, and the message.
+/// A message that is asked about: whose it is, its number among those of both sides, the moment at which it was asked about, and the message.
 #[derive(Debug, Drop)]
 pub(crate) struct Held {
     pub(crate) from: Peer,
     pub(crate) number: u64,
+    pub(crate) moment: u64,
     pub(crate) message: Gathered,
 }

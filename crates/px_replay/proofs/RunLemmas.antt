@@ -15,7 +15,7 @@ use Rattle.px_replay.specs.declared.recorded.Recording.{Recording}
 use Rattle.px_replay.specs.declared.replay.Extra.{Extra}
 use Rattle.px_replay.specs.Key.{key_of}
 use Rattle.px_replay.specs.Replayed.{AreReplayed, after_all, IsLeastPlace, MayGive, has_place, is_given, keys_in, places}
-use Rattle.px_replay.specs.Replaying.{Replaying, after, is_free, may_answer, place_of, recording, recordings, started, used_in, is_used, with_response}
+use Rattle.px_replay.specs.Replaying.{Replaying, after, is_free, may_answer, moment_of, place_of, recording, recordings, started, used_in, is_used, with_response}
 use Rattle.px_replay.specs.Same.{is_same_key}
 use Rattle.px_replay.proofs.KeyLemmas.{both_tests, key_decides}
 use Rattle.px_replay.proofs.PlaceLemmas.{clash, first_passes, none_at_all, none_before, same_keys, under, used_after}
@@ -117,14 +117,14 @@ as_many how (request ∷ requests) s = ap suc (as_many how requests (after s (pl
 abbrev pub Unused : Recording → Type 0
 Unused r = r.used ≡ false
 
-one_unused : (key : MatchKey) (response : Option Response) → All Unused (with_response key response)
-one_unused key None = All-nil Unused
-one_unused key (Some response) = All-cons Unused _ [] refl (All-nil Unused)
+one_unused : (key : MatchKey) (moment : ℕ) (response : Option Response) → All Unused (with_response key moment response)
+one_unused key moment None = All-nil Unused
+one_unused key moment (Some response) = All-cons Unused _ [] refl (All-nil Unused)
 
 pub all_unused : (how : KeyOptions) (flows : List Flow) → All Unused (recordings how flows)
 all_unused how [] = All-nil Unused
 all_unused how (flow ∷ flows) =
-    All-append Unused (recording how flow) (recordings how flows) (one_unused (key_of how flow.request) flow.response) (all_unused how flows)
+    All-append Unused (recording how flow) (recordings how flows) (one_unused (key_of how flow.request) (moment_of flow.times) flow.response) (all_unused how flows)
 
 at_unused : (rs : List Recording) → All Unused rs → (i : ℕ) (r : Recording) → slice_get rs i ≡ Some r → r.used ≡ false
 at_unused [] all i r at = absurd (none-some r at)

@@ -1,7 +1,9 @@
 -- The recorded list, and what one ask does with it.
 use Rattle.std.specs.Prelude.{◌≡◌, ℕ, zero, suc, Bool, true, false, not, ◌&&◌, ◌||◌, List, [], ◌∷◌, map, Option, None, Some, slice_get}
 use Rattle.std.specs.List.{flat_map, position}
+use Rattle.std.specs.Option.{unwrap_or}
 use Rattle.px_message.specs.declared.flow.Flow.{Flow}
+use Rattle.px_message.specs.declared.flow.Times.{Times}
 use Rattle.px_message.specs.declared.request.Request.{Request}
 use Rattle.px_message.specs.declared.response.Response.{Response}
 use Rattle.px_replay.specs.declared.key.MatchKey.{MatchKey}
@@ -20,13 +22,17 @@ pub record Replaying : Type 0 where
   pub extra : Extra
   pub recordings : List Recording
 
+-- the moment that a recorded flow is taken to be of, in microseconds since 1970: when its response began, or where that is not known its request
+abbrev pub moment_of : Times → ℕ
+moment_of times = unwrap_or times.response_start times.request_start
+
 -- a flow in the recorded list: one without a response is not in it
-abbrev pub with_response : MatchKey → Option Response → List Recording
-with_response key None = []
-with_response key (Some response) = (record { key = key; response = response; used = false }) ∷ []
+abbrev pub with_response : MatchKey → ℕ → Option Response → List Recording
+with_response key moment None = []
+with_response key moment (Some response) = (record { key = key; moment = moment; response = response; used = false }) ∷ []
 
 abbrev pub recording : KeyOptions → Flow → List Recording
-recording how flow = with_response (key_of how flow.request) flow.response
+recording how flow = with_response (key_of how flow.request) (moment_of flow.times) flow.response
 
 -- the recorded list of these flows, in their order
 abbrev pub recordings : KeyOptions → List Flow → List Recording

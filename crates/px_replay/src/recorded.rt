@@ -3,21 +3,22 @@ ghost use Rattle.std.specs.Prelude.{◌≡◌, ◌<◌, ◌++◌, Some, map, len
 ghost use Rattle.std.specs.List.{position};
 ghost use Rattle.px_replay.specs.Key.{key_of};
 ghost use Rattle.px_replay.specs.Left.{IsAnswerTo, left};
-ghost use Rattle.px_replay.specs.Replaying.{IsAnswer, after, got, is_used, may_answer, recording, recordings, started, use_at};
+ghost use Rattle.px_replay.specs.Replaying.{IsAnswer, after, got, is_used, may_answer, moment_of, recording, recordings, started, use_at};
 
 use crate::index::{give_unless, index_of};
 use crate::places::Places;
 use crate::{Extra, KeyOptions, MatchKey, Replay};
-use px_message::{Flow, Request, Response, Shared};
+use px_message::{Flow, Request, Response, Shared, Times};
 use px_text::NoMemory;
 use std::alloc::Global;
 use std::collections::BTreeMap;
 use std::marker::Model;
 
-/// A recorded flow: the key of its request, its response, and whether an ask got it.
+/// A recorded flow: the key of its request, its moment, its response, and whether an ask got it.
 #[derive(Debug, Drop)]
 pub struct Recording {
     pub(crate) key: MatchKey,
+    moment: u64,
     response: Shared<Response>,
     used: bool,
 }
@@ -156,6 +157,15 @@ impl Recorded {
         give_unless(self.reuse, &mut self.index, key);
     }
 
+    /// The moment of the recorded flow at that place, in microseconds since 1970: when its response began, or where that is not known when its
+    /// request began.
+    pub fn moment(&self, place: usize) -> u64
+        requires { place < length self.now.recordings }
+        ensures { slice_get (map (λ r. r.moment) self.now.recordings) place ≡ Some result }
+    {
+        self.recordings[place].moment
+    }
+
     /// Whether an ask got that place. It takes no memory.
     pub fn used(&self, place: usize) -> bool
         ensures { result ≡ is_used place self.now.recordings }
@@ -197,10 +207,18 @@ fn add(
     let key = MatchKey::of(alloc, flow.request.get(), how)?;
     made.push(Recording {
         key,
+        moment: moment_of(&flow.times),
         response: response.try_clone()?,
         used: false,
     })?;
     Ok(())
+}
+
+// The moment that a recorded flow is taken to be of.
+fn moment_of(times: &Times) -> u64
+    ensures { result ≡ moment_of times.now }
+{
+    times.response_start.unwrap_or(times.request_start)
 }
 
 // Marks the place as used.

@@ -141,7 +141,7 @@ line_finishes (commands.Done flow ∷ owed) (here, others) = line_finishes owed 
 no_bytes : (atoms : List Atom) → AllFinish atoms → bytes_in atoms ≡ []
 no_bytes [] all = refl
 no_bytes (byte value ∷ atoms) all = absurd all
-no_bytes (close ∷ atoms) all = absurd all
+no_bytes (close side ∷ atoms) all = absurd all
 no_bytes (asked ask ∷ atoms) all = absurd all
 no_bytes (dialled server address ∷ atoms) all = absurd all
 no_bytes (done flow ∷ atoms) all = no_bytes atoms all

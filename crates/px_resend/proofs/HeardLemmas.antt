@@ -13,7 +13,7 @@ use Rattle.px_event.specs.declared.side.Side.TheVariants.{Client, Server}
 use Rattle.px_event.specs.Chain.{Timed}
 use Rattle.px_event.specs.Layer.{asks_in}
 use Rattle.px_event.specs.Sides.{closes, piece_of}
-use Rattle.px_event.specs.View.{Atom, View, line, questions, course, flows, byte, done, command_atoms, seen_of}
+use Rattle.px_event.specs.View.{Atom, View, line, questions, course, flows, order, byte, close, done, command_atoms, seen_of}
 use Rattle.px_event.proofs.Seen.{seen_append}
 use Rattle.px_chain.specs.Streams.{bytes_of, client_closed}
 use Rattle.px_resend.specs.Heard.{all_of_servers, is_to_client, of_servers, timed_of_servers, to_servers}
@@ -75,14 +75,28 @@ done_in atom = []
 abbrev dones : List Atom → List Atom
 dones atoms = flat_map done_in atoms
 
+-- of the order of all, all but what is said to the client
+abbrev unsaid_in : Atom → List Atom
+unsaid_in (byte value) = []
+unsaid_in (close Client) = []
+unsaid_in atom = atom ∷ []
+
+abbrev unsaid : List Atom → List Atom
+unsaid atoms = flat_map unsaid_in atoms
+
 -- and of the others all
 abbrev stays_in : View → List Atom → List Atom
 stays_in (line Client) atoms = dones atoms
+stays_in order atoms = unsaid atoms
 stays_in view atoms = atoms
 
 no_dones : (text : List ℕ) → dones (map byte text) ≡ []
 no_dones [] = refl
 no_dones (value ∷ text) = no_dones text
+
+none_unsaid : (text : List ℕ) → unsaid (map byte text) ≡ []
+none_unsaid [] = refl
+none_unsaid (value ∷ text) = none_unsaid text
 
 stays_append : (view : View) (a b : List Atom) → stays_in view (a ++ b) ≡ stays_in view a ++ stays_in view b
 stays_append (line Client) a b = flat_map-append done_in a b
@@ -90,6 +104,7 @@ stays_append (line (Server number)) a b = refl
 stays_append questions a b = refl
 stays_append course a b = refl
 stays_append flows a b = refl
+stays_append order a b = flat_map-append unsaid_in a b
 
 one_to_client : (command : Command) → seen_of (line Client) (to_servers (command ∷ [])) ≡ dones (command_atoms (line Client) command)
 one_to_client (commands.Send Client text) = sym (no_dones text)
@@ -133,6 +148,13 @@ one_seen flows (commands.Close (Server number)) = refl
 one_seen flows (commands.Dial server address inside) = refl
 one_seen flows (commands.Ask ask flow) = refl
 one_seen flows (commands.Done flow) = refl
+one_seen order (commands.Send Client text) = sym (none_unsaid text)
+one_seen order (commands.Send (Server number) text) = refl
+one_seen order (commands.Close Client) = refl
+one_seen order (commands.Close (Server number)) = refl
+one_seen order (commands.Dial server address inside) = refl
+one_seen order (commands.Ask ask flow) = refl
+one_seen order (commands.Done flow) = refl
 
 none_stay : (view : View) → stays_in view [] ≡ []
 none_stay (line Client) = refl
@@ -140,6 +162,7 @@ none_stay (line (Server number)) = refl
 none_stay questions = refl
 none_stay course = refl
 none_stay flows = refl
+none_stay order = refl
 
 seen_to_servers : (view : View) (l : List Command) → seen_of view (to_servers l) ≡ stays_in view (seen_of view l)
 seen_to_servers view [] = sym (none_stay view)

@@ -8,6 +8,8 @@ use Rattle.px_message.specs.declared.response.Response.{Response}
 use Rattle.px_event.specs.declared.command.Command.{Command}
 use Rattle.px_event.specs.declared.event.Event.{Event}
 use Rattle.px_event.specs.declared.reply.Reply.{Reply}
+use Rattle.px_event.specs.declared.side.Side.{Side}
+use Rattle.px_event.specs.declared.side.Side.TheVariants.{Server}
 use Rattle.px_event.specs.Chain.{Timed, Look, NotYet, Asks, Ends, found}
 use Rattle.px_event.specs.Layer.{Move}
 use Rattle.px_event.specs.View.{bytes_in, close}
@@ -44,14 +46,14 @@ AllBelow stage = ⊤
 -- ---- what is found
 
 module _ (server : ℕ) where
-  close_silent : (same : Bool) → bytes_in (cond same (close ∷ []) [] ++ []) ≡ []
-  close_silent true = refl
-  close_silent false = refl
+  close_silent : (side : Side) (same : Bool) → bytes_in (cond same (close side ∷ []) [] ++ []) ≡ []
+  close_silent side true = refl
+  close_silent side false = refl
 
   shut_silent : (used : Used) → IsSilent server (shut_server used)
   shut_silent NoServer = refl
   shut_silent (ByServer number true) = refl
-  shut_silent (ByServer number false) = close_silent (number == server)
+  shut_silent (ByServer number false) = close_silent (Server number) (number == server)
 
   left_silent : (l : Look Command) → IsSilent server (found l) → IsSilent server (found (to_servers_in l))
   left_silent NotYet silent = silent

@@ -27,7 +27,7 @@ use Rattle.px_chain.specs.Chain.{Connect, connect_in, look, sequence, so_far, us
 use Rattle.px_chain.specs.Sights.{Sight, Spare, Standing, Unused, request_in, sight_over, unused_over}
 use Rattle.px_chain.specs.Stages.{At, ServerSide, busy, connection, given_body, given_head, idle, next, request_body, response_body, response_head, upgraded}
 use Rattle.px_chain.specs.Stages as stages
-use Rattle.px_chain.specs.Streams.{Since, client_closed}
+use Rattle.px_chain.specs.Streams.{Since, client_closed, now_over}
 use Rattle.px_http.specs.declared.conversation.HttpConv.{HttpConv}
 use Rattle.px_stream.specs.declared.link.Link.{Link}
 use Rattle.px_stream.specs.declared.phase.Phase.{Phase}
@@ -371,8 +371,8 @@ upgraded_not is = let no : outcomes.Upgraded ≡ outcomes.Going = is in cc
 -- A CONNECT was read: its server is dialled.
 pub connects : (flows : HttpConv) (kept : Opening) (closed : Bool) → outcome_in flows.stream.phase ≡ outcomes.Connects →
     kept.numbers ≡ flows.stream.numbers → asked_tunnel flows.stream.phase ≡ Some kept.address → kept.proxy ≡ proxy_at flows.stream.terms.place →
-    kept.rest ≡ flows.stream.requests.rest → closed ≡ flows.stream.client_closed → (key : List ℕ) → Follows key flows (children.Connecting kept closed) (dials_for kept)
-connects flows kept closed is numbers address proxy rest client_is key conv client place standing prefix keyed at in_time =
+    kept.rest ≡ flows.stream.requests.rest → closed ≡ flows.stream.client_closed → (key : List ℕ) (moment : ℕ) → Follows key moment flows (children.Connecting kept closed) (dials_for kept)
+connects flows kept closed is numbers address proxy rest client_is key moment conv client place standing prefix keyed now at in_time =
     let last : is_last flows.stream.phase ≡ true = last_when flows.stream.phase (apart flows.stream.phase outcomes.Connects outcomes.Going is connects_not) in
     connect_by conv client place flows kept closed standing.since standing.opened standing.spare prefix standing.stage at is
     (found_end conv client place flows standing prefix at last) numbers address (proxy ∙ ap (λ t. proxy_at t.place) at.is_at.is_in.terms) rest client_is
@@ -380,10 +380,10 @@ connects flows kept closed is numbers address proxy rest client_is key conv clie
 -- ---- another protocol
 
 -- a WebSocket's stage, and that of what is not read, are passed alike
-begun_passes : (conv : ℕ) (client : Visitor) (b : Bool) (flow : Flow) (ends : TunnelEnds) (prefix : List (Timed Event)) →
-    (stack_chain conv client).pass (upgraded_to b flow ends) prefix ≡ begun conv client (upgraded_to b flow ends) prefix
-begun_passes conv client true flow ends prefix = refl
-begun_passes conv client false flow ends prefix = refl
+begun_passes : (conv : ℕ) (client : Visitor) (b : Bool) (flow : Flow) (moment : ℕ) (ends : TunnelEnds) (prefix : List (Timed Event)) →
+    (stack_chain conv client).pass (upgraded_to b flow moment ends) prefix ≡ begun conv client (upgraded_to b flow moment ends) prefix
+begun_passes conv client true flow moment ends prefix = refl
+begun_passes conv client false flow moment ends prefix = refl
 
 -- what is left for a WebSocket is left for it everywhere
 socket_room : (place : Place) → most_asked ≤ tunnel_left place
@@ -400,16 +400,16 @@ module _ (conv : ℕ) (client : Visitor) (place : Place) (flows : HttpConv) wher
     ends_of = record { used = at.used; side = side; opened = opened; flow = Some flow; spare = spare }
 
     abbrev stage_of : Stage
-    stage_of = upgraded_to (is_websocket flow (client_closed prefix)) flow ends_of
+    stage_of = upgraded_to (is_websocket flow (client_closed prefix)) flow (now_over since prefix) ends_of
 
     upgrade_follows : IsInFlows conv client place flows there_at prefix → (last : Wanted) → flows.stream.phase ≡ phase.Ready last →
         IsUpgraded at (sight_over there_at prefix) flows.stream.requests flow side last →
-        (sides : Sides) (rests : Rests) (given : Flow) (open_side : Option ℕ) (child : Child) (more : List Command) →
+        (moment : ℕ) (sides : Sides) (rests : Rests) (given : Flow) (open_side : Option ℕ) (child : Child) (more : List Command) → moment ≡ now_over since prefix →
         upgraded_side flows.stream.phase ≡ Some (ByServer sides.server sides.shut) → sides.closed ≡ flows.stream.client_closed →
         rests.client ≡ flows.stream.requests.rest → rests.server ≡ phase_rest flows.stream.phase → Some given ≡ phase_flow flows.stream.phase →
-        open_side ≡ open_spare flows.stream.spare → left_by child ≤ most_asked → GoesOnAs client.key sides rests given open_side child more →
+        open_side ≡ open_spare flows.stream.spare → left_by child ≤ most_asked → GoesOnAs client.key moment sides rests given open_side child more →
         FollowsAt conv client flows child more place there_at prefix
-    upgrade_follows in_flows last same asked sides rests given open_side child more sides_are closed_is client_rest server_rest given_is spare_is few_left goes =
+    upgrade_follows in_flows last same asked moment sides rests given open_side child more now sides_are closed_is client_rest server_rest given_is spare_is few_left goes =
         let seen_there : Sight = sight_over there_at prefix in
         let kept : Link = asked.kept in
         let phase_is : flows.stream.phase ≡ phase.Ready (ready.Upgraded flow kept) = same ∙ ap phase.Ready asked.phase in
@@ -434,9 +434,10 @@ module _ (conv : ℕ) (client : Visitor) (place : Place) (flows : HttpConv) wher
           opened = in_flows.is_at.within.opened;
           within = in_flows.is_at.within.spare;
         } in
-        let Q : Flow → Type 0 = λ f. Arrives conv client child more (upgraded_to (is_websocket f (client_closed prefix)) f ends_of) prefix in
-        let arrives : Arrives conv client child more stage_of prefix = subst Q flow_is (goes conv client ends_of prefix refl may) in
-        let passes = begun_passes conv client (is_websocket flow (client_closed prefix)) flow ends_of prefix in
+        let Q : Flow → Type 0 = λ f. Arrives conv client child more (upgraded_to (is_websocket f (client_closed prefix)) f moment ends_of) prefix in
+        let R : ℕ → Type 0 = λ n. Arrives conv client child more (upgraded_to (is_websocket flow (client_closed prefix)) flow n ends_of) prefix in
+        let arrives : Arrives conv client child more stage_of prefix = subst R now (subst Q flow_is (goes conv client ends_of prefix refl may)) in
+        let passes = begun_passes conv client (is_websocket flow (client_closed prefix)) flow (now_over since prefix) ends_of prefix in
         let P : Turn Stage Command → Type 0 = λ t. IsChild conv client child t.stage prefix in
         let room = socket_room place in
         as_follows conv client place flows there_at prefix child more (Some stage_of) to (record {
@@ -446,8 +447,8 @@ module _ (conv : ℕ) (client : Visitor) (place : Place) (flows : HttpConv) wher
           left = omega arith;
         })
 
-  module _ (sides : Sides) (rests : Rests) (given : Flow) (open_side : Option ℕ) (child : Child) (more : List Command)
-      (since : Since) (opened : ℕ) (spare : Option Spare) (prefix : List (Timed Event)) where
+  module _ (moment : ℕ) (sides : Sides) (rests : Rests) (given : Flow) (open_side : Option ℕ) (child : Child) (more : List Command)
+      (since : Since) (opened : ℕ) (spare : Option Spare) (prefix : List (Timed Event)) (now : moment ≡ now_over since prefix) where
     abbrev stands_at : stages.Stage → Standing
     stands_at stage = record { stage = stage; since = since; opened = opened; spare = spare }
 
@@ -455,14 +456,14 @@ module _ (conv : ℕ) (client : Visitor) (place : Place) (flows : HttpConv) wher
         EndsAs place (stands_at stage) stage (sight_over (stands_at stage) prefix) flows.stream.requests flows.stream.phase →
         upgraded_side flows.stream.phase ≡ Some (ByServer sides.server sides.shut) → sides.closed ≡ flows.stream.client_closed →
         rests.client ≡ flows.stream.requests.rest → rests.server ≡ phase_rest flows.stream.phase → Some given ≡ phase_flow flows.stream.phase →
-        open_side ≡ open_spare flows.stream.spare → left_by child ≤ most_asked → GoesOnAs client.key sides rests given open_side child more →
+        open_side ≡ open_spare flows.stream.spare → left_by child ≤ most_asked → GoesOnAs client.key moment sides rests given open_side child more →
         FollowsAt conv client flows child more place (stands_at stage) prefix
     upgrade_by stage in_flows outcome (by_connect at tunnel is whole last same asked) a b c d e f g goes =
         absurd (let no : outcomes.Connects ≡ outcomes.Upgraded = sym (ap outcome_in same ∙ ap (λ r. outcome_in (phase.Ready r)) asked.phase) ∙ outcome in cc)
     upgrade_by stage in_flows outcome (by_upgrade at flow side is last same asked) a b c d e f g goes =
         let P : stages.Stage → Type 0 = λ s. IsInFlows conv client place flows (stands_at s) prefix →
         IsUpgraded at (sight_over (stands_at s) prefix) flows.stream.requests flow side last → FollowsAt conv client flows child more place (stands_at s) prefix in
-        subst P (sym is) (λ flows_there asked_there. upgrade_follows at flow side since opened spare prefix flows_there last same asked_there sides rests given open_side child more a b c d e f g goes)
+        subst P (sym is) (λ flows_there asked_there. upgrade_follows at flow side since opened spare prefix flows_there last same asked_there moment sides rests given open_side child more now a b c d e f g goes)
         in_flows asked
     upgrade_by stage in_flows outcome (by_end stays last same is) a b c d e f g goes =
         absurd (let no : outcomes.Over ≡ outcomes.Upgraded = sym (ap outcome_in same ∙ is) ∙ outcome in cc)
@@ -470,15 +471,15 @@ module _ (conv : ℕ) (client : Visitor) (place : Place) (flows : HttpConv) wher
         absurd (let no : outcomes.Next ≡ outcomes.Upgraded = sym (ap outcome_in same ∙ is) ∙ outcome in cc)
 
 -- A response of code 101 was sent: what follows on both sides is a WebSocket, or is not read.
-pub upgrades : (key : List ℕ) (flows : HttpConv) (sides : Sides) (rests : Rests) (given : Flow) (open_side : Option ℕ) (child : Child) (more : List Command) →
+pub upgrades : (key : List ℕ) (moment : ℕ) (flows : HttpConv) (sides : Sides) (rests : Rests) (given : Flow) (open_side : Option ℕ) (child : Child) (more : List Command) →
     outcome_in flows.stream.phase ≡ outcomes.Upgraded → upgraded_side flows.stream.phase ≡ Some (ByServer sides.server sides.shut) → sides.closed ≡ flows.stream.client_closed →
     rests.client ≡ flows.stream.requests.rest → rests.server ≡ phase_rest flows.stream.phase → Some given ≡ phase_flow flows.stream.phase →
-    open_side ≡ open_spare flows.stream.spare → left_by child ≤ most_asked → GoesOnAs key sides rests given open_side child more →
-    Follows key flows child more
-upgrades key flows sides rests given open_side child more is a b c d e f g goes conv client place standing prefix keyed at in_time =
+    open_side ≡ open_spare flows.stream.spare → left_by child ≤ most_asked → GoesOnAs key moment sides rests given open_side child more →
+    Follows key moment flows child more
+upgrades key moment flows sides rests given open_side child more is a b c d e f g goes conv client place standing prefix keyed now at in_time =
     let last : is_last flows.stream.phase ≡ true = last_when flows.stream.phase (apart flows.stream.phase outcomes.Upgraded outcomes.Going is upgraded_not) in
-    let P : List ℕ → Type 0 = λ k. GoesOnAs k sides rests given open_side child more in
-    upgrade_by conv client place flows sides rests given open_side child more standing.since standing.opened standing.spare prefix standing.stage at is
+    let P : List ℕ → Type 0 = λ k. GoesOnAs k moment sides rests given open_side child more in
+    upgrade_by conv client place flows moment sides rests given open_side child more standing.since standing.opened standing.spare prefix now standing.stage at is
     (found_end conv client place flows standing prefix at last) a b c d e f g (subst P (sym keyed) goes)
 
 -- its flow is there
@@ -511,10 +512,10 @@ asks_behind flows out longer (Ok child) is asks = λ before first. (
 asks_behind flows out longer (Err error) is asks = tt
 
 -- what holds with each key holds with one
-pub with_one_key : {E : Type 0} (key : List ℕ) (flows : HttpConv) (out longer : List Command) (result : Result Child E) →
-    IfOk result (λ next. Adds (λ more. (key : List ℕ) → Follows key flows next more) out longer) → IfOk result (λ next. Adds (Follows key flows next) out longer)
-with_one_key key flows out longer (Ok child) adds = record { more = adds.more; grown = adds.grown; holds = adds.holds key }
-with_one_key key flows out longer (Err error) adds = tt
+pub with_one_key : {E : Type 0} (key : List ℕ) (moment : ℕ) (flows : HttpConv) (out longer : List Command) (result : Result Child E) →
+    IfOk result (λ next. Adds (λ more. (key : List ℕ) (moment : ℕ) → Follows key moment flows next more) out longer) → IfOk result (λ next. Adds (Follows key moment flows next) out longer)
+with_one_key key moment flows out longer (Ok child) adds = record { more = adds.more; grown = adds.grown; holds = adds.holds key moment }
+with_one_key key moment flows out longer (Err error) adds = tt
 
 -- ---- the end
 
@@ -533,8 +534,8 @@ ended found outcome is (inl here) other a b there = a (sym there ∙ (sym is ∙
 ended found outcome is (inr here) other a b there = b (sym there ∙ (sym is ∙ here))
 
 pub ends_with : (flows : HttpConv) (outcome : Outcome) → outcome ≡ outcome_in flows.stream.phase → (outcome ≡ outcomes.Next) ⊎ (outcome ≡ outcomes.Over) →
-    (key : List ℕ) → Follows key flows children.Over (shut_open (open_spare flows.stream.spare))
-ends_with flows outcome is which key conv client place standing prefix keyed at in_time =
+    (key : List ℕ) (moment : ℕ) → Follows key moment flows children.Over (shut_open (open_spare flows.stream.spare))
+ends_with flows outcome is which key moment conv client place standing prefix keyed now at in_time =
     let apart_from = ended flows.stream.phase outcome is which in
     ends conv client place flows standing prefix at
     (last_when flows.stream.phase (apart_from outcomes.Going (λ e. let no : outcomes.Going ≡ outcomes.Next = e in cc) (λ e. let no : outcomes.Going ≡ outcomes.Over = e in cc)))

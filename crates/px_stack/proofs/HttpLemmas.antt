@@ -13,7 +13,8 @@ use Rattle.px_exchange.specs.declared.place.Place.{Place}
 use Rattle.px_exchange.specs.declared.terms.Terms.{Terms}
 use Rattle.px_exchange.specs.Places.{terms_of}
 use Rattle.px_chain.specs.Chain.{http_chain, sequence}
-use Rattle.px_chain.specs.Sights.{SpareIsWithin, Standing, unused_over}
+use Rattle.px_chain.specs.Sights.{IsWithin, Standing, unused_over}
+use Rattle.px_chain.proofs.FrontLaws.{now_here, now_more}
 use Rattle.px_http.specs.declared.conversation.HttpConv.{HttpConv}
 use Rattle.px_stream.specs.Anywhere.{OpensInTime, Somewhere}
 use Rattle.px_stream.specs.Left.{sequence_left}
@@ -79,7 +80,8 @@ not_ended (Ends other) conv client boxed stage prefix owed is ends = let no : ch
 
 -- ---- an event
 
-module _ (conv : ℕ) (client : Visitor) (boxed : Box HttpConv) (after : HttpConv) (child : Child) (first second : List Command) (follows : Follows client.key after child second) where
+module _ (conv : ℕ) (client : Visitor) (boxed : Box HttpConv) (after : HttpConv) (child : Child) (moment : ℕ) (first second : List Command)
+    (follows : Follows client.key moment after child second) where
   -- what the two gave, one behind the other
   gave_both : (view : View) (so_far all none owed : List Command) → none ≡ [] →
       seen_of view so_far ++ seen_of view first ≡ seen_of view (none ++ all) → seen_of view all ++ seen_of view second ≡ seen_of view owed →
@@ -90,29 +92,30 @@ module _ (conv : ℕ) (client : Visitor) (boxed : Box HttpConv) (after : HttpCon
       ∙ (ap (λ l. l ++ seen_of view second) (one ∙ ap (λ n. seen_of view (n ++ all)) empty)
       ∙ (two ∙ ap (λ n. seen_of view (n ++ owed)) (sym empty))))
 
-  takes_there : (moment : ℕ) (event : Event) (place : Place) (standing : Standing) (prefix : List (Timed Event)) →
-      SpareIsWithin standing.spare prefix → OpensInTime standing.spare prefix →
+  takes_there : (event : Event) (place : Place) (standing : Standing) (prefix : List (Timed Event)) →
+      IsWithin standing prefix → OpensInTime standing.spare prefix →
       ((owed : List Command) → (stack_chain conv client).look (http place standing) prefix ≡ Ends owed → ⊥) →
       Takes (flows_at conv client place) (IsInSequence (terms_of conv client.address place) (ahead_at place)) after.stream moment event first standing prefix →
       Takes (stack_chain conv client) (IsChild conv client) child moment event (first ++ second) (http place standing) prefix
-  takes_there moment event place standing prefix within in_time goes (onward is at gives) =
-      let longer : List (Timed Event) = prefix ++ record { moment = moment; value = event } ∷ [] in
+  takes_there event place standing prefix within in_time goes (onward is at gives) =
+      let e : Timed Event = record { moment = moment; value = event } in
+      let longer : List (Timed Event) = prefix ++ e ∷ [] in
       let on = (flows_at conv client place).pass standing longer in
-      let next = follows conv client place on.stage longer refl at (in_time_more standing.spare prefix (record { moment = moment; value = event }) within in_time) in
+      let next = follows conv client place on.stage longer refl (sym (now_more standing.since prefix e within.since)) at (in_time_more standing.spare prefix e within.spare in_time) in
       onward (ap (with_closes conv client (unused_over standing.spare prefix)) is) next.there
       (λ view. gave_both view ((flows_at conv client place).so_far standing prefix) (owed_here (flows_at conv client place) on.stage longer) on.owed _ refl (gives view) (next.gives view))
-  takes_there moment event place standing prefix within in_time goes (past_end owed is at gives) =
+  takes_there event place standing prefix within in_time goes (past_end owed is at gives) =
       absurd (goes (owed ++ shut_unused (unused_over standing.spare prefix)) (ap (with_closes conv client (unused_over standing.spare prefix)) is))
 
-  pub http_takes : (moment : ℕ) (event : Event) →
+  pub http_takes : (event : Event) →
       ((made : Terms) (ahead : ℕ) (place : Standing) (prefix : List (Timed Event)) → IsInSequence made ahead boxed.value.stream place prefix →
       Takes (http_chain sequence made) (IsInSequence made ahead) after.stream moment event first place prefix) →
       TakesChild conv client (children.Http boxed) child moment event (first ++ second)
-  http_takes moment event takes stage prefix is =
+  http_takes event takes stage prefix is =
       let kept = is_kept conv client boxed stage prefix is in
       let P : Stage → Type 0 = λ s. IsChild conv client (children.Http boxed) s prefix → Takes (stack_chain conv client) (IsChild conv client) child moment event (first ++ second) s prefix in
       subst P (sym kept.is)
-      (λ there. takes_there moment event kept.place kept.standing prefix kept.there.is_at.within.spare kept.in_time
+      (λ there. takes_there event kept.place kept.standing prefix kept.there.is_at.within kept.in_time
       (λ owed ends. not_ended ((stack_chain conv client).look (http kept.place kept.standing) prefix) conv client boxed (http kept.place kept.standing) prefix owed there ends)
       (takes (terms_of conv client.address kept.place) (ahead_at kept.place) kept.standing prefix kept.there)) is
 
@@ -122,15 +125,15 @@ module _ (conv : ℕ) (client : Visitor) (boxed : Box HttpConv) (after : HttpCon
   abbrev Plain : Place → Standing → List (Timed Event) → Timed Reply → Type 0
   Plain place standing prefix answer = (stack_chain conv client).turn (http place standing) prefix answer ≡ turn_flows conv client place standing prefix answer
 
-  resumes_there : (moment : ℕ) (reply : Reply) (place : Place) (standing : Standing) (prefix : List (Timed Event)) → OpensInTime standing.spare prefix →
+  resumes_there : (reply : Reply) (place : Place) (standing : Standing) (prefix : List (Timed Event)) → OpensInTime standing.spare prefix →
       Plain place standing prefix (record { moment = moment; value = reply }) →
       Resumes (flows_at conv client place) (IsInSequence (terms_of conv client.address place) (ahead_at place)) after.stream moment reply first standing prefix →
       Resumes (stack_chain conv client) (IsChild conv client) child moment reply (first ++ second) (http place standing) prefix
-  resumes_there moment reply place standing prefix in_time plain resumes =
+  resumes_there reply place standing prefix in_time plain resumes =
       let answer : Timed Reply = record { moment = moment; value = reply } in
       let turned = (flows_at conv client place).turn standing prefix answer in
       let on = (flows_at conv client place).pass turned.stage prefix in
-      let next = follows conv client place on.stage prefix refl resumes.place (in_time_taken _ standing.spare prefix in_time) in
+      let next = follows conv client place on.stage prefix refl (sym (now_here moment prefix)) resumes.place (in_time_taken _ standing.spare prefix in_time) in
       let P : Turn Stage Command → Type 0 = λ t. IsChild conv client child ((stack_chain conv client).pass t.stage prefix).stage prefix in
       record {
         ask = resumes.ask;
@@ -145,21 +148,21 @@ module _ (conv : ℕ) (client : Visitor) (boxed : Box HttpConv) (after : HttpCon
             ∙ ap (λ t. seen_of view (t.owed ++ owed_over (stack_chain conv client) t.stage prefix)) (sym plain)))));
       }
 
-  pub http_resumes : (moment : ℕ) (reply : Reply) → IsPlain boxed.value reply →
+  pub http_resumes : (reply : Reply) → IsPlain boxed.value reply →
       ((made : Terms) (ahead : ℕ) (place : Standing) (prefix : List (Timed Event)) → IsInSequence made ahead boxed.value.stream place prefix →
       Resumes (http_chain sequence made) (IsInSequence made ahead) after.stream moment reply first place prefix) →
       ResumesChild conv client (children.Http boxed) child moment reply (first ++ second)
-  http_resumes moment reply plain resumes stage prefix is =
+  http_resumes reply plain resumes stage prefix is =
       let kept = is_kept conv client boxed stage prefix is in
       let P : Stage → Type 0 = λ s. Resumes (stack_chain conv client) (IsChild conv client) child moment reply (first ++ second) s prefix in
       subst P (sym kept.is)
-      (resumes_there moment reply kept.place kept.standing prefix kept.in_time
+      (resumes_there reply kept.place kept.standing prefix kept.in_time
       (plain_turn conv client kept.place boxed.value kept.standing prefix moment reply kept.there plain)
       (resumes (terms_of conv client.address kept.place) (ahead_at kept.place) kept.standing prefix kept.there))
 
 -- ---- how many replies may still be asked for
 
-module _ (key : List ℕ) (boxed : Box HttpConv) (after : HttpConv) (child : Child) (first second : List Command) (follows : Follows key after child second) where
+module _ (key : List ℕ) (boxed : Box HttpConv) (after : HttpConv) (child : Child) (moment : ℕ) (first second : List Command) (follows : Follows key moment after child second) where
   -- whatever the key: the bound does not hang on it
   abbrev keyed : Visitor → Visitor
   keyed client = record { address = client.address; key = key }
@@ -168,33 +171,39 @@ module _ (key : List ℕ) (boxed : Box HttpConv) (after : HttpConv) (child : Chi
       tunnel_left boxed.value.stream.terms.place ≡ tunnel_left place
   places_left conv client place standing prefix at = ap (λ t. tunnel_left t.place) at.is_at.is_in.terms
 
-  takes_left_by : (conv : ℕ) (client : Visitor) (moment : ℕ) (event : Event) (place : Place) (standing : Standing) (prefix : List (Timed Event)) →
-      SpareIsWithin standing.spare prefix → OpensInTime standing.spare prefix → Takes (flows_at conv client place) (IsInSequence (terms_of conv client.address place) (ahead_at place)) after.stream moment event first standing prefix →
+  takes_left_by : (conv : ℕ) (client : Visitor) (event : Event) (place : Place) (standing : Standing) (prefix : List (Timed Event)) →
+      IsWithin standing prefix → OpensInTime standing.spare prefix →
+      ((owed : List Command) → (stack_chain conv client).look (http place standing) prefix ≡ Ends owed → ⊥) → Takes (flows_at conv client place) (IsInSequence (terms_of conv client.address place) (ahead_at place)) after.stream moment event first standing prefix →
       left_by child ≤ sequence_left after.stream + tunnel_left place
-  takes_left_by conv client moment event place standing prefix within in_time (onward is at gives) =
+  takes_left_by conv client event place standing prefix within in_time goes (onward is at gives) =
       let e : Timed Event = record { moment = moment; value = event } in
-      (follows conv (keyed client) place ((flows_at conv client place).pass standing (prefix ++ e ∷ [])).stage (prefix ++ e ∷ []) refl at (in_time_more standing.spare prefix e within in_time)).left
-  takes_left_by conv client moment event place standing prefix within in_time (past_end owed is at gives) = (follows conv (keyed client) place standing prefix refl at in_time).left
+      (follows conv (keyed client) place ((flows_at conv client place).pass standing (prefix ++ e ∷ [])).stage (prefix ++ e ∷ []) refl
+      (sym (now_more standing.since prefix e within.since)) at (in_time_more standing.spare prefix e within.spare in_time)).left
+  takes_left_by conv client event place standing prefix within in_time goes (past_end owed is at gives) =
+      absurd (goes (owed ++ shut_unused (unused_over standing.spare prefix)) (ap (with_closes conv client (unused_over standing.spare prefix)) is))
 
-  pub takes_left : (conv : ℕ) (client : Visitor) (moment : ℕ) (event : Event) → IsSomewhere conv client (children.Http boxed) →
+  pub takes_left : (conv : ℕ) (client : Visitor) (event : Event) → IsSomewhere conv client (children.Http boxed) →
       ((made : Terms) (ahead : ℕ) (place : Standing) (prefix : List (Timed Event)) → IsInSequence made ahead boxed.value.stream place prefix →
       Takes (http_chain sequence made) (IsInSequence made ahead) after.stream moment event first place prefix) →
       sequence_left after.stream ≤ sequence_left boxed.value.stream → left_by child ≤ left_by (children.Http boxed)
-  takes_left conv client moment event (stage, prefix, is) takes fewer =
+  takes_left conv client event (stage, prefix, is) takes fewer =
       let kept = is_kept conv client boxed stage prefix is in
-      let here = takes_left_by conv client moment event kept.place kept.standing prefix kept.there.is_at.within.spare kept.in_time (takes (terms_of conv client.address kept.place) (ahead_at kept.place) kept.standing prefix kept.there) in
+      let P : Stage → Type 0 = λ s. IsChild conv client (children.Http boxed) s prefix in
+      let here = takes_left_by conv client event kept.place kept.standing prefix kept.there.is_at.within kept.in_time
+      (λ owed ends. not_ended ((stack_chain conv client).look (http kept.place kept.standing) prefix) conv client boxed (http kept.place kept.standing) prefix owed (subst P kept.is is) ends)
+      (takes (terms_of conv client.address kept.place) (ahead_at kept.place) kept.standing prefix kept.there) in
       let same = places_left conv client kept.place kept.standing prefix kept.there in
       omega arith
 
-  pub resumes_left : (conv : ℕ) (client : Visitor) (moment : ℕ) (reply : Reply) → IsSomewhere conv client (children.Http boxed) →
+  pub resumes_left : (conv : ℕ) (client : Visitor) (reply : Reply) → IsSomewhere conv client (children.Http boxed) →
       ((made : Terms) (ahead : ℕ) (place : Standing) (prefix : List (Timed Event)) → IsInSequence made ahead boxed.value.stream place prefix →
       Resumes (http_chain sequence made) (IsInSequence made ahead) after.stream moment reply first place prefix) →
       sequence_left after.stream < sequence_left boxed.value.stream → left_by child < left_by (children.Http boxed)
-  resumes_left conv client moment reply (stage, prefix, is) resumes fewer =
+  resumes_left conv client reply (stage, prefix, is) resumes fewer =
       let kept = is_kept conv client boxed stage prefix is in
       let resumed = resumes (terms_of conv client.address kept.place) (ahead_at kept.place) kept.standing prefix kept.there in
       let flows = flows_at conv client kept.place in
-      let here = (follows conv (keyed client) kept.place (flows.pass (flows.turn kept.standing prefix (record { moment = moment; value = reply })).stage prefix).stage prefix refl resumed.place
+      let here = (follows conv (keyed client) kept.place (flows.pass (flows.turn kept.standing prefix (record { moment = moment; value = reply })).stage prefix).stage prefix refl (sym (now_here moment prefix)) resumed.place
       (in_time_taken _ kept.standing.spare prefix kept.in_time)).left in
       let same = places_left conv client kept.place kept.standing prefix kept.there in
       omega arith

@@ -85,11 +85,11 @@ module _ (conv : ℕ) (client : Visitor) (kept : Opening) (server : ℕ) (moment
       }
 
   module _ (after : HttpConv) (next : Child) (out mid longer : List Command)
-      (begins : Begins before after.stream moment false kept.rest out mid) (follows : Adds (Follows client.key after next) mid longer) where
+      (begins : Begins before after.stream moment false kept.rest out mid) (follows : Adds (Follows client.key moment after next) mid longer) where
     follows_at : (tunnel : Tunnel) (spare : Spare) (since : Since) (prefix : List (Timed Event)) → MayDecide tunnel spare since prefix kept server false moment →
         FollowsAt conv client after next follows.more (inner_place tunnel spare) (inner_standing tunnel spare since) prefix
     follows_at tunnel spare since prefix at =
-        follows.holds conv client (inner_place tunnel spare) (inner_standing tunnel spare since) prefix refl
+        follows.holds conv client (inner_place tunnel spare) (inner_standing tunnel spare since) prefix refl at.now
         (begins.begins (terms_of conv client.address (inner_place tunnel spare)) 1 (inner_standing tunnel spare since) prefix (may_begin tunnel spare since prefix at)).is_there
         (open_in_time (Some spare) prefix at.client)
 
@@ -137,7 +137,7 @@ module _ (conv : ℕ) (client : Visitor) (kept : Opening) (server : ℕ) (moment
     (numbers : before.numbers ≡ record { flow = kept.numbers.flow; server = kept.numbers.server })
     (unheard : before.spare ≡ spare_at (place_in kept server)) (new : IsNew before) (few : IsFewDials kept server)
     (after : HttpConv) (next : Child) (out mid longer : List Command)
-    (begins : Begins before after.stream moment false kept.rest out mid) (follows : Adds (Follows client.key after next) mid longer) where
+    (begins : Begins before after.stream moment false kept.rest out mid) (follows : Adds (Follows client.key moment after next) mid longer) where
   inside_left : sequence_left after.stream ≤ sequence_left before → left_by next ≤ opened_left
   inside_left less =
       let tunnel = some_tunnel kept in
@@ -163,10 +163,10 @@ module _ (conv : ℕ) (client : Visitor) (kept : Opening) (server : ℕ) (moment
   begins_boxed = let P : HttpConv → Type 0 = λ h. Begins before h.stream moment false kept.rest out mid in subst P (sym boxes) begins
 
   -- whose key is the client's
-  keyed_follows : (next : Child) → Adds (Follows key boxed next) mid longer → Adds (Follows client.key boxed next) mid longer
-  keyed_follows next follows = let P : List ℕ → Type 0 = λ k. Adds (Follows k boxed next) mid longer in subst P (sym keyed) follows
+  keyed_follows : (next : Child) → Adds (Follows key moment boxed next) mid longer → Adds (Follows client.key moment boxed next) mid longer
+  keyed_follows next follows = let P : List ℕ → Type 0 = λ k. Adds (Follows k moment boxed next) mid longer in subst P (sym keyed) follows
 
-  pub inside_begun : {E : Type 0} (result : Result Child E) → IfOk result (λ next. Adds (Follows key boxed next) mid longer) →
+  pub inside_begun : {E : Type 0} (result : Result Child E) → IfOk result (λ next. Adds (Follows key moment boxed next) mid longer) →
       IfOk result (λ next. Adds (GoesInside conv client kept server moment next) out longer)
   inside_begun (Ok next) follows = begun_inside conv client kept server moment before terms_there numbers unheard boxed next out mid longer begins_boxed (keyed_follows next follows)
   inside_begun (Err error) follows = tt
@@ -178,7 +178,7 @@ module _ (conv : ℕ) (client : Visitor) (kept : Opening) (server : ℕ) (moment
   inside_asks asks (Err error) behind = tt
 
   pub inside_bound : {E : Type 0} → IsNew before → IsFewDials kept server → sequence_left after.stream ≤ sequence_left before → (result : Result Child E) →
-      IfOk result (λ next. Adds (Follows key boxed next) mid longer) → IfOk result (λ next. left_by next ≤ opened_left)
+      IfOk result (λ next. Adds (Follows key moment boxed next) mid longer) → IfOk result (λ next. left_by next ≤ opened_left)
   inside_bound new few less (Ok next) follows =
       let P : HttpConv → Type 0 = λ h. sequence_left h.stream ≤ sequence_left before in
       inside_left conv client kept server moment before terms_there numbers unheard new few boxed next out mid longer begins_boxed (keyed_follows next follows) (subst P (sym boxes) less)

@@ -270,14 +270,14 @@ module _ (conv : ℕ) (client : Visitor) (boxed : Box HttpConv) (place : Place) 
       subst P (ap is_empty behind.rest_is) (may_reach_by (is_empty rest) refl)
 
   module _ (after : HttpConv) (next : Child) (out mid : List Command) (second : List Command) (reaches : Reaches boxed.value.stream after.stream moment rest out mid)
-      (follows : Follows client.key after next second) where
+      (follows : Follows client.key moment after next second) where
     abbrev there_on : Standing
     there_on = connected_on place from (way_to side used prefix) reached_since
 
     reached_on : FollowsAt conv client after next second place there_on prefix
     reached_on =
         let led : IsLedOn conv client place from side prefix boxed.value = may.waiting in
-        follows conv client place there_on prefix refl
+        follows conv client place there_on prefix refl (may.now ∙ sym (now_here (now_over since prefix) prefix))
         (reaches.reaches (terms_of conv client.address place) (ahead_at place) (standing_of from) there_on prefix may_reach).is_there led.in_time
 
     leads_on : LeadsThere conv client next (reaches.more ++ second) (connected_owes place from.flow side.server) (flow_reached place from side used since prefix) prefix
@@ -345,13 +345,13 @@ goal_keyed conv client key (a_tunnel tunnel) side prefix boxed at = absurd at
 goal_keyed conv client key (a_flow place from) side prefix boxed at = led_keyed conv client key place from side prefix boxed.value at
 
 module _ (key : List ℕ) (boxed : Box HttpConv) (rest : List ℕ) (moment : ℕ) where
-  pub leads : (after : HttpConv) (next : Child) (out mid second : List Command) (reaches : Reaches boxed.value.stream after.stream moment rest out mid) → Follows key after next second →
+  pub leads : (after : HttpConv) (next : Child) (out mid second : List Command) (reaches : Reaches boxed.value.stream after.stream moment rest out mid) → Follows key moment after next second →
       Leads key boxed rest moment next (reaches.more ++ second)
   leads after next out mid second reaches follows conv client place from side since prefix used keyed may behind =
-      let P : List ℕ → Type 0 = λ k. Follows k after next second in
+      let P : List ℕ → Type 0 = λ k. Follows k moment after next second in
       leads_on conv client boxed place from side since prefix used rest moment may behind after next out mid second reaches (subst P (sym keyed) follows)
 
-  pub leads_left : (after : HttpConv) (next : Child) (out mid second : List Command) (reaches : Reaches boxed.value.stream after.stream moment rest out mid) → Follows key after next second →
+  pub leads_left : (after : HttpConv) (next : Child) (out mid second : List Command) (reaches : Reaches boxed.value.stream after.stream moment rest out mid) → Follows key moment after next second →
       CanReach boxed rest moment → sequence_left after.stream < sequence_left boxed.value.stream → left_by next ≤ goal_left (goals.Flow boxed)
   leads_left after next out mid second reaches follows can fewer =
       reach_left can.conv (with_key can.client key) boxed can.place can.from can.side can.since can.prefix can.used rest moment
@@ -408,14 +408,14 @@ module _ (server : ℕ) (boxed : Box HttpConv) (rest heard : List ℕ) (moment :
 
 -- it is refused, as by its dial
 module _ (conv : ℕ) (client : Visitor) (boxed : Box HttpConv) (server : ℕ) (shut : Bool) (moment : ℕ) (after : HttpConv) (next : Child) (out mid : List Command) (second : List Command)
-    (resumes : ResumesAnywhere boxed.value.stream after.stream moment (reply.Refused UpstreamRefused) out mid) (follows : Follows client.key after next second) where
+    (resumes : ResumesAnywhere boxed.value.stream after.stream moment (reply.Refused UpstreamRefused) out mid) (follows : Follows client.key moment after next second) where
   module _ (place : Place) (from : Dialling) (side : Spare) (since : Since) (prefix : List (Timed Event)) (led : IsLedOn conv client place from side prefix boxed.value) where
     abbrev refused_on : Turn Standing Command
     refused_on = (flows_at conv client place).turn (standing_of from) prefix (record { moment = moment; value = reply.Refused UpstreamRefused })
 
     refused_follows : FollowsAt conv client after next second place refused_on.stage prefix
     refused_follows =
-        follows conv client place refused_on.stage prefix refl (resumes.resumes (terms_of conv client.address place) (ahead_at place) (standing_of from) prefix led.there).place
+        follows conv client place refused_on.stage prefix refl (sym (now_here moment prefix)) (resumes.resumes (terms_of conv client.address place) (ahead_at place) (standing_of from) prefix led.there).place
         (in_time_taken false from.spare prefix led.in_time)
 
     away_flow_there : moment ≡ now_over since prefix → server ≡ side.server → IsTurnedAway side prefix shut →
@@ -479,7 +479,7 @@ away_waits boxed somewhere = by somewhere.goal somewhere.at
     by (a_flow place from) at = at.waits
 
 pub away_flow_left : (key : List ℕ) (boxed : Box HttpConv) (moment : ℕ) (after : HttpConv) (next : Child) (out mid : List Command) (second : List Command) →
-    ResumesAnywhere boxed.value.stream after.stream moment (reply.Refused UpstreamRefused) out mid → Follows key after next second → IsGoalSomewhere (goals.Flow boxed) →
+    ResumesAnywhere boxed.value.stream after.stream moment (reply.Refused UpstreamRefused) out mid → Follows key moment after next second → IsGoalSomewhere (goals.Flow boxed) →
     sequence_left after.stream < sequence_left boxed.value.stream → left_by next ≤ goal_left (goals.Flow boxed)
 away_flow_left key boxed moment after next out mid second resumes follows somewhere fewer =
     away_bound somewhere.conv (with_key somewhere.client key) boxed 0 false moment after next out mid second resumes follows somewhere.goal somewhere.side somewhere.prefix
@@ -559,11 +559,11 @@ away_given conv client kept server goal shut moment out mid longer is refused_so
     }
 
 module _ {E : Type 0} (key : List ℕ) (boxed : Box HttpConv) (moment : ℕ) (after : HttpConv) (out mid longer : List Command) (result : Result Child E) where
-  pub led_given : (rest : List ℕ) → Reaches boxed.value.stream after.stream moment rest out mid → IfOk result (λ next. Adds (Follows key after next) mid longer) →
+  pub led_given : (rest : List ℕ) → Reaches boxed.value.stream after.stream moment rest out mid → IfOk result (λ next. Adds (Follows key moment after next) mid longer) →
       IfOk result (λ next. Adds (Leads key boxed rest moment next) out longer)
   led_given rest reaches follows = by result follows
     where
-      by : (result : Result Child E) → IfOk result (λ next. Adds (Follows key after next) mid longer) → IfOk result (λ next. Adds (Leads key boxed rest moment next) out longer)
+      by : (result : Result Child E) → IfOk result (λ next. Adds (Follows key moment after next) mid longer) → IfOk result (λ next. Adds (Leads key boxed rest moment next) out longer)
       by (Ok next) follows_so = record {
         more = reaches.more ++ follows_so.more;
         grown = given_twice out mid longer reaches.more follows_so.more reaches.grown follows_so.grown;
@@ -572,35 +572,35 @@ module _ {E : Type 0} (key : List ℕ) (boxed : Box HttpConv) (moment : ℕ) (af
       by (Err error) follows_so = tt
 
   pub led_bound : (rest : List ℕ) → Reaches boxed.value.stream after.stream moment rest out mid → CanReach boxed rest moment → sequence_left after.stream < sequence_left boxed.value.stream →
-      IfOk result (λ next. Adds (Follows key after next) mid longer) → IfOk result (λ next. left_by next ≤ goal_left (goals.Flow boxed))
+      IfOk result (λ next. Adds (Follows key moment after next) mid longer) → IfOk result (λ next. left_by next ≤ goal_left (goals.Flow boxed))
   led_bound rest reaches can fewer follows = by result follows
     where
-      by : (result : Result Child E) → IfOk result (λ next. Adds (Follows key after next) mid longer) → IfOk result (λ next. left_by next ≤ goal_left (goals.Flow boxed))
+      by : (result : Result Child E) → IfOk result (λ next. Adds (Follows key moment after next) mid longer) → IfOk result (λ next. left_by next ≤ goal_left (goals.Flow boxed))
       by (Ok next) follows_so = leads_left key boxed rest moment after next out mid follows_so.more reaches follows_so.holds can fewer
       by (Err error) follows_so = tt
 
   module _ (between : List Command) (server : ℕ) (shut : Bool) (resumes : ResumesAnywhere boxed.value.stream after.stream moment (reply.Refused UpstreamRefused) out mid)
       (closed : between ≡ mid ++ shut_server (ByServer server shut)) where
-    pub refused_given : IfOk result (λ next. Adds (Follows key after next) between longer) →
+    pub refused_given : IfOk result (λ next. Adds (Follows key moment after next) between longer) →
         IfOk result (λ next. Adds (λ more. (conv : ℕ) (client : Visitor) → client.key ≡ key → TurnsAway conv client server (goals.Flow boxed) shut moment next more) out longer)
     refused_given follows = by result follows
       where
-        by : (result : Result Child E) → IfOk result (λ next. Adds (Follows key after next) between longer) →
+        by : (result : Result Child E) → IfOk result (λ next. Adds (Follows key moment after next) between longer) →
             IfOk result (λ next. Adds (λ more. (conv : ℕ) (client : Visitor) → client.key ≡ key → TurnsAway conv client server (goals.Flow boxed) shut moment next more) out longer)
         by (Ok next) follows_so = record {
           more = resumes.more ++ (shut_server (ByServer server shut) ++ follows_so.more);
           grown = given_twice out mid longer resumes.more (shut_server (ByServer server shut) ++ follows_so.more) resumes.grown
               (given_twice mid between longer (shut_server (ByServer server shut)) follows_so.more closed follows_so.grown);
           holds = λ conv client keyed.
-              let P : List ℕ → Type 0 = λ k. Follows k after next follows_so.more in
+              let P : List ℕ → Type 0 = λ k. Follows k moment after next follows_so.more in
               away_flow conv client boxed server shut moment after next out mid follows_so.more resumes (subst P (sym keyed) follows_so.holds);
         }
         by (Err error) follows_so = tt
 
     pub refused_bound : IsGoalSomewhere (goals.Flow boxed) → sequence_left after.stream < sequence_left boxed.value.stream →
-        IfOk result (λ next. Adds (Follows key after next) between longer) → IfOk result (λ next. left_by next ≤ goal_left (goals.Flow boxed))
+        IfOk result (λ next. Adds (Follows key moment after next) between longer) → IfOk result (λ next. left_by next ≤ goal_left (goals.Flow boxed))
     refused_bound somewhere fewer follows = by result follows
       where
-        by : (result : Result Child E) → IfOk result (λ next. Adds (Follows key after next) between longer) → IfOk result (λ next. left_by next ≤ goal_left (goals.Flow boxed))
+        by : (result : Result Child E) → IfOk result (λ next. Adds (Follows key moment after next) between longer) → IfOk result (λ next. left_by next ≤ goal_left (goals.Flow boxed))
         by (Ok next) follows_so = away_flow_left key boxed moment after next out mid follows_so.more resumes follows_so.holds somewhere fewer
         by (Err error) follows_so = tt

@@ -13,14 +13,14 @@ use Rattle.px_relay.specs.declared.failure.Failure.TheVariants.{BadFrame, NotTex
 use Rattle.px_relay.specs.declared.layer.WsLayer.{WsLayer}
 use Rattle.px_relay.specs.declared.peer.Peer.{Peer}
 use Rattle.px_relay.specs.declared.peer.Peer.TheVariants.{Client, Server}
-use Rattle.px_relay.specs.Chain.{Course, at_rest, behind_course, closes_with, control_course, data_course, drain_server, drain_within, ends, fails, frame_course, front_course, goes_on, looked, message_course, most_whole, pass, past, stops, turn, turn_by, unread}
+use Rattle.px_relay.specs.Chain.{Course, at_rest, behind_course, closes_with, control_course, data_course, drain_both, drain_server, drain_within, ends, fails, frame_course, front_course, goes_on, looked, message_course, most_whole, pass, past, stops, terms_at, turn, turn_by, unread}
 use Rattle.px_relay.specs.Kept.{left_in}
 use Rattle.px_relay.specs.Laws.{half_messages, past_keeps}
 use Rattle.px_relay.specs.Messages.{Message, Verdict, drops, gathered, is_bad_text, kills, sends, verdict}
 use Rattle.px_relay.specs.Peers.{other}
 use Rattle.px_relay.specs.Sending.{Terms, counted, send_to}
 use Rattle.px_relay.specs.Sights.{Sight}
-use Rattle.px_relay.specs.Stages.{At, Stage, half_of, holding, next_in, over, relaying, with_half}
+use Rattle.px_relay.specs.Stages.{At, Stage, half_of, holding, next_in, over, relaying, rested, with_half}
 use Rattle.px_relay.specs.Stands.{IsIn}
 use Rattle.px_stack.specs.Kept.{most_asked, socket_left}
 
@@ -99,13 +99,16 @@ module _ (terms : Terms) (seen : Sight) (asked : ℕ) where
       front_asked peer (drain_within terms seen peer most onward) onward at (next_in peer at seen) (drain_asked peer onward behind most) behind same
 
   rest_asked : AllAsked (at_rest terms seen)
-  rest_asked at same = asked_if (seen.closed || seen.shut) asked (record { owed = ends terms seen terms.flow; stage = over }) (record { owed = []; stage = relaying at }) tt same
+  rest_asked at same = asked_if (seen.closed || seen.shut) asked (record { owed = ends terms seen terms.flow; stage = over }) (record { owed = []; stage = relaying (rested at) }) tt same
 
   server_asked : AllAsked (drain_server terms seen)
   server_asked at same = drain_asked Server (at_rest terms seen) rest_asked (suc (length (unread Server seen at))) at same
 
-  pub pass_asked : (at : At) → at.messages ≡ asked → IsAsked asked (pass terms (relaying at) seen).stage
-  pass_asked at same = drain_asked Client (drain_server terms seen) server_asked (suc (length (unread Client seen at))) at same
+  both_asked : AllAsked (drain_both terms seen)
+  both_asked at same = drain_asked Client (drain_server terms seen) server_asked (suc (length (unread Client seen at))) at same
+
+pub pass_asked : (terms : Terms) (seen : Sight) (asked : ℕ) (at : At) → at.messages ≡ asked → IsAsked asked (pass terms (relaying at) seen).stage
+pass_asked terms seen asked at same = both_asked (terms_at terms at) seen asked at same
 
 -- ---- how many answers are left
 

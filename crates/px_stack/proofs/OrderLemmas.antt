@@ -33,7 +33,7 @@ use Rattle.px_chain.specs.Streams.{Since, client_closed, from_here, is_closed, n
 use Rattle.px_http.proofs.OrderLemmas.{is_counted as is_counted_there, is_counted_at, is_past, is_past_at, leaves_flows}
 use Rattle.px_tunnel.specs.Upstream.{Granting, awaited, connect_text, granted, refused}
 use Rattle.px_relay.specs.declared.peer.Peer.{Peer}
-use Rattle.px_relay.specs.Chain.{message_ask, with_message}
+use Rattle.px_relay.specs.Chain.{message_ask, terms_at, with_message}
 use Rattle.px_relay.specs.Chain as relay
 use Rattle.px_relay.specs.Messages.{Message}
 use Rattle.px_relay.specs.Sending.{Terms}
@@ -243,15 +243,15 @@ module _ (conv : ℕ) (client : Visitor) where
       record { keeps = λ counted index before. ap (λ s. is_past s index) (sym is) ∙ before; leads = λ counted. refl }
 
   -- the flow that becomes a WebSocket is the one that HTTP counts
-  upgrades_follow : (is : Bool) (standing : Standing) (at : At) (flow : Flow) (side : ServerSide) (ends : TunnelEnds) → standing.stage ≡ busy at flow (upgraded side) →
-      Follows standing (upgrades is flow ends)
-  upgrades_follow true standing at flow side ends same = record {
+  upgrades_follow : (is : Bool) (standing : Standing) (at : At) (flow : Flow) (moment : ℕ) (side : ServerSide) (ends : TunnelEnds) →
+      standing.stage ≡ busy at flow (upgraded side) → Follows standing (upgrades is flow moment ends)
+  upgrades_follow true standing at flow moment side ends same = record {
     keeps = λ counted index before.
         let own : flow.id.index ≡ at.flow = eqb-true flow.id.index at.flow (ap is_counted_there (sym same) ∙ counted) in
         ap (nat_lt index) own ∙ (ap (λ s. is_past s index) (sym same) ∙ before);
     leads = λ counted. refl;
   }
-  upgrades_follow false standing at flow side ends same = record { keeps = λ counted index before. refl; leads = λ counted. refl }
+  upgrades_follow false standing at flow moment side ends same = record { keeps = λ counted index before. refl; leads = λ counted. refl }
 
   hands_follow : (place : Place) (standing : Standing) (stage : flows.Stage) (seen : Sight) → standing.stage ≡ stage →
       Follows standing (or_stays (http place standing) (hands_by place standing stage seen))
@@ -260,7 +260,7 @@ module _ (conv : ℕ) (client : Visitor) where
   hands_follow place standing (busy at flow connection) seen is = same_follows place standing
   hands_follow place standing (busy at flow (response_head side how)) seen is = same_follows place standing
   hands_follow place standing (busy at flow (response_body side how)) seen is = same_follows place standing
-  hands_follow place standing (busy at flow (upgraded side)) seen is = upgrades_follow (is_websocket flow seen.closed) standing at flow side _ is
+  hands_follow place standing (busy at flow (upgraded side)) seen is = upgrades_follow (is_websocket flow seen.closed) standing at flow seen.now side _ is
   hands_follow place standing (busy at flow given_head) seen is = same_follows place standing
   hands_follow place standing (busy at flow given_body) seen is = same_follows place standing
   hands_follow place standing (next at) seen is = same_follows place standing
@@ -542,7 +542,7 @@ module _ (conv : ℕ) (client : Visitor) where
   message_turns : (ends : TunnelEnds) (flow : Flow) (from : Peer) (message : Message) (at : MessageAt) (seen : SocketSight) (answer : Timed Reply) →
       (let terms : Terms = socket_terms client.key ends flow in
       let on : Turn Frames Command = relay.turn terms (holding from message at) seen answer.value answer.moment in
-      Leaves (socket ends flow (holding from message at)) (commands.Ask (message_ask terms at) (with_message flow from message) ∷ on.owed) (socket ends flow on.stage))
+      Leaves (socket ends flow (holding from message at)) (commands.Ask (message_ask terms at) (with_message (terms_at terms at).flow from message) ∷ on.owed) (socket ends flow on.stage))
   message_turns ends flow from message at seen answer =
       let terms : Terms = socket_terms client.key ends flow in
       let on : Turn Frames Command = relay.turn terms (holding from message at) seen answer.value answer.moment in
@@ -563,7 +563,7 @@ module _ (conv : ℕ) (client : Visitor) where
   socket_turns ends flow (holding from message at) seen ask answer asked =
       let terms : Terms = socket_terms client.key ends flow in
       let on : Turn Frames Command = relay.turn terms (holding from message at) seen answer.value answer.moment in
-      let same : commands.Ask (message_ask terms at) (with_message flow from message) ≡ ask = cc in
+      let same : commands.Ask (message_ask terms at) (with_message (terms_at terms at).flow from message) ≡ ask = cc in
       let P : Command → Type 0 = λ c. Leaves (socket ends flow (holding from message at)) (c ∷ on.owed) (socket ends flow on.stage) in
       subst P same (message_turns ends flow from message at seen answer)
   socket_turns ends flow ended seen ask answer asked = absurd (let no : Ends [] ≡ Asks ask = asked in cc)

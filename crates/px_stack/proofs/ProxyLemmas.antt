@@ -166,9 +166,9 @@ module _ (server : ℕ) where
         let P : Option Connect → Type 0 = λ c. Stays text (or_stays (http place standing) (tunnel_for place at c)) in
         subst P (sym (never_connects address side inside item)) is
 
-    upgrades_stay : (is : Bool) (flow : Flow) (ends : TunnelEnds) → ends.side.server ≢ server → Stays text (upgrades is flow ends)
-    upgrades_stay true flow ends apart = record { apart = apart; untold = tt }
-    upgrades_stay false flow ends apart = record { apart = apart; untold = tt }
+    upgrades_stay : (is : Bool) (flow : Flow) (moment : ℕ) (ends : TunnelEnds) → ends.side.server ≢ server → Stays text (upgrades is flow moment ends)
+    upgrades_stay true flow moment ends apart = record { apart = apart; untold = tt }
+    upgrades_stay false flow moment ends apart = record { apart = apart; untold = tt }
 
     hands_stay : (place : Place) (standing : Standing) (stage : flows.Stage) (seen : Sight) → Stays text (http place standing) → FlowApart server stage → FlowUntold server text stage →
         Stays text (or_stays (http place standing) (hands_by place standing stage seen))
@@ -177,7 +177,7 @@ module _ (server : ℕ) where
     hands_stay place standing (busy at flow connection) seen is apart untold = is
     hands_stay place standing (busy at flow (response_head side how)) seen is apart untold = is
     hands_stay place standing (busy at flow (response_body side how)) seen is apart untold = is
-    hands_stay place standing (busy at flow (upgraded side)) seen is apart untold = upgrades_stay (is_websocket flow seen.closed) flow _ apart
+    hands_stay place standing (busy at flow (upgraded side)) seen is apart untold = upgrades_stay (is_websocket flow seen.closed) flow seen.now _ apart
     hands_stay place standing (busy at flow given_head) seen is apart untold = is
     hands_stay place standing (busy at flow given_body) seen is apart untold = is
     hands_stay place standing (next at) seen is apart untold = is

@@ -10,6 +10,7 @@ use Rattle.px_event.specs.declared.command.Command.TheVariants as commands
 use Rattle.px_event.specs.declared.event.Event.{Event}
 use Rattle.px_event.specs.declared.reply.Reply.{Reply}
 use Rattle.px_event.specs.declared.reply.Reply.TheVariants as reply
+use Rattle.px_event.specs.declared.side.Side.{Side}
 use Rattle.px_event.specs.declared.side.Side.TheVariants.{Client, Server}
 use Rattle.px_event.specs.Chain.{Timed, Look, NotYet, Asks, Ends, Turn, found}
 use Rattle.px_event.specs.Layer.{Move}
@@ -68,13 +69,13 @@ AllBelow stage = ⊤
 -- ---- texts and closes
 
 module _ (server : ℕ) where
-  close_silent : (same : Bool) → bytes_in (cond same (close ∷ []) [] ++ []) ≡ []
-  close_silent true = refl
-  close_silent false = refl
+  close_silent : (side : Side) (same : Bool) → bytes_in (cond same (close side ∷ []) [] ++ []) ≡ []
+  close_silent side true = refl
+  close_silent side false = refl
 
   pub server_silent : (number : ℕ) (shut : Bool) → IsSilent server (shut_unused (Some (record { server = number; bytes = []; shut = shut })))
   server_silent number true = refl
-  server_silent number false = close_silent (number == server)
+  server_silent number false = close_silent (Server number) (number == server)
 
   pub client_silent : (closed : Bool) → IsSilent server (shut_client closed)
   client_silent true = refl
@@ -123,7 +124,7 @@ module _ (server : ℕ) where
       silent_both server (commands.Send (Server number) text ∷ []) owed (frame_silent number text terms.server here apart) (said_silent terms to apart owed said)
   said_silent terms to apart (commands.Close Client ∷ owed) (here, said) = said_silent terms to apart owed said
   said_silent terms to apart (commands.Close (Server number) ∷ owed) (here, said) =
-      silent_both server (commands.Close (Server number) ∷ []) owed (close_silent (number == server)) (said_silent terms to apart owed said)
+      silent_both server (commands.Close (Server number) ∷ []) owed (close_silent (Server number) (number == server)) (said_silent terms to apart owed said)
   said_silent terms to apart (commands.Dial number address inside ∷ owed) (here, said) = absurd here
   said_silent terms to apart (commands.Ask ask flow ∷ owed) (here, said) = absurd here
   said_silent terms to apart (commands.Done flow ∷ owed) (here, said) = said_silent terms to apart owed said
@@ -144,9 +145,9 @@ module _ (conv : ℕ) (client : Visitor) where
   tunnel_few place standing at None is below = (omega arith, below)
   tunnel_few place standing at (Some connect) is below = let same : dialled standing.stage ≡ at.dials = ap dialled is in (omega arith, tt)
 
-  upgrades_few : (most : ℕ) (is : Bool) (flow : Flow) (ends : TunnelEnds) → ends.side.server + 1 ≤ most → Few most (upgrades is flow ends)
-  upgrades_few most true flow ends less = (less, tt)
-  upgrades_few most false flow ends less = (less, tt)
+  upgrades_few : (most : ℕ) (is : Bool) (flow : Flow) (moment : ℕ) (ends : TunnelEnds) → ends.side.server + 1 ≤ most → Few most (upgrades is flow moment ends)
+  upgrades_few most true flow moment ends less = (less, tt)
+  upgrades_few most false flow moment ends less = (less, tt)
 
   hands_few : (place : Place) (standing : Standing) (stage : flows.Stage) (seen : Sight) → standing.stage ≡ stage → AreBelow standing →
       ServersBelow standing.spare stage → Few (dialled_at standing) (or_stays (http place standing) (hands_by place standing stage seen))
@@ -158,7 +159,7 @@ module _ (conv : ℕ) (client : Visitor) where
   hands_few place standing (busy at flow (upgraded side)) seen is below here =
       let same : dialled standing.stage ≡ at.dials = ap dialled is in
       let less : side.server < at.dials = here.1 in
-      upgrades_few (dialled_at standing) (is_websocket flow seen.closed) flow _ (omega arith)
+      upgrades_few (dialled_at standing) (is_websocket flow seen.closed) flow seen.now _ (omega arith)
   hands_few place standing (busy at flow given_head) seen is below here = (omega arith, below)
   hands_few place standing (busy at flow given_body) seen is below here = (omega arith, below)
   hands_few place standing (next at) seen is below here = (omega arith, below)

@@ -18,18 +18,18 @@ use Rattle.px_event.specs.View.{seen_of}
 use Rattle.px_event.proofs.Steps.{Takes, Resumes, onward}
 use Rattle.px_chain.specs.Sights.{unused_over}
 use Rattle.px_event.specs.Sides.{closes, piece_of}
-use Rattle.px_chain.specs.Streams.{bytes_of, client_closed}
+use Rattle.px_chain.specs.Streams.{bytes_of, client_closed, last_moment}
 use Rattle.px_chain.proofs.SightLaws.{within_more}
 use Rattle.px_relay.specs.declared.layer.WsLayer.{WsLayer}
 use Rattle.px_relay.specs.declared.peer.Peer.{Peer}
 use Rattle.px_relay.specs.declared.phase.Phase.{Phase}
 use Rattle.px_relay.specs.declared.phase.Phase.TheVariants as phases
-use Rattle.px_relay.specs.Chain.{first_at, look, pass, turn}
+use Rattle.px_relay.specs.Chain.{begins_at, first_at, look, pass, turn}
 use Rattle.px_relay.specs.Messages.{Message}
 use Rattle.px_relay.specs.Sending.{Terms}
 use Rattle.px_relay.specs.Sights.{Sight, come_with, no_rests, nothing_seen}
 use Rattle.px_relay.specs.Stages.{At, Stage as Frames, holding, over as frames_over, relaying}
-use Rattle.px_relay.specs.Stands.{Answers, BeginsWith, HearsEvent, IsRelaying, Leads, Somewhere, awaited_in, awaits, is_over, passed, sight_opened, terms_of}
+use Rattle.px_relay.specs.Stands.{Answers, BeginsWith, HearsEvent, IsIn, Leads, Somewhere, awaited_in, awaits, is_over, passed, sight_opened}
 use Rattle.px_stack.specs.declared.child.Child.{Child}
 use Rattle.px_stack.specs.declared.child.Child.TheVariants as children
 use Rattle.px_stack.specs.declared.child.Socket.{Socket}
@@ -45,36 +45,50 @@ use Rattle.px_stack.proofs.RelayLemmas.{client_closes, client_more, down_more, g
 
 -- ---- what is seen of it
 
-sight_as : (client client' server server' : List ℕ) (closed closed' shut shut' : Bool) → client ≡ client' → closed ≡ closed' → server ≡ server' → shut ≡ shut' →
-    (let a : Sight = record { client = client; closed = closed; server = server; shut = shut } in a) ≡ (let b : Sight = record { client = client'; closed = closed'; server = server'; shut = shut' } in b)
-sight_as client client' server server' closed closed' shut shut' p q r s = rw (p, q, r, s) refl
+sight_as : (client client' server server' : List ℕ) (closed closed' shut shut' : Bool) (now now' : ℕ) → client ≡ client' → closed ≡ closed' → server ≡ server' → shut ≡ shut' → now ≡ now' →
+    (let a : Sight = record { client = client; closed = closed; server = server; shut = shut; now = now } in a)
+    ≡ (let b : Sight = record { client = client'; closed = closed'; server = server'; shut = shut'; now = now' } in b)
+sight_as client client' server server' closed closed' shut shut' now now' p q r s t = rw (p, q, r, s, t) refl
+
+-- the moment of the last event
+last_is : (moment : ℕ) (prefix : List (Timed Event)) (e : Timed Event) → last_moment moment (prefix ++ e ∷ []) ≡ e.moment
+last_is moment [] e = refl
+last_is moment (f ∷ prefix) e = last_is f.moment prefix e
 
 -- nothing is left of either side, and neither has closed: with one event more it sees what that brings
-comes_as : (server : ℕ) (up down : List ℕ) (closed shut : Bool) (event : Event) → closed ≡ false → shut ≡ false →
-    (come_with server (record { seen = record { client = up; closed = closed; server = down; shut = shut }; left = no_rests }) event).seen
-    ≡ (let now : Sight = record { client = up ++ piece_of Client event; closed = closes Client event; server = down ++ piece_of (Server server) event; shut = closes (Server server) event } in now)
-comes_as server up down closed shut events.Begun open_still unshut = sight_as _ _ _ _ _ _ _ _ refl open_still refl unshut
-comes_as server up down closed shut (events.Piece side bytes) open_still unshut =
-    sight_as _ _ _ _ _ _ _ _ refl (ap (λ b. b || false) open_still) refl (ap (λ b. b || false) unshut)
-comes_as server up down closed shut (events.Closed side) open_still unshut =
-    sight_as _ _ _ _ _ _ _ _ refl (ap (λ b. b || closes Client (events.Closed side)) open_still) refl (ap (λ b. b || closes (Server server) (events.Closed side)) unshut)
-comes_as server up down closed shut (events.Answered ask reply) open_still unshut =
-    sight_as _ _ _ _ _ _ _ _ refl (ap (λ b. b || false) open_still) refl (ap (λ b. b || false) unshut)
+comes_as : (server : ℕ) (up down : List ℕ) (closed shut : Bool) (was moment : ℕ) (event : Event) → closed ≡ false → shut ≡ false →
+    (come_with server (record { seen = record { client = up; closed = closed; server = down; shut = shut; now = was }; left = no_rests }) (record { moment = moment; value = event })).seen
+    ≡ (let now : Sight = record {
+      client = up ++ piece_of Client event;
+      closed = closes Client event;
+      server = down ++ piece_of (Server server) event;
+      shut = closes (Server server) event;
+      now = moment;
+    } in now)
+comes_as server up down closed shut was moment events.Begun open_still unshut = sight_as _ _ _ _ _ _ _ _ _ _ refl open_still refl unshut refl
+comes_as server up down closed shut was moment (events.Piece side bytes) open_still unshut =
+    sight_as _ _ _ _ _ _ _ _ _ _ refl (ap (λ b. b || false) open_still) refl (ap (λ b. b || false) unshut) refl
+comes_as server up down closed shut was moment (events.Closed side) open_still unshut =
+    sight_as _ _ _ _ _ _ _ _ _ _ refl (ap (λ b. b || closes Client (events.Closed side)) open_still) refl
+    (ap (λ b. b || closes (Server server) (events.Closed side)) unshut) refl
+comes_as server up down closed shut was moment (events.Answered ask reply) open_still unshut =
+    sight_as _ _ _ _ _ _ _ _ _ _ refl (ap (λ b. b || false) open_still) refl (ap (λ b. b || false) unshut) refl
 
-none_left : (server : ℕ) (seen : Sight) (event : Event) → (come_with server (record { seen = seen; left = no_rests }) event).left ≡ no_rests
-none_left server seen events.Begun = refl
-none_left server seen (events.Piece side bytes) = refl
-none_left server seen (events.Closed side) = refl
-none_left server seen (events.Answered ask reply) = refl
+none_left : (server : ℕ) (seen : Sight) (moment : ℕ) (event : Event) →
+    (come_with server (record { seen = seen; left = no_rests }) (record { moment = moment; value = event })).left ≡ no_rests
+none_left server seen moment events.Begun = refl
+none_left server seen moment (events.Piece side bytes) = refl
+none_left server seen moment (events.Closed side) = refl
+none_left server seen moment (events.Answered ask reply) = refl
 
 module _ (ends : TunnelEnds) (prefix : List (Timed Event)) (e : Timed Event) (open_still : client_closed prefix ≡ false) (unshut : is_shut ends prefix ≡ false)
     (opened : ends.opened ≤ length prefix) (used : ends.used ≤ length (bytes_of Client prefix))
     (side_used : ends.side.used ≤ length (bytes_of (Server ends.side.server) (drop ends.opened prefix))) where
-  sees_more : (come_with ends.side.server (record { seen = socket_sight ends prefix; left = no_rests }) e.value).seen ≡ socket_sight ends (prefix ++ e ∷ [])
+  sees_more : (come_with ends.side.server (record { seen = socket_sight ends prefix; left = no_rests }) e).seen ≡ socket_sight ends (prefix ++ e ∷ [])
   sees_more =
-      comes_as ends.side.server (text_up ends prefix) (text_down ends prefix) (client_closed prefix) (is_shut ends prefix) e.value open_still unshut
-      ∙ sight_as _ _ _ _ _ _ _ _ (sym (up_more ends prefix e open_still unshut opened used)) (sym (client_closes ends prefix e open_still unshut opened))
-      (sym (down_more ends prefix e open_still unshut opened side_used)) (sym (server_closes ends prefix e open_still unshut opened))
+      comes_as ends.side.server (text_up ends prefix) (text_down ends prefix) (client_closed prefix) (is_shut ends prefix) (last_moment 0 prefix) e.moment e.value open_still unshut
+      ∙ sight_as _ _ _ _ _ _ _ _ _ _ (sym (up_more ends prefix e open_still unshut opened used)) (sym (client_closes ends prefix e open_still unshut opened))
+      (sym (down_more ends prefix e open_still unshut opened side_used)) (sym (server_closes ends prefix e open_still unshut opened)) (sym (last_is 0 prefix e))
 
 -- ---- where one is kept
 
@@ -167,9 +181,13 @@ terms_as : (flow : Flow) (server server' : ℕ) (key key' : List ℕ) → server
     (let a : Terms = record { flow = flow; server = server; key = key } in a) ≡ (let b : Terms = record { flow = flow; server = server'; key = key' } in b)
 terms_as flow server server' key key' p q = rw (p, q) refl
 
-module _ (key : List ℕ) (sides : Sides) (rests : Rests) (flow : Flow) (spare : Option ℕ) (made : WsLayer) (kept : Socket) (out mid : List Command)
-    (same_terms : terms_of made ≡ record { flow = record flow { websocket = true }; server = sides.server; key = key }) (same_rests : made.rests ≡ rests)
-    (is_new : IsRelaying (terms_of made) first_at nothing_seen made) (begins : BeginsWith sides.shut made kept.layer.value out mid) (same_spare : kept.spare ≡ spare) where
+-- what one is made with
+abbrev first_terms : List ℕ → Sides → Flow → Terms
+first_terms key sides flow = record { flow = record flow { websocket = true }; server = sides.server; key = key }
+
+module _ (key : List ℕ) (moment : ℕ) (sides : Sides) (rests : Rests) (flow : Flow) (spare : Option ℕ) (made : WsLayer) (kept : Socket) (out mid : List Command)
+    (same_rests : made.rests ≡ rests) (is_new : IsIn (first_terms key sides flow) made (relaying first_at) nothing_seen)
+    (begins : BeginsWith moment sides.shut made kept.layer.value out mid) (same_spare : kept.spare ≡ spare) where
   module _ (conv : ℕ) (client : Visitor) (ends : TunnelEnds) (prefix : List (Timed Event)) (keyed : client.key ≡ key) (open_still : client_closed prefix ≡ false)
       (may : MayRelay ends prefix sides rests (Some flow) spare) (next : Child) (comes : next ≡ comes_to kept) where
     abbrev its_flow : Flow
@@ -179,19 +197,22 @@ module _ (key : List ℕ) (sides : Sides) (rests : Rests) (flow : Flow) (spare :
     its_terms = socket_terms client.key ends its_flow
 
     abbrev begun_to : Turn Frames Command
-    begun_to = pass its_terms (relaying first_at) (socket_sight ends prefix)
+    begun_to = pass its_terms (relaying (begins_at moment)) (socket_sight ends prefix)
 
-    seen_first : sight_opened nothing_seen made.rests sides.shut ≡ socket_sight ends prefix
+    abbrev last : ℕ
+    last = last_moment 0 prefix
+
+    seen_first : sight_opened (record nothing_seen { now = last }) made.rests sides.shut ≡ socket_sight ends prefix
     seen_first =
-        ap (λ r. sight_opened nothing_seen r sides.shut) same_rests
-        ∙ sight_as _ _ _ _ _ _ _ _ may.up (sym open_still) may.down (if_same sides.shut ∙ may.shut)
+        ap (λ r. sight_opened (record nothing_seen { now = last }) r sides.shut) same_rests
+        ∙ sight_as _ _ _ _ _ _ _ _ _ _ may.up (sym open_still) may.down (if_same sides.shut ∙ may.shut) refl
 
     leads : Leads its_terms begun_to (socket_sight ends prefix) kept.layer.value begins.more
     leads =
-        let P : Terms → Type 0 = λ terms. IsRelaying terms first_at nothing_seen made in
-        let new : IsRelaying its_terms first_at nothing_seen made = subst P (same_terms ∙ terms_as its_flow sides.server ends.side.server key client.key may.server (sym keyed)) is_new in
-        let Q : Sight → Type 0 = λ seen. Leads its_terms (pass its_terms (relaying first_at) seen) seen kept.layer.value begins.more in
-        subst Q seen_first (begins.leads its_terms first_at nothing_seen new)
+        let P : Terms → Type 0 = λ terms. IsIn terms made (relaying first_at) nothing_seen in
+        let new : IsIn its_terms made (relaying first_at) nothing_seen = subst P (terms_as its_flow sides.server ends.side.server key client.key may.server (sym keyed)) is_new in
+        let Q : Sight → Type 0 = λ seen. Leads its_terms (pass its_terms (relaying (begins_at moment)) seen) seen kept.layer.value begins.more in
+        subst Q seen_first (begins.leads its_terms first_at nothing_seen last new)
 
     first_framing : IsFraming client.key ends its_flow begun_to.stage prefix kept
     first_framing = record {
@@ -204,7 +225,7 @@ module _ (key : List ℕ) (sides : Sides) (rests : Rests) (flow : Flow) (spare :
       within = may.within;
     }
 
-    pub begins_there : Arrives conv client next (begins.more ++ shut_behind kept) (socket ends its_flow (relaying first_at)) prefix
+    pub begins_there : Arrives conv client next (begins.more ++ shut_behind kept) (socket ends its_flow (relaying (begins_at moment))) prefix
     begins_there =
         let on = settled conv client ends its_flow prefix kept next comes begun_to.stage first_framing in
         record {
@@ -214,16 +235,16 @@ module _ (key : List ℕ) (sides : Sides) (rests : Rests) (flow : Flow) (spare :
 
   pub begun_left : socket_left kept.layer.value ≤ most_asked
   begun_left =
-      let terms = terms_of made in
+      let terms = first_terms key sides flow in
       let now = sight_opened nothing_seen made.rests sides.shut in
-      let less = heard_left terms kept.layer.value first_at now (begins.leads terms first_at nothing_seen is_new).is_in in
+      let less = heard_left terms kept.layer.value (begins_at moment) now (begins.leads terms first_at nothing_seen 0 is_new).is_in in
       omega arith
 
 -- ---- one event
 
-module _ (kept after : Socket) (event : Event) (out mid : List Command) (hears : HearsEvent event kept.layer.value after.layer.value out mid)
+module _ (kept after : Socket) (moment : ℕ) (event : Event) (out mid : List Command) (hears : HearsEvent moment event kept.layer.value after.layer.value out mid)
     (spare_is : after.spare ≡ open_behind kept.spare event) where
-  module _ (conv : ℕ) (client : Visitor) (moment : ℕ) (ends : TunnelEnds) (flow : Flow) (at : At) (prefix : List (Timed Event))
+  module _ (conv : ℕ) (client : Visitor) (ends : TunnelEnds) (flow : Flow) (at : At) (prefix : List (Timed Event))
       (framing : IsFraming client.key ends flow (relaying at) prefix kept) (next : Child) (comes : next ≡ comes_to after) where
     abbrev e : Timed Event
     e = record { moment = moment; value = event }
@@ -244,10 +265,10 @@ module _ (kept after : Socket) (event : Event) (out mid : List Command) (hears :
     unshut = framing.there.unshut
 
     heard : (now : Rests) → kept.layer.value.rests ≡ now →
-        let come = come_with ends.side.server (record { seen = socket_sight ends prefix; left = now }) event in
+        let come = come_with ends.side.server (record { seen = socket_sight ends prefix; left = now }) e in
         Leads terms (pass terms (relaying at) come.seen) come.seen after.layer.value hears.more × (after.layer.value.rests ≡ come.left)
     heard now is =
-        let P : Rests → Type 0 = λ r. let come = come_with ends.side.server (record { seen = socket_sight ends prefix; left = r }) event in
+        let P : Rests → Type 0 = λ r. let come = come_with ends.side.server (record { seen = socket_sight ends prefix; left = r }) e in
         Leads terms (pass terms (relaying at) come.seen) come.seen after.layer.value hears.more × (after.layer.value.rests ≡ come.left) in
         subst P is (hears.leads terms at (socket_sight ends prefix) framing.there)
 
@@ -261,7 +282,7 @@ module _ (kept after : Socket) (event : Event) (out mid : List Command) (hears :
         let more = within_more (place_at ends) prefix e (is_within ends prefix e open_still unshut framing.opened framing.within) in
         record {
           there = heard_leads.is_in;
-          rests = (heard no_rests framing.rests).1 ∙ none_left ends.side.server (socket_sight ends prefix) event;
+          rests = (heard no_rests framing.rests).1 ∙ none_left ends.side.server (socket_sight ends prefix) moment event;
           spare = spare_is ∙ (ap (λ s. open_behind s event) framing.spare ∙ sym (spare_more ends prefix e open_still unshut framing.opened framing.within));
           used = longer_bytes ends.used _ _ _ (client_more ends prefix e open_still unshut framing.opened) framing.used;
           side_used = longer_bytes ends.side.used _ _ _ (server_more ends prefix e open_still unshut framing.opened) framing.side_used;
@@ -281,7 +302,7 @@ module _ (kept after : Socket) (event : Event) (out mid : List Command) (hears :
         let had = relaying_left terms kept.layer.value at (socket_sight ends prefix) framing.there in
         omega arith
 
-  module _ (conv : ℕ) (client : Visitor) (moment : ℕ) (next : Child) (comes : next ≡ comes_to after) (free : awaits kept.layer.value ≡ None) where
+  module _ (conv : ℕ) (client : Visitor) (next : Child) (comes : next ≡ comes_to after) (free : awaits kept.layer.value ≡ None) where
     -- what is held is asked
     held_free : (ends : TunnelEnds) (flow : Flow) (from : Peer) (message : Message) (at : At) (prefix : List (Timed Event)) →
         IsFraming client.key ends flow (holding from message at) prefix kept → ⊥
@@ -291,21 +312,21 @@ module _ (kept after : Socket) (event : Event) (out mid : List Command) (hears :
         Takes (stack_chain conv client) (IsChild conv client) next moment event (hears.more ++ shut_behind after) stage prefix
     takes_by stage prefix (by_relaying ends flow at is framing) =
         let P : Stage → Type 0 = λ s. Takes (stack_chain conv client) (IsChild conv client) next moment event (hears.more ++ shut_behind after) s prefix in
-        subst P (sym is) (takes_there conv client moment ends flow at prefix framing next comes)
+        subst P (sym is) (takes_there conv client ends flow at prefix framing next comes)
     takes_by stage prefix (by_holding ends flow from message at is framing) = absurd (held_free ends flow from message at prefix framing)
 
     pub takes_all : TakesChild conv client (children.Socket kept) next moment event (hears.more ++ shut_behind after)
     takes_all stage prefix is = takes_by stage prefix (kept_socket conv client kept stage prefix is)
 
     fewer_by : (stage : Stage) (prefix : List (Timed Event)) → IsKeptSocket client.key kept stage prefix → socket_left after.layer.value ≤ socket_left kept.layer.value
-    fewer_by stage prefix (by_relaying ends flow at is framing) = takes_fewer conv client moment ends flow at prefix framing next comes
+    fewer_by stage prefix (by_relaying ends flow at is framing) = takes_fewer conv client ends flow at prefix framing next comes
     fewer_by stage prefix (by_holding ends flow from message at is framing) = absurd (held_free ends flow from message at prefix framing)
 
   -- no more asks may follow
   pub fewer_somewhere : (conv : ℕ) (client : Visitor) → awaits kept.layer.value ≡ None → IsSomewhere conv client (children.Socket kept) →
       socket_left after.layer.value ≤ socket_left kept.layer.value
   fewer_somewhere conv client free (stage, prefix, is) =
-      fewer_by conv client 0 (comes_to after) refl free stage prefix (kept_socket conv client kept stage prefix is)
+      fewer_by conv client (comes_to after) refl free stage prefix (kept_socket conv client kept stage prefix is)
 
 -- ---- a reply
 
@@ -444,16 +465,16 @@ still_open true true is = absurd (let no : false ≡ true = is in cc)
 still_open true false is = refl
 still_open false closed is = absurd (let no : false ≡ true = is in cc)
 
-module _ (key : List ℕ) (sides : Sides) (rests : Rests) (flow : Flow) (spare : Option ℕ) where
+module _ (key : List ℕ) (moment : ℕ) (sides : Sides) (rests : Rests) (flow : Flow) (spare : Option ℕ) where
   goes_as : (b : Bool) (conv : ℕ) (client : Visitor) (ends : TunnelEnds) (prefix : List (Timed Event)) (next : Child) (more : List Command) → is_websocket flow sides.closed ≡ b →
-      sides.closed ≡ client_closed prefix → Arrives conv client next more (upgrades b flow ends) prefix →
-      Arrives conv client next more (upgrades (is_websocket flow (client_closed prefix)) flow ends) prefix
+      sides.closed ≡ client_closed prefix → Arrives conv client next more (upgrades b flow moment ends) prefix →
+      Arrives conv client next more (upgrades (is_websocket flow (client_closed prefix)) flow moment ends) prefix
   goes_as b conv client ends prefix next more is closed arrives =
-      let P : Bool → Type 0 = λ b. Arrives conv client next more (upgrades b flow ends) prefix in
+      let P : Bool → Type 0 = λ b. Arrives conv client next more (upgrades b flow moment ends) prefix in
       subst P (sym is ∙ ap (is_websocket flow) closed) arrives
 
   pub goes_on_socket : {E : Type 0} (out given : List Command) (result : Result Child E) → is_websocket flow sides.closed ≡ true →
-      IfOk result (λ next. Adds (BeginsSocket key sides rests flow spare next) out given) → IfOk result (λ next. Adds (GoesOnAs key sides rests flow spare next) out given)
+      IfOk result (λ next. Adds (BeginsSocket key moment sides rests flow spare next) out given) → IfOk result (λ next. Adds (GoesOnAs key moment sides rests flow spare next) out given)
   goes_on_socket out given (Ok next) is begins = record {
     more = begins.more;
     grown = begins.grown;
@@ -464,7 +485,7 @@ module _ (key : List ℕ) (sides : Sides) (rests : Rests) (flow : Flow) (spare :
   goes_on_socket out given (Err error) is begins = tt
 
   pub goes_on_raw : {E : Type 0} (out given : List Command) (result : Result Child E) → is_websocket flow sides.closed ≡ false →
-      IfOk result (λ next. Adds (Relays sides rests (Some flow) spare next) out given) → IfOk result (λ next. Adds (GoesOnAs key sides rests flow spare next) out given)
+      IfOk result (λ next. Adds (Relays sides rests (Some flow) spare next) out given) → IfOk result (λ next. Adds (GoesOnAs key moment sides rests flow spare next) out given)
   goes_on_raw out given (Ok next) is relays = record {
     more = relays.more;
     grown = relays.grown;

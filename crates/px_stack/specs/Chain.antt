@@ -24,7 +24,7 @@ use Rattle.px_chain.specs.Sights.{Sight, Spare, Standing, Unused, request_in, si
 use Rattle.px_chain.specs.Stages.{At, ServerSide, all_sent, busy, connection, idle, response_head, upgraded}
 use Rattle.px_chain.specs.Stages as flows
 use Rattle.px_event.specs.Sides.{closes, piece_of}
-use Rattle.px_chain.specs.Streams.{Since, bytes_of, client_closed, from_here, is_closed, now_over}
+use Rattle.px_chain.specs.Streams.{Since, bytes_of, client_closed, from_here, is_closed, last_moment, now_over}
 use Rattle.px_stack.specs.Decides.{Decision, decided, is_http, is_raw, still}
 use Rattle.px_tunnel.specs.Upstream.{Granting, awaited, connect_text, granted, granting, refused}
 use Rattle.px_relay.specs.Chain as relay
@@ -46,15 +46,15 @@ tunnel_for place at None = None
 tunnel_for place at (Some connect) =
     Some (connecting (record { at = used_more at connect.used; address = connect.address; proxy = proxy_at place }))
 
--- Another protocol follows: a WebSocket, or one that is not read. Where a WebSocket begins, no frame was read yet.
-abbrev pub upgrades : Bool → Flow → TunnelEnds → Stage
-upgrades true flow ends = socket ends (record flow { websocket = true }) (relaying relay.first_at)
-upgrades false flow ends = raw ends
+-- Another protocol follows at this moment: a WebSocket, or one that is not read. Where a WebSocket begins, no frame was read yet.
+abbrev pub upgrades : Bool → Flow → ℕ → TunnelEnds → Stage
+upgrades true flow moment ends = socket ends (record flow { websocket = true }) (relaying (relay.begins_at moment))
+upgrades false flow moment ends = raw ends
 
 -- behind a CONNECT, and behind a response of code 101
 abbrev pub hands_by : Place → Standing → flows.Stage → Sight → Option Stage
 hands_by place standing (idle at) seen = tunnel_for place at (connect_in place (request_in at seen))
-hands_by place standing (busy at flow (upgraded side)) seen = Some (upgrades (is_websocket flow seen.closed) flow
+hands_by place standing (busy at flow (upgraded side)) seen = Some (upgrades (is_websocket flow seen.closed) flow seen.now
     (record { used = at.used; side = side; opened = standing.opened; flow = Some flow; spare = standing.spare }))
 hands_by place standing stage seen = None
 
@@ -244,6 +244,7 @@ socket_sight ends prefix = record {
   closed = client_closed prefix;
   server = text_down ends prefix;
   shut = is_shut ends prefix;
+  now = last_moment 0 prefix;
 }
 
 -- where it leads, by what its frames owe and lead to

@@ -2,6 +2,7 @@
 use Rattle.std.specs.Prelude.{◌≡◌, ℕ, zero, suc, ◌==◌, ◌||◌, Bool, true, false, if◌then◌else◌, nat_lt, List, [], ◌∷◌, ◌++◌, length, Some, None, ⊤}
 use Rattle.std.proofs.Common.{refl}
 use Rattle.px_message.specs.declared.flow.Flow.{Flow}
+use Rattle.px_message.specs.declared.messages.WsRecord.{WsRecord}
 use Rattle.px_event.specs.declared.command.Command.{Command}
 use Rattle.px_event.specs.declared.command.Command.TheVariants as commands
 use Rattle.px_event.specs.declared.reply.Reply.{Reply}
@@ -16,13 +17,13 @@ use Rattle.px_relay.specs.declared.failure.Failure.{Failure}
 use Rattle.px_relay.specs.declared.failure.Failure.TheVariants.{BadFrame, NotText}
 use Rattle.px_relay.specs.declared.peer.Peer.{Peer}
 use Rattle.px_relay.specs.declared.peer.Peer.TheVariants.{Client, Server}
-use Rattle.px_relay.specs.Chain.{Course, at_rest, behind_course, closes_with, control_course, data_course, drain_server, drain_within, ends, fails, frame_course, front_course, goes_on, killed, looked, message_course, most_whole, pass, past, shut_client, shut_server, stops, turn, turn_by, unread}
+use Rattle.px_relay.specs.Chain.{Course, at_rest, behind_course, closes_with, control_course, data_course, drain_both, drain_server, drain_within, ends, fails, frame_course, front_course, goes_on, killed, looked, message_course, most_whole, pass, past, shut_client, shut_server, stops, terms_at, turn, turn_by, unread}
 use Rattle.px_relay.specs.Failures.{failure_payload}
 use Rattle.px_relay.specs.Messages.{Message, Verdict, drops, gathered, is_bad_text, kills, sends, verdict}
 use Rattle.px_relay.specs.Peers.{other, side_of}
-use Rattle.px_relay.specs.Sending.{Terms, close_both, counted, send_to}
+use Rattle.px_relay.specs.Sending.{Terms, close_both, counted, send_to, with_records}
 use Rattle.px_relay.specs.Sights.{Sight}
-use Rattle.px_relay.specs.Stages.{At, Stage, half_of, holding, next_in, over, relaying, with_half}
+use Rattle.px_relay.specs.Stages.{At, Stage, half_of, holding, next_in, over, relaying, rested, with_half}
 
 -- it has ended
 abbrev pub IsOver : Stage → Type 0
@@ -142,25 +143,40 @@ module _ (terms : Terms) where
         front_says peer (drain_within terms seen peer most onward) onward at (next_in peer at seen) (λ next. drain_says peer onward behind most next) behind
 
     rest_says : (at : At) → Says terms (at_rest terms seen at)
-    rest_says at = says_if (seen.closed || seen.shut) terms (record { owed = ends terms seen terms.flow; stage = over }) (record { owed = []; stage = relaying at })
+    rest_says at = says_if (seen.closed || seen.shut) terms (record { owed = ends terms seen terms.flow; stage = over }) (record { owed = []; stage = relaying (rested at) })
         (ends_said seen terms.flow refl) tt
 
     server_says : (at : At) → Says terms (drain_server terms seen at)
     server_says at = drain_says Server (at_rest terms seen) rest_says (suc (length (unread Server seen at))) at
 
-    -- ---- the chain
+    both_say : (at : At) → Says terms (drain_both terms seen at)
+    both_say at = drain_says Client (drain_server terms seen) server_says (suc (length (unread Client seen at))) at
 
-    pub pass_says : (stage : Stage) → Says terms (pass terms stage seen)
-    pass_says (relaying at) = drain_says Client (drain_server terms seen) server_says (suc (length (unread Client seen at))) at
-    pass_says (holding from message at) = tt
-    pass_says over = tt
+    -- ---- the chain
 
     turn_says_by : (from : Peer) (message : Message) (at : At) (said : Verdict) (moment : ℕ) → Says terms (turn_by terms from message at seen said moment)
     turn_says_by from message at (sends payload) moment = (its_side terms.server (other from), tt)
     turn_says_by from message at drops moment = tt
-    turn_says_by from message at kills moment = ends_said seen (killed terms.flow moment) refl
+    turn_says_by from message at kills moment = ends_said seen (killed (terms_at terms at).flow moment) refl
 
     pub turn_says : (stage : Stage) (answer : Reply) (moment : ℕ) → Says terms (turn terms stage seen answer moment)
     turn_says (relaying at) answer moment = tt
     turn_says (holding from message at) answer moment = turn_says_by from message at (verdict message answer) moment
     turn_says over answer moment = tt
+
+-- whatever messages the flow has
+said_there : (terms : Terms) (records : List WsRecord) (to : Stage) (owed : List Command) → AreSaid (with_records terms records) to owed → AreSaid terms to owed
+said_there terms records to [] said = tt
+said_there terms records to (commands.Send sides.Client text ∷ owed) (here, said) = (here, said_there terms records to owed said)
+said_there terms records to (commands.Send (sides.Server number) text ∷ owed) (here, said) = (here, said_there terms records to owed said)
+said_there terms records to (commands.Close sides.Client ∷ owed) (here, said) = (here, said_there terms records to owed said)
+said_there terms records to (commands.Close (sides.Server number) ∷ owed) (here, said) = (here, said_there terms records to owed said)
+said_there terms records to (commands.Dial server address inside ∷ owed) (here, said) = absurd here
+said_there terms records to (commands.Ask ask flow ∷ owed) (here, said) = absurd here
+said_there terms records to (commands.Done flow ∷ owed) (here, said) = (here, said_there terms records to owed said)
+
+pub pass_says : (terms : Terms) (seen : Sight) (stage : Stage) → Says terms (pass terms stage seen)
+pass_says terms seen (relaying at) =
+    let turn : Turn Stage Command = pass terms (relaying at) seen in said_there terms at.records turn.stage turn.owed (both_say (terms_at terms at) seen at)
+pass_says terms seen (holding from message at) = tt
+pass_says terms seen over = tt

@@ -80,9 +80,9 @@ IsTunnel (raw ends) = ⊤
 IsTunnel (socket ends flow frames) = ⊤
 IsTunnel stage = ⊥
 
-upgrades_tunnel : (is : Bool) (flow : Flow) (ends : TunnelEnds) → IsTunnel (upgrades is flow ends)
-upgrades_tunnel true flow ends = tt
-upgrades_tunnel false flow ends = tt
+upgrades_tunnel : (is : Bool) (flow : Flow) (moment : ℕ) (ends : TunnelEnds) → IsTunnel (upgrades is flow moment ends)
+upgrades_tunnel true flow moment ends = tt
+upgrades_tunnel false flow moment ends = tt
 
 -- Where HTTP hands over, it owes nothing, and nothing more of it comes.
 pub record HandsOver (terms : Terms) (stage : flows.Stage) (seen : Sight) (to : Stage) : Type 0 where
@@ -132,7 +132,7 @@ hands terms standing (busy at flow connection) seen to is = absurd (let no : Non
 hands terms standing (busy at flow (response_head side how)) seen to is = absurd (let no : None ≡ Some to = is in cc)
 hands terms standing (busy at flow (response_body side how)) seen to is = absurd (let no : None ≡ Some to = is in cc)
 hands terms standing (busy at flow (upgraded side)) seen to is = record {
-  is_tunnel = let P : Stage → Type 0 = IsTunnel in subst P (some_same _ to is) (upgrades_tunnel (is_websocket flow seen.closed) flow _);
+  is_tunnel = let P : Stage → Type 0 = IsTunnel in subst P (some_same _ to is) (upgrades_tunnel (is_websocket flow seen.closed) flow seen.now _);
   owes = refl;
   ends = leaves_nothing seen.closed [];
 }

@@ -114,9 +114,9 @@ module _ (conv : ℕ) where
     tunnel_is place standing at None is = is
     tunnel_is place standing at (Some connect) is = tt
 
-    upgrades_is : (is : Bool) (flow : Flow) (ends : TunnelEnds) → flow.id.conv ≡ conv → ends.flow ≡ Some flow → IsOfIt conv client (upgrades is flow ends)
-    upgrades_is true flow ends is same = is
-    upgrades_is false flow ends is same = let P : Option Flow → Type 0 = IsFlowOf conv in subst P (sym same) is
+    upgrades_is : (is : Bool) (flow : Flow) (moment : ℕ) (ends : TunnelEnds) → flow.id.conv ≡ conv → ends.flow ≡ Some flow → IsOfIt conv client (upgrades is flow moment ends)
+    upgrades_is true flow moment ends is same = is
+    upgrades_is false flow moment ends is same = let P : Option Flow → Type 0 = IsFlowOf conv in subst P (sym same) is
 
     hands_is : (place : Place) (standing : Standing) (stage : flows.Stage) (seen : Sight) → IsOf (terms_of conv client.address place) (OfConversation conv) standing.stage →
         IsOf (terms_of conv client.address place) (OfConversation conv) stage → IsOfIt conv client (or_stays (http place standing) (hands_by place standing stage seen))
@@ -125,7 +125,7 @@ module _ (conv : ℕ) where
     hands_is place standing (busy at flow connection) seen is here = is
     hands_is place standing (busy at flow (response_head side how)) seen is here = is
     hands_is place standing (busy at flow (response_body side how)) seen is here = is
-    hands_is place standing (busy at flow (upgraded side)) seen is here = upgrades_is (is_websocket flow seen.closed) flow _ here refl
+    hands_is place standing (busy at flow (upgraded side)) seen is here = upgrades_is (is_websocket flow seen.closed) flow seen.now _ here refl
     hands_is place standing (busy at flow given_head) seen is here = is
     hands_is place standing (busy at flow given_body) seen is here = is
     hands_is place standing (next at) seen is here = is

@@ -25,7 +25,7 @@ use Rattle.px_event.specs.Sides.{closes}
 use Rattle.px_chain.specs.Streams.{Since, bytes_of, client_closed, from_here, is_closed, now_over}
 use Rattle.px_http.specs.declared.conversation.HttpConv.{HttpConv}
 use Rattle.px_http.specs.Stands.{awaits}
-use Rattle.px_relay.specs.Chain.{first_at}
+use Rattle.px_relay.specs.Chain.{begins_at}
 use Rattle.px_relay.specs.Stages.{relaying}
 use Rattle.px_relay.specs.Stands.{is_over as has_ended_in}
 use Rattle.px_stream.specs.Anywhere.{OpensInTime}
@@ -111,11 +111,11 @@ pub record GoesOn (kept : Relay) (event : Event) (next : Child) (out longer : Li
 
 -- ---- a WebSocket
 
--- where one begins, with what was left of both sides, of which the client has not closed
-abbrev pub BeginsSocket : List ℕ → Sides → Rests → Flow → Option ℕ → Child → List Command → Type 0
-BeginsSocket key sides rests flow spare next more = (conv : ℕ) (client : Visitor) (ends : TunnelEnds) (prefix : List (Timed Event)) →
+-- where one begins at this moment, with what was left of both sides, of which the client has not closed
+abbrev pub BeginsSocket : List ℕ → ℕ → Sides → Rests → Flow → Option ℕ → Child → List Command → Type 0
+BeginsSocket key moment sides rests flow spare next more = (conv : ℕ) (client : Visitor) (ends : TunnelEnds) (prefix : List (Timed Event)) →
     client.key ≡ key → client_closed prefix ≡ false → MayRelay ends prefix sides rests (Some flow) spare →
-    Arrives conv client next more (socket ends (record flow { websocket = true }) (relaying first_at)) prefix
+    Arrives conv client next more (socket ends (record flow { websocket = true }) (relaying (begins_at moment))) prefix
 
 -- behind a call: it goes on, or it has ended, and the spare side is closed
 abbrev pub comes_by : Bool → Socket → Child
@@ -133,10 +133,10 @@ abbrev pub shut_behind : Socket → List Command
 shut_behind kept = shut_by (has_ended_in kept.layer.value.phase) kept.spare
 
 -- what follows a response of code 101: a WebSocket, or what is not read
-abbrev pub GoesOnAs : List ℕ → Sides → Rests → Flow → Option ℕ → Child → List Command → Type 0
-GoesOnAs key sides rests flow spare next more = (conv : ℕ) (client : Visitor) (ends : TunnelEnds) (prefix : List (Timed Event)) →
+abbrev pub GoesOnAs : List ℕ → ℕ → Sides → Rests → Flow → Option ℕ → Child → List Command → Type 0
+GoesOnAs key moment sides rests flow spare next more = (conv : ℕ) (client : Visitor) (ends : TunnelEnds) (prefix : List (Timed Event)) →
     client.key ≡ key → MayRelay ends prefix sides rests (Some flow) spare →
-    Arrives conv client next more (upgrades (is_websocket flow (client_closed prefix)) flow ends) prefix
+    Arrives conv client next more (upgrades (is_websocket flow (client_closed prefix)) flow moment ends) prefix
 
 -- ---- a tunnel of which nothing is decided
 
@@ -300,9 +300,10 @@ pub record FollowsAt (conv : ℕ) (client : Visitor) (flows : HttpConv) (next : 
       ≡ seen_of view ((follows_to conv client place standing prefix).owed ++ owed_here (stack_chain conv client) (follows_to conv client place standing prefix).stage prefix)
   pub left : left_by next ≤ sequence_left flows.stream + tunnel_left place
 
-abbrev pub Follows : List ℕ → HttpConv → Child → List Command → Type 0
-Follows key flows next more = (conv : ℕ) (client : Visitor) (place : Place) (standing : Standing) (prefix : List (Timed Event)) →
-    client.key ≡ key → IsInFlows conv client place flows standing prefix → OpensInTime standing.spare prefix → FollowsAt conv client flows next more place standing prefix
+abbrev pub Follows : List ℕ → ℕ → HttpConv → Child → List Command → Type 0
+Follows key moment flows next more = (conv : ℕ) (client : Visitor) (place : Place) (standing : Standing) (prefix : List (Timed Event)) →
+    client.key ≡ key → moment ≡ now_over standing.since prefix → IsInFlows conv client place flows standing prefix → OpensInTime standing.spare prefix →
+    FollowsAt conv client flows next more place standing prefix
 
 -- what HTTP asked is asked, or it asked nothing
 abbrev pub AsksBehind : HttpConv → Child → List Command → List Command → Type 0

@@ -21,15 +21,20 @@ use px_http::HttpConv;
 use px_message::{Address, Flow};
 use px_text::NoMemory;
 
-/// What follows HTTP, which has worked off all that came.
-pub fn follow(means: Means, http: Box<HttpConv>, out: &mut Vec<Command>) -> Result<Child, NoMemory>
-    ensures follows { IfOk result (λ next. Adds (Follows (key_of means.mask_key) http.value next) out.old.items out.new.items) }
+/// What follows HTTP, which has worked off at this moment all that came.
+pub fn follow(
+    means: Means,
+    moment: u64,
+    http: Box<HttpConv>,
+    out: &mut Vec<Command>,
+) -> Result<Child, NoMemory>
+    ensures follows { IfOk result (λ next. Adds (Follows (key_of means.mask_key) moment http.value next) out.old.items out.new.items) }
     ensures asks { IfOk result (λ next. AsksBehind http.value next out.old.items out.new.items) }
 {
     match http.outcome() {
         Outcome::Going => Ok(Child::Http(http)),
         Outcome::Connects => connect(http, out),
-        Outcome::Upgraded => upgrade(means, http, out),
+        Outcome::Upgraded => upgrade(means, moment, http, out),
         Outcome::Next | Outcome::Over => end(http, out),
     }
 }
@@ -37,7 +42,7 @@ pub fn follow(means: Means, http: Box<HttpConv>, out: &mut Vec<Command>) -> Resu
 // The server of a CONNECT is dialled.
 fn connect(http: Box<HttpConv>, out: &mut Vec<Command>) -> Result<Child, NoMemory>
     requires { outcome_in http.value.stream.phase ≡ Outcome.Connects }
-    ensures follows { IfOk result (λ next. Adds (λ more. (key : List ℕ) → Follows key http.value next more) out.old.items out.new.items) }
+    ensures follows { IfOk result (λ next. Adds (λ more. (key : List ℕ) (moment : ℕ) → Follows key moment http.value next more) out.old.items out.new.items) }
     ensures asks { IfOk result (λ next. AsksBehind http.value next out.old.items out.new.items) }
 {
     let closed = http.client_closed();
@@ -104,16 +109,21 @@ fn read_address(http: &HttpConv) -> Result<Address, NoMemory>
 }
 
 // Another protocol goes on, on the same connections: a WebSocket, or one that is not read.
-fn upgrade(means: Means, http: Box<HttpConv>, out: &mut Vec<Command>) -> Result<Child, NoMemory>
+fn upgrade(
+    means: Means,
+    moment: u64,
+    http: Box<HttpConv>,
+    out: &mut Vec<Command>,
+) -> Result<Child, NoMemory>
     requires { outcome_in http.value.stream.phase ≡ Outcome.Upgraded }
-    ensures follows { IfOk result (λ next. Adds (Follows (key_of means.mask_key) http.value next) out.old.items out.new.items) }
+    ensures follows { IfOk result (λ next. Adds (Follows (key_of means.mask_key) moment http.value next) out.old.items out.new.items) }
     ensures asks { IfOk result (λ next. AsksBehind http.value next out.old.items out.new.items) }
 {
     let sides = read_sides(&http);
     let spare = http.spare();
     let (rests, flow) = Box::into_inner(http).into_rests()?;
     match flow {
-        Some(flow) => go_on_as(means, sides, rests, flow, spare, out),
+        Some(flow) => go_on_as(means, moment, sides, rests, flow, spare, out),
         None => unreachable!(),
     }
 }
@@ -121,18 +131,19 @@ fn upgrade(means: Means, http: Box<HttpConv>, out: &mut Vec<Command>) -> Result<
 // Goes on as what its flow asked for.
 fn go_on_as(
     means: Means,
+    moment: u64,
     sides: Sides,
     rests: Rests,
     flow: Flow,
     spare: Option<u32>,
     out: &mut Vec<Command>,
 ) -> Result<Child, NoMemory>
-    ensures follows { IfOk result (λ next. Adds (GoesOnAs (key_of means.mask_key) sides rests flow spare next) out.old.items out.new.items) }
+    ensures follows { IfOk result (λ next. Adds (GoesOnAs (key_of means.mask_key) moment sides rests flow spare next) out.old.items out.new.items) }
     ensures asks { IfOk result (λ next. AsksOnly (awaited_by next) out.old.items out.new.items) }
     ensures left { IfOk result (λ next. left_by next ≤ most_asked) }
 {
     if is_websocket(&flow, sides.closed) {
-        return begin_socket(means, sides, rests, flow, spare, out);
+        return begin_socket(means, moment, sides, rests, flow, spare, out);
     }
     begin_relay(sides, rests, Some(flow), spare, out)
 }

@@ -53,24 +53,25 @@ fn takes_extensions(fields: &Fields) -> bool
     fields.get_all(b"Sec-WebSocket-Extensions").next().is_some()
 }
 
-/// Begins a WebSocket between these sides with what was left of both, of which the client has not closed; `spare` is the spare side that is
+/// Begins a WebSocket at this moment between these sides with what was left of both, of which the client has not closed; `spare` is the spare side that is
 /// still connected. Where a Close frame or a fault stands in what was left, or the server has closed, it may end at once.
 pub fn begin_socket(
     means: Means,
+    moment: u64,
     sides: Sides,
     rests: Rests,
     flow: Flow,
     spare: Option<u32>,
     out: &mut Vec<Command>,
 ) -> Result<Child, NoMemory>
-    ensures begins { IfOk result (λ next. Adds (BeginsSocket (key_of means.mask_key) sides rests flow spare next) out.old.items out.new.items) }
+    ensures begins { IfOk result (λ next. Adds (BeginsSocket (key_of means.mask_key) moment sides rests flow spare next) out.old.items out.new.items) }
     ensures asks { IfOk result (λ next. AsksOnly (awaited_by next) out.old.items out.new.items) }
     ensures left { IfOk result (λ next. left_by next ≤ most_asked) }
 {
     let mut flow = flow;
     flow.websocket = true;
     let mut layer = WsLayer::new(means.alloc, flow, sides.server, means.mask_key, rests)?;
-    layer.begin(sides.shut, out)?;
+    layer.begin(moment, sides.shut, out)?;
     let boxed = Box::new(means.alloc, layer)?;
     come_to(
         Socket {
@@ -81,21 +82,22 @@ pub fn begin_socket(
     )
 }
 
-/// Takes an event, while nothing is asked.
+/// Takes an event at this moment, while nothing is asked.
 pub fn socket_takes(
     socket: Socket,
+    moment: u64,
     event: &Event,
     out: &mut Vec<Command>,
 ) -> Result<Child, NoMemory>
     requires somewhere { (conv : ℕ) × (client : Visitor) × IsSomewhere conv client (Child.Socket socket) }
     requires free { awaited_by (Child.Socket socket) ≡ None }
-    ensures takes { IfOk result (λ next. Adds (λ more. (conv : ℕ) (client : Visitor) (moment : ℕ) → TakesChild conv client (Child.Socket socket) next moment event.now more) out.old.items out.new.items) }
+    ensures takes { IfOk result (λ next. Adds (λ more. (conv : ℕ) (client : Visitor) → TakesChild conv client (Child.Socket socket) next moment event.now more) out.old.items out.new.items) }
     ensures asks { IfOk result (λ next. AsksOnly (awaited_by next) out.old.items out.new.items) }
     ensures left { IfOk result (λ next. left_by next ≤ left_by (Child.Socket socket)) }
 {
     let mut socket = socket;
     socket.spare = still_open(socket.spare, event);
-    socket.layer.hear(event, out)?;
+    socket.layer.hear(moment, event, out)?;
     come_to(socket, out)
 }
 

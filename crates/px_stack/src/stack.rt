@@ -122,7 +122,7 @@ impl Stack {
                 taken
             }
             Child::Socket(socket) => {
-                let taken = socket_takes(socket, &event, out);
+                let taken = socket_takes(socket, moment, &event, out);
                 drop(event);
                 taken
             }
@@ -364,7 +364,7 @@ impl Stack {
         };
         let made = self.http_inside(place, numbers)?;
         let http = begin_boxed(made, moment, &rest, out)?;
-        follow(self.means(), http, out)
+        follow(self.means(), moment, http, out)
     }
 
     // HTTP in a tunnel, at this place, which goes on with these numbers.
@@ -636,7 +636,7 @@ fn http_takes(
 {
     let mut http = http;
     http.take_anywhere(moment, event, out)?;
-    follow(means, http, out)
+    follow(means, moment, http, out)
 }
 
 // HTTP takes a reply that is not the connection of another proxy, and what follows it.
@@ -656,7 +656,7 @@ fn http_resumes(
 {
     let mut http = http;
     http.resume_anywhere(moment, reply, out)?;
-    follow(means, http, out)
+    follow(means, moment, http, out)
 }
 
 // The present flow is connected through another proxy, and goes on with what has come of its server.
@@ -674,7 +674,7 @@ fn reach(
 {
     let mut http = http;
     http.reach(moment, &rest, out)?;
-    follow(means, http, out)
+    follow(means, moment, http, out)
 }
 
 // It is refused as by its dial, and the proxy's side is closed.
@@ -694,7 +694,7 @@ fn refuse_flow(
     let mut http = http;
     http.resume_anywhere(moment, Reply::Refused(Fault::UpstreamRefused), out)?;
     close_server(server, shut, out)?;
-    follow(means, http, out)
+    follow(means, moment, http, out)
 }
 
 // What came of a server, unless the client has closed: behind its close nothing is heard.

@@ -12,7 +12,7 @@ use Rattle.px_event.specs.declared.side.Side.{Side}
 use Rattle.px_event.specs.declared.side.Side.TheVariants.{Client, Server}
 use Rattle.px_event.specs.Chain.{Timed}
 use Rattle.px_event.specs.Layer.{Took, Goes, AsksOnly, asks_in}
-use Rattle.px_event.specs.View.{View, byte, line, questions, course, flows, seen_of}
+use Rattle.px_event.specs.View.{View, byte, line, questions, course, flows, order, seen_of}
 use Rattle.px_event.proofs.Seen.{seen_append}
 use Rattle.px_event.proofs.Steps.{Takes, onward, past_end, take_goes}
 use Rattle.px_tunnel.specs.declared.tunnel.RawTunnel.{RawTunnel}
@@ -49,6 +49,8 @@ seen_empty (line other) side = by (is_same_side side other)
 seen_empty questions side = refl
 seen_empty course side = refl
 seen_empty flows side = refl
+seen_empty order Client = refl
+seen_empty order (Server number) = refl
 
 seen_sent : (view : View) (side : Side) (text : List ℕ) → seen_of view (sent side text) ≡ seen_of view (commands.Send side text ∷ [])
 seen_sent view side [] = sym (seen_empty view side)

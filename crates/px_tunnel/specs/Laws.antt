@@ -12,7 +12,7 @@ use Rattle.px_event.specs.Chain.{Timed, NotYet, Asks, Ends}
 use Rattle.px_event.specs.Laws.{IsSettled, Settles, SoFarGrows, owed_here, owed_over}
 use Rattle.px_event.specs.Layer.{Move}
 use Rattle.px_event.specs.Stands.{AwaitsWhatItAsks, EndsWhereItEnds, stop_of}
-use Rattle.px_event.specs.View.{View, Atom, byte, line, questions, course, flows, seen_of}
+use Rattle.px_event.specs.View.{View, Atom, byte, line, questions, course, flows, order, seen_of}
 use Rattle.px_event.proofs.Seen.{seen_append}
 use Rattle.px_tunnel.specs.declared.tunnel.RawTunnel.{RawTunnel}
 use Rattle.px_tunnel.specs.Tunnel.{no_rests, is_begun, has_begun, left_behind, brought, text_of, left_alone, first_of, alone, both_ways, sent_over, Stage, going, over, pass_by, pass, look, tunnel_chain}
@@ -83,6 +83,7 @@ both_append (line (Server number)) server up more_up down more_down = server_app
 both_append questions server up more_up down more_down = refl
 both_append course server up more_up down more_down = refl
 both_append flows server up more_up down more_down = refl
+both_append order server up more_up down more_down = line_append down more_down
 
 nothing_by : (same : Bool) → (if same then map byte [] else []) ++ [] ≡ []
 nothing_by true = refl
@@ -94,6 +95,7 @@ both_nothing (line (Server number)) server = nothing_by (server == number)
 both_nothing questions server = refl
 both_nothing course server = refl
 both_nothing flows server = refl
+both_nothing order server = refl
 
 -- what is owed over one event more, where no side had closed: what was owed, what the event brings both ways, and the close
 owed_by : (server : ℕ) (rests : Rests) (prefix : List (Timed Event)) (side : Option Side) →

@@ -1,5 +1,5 @@
 -- What an operator is shown of a flow: an object of JSON, as serde_json writes its values.
-use Rattle.std.specs.Prelude.{ℕ, List, [], ◌∷◌, ◌++◌, codes, Option, Some, None}
+use Rattle.std.specs.Prelude.{ℕ, List, [], ◌∷◌, ◌++◌, length, codes, Option, Some, None}
 use Rattle.std.specs.Str.{encode_utf8_all}
 use Rattle.serde_json.specs.Data.{Data, null, boolean, number, unsigned, string, object, member, no_members}
 use Rattle.serde_json.specs.Written.{compact_text}
@@ -31,8 +31,9 @@ flow_value flow =
     (member (codes "error") (error_value flow.error)
     (member (codes "id") (text_value (id_text flow.id))
     (member (codes "marked") (boolean flow.marked)
+    (member (codes "messages") (number (unsigned (length flow.messages)))
     (member (codes "method") (text_value flow.request.method)
-    (member (codes "url") (text_value (url_text flow.request.host flow.request.port flow.request.path)) no_members))))))
+    (member (codes "url") (text_value (url_text flow.request.host flow.request.port flow.request.path)) no_members)))))))
 
 -- its line: the value without blanks
 abbrev pub show_text : Flow → List ℕ

@@ -1,8 +1,9 @@
 //! The line that an operator is shown of a flow: an object of JSON without blanks (RFC 8259).
 //!
-//! Its members are `code`, `error`, `id`, `marked`, `method` and `url`, in this order. Bytes become the characters of the same
+//! Its members are `code`, `error`, `id`, `marked`, `messages`, `method` and `url`, in this order. Bytes become the characters of the same
 //! numbers, so every byte can be told from the text.
-ghost use Rattle.std.specs.Prelude.{◌≡◌, ◌++◌, IfOk, OnOk, OnErr, string_bytes};
+ghost use Rattle.std.specs.Prelude.{◌≡◌, ◌++◌, length, IfOk, OnOk, OnErr, string_bytes};
+ghost use Rattle.serde_json.specs.Data.{number, unsigned};
 ghost use Rattle.serde_json.specs.View.{view};
 ghost use Rattle.px_view.specs.Show.{characters, code_value, error_value, flow_value, show_text, text_value};
 ghost use Rattle.px_view.specs.Line.{id_text};
@@ -41,6 +42,7 @@ fn flow_value(alloc: Global, flow: &Flow) -> Result<Value, NoMemory>
     )?;
     put(&mut members, alloc, "id", id_value(alloc, flow.id)?)?;
     put(&mut members, alloc, "marked", Value::Bool(flow.marked))?;
+    put(&mut members, alloc, "messages", messages_value(flow))?;
     put(
         &mut members,
         alloc,
@@ -49,6 +51,13 @@ fn flow_value(alloc: Global, flow: &Flow) -> Result<Value, NoMemory>
     )?;
     put(&mut members, alloc, "url", text_value(alloc, &url)?)?;
     Ok(Value::Object(members))
+}
+
+// How many messages its WebSocket had.
+fn messages_value(flow: &Flow) -> Value
+    ensures { view result ≡ number (unsigned (length flow.now.messages)) }
+{
+    Value::from(flow.messages.len())
 }
 
 fn code_value(response: &Option<Shared<Response>>) -> Value

@@ -7,10 +7,11 @@ use Rattle.px_flowfile.specs.FlowTable.{flow_table}
 use Rattle.px_flowfile.specs.OthersView.{others_view}
 use Rattle.px_flowfile.specs.Table.{lines}
 use Rattle.px_flowfile.specs.Unknown.{joined}
+use Rattle.px_flowfile.specs.declared.form.Form.TheVariants as forms
 use Rattle.px_flowfile.proofs.write.entry_tree.Goals as goal
 
 pub returns : goal.returns
 returns c =
     c.dict_tree.ensures
     ∙ ap dict (c.in_ok-put_others.ensures ∙ c.in_ok-put_flow.ensures (others_view c.args.entry.now.others)
-    ∙ ap (λ (ps : List (TnetKey × Tnet)). joined (pairs_view ps) (lines flow_table c.args.entry.now.flow (others_view c.args.entry.now.others))) c.new-pairs.ensures.items)
+    ∙ ap (λ (ps : List (TnetKey × Tnet)). joined (pairs_view ps) (lines (flow_table forms.Second) c.args.entry.now.flow (others_view c.args.entry.now.others))) c.new-pairs.ensures.items)

@@ -14,7 +14,7 @@ pub returns-in-Going-clause-follows : goal.returns-in-Going-clause-follows
 returns-in-Going-clause-follows c = record {
   more = [];
   grown = sym (append-nil c.args.out.now.items);
-  holds = λ conv client place standing prefix keyed at in_time. goes_on conv client place c.args.http.value standing prefix at in_time c.args.http refl
+  holds = λ conv client place standing prefix keyed now at in_time. goes_on conv client place c.args.http.value standing prefix at in_time c.args.http refl
       (ap (λ h. outcome_in h.stream.phase) (sym c.deref.ensures) ∙ (sym c.outcome.ensures.phase ∙ c.in-Going.is));
 }
 
@@ -23,14 +23,14 @@ returns-in-Next-clause-follows c =
     let more : List Command = shut_open (open_spare c.args.http.value.stream.spare) in
     let out : List Command = c.args.out.now.items in
     let longer : List Command = c.end.new.out.items in
-    let P : Child → Type 0 = λ child. Adds (Follows (key_of c.args.means.mask_key) c.args.http.value child) out longer in
+    let P : Child → Type 0 = λ child. Adds (Follows (key_of c.args.means.mask_key) c.args.moment c.args.http.value child) out longer in
     both_ok c.end.result (λ child. child ≡ children.Over) P (longer ≡ out ++ more) c.end.ensures.over c.end.ensures.gives
     (λ child is grown. subst P (sym is) (record {
       more = more;
       grown = grown;
-      holds = ends_with c.args.http.value c.outcome.result (c.outcome.ensures.phase ∙ ap (λ h. outcome_in h.stream.phase) c.deref.ensures) c.in-Next.is (key_of c.args.means.mask_key);
+      holds = ends_with c.args.http.value c.outcome.result (c.outcome.ensures.phase ∙ ap (λ h. outcome_in h.stream.phase) c.deref.ensures) c.in-Next.is (key_of c.args.means.mask_key) c.args.moment;
     }))
 
 pub returns-in-Connects-clause-follows : goal.returns-in-Connects-clause-follows
 returns-in-Connects-clause-follows c =
-    with_one_key (key_of c.args.means.mask_key) c.args.http.value c.args.out.now.items c.connect.new.out.items c.connect.result c.connect.ensures.follows
+    with_one_key (key_of c.args.means.mask_key) c.args.moment c.args.http.value c.args.out.now.items c.connect.new.out.items c.connect.result c.connect.ensures.follows

@@ -22,12 +22,12 @@ returns-clause-follows c =
     let spare = c.spare-spare.result in
     let flow : Flow = c.in-Some.flow in
     let key = key_of c.args.means.mask_key in
-    two_ok c.go_on_as.result (λ child. Adds (GoesOnAs key sides rests flow spare child) out longer) (λ child. left_by child ≤ most_asked)
-    (λ child. Adds (Follows key flows child) out longer) c.go_on_as.ensures.follows c.go_on_as.ensures.left
+    two_ok c.go_on_as.result (λ child. Adds (GoesOnAs key c.args.moment sides rests flow spare child) out longer) (λ child. left_by child ≤ most_asked)
+    (λ child. Adds (Follows key c.args.moment flows child) out longer) c.go_on_as.ensures.follows c.go_on_as.ensures.left
     (λ child adds few. record {
       more = adds.more;
       grown = adds.grown;
-      holds = upgrades key flows sides rests flow spare child adds.more c.requires
+      holds = upgrades key c.args.moment flows sides rests flow spare child adds.more c.requires
           (ap (λ (h : HttpConv). upgraded_side h.stream.phase) (sym c.deref.ensures) ∙ c.read_sides-sides.ensures.server)
           (c.read_sides-sides.ensures.closed ∙ ap (λ (h : HttpConv). h.stream.client_closed) c.deref.ensures)
           (c.in_ok-rests.ensures.client ∙ ap (λ (h : HttpConv). h.stream.requests.rest) c.into_inner.ensures)

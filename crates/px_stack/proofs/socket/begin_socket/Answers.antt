@@ -17,12 +17,12 @@ returns-clause-begins c =
     let out : List Command = c.args.out.now.items in
     let mid : List Command = c.begin.new.out.items in
     let key : List _ = key_of c.args.means.mask_key in
-    let P : WsLayer → Type 0 = λ l. BeginsWith c.args.sides.shut made l out mid in
-    let begins : BeginsWith c.args.sides.shut made kept.layer.value out mid = subst P (sym c.in_ok-boxed.ensures.ok) c.in_ok-begin.ensures.begins in
+    let P : WsLayer → Type 0 = λ l. BeginsWith c.args.moment c.args.sides.shut made l out mid in
+    let begins : BeginsWith c.args.moment c.args.sides.shut made kept.layer.value out mid = subst P (sym c.in_ok-boxed.ensures.ok) c.in_ok-begin.ensures.begins in
     gives_so kept out mid c.come_to.new.out.items c.come_to.result c.come_to.ensures.next c.come_to.ensures.gives begins.more begins.grown
-    (λ next more. BeginsSocket key c.args.sides c.args.rests c.args.flow c.args.spare next more)
+    (λ next more. BeginsSocket key c.args.moment c.args.sides c.args.rests c.args.flow c.args.spare next more)
     (λ next comes conv client ends prefix keyed open_still may.
-    begins_there key c.args.sides c.args.rests c.args.flow c.args.spare made kept out mid c.in_ok-layer.ensures.terms c.in_ok-layer.ensures.rests c.in_ok-layer.ensures.relaying
+    begins_there key c.args.moment c.args.sides c.args.rests c.args.flow c.args.spare made kept out mid c.in_ok-layer.ensures.rests c.in_ok-layer.ensures.relaying
     begins refl conv client ends prefix keyed open_still may next comes)
 
 pub returns-clause-asks : goal.returns-clause-asks
@@ -39,8 +39,8 @@ returns-clause-left c =
     let made : WsLayer = c.in_ok-layer.layer in
     let out : List Command = c.args.out.now.items in
     let mid : List Command = c.begin.new.out.items in
-    let P : WsLayer → Type 0 = λ l. BeginsWith c.args.sides.shut made l out mid in
-    let begins : BeginsWith c.args.sides.shut made kept.layer.value out mid = subst P (sym c.in_ok-boxed.ensures.ok) c.in_ok-begin.ensures.begins in
+    let P : WsLayer → Type 0 = λ l. BeginsWith c.args.moment c.args.sides.shut made l out mid in
+    let begins : BeginsWith c.args.moment c.args.sides.shut made kept.layer.value out mid = subst P (sym c.in_ok-boxed.ensures.ok) c.in_ok-begin.ensures.begins in
     left_so kept out mid c.come_to.new.out.items c.come_to.result c.come_to.ensures.next c.come_to.ensures.gives most_asked
-    (begun_left (key_of c.args.means.mask_key) c.args.sides c.args.rests c.args.flow c.args.spare made kept out mid c.in_ok-layer.ensures.terms c.in_ok-layer.ensures.rests
+    (begun_left (key_of c.args.means.mask_key) c.args.moment c.args.sides c.args.rests c.args.flow c.args.spare made kept out mid c.in_ok-layer.ensures.rests
     c.in_ok-layer.ensures.relaying begins refl)

@@ -24,11 +24,11 @@ returns-clause-takes c =
     let after : Socket = record { layer = with_value kept.layer c.hear.new.self; spare = c.still_open-socket.result } in
     let out : List Command = c.args.out.now.items in
     let mid : List Command = c.hear.new.out.items in
-    let P : WsLayer → Type 0 = λ l. HearsEvent c.args.event.now l c.hear.new.self out mid in
-    let hears : HearsEvent c.args.event.now kept.layer.value c.hear.new.self out mid = subst P c.deref_mut.ensures.value c.in_ok-hear.ensures.hears in
+    let P : WsLayer → Type 0 = λ l. HearsEvent c.args.moment c.args.event.now l c.hear.new.self out mid in
+    let hears : HearsEvent c.args.moment c.args.event.now kept.layer.value c.hear.new.self out mid = subst P c.deref_mut.ensures.value c.in_ok-hear.ensures.hears in
     gives_so after out mid c.come_to.new.out.items c.come_to.result c.come_to.ensures.next c.come_to.ensures.gives hears.more hears.grown
-    (λ next more. (conv : ℕ) (client : Visitor) (moment : ℕ) → TakesChild conv client (children.Socket kept) next moment c.args.event.now more)
-    (λ next comes conv client moment. takes_all kept after c.args.event.now out mid hears c.still_open-socket.ensures conv client moment next comes c.requires.free)
+    (λ next more. (conv : ℕ) (client : Visitor) → TakesChild conv client (children.Socket kept) next c.args.moment c.args.event.now more)
+    (λ next comes conv client. takes_all kept after c.args.moment c.args.event.now out mid hears c.still_open-socket.ensures conv client next comes c.requires.free)
 
 pub returns-clause-asks : goal.returns-clause-asks
 returns-clause-asks c =
@@ -42,7 +42,7 @@ returns-clause-left c =
     let after : Socket = record { layer = with_value kept.layer c.hear.new.self; spare = c.still_open-socket.result } in
     let out : List Command = c.args.out.now.items in
     let mid : List Command = c.hear.new.out.items in
-    let P : WsLayer → Type 0 = λ l. HearsEvent c.args.event.now l c.hear.new.self out mid in
-    let hears : HearsEvent c.args.event.now kept.layer.value c.hear.new.self out mid = subst P c.deref_mut.ensures.value c.in_ok-hear.ensures.hears in
+    let P : WsLayer → Type 0 = λ l. HearsEvent c.args.moment c.args.event.now l c.hear.new.self out mid in
+    let hears : HearsEvent c.args.moment c.args.event.now kept.layer.value c.hear.new.self out mid = subst P c.deref_mut.ensures.value c.in_ok-hear.ensures.hears in
     left_so after out mid c.come_to.new.out.items c.come_to.result c.come_to.ensures.next c.come_to.ensures.gives (socket_left kept.layer.value)
-    (fewer_somewhere kept after c.args.event.now out mid hears c.still_open-socket.ensures c.requires.somewhere.0 c.requires.somewhere.1 c.requires.free c.requires.somewhere.2)
+    (fewer_somewhere kept after c.args.moment c.args.event.now out mid hears c.still_open-socket.ensures c.requires.somewhere.0 c.requires.somewhere.1 c.requires.free c.requires.somewhere.2)

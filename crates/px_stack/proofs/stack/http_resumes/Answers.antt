@@ -25,14 +25,14 @@ returns-clause-resumes c =
     let after : HttpConv = c.resume_anywhere.new.self in
     let P : HttpConv → Type 0 = λ h. ResumesAnywhere h.stream after.stream c.args.moment c.args.reply out between in
     let took : ResumesAnywhere c.args.http.value.stream after.stream c.args.moment c.args.reply out between = subst P c.deref_mut.ensures.value c.in_ok-resume_anywhere.ensures.resumes in
-    IfOk-weaker c.follow.result (λ child. Adds (Follows (key_of c.args.means.mask_key) after child) between longer)
+    IfOk-weaker c.follow.result (λ child. Adds (Follows (key_of c.args.means.mask_key) c.args.moment after child) between longer)
     (λ child. Adds (λ more. (conv : ℕ) (client : Visitor) → client.key ≡ key_of c.args.means.mask_key → ResumesChild conv client (children.Http c.args.http) child c.args.moment c.args.reply more) out longer)
     (λ child adds. record {
       more = took.more ++ adds.more;
       grown = adds.grown ∙ (ap (λ l. l ++ adds.more) took.grown ∙ append_assoc out took.more adds.more);
       holds = λ conv client keyed.
-          let K : List ℕ → Type 0 = λ key. Follows key after child adds.more in
-          http_resumes conv client c.args.http after child took.more adds.more (subst K (sym keyed) adds.holds) c.args.moment c.args.reply c.requires.plain took.resumes;
+          let K : List ℕ → Type 0 = λ key. Follows key c.args.moment after child adds.more in
+          http_resumes conv client c.args.http after child c.args.moment took.more adds.more (subst K (sym keyed) adds.holds) c.args.reply c.requires.plain took.resumes;
     }) c.follow.ensures.follows
 
 pub returns-clause-left : goal.returns-clause-left
@@ -45,6 +45,6 @@ returns-clause-left c =
     let took : ResumesAnywhere c.args.http.value.stream after.stream c.args.moment c.args.reply out between = subst P c.deref_mut.ensures.value c.in_ok-resume_anywhere.ensures.resumes in
     let Q : HttpConv → Type 0 = λ h. sequence_left after.stream < sequence_left h.stream in
     let fewer : sequence_left after.stream < sequence_left c.args.http.value.stream = subst Q c.deref_mut.ensures.value c.in_ok-resume_anywhere.ensures.left in
-    IfOk-weaker c.follow.result (λ child. Adds (Follows (key_of c.args.means.mask_key) after child) between longer) (λ child. left_by child < left_by (children.Http c.args.http))
-    (λ child adds. resumes_left (key_of c.args.means.mask_key) c.args.http after child took.more adds.more adds.holds c.requires.somewhere.0 c.requires.somewhere.1 c.args.moment c.args.reply c.requires.somewhere.2 took.resumes fewer)
+    IfOk-weaker c.follow.result (λ child. Adds (Follows (key_of c.args.means.mask_key) c.args.moment after child) between longer) (λ child. left_by child < left_by (children.Http c.args.http))
+    (λ child adds. resumes_left (key_of c.args.means.mask_key) c.args.http after child c.args.moment took.more adds.more adds.holds c.requires.somewhere.0 c.requires.somewhere.1 c.args.reply c.requires.somewhere.2 took.resumes fewer)
     c.follow.ensures.follows

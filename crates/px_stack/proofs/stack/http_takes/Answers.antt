@@ -25,14 +25,14 @@ returns-clause-takes c =
     let after : HttpConv = c.take_anywhere.new.self in
     let P : HttpConv → Type 0 = λ h. TakesAnywhere h.stream after.stream c.args.moment c.args.event out between in
     let took : TakesAnywhere c.args.http.value.stream after.stream c.args.moment c.args.event out between = subst P c.deref_mut.ensures.value c.in_ok-take_anywhere.ensures.takes in
-    IfOk-weaker c.follow.result (λ child. Adds (Follows (key_of c.args.means.mask_key) after child) between longer)
+    IfOk-weaker c.follow.result (λ child. Adds (Follows (key_of c.args.means.mask_key) c.args.moment after child) between longer)
     (λ child. Adds (λ more. (conv : ℕ) (client : Visitor) → client.key ≡ key_of c.args.means.mask_key → TakesChild conv client (children.Http c.args.http) child c.args.moment c.args.event more) out longer)
     (λ child adds. record {
       more = took.more ++ adds.more;
       grown = adds.grown ∙ (ap (λ l. l ++ adds.more) took.grown ∙ append_assoc out took.more adds.more);
       holds = λ conv client keyed.
-          let K : List ℕ → Type 0 = λ key. Follows key after child adds.more in
-          http_takes conv client c.args.http after child took.more adds.more (subst K (sym keyed) adds.holds) c.args.moment c.args.event took.takes;
+          let K : List ℕ → Type 0 = λ key. Follows key c.args.moment after child adds.more in
+          http_takes conv client c.args.http after child c.args.moment took.more adds.more (subst K (sym keyed) adds.holds) c.args.event took.takes;
     }) c.follow.ensures.follows
 
 pub returns-clause-left : goal.returns-clause-left
@@ -45,6 +45,6 @@ returns-clause-left c =
     let took : TakesAnywhere c.args.http.value.stream after.stream c.args.moment c.args.event out between = subst P c.deref_mut.ensures.value c.in_ok-take_anywhere.ensures.takes in
     let Q : HttpConv → Type 0 = λ h. sequence_left after.stream ≤ sequence_left h.stream in
     let fewer : sequence_left after.stream ≤ sequence_left c.args.http.value.stream = subst Q c.deref_mut.ensures.value c.in_ok-take_anywhere.ensures.left in
-    IfOk-weaker c.follow.result (λ child. Adds (Follows (key_of c.args.means.mask_key) after child) between longer) (λ child. left_by child ≤ left_by (children.Http c.args.http))
-    (λ child adds. takes_left (key_of c.args.means.mask_key) c.args.http after child took.more adds.more adds.holds c.requires.somewhere.0 c.requires.somewhere.1 c.args.moment c.args.event c.requires.somewhere.2 took.takes fewer)
+    IfOk-weaker c.follow.result (λ child. Adds (Follows (key_of c.args.means.mask_key) c.args.moment after child) between longer) (λ child. left_by child ≤ left_by (children.Http c.args.http))
+    (λ child adds. takes_left (key_of c.args.means.mask_key) c.args.http after child c.args.moment took.more adds.more adds.holds c.requires.somewhere.0 c.requires.somewhere.1 c.args.event c.requires.somewhere.2 took.takes fewer)
     c.follow.ensures.follows

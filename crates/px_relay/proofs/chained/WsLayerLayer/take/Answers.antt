@@ -12,13 +12,13 @@ hear-requires-clause-somewhere c = sound_somewhere c.args.self.now c.requires.so
 
 pub returns-clause-goes : goal.returns-clause-goes
 returns-clause-goes c = on_ok_weaker c.hear.result
-    (event_goes c.args.self.now c.hear.new.self c.args._moment c.args.event c.args.out.now.items c.hear.new.out.items c.requires.free)
+    (event_goes c.args.self.now c.hear.new.self c.args.moment c.args.event c.args.out.now.items c.hear.new.out.items c.requires.free)
     c.hear.ensures.hears
 
 pub returns-clause-sound : goal.returns-clause-sound
 returns-clause-sound c = on_ok_weaker c.hear.result
-    (λ hears. sound_after WsStands c.args.self.now c.hear.new.self (Took c.args._moment c.args.event) c.args.out.now.items c.hear.new.out.items c.requires.sound
-    (event_goes c.args.self.now c.hear.new.self c.args._moment c.args.event c.args.out.now.items c.hear.new.out.items c.requires.free hears))
+    (λ hears. sound_after WsStands c.args.self.now c.hear.new.self (Took c.args.moment c.args.event) c.args.out.now.items c.hear.new.out.items c.requires.sound
+    (event_goes c.args.self.now c.hear.new.self c.args.moment c.args.event c.args.out.now.items c.hear.new.out.items c.requires.free hears))
     c.hear.ensures.hears
 
 pub returns-clause-left : goal.returns-clause-left

@@ -1,7 +1,7 @@
 use Rattle.std.proofs.Common.{◌∙◌, subst, sym}
 use Rattle.px_relay.specs.Calls.{WorksBy, did_frame}
-use Rattle.px_relay.proofs.DrainLemmas.{drains_broke, drains_goes, drains_stops, drains_through}
-use Rattle.px_relay.proofs.KeepLemmas.{popped_writable, so_far_goes}
+use Rattle.px_relay.proofs.DrainLemmas.{drains_broke, drains_first, drains_goes, drains_stops, drains_through}
+use Rattle.px_relay.proofs.KeepLemmas.{popped_writable, so_far_first, so_far_goes}
 use Rattle.px_relay.proofs.layer.WsLayer.drain.Goals as goal
 
 pub work-requires : goal.work-requires
@@ -13,6 +13,12 @@ returns-then-not-branch-clause-drains c =
     c.work.new.out.items c.frames.invariant.drains c.in-Some.ensures
     (subst (λ b. WorksBy (did_frame c.args.from c.pop.new.self c.in-Some.frame) b c.work.new.self c.frames.out.items c.work.new.out.items)
     c.if-not-branch.true c.in_ok-work.ensures)
+
+pub frames-init : goal.frames-init
+frames-init c = record {
+  drains = drains_first c.args.from c.args.self.now c.args.out.now.items;
+  keeps = so_far_first c.args.from c.args.self.now c.requires.relaying c.requires.writable;
+}
 
 pub frames-preserved : goal.frames-preserved
 frames-preserved c =

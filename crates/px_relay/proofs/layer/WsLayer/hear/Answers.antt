@@ -12,11 +12,11 @@ hear_event-requires-clause-server c = relaying_server c.args.self.now c.requires
 pub returns-clause-asks : goal.returns-clause-asks
 returns-clause-asks c =
     on_ok_weaker c.hear_event.result
-    (event_asks c.args.event.now c.args.self.now c.hear_event.new.self c.args.out.now.items c.hear_event.new.out.items c.requires.somewhere c.requires.free)
+    (event_asks c.args.moment c.args.event.now c.args.self.now c.hear_event.new.self c.args.out.now.items c.hear_event.new.out.items c.requires.somewhere c.requires.free)
     c.hear_event.ensures.hears
 
 pub returns-clause-somewhere : goal.returns-clause-somewhere
 returns-clause-somewhere c =
     on_ok_weaker c.hear_event.result
-    (event_somewhere c.args.event.now c.args.self.now c.hear_event.new.self c.args.out.now.items c.hear_event.new.out.items c.requires.somewhere c.requires.free)
+    (event_somewhere c.args.moment c.args.event.now c.args.self.now c.hear_event.new.self c.args.out.now.items c.hear_event.new.out.items c.requires.somewhere c.requires.free)
     c.hear_event.ensures.hears

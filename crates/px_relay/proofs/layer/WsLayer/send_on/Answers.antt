@@ -1,6 +1,6 @@
 use Rattle.std.proofs.Common.{◌≡◌, ◌++◌, subst}
 use Rattle.px_relay.specs.Calls.{keys_behind_all, sent_by, with_keys}
-use Rattle.px_relay.specs.Messages.{message_frames, payload_of}
+use Rattle.px_relay.specs.Messages.{message_frames}
 use Rattle.px_relay.proofs.ReplyLemmas.{sends_by}
 use Rattle.px_relay.proofs.layer.WsLayer.send_on.Goals as goal
 
@@ -9,11 +9,8 @@ returns-clause-sends c =
     let before = c.args.self.now.sender in
     let after = c.send_message.new.self in
     let held = c.args.held.now in
-    let sender = subst (λ t. after ≡ with_keys before (keys_behind_all t before.keys (message_frames held.message (payload_of held.message c.args.reply.now)))) c.other.ensures
-    (subst (λ p. after ≡ with_keys before (keys_behind_all c.other.result before.keys (message_frames held.message p))) c.sent_payload-payload.ensures
-    c.in_ok-send_message.ensures.sender) in
-    let gives = subst (λ t. c.send_message.new.out.items ≡ c.args.out.now.items ++ sent_by before t (message_frames held.message (payload_of held.message c.args.reply.now))) c.other.ensures
-    (subst (λ p. c.send_message.new.out.items ≡ c.args.out.now.items ++ sent_by before c.other.result (message_frames held.message p)) c.sent_payload-payload.ensures
-    c.in_ok-send_message.ensures.gives) in
-    sends_by c.go_on_from.result held.from (message_frames held.message (payload_of held.message c.args.reply.now)) c.args.self.now c.go_on_from.new.self after
-    c.args.out.now.items c.send_message.new.out.items c.go_on_from.new.out.items sender gives c.go_on_from.ensures.goes c.go_on_from.ensures.rests
+    let frames = message_frames held.message c.args.payload.now in
+    let sender = subst (λ t. after ≡ with_keys before (keys_behind_all t before.keys frames)) c.other.ensures c.in_ok-send_message.ensures.sender in
+    let gives = subst (λ t. c.send_message.new.out.items ≡ c.args.out.now.items ++ sent_by before t frames) c.other.ensures c.in_ok-send_message.ensures.gives in
+    sends_by c.go_on_from.result held.from frames c.args.self.now c.go_on_from.new.self after c.args.out.now.items c.send_message.new.out.items
+    c.go_on_from.new.out.items sender gives c.go_on_from.ensures.goes c.go_on_from.ensures.rests
