@@ -27,7 +27,7 @@ def flow(number, filler):
     moment = 1_700_000_000_000_000 + 1000 * number
     missing = number % 5 == 0
     return {
-        "version": 1,
+        "version": 2,
         "type": "http",
         "id": f"{number}.0",
         "client_conn": {"address": [b"127.0.0.1", 40000 + number % 20_000]},
@@ -59,7 +59,7 @@ def flow(number, filler):
         "error": None,
         "is_replay": None,
         "marked": False,
-        "websocket": False,
+        "websocket": None,
     }
 
 

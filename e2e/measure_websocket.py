@@ -1,5 +1,7 @@
 """Measures what a message of a WebSocket costs in `mitm` and in mitmproxy, between a client and a server by hand; prints a table in Markdown.
 
+  e2e/measure_websocket.py [COUNT..]   so many messages there and back on one connection (20,000); mitmproxy, where it is installed, with the first count alone
+
 MITM names another program to be measured."""
 import os
 import shutil
@@ -16,7 +18,7 @@ from websocket_cases import AGREES, ASKS, PEER, REVERSE, TEXT, frame
 
 ABOVE = 8082
 PAYLOAD = b"a message of about one thousand bytes " * 27
-FEW, MANY = 200, 20_000
+FEW, MANY = 200, [20_000]
 
 
 def serve(connection):
@@ -43,36 +45,38 @@ def send(client, count, at_once=20):
             left -= len(got)
 
 
-def cost(proxy):
-    """Microseconds of CPU for each message that is relayed, one there and one back."""
+def cost(proxy, count):
+    """Microseconds of CPU for each of so many messages that are relayed, one there and one back."""
     with proxy.connect() as client:
         client.sendall(ASKS)
         read_head(client)
         send(client, FEW)
         before = proxy.cpu_seconds()
-        send(client, MANY)
-        return 1e6 * (proxy.cpu_seconds() - before) / (2 * MANY)
+        send(client, count)
+        return 1e6 * (proxy.cpu_seconds() - before) / (2 * count)
 
 
 def main():
+    counts = [int(it) for it in sys.argv[1:]] or MANY
     raise_loopback()
-    print("| messages of 1 kB | CPU for each, µs | peak, MB |\n|---|---|---|", flush=True)
+    print("| | messages of 1 kB | CPU for each, µs | peak, MB |\n|---|---|---|---|", flush=True)
     with Peer(serve, PEER), tempfile.TemporaryDirectory() as home:
-        for _ in range(2):
+        for count in counts * 2:
             with Mitm(mode=REVERSE) as mitm:
                 proxy = Proxy(mitm.process.pid, mitm.port)
-                print(f"| mitm | {cost(proxy):.1f} | {proxy.peak_megabytes():.1f} |", flush=True)
-            program = shutil.which("mitmdump")
-            if program is None:
-                sys.exit("measure: mitmdump is missing")
-            process = subprocess.Popen([program, "-q", "--mode", f"reverse:http://127.0.0.1:{PEER}", "--listen-host", "127.0.0.1", "-p", str(ABOVE), "--set", f"confdir={home}"])
-            try:
-                wait_for(lambda: listens(ABOVE), "mitmdump", 60)
-                proxy = Proxy(process.pid, ABOVE)
-                print(f"| mitmdump | {cost(proxy):.1f} | {proxy.peak_megabytes():.1f} |", flush=True)
-            finally:
-                process.kill()
-                process.wait()
+                print(f"| mitm | {2 * count:,} | {cost(proxy, count):.1f} | {proxy.peak_megabytes():.1f} |", flush=True)
+        program = shutil.which("mitmdump")
+        if program is None:
+            sys.exit("measure: mitmdump is missing: mitm alone was measured")
+        words = [program, "-q", "--mode", f"reverse:http://127.0.0.1:{PEER}", "--listen-host", "127.0.0.1", "-p", str(ABOVE), "--set", f"confdir={home}"]
+        process = subprocess.Popen(words)
+        try:
+            wait_for(lambda: listens(ABOVE), "mitmdump", 60)
+            proxy = Proxy(process.pid, ABOVE)
+            print(f"| mitmdump | {2 * counts[0]:,} | {cost(proxy, counts[0]):.1f} | {proxy.peak_megabytes():.1f} |", flush=True)
+        finally:
+            process.kill()
+            process.wait()
 
 
 if __name__ == "__main__":

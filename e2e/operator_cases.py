@@ -181,7 +181,7 @@ def case_held_request():
         process = subprocess.Popen(["curl", "-sS", url("/held?a=b")], stdout=subprocess.PIPE)
         name, = operator.held()
         same(operator.flows(), {name: "waiting"})
-        wanted = {"code": None, "error": None, "id": name, "marked": False, "method": "GET", "url": f"http://127.0.0.1:{ORIGIN}/held?a=b"}
+        wanted = {"code": None, "error": None, "id": name, "marked": False, "messages": 0, "method": "GET", "url": f"http://127.0.0.1:{ORIGIN}/held?a=b"}
         answer = operator.ask(f"show {name}")
         same(answer, json.dumps(wanted, separators=(",", ":")))
         time.sleep(0.2)

@@ -77,7 +77,7 @@ def flow_of(path, method=b"GET", body=b"", port=ORIGIN):
     """A flow of a file, of this request."""
     fields = [[b"Host", b"x"]] + ([[b"Content-Length", b"%d" % len(body)]] if body else [])
     request = dict(FLOW["request"], headers=fields, content=body, trailers=None, host=b"127.0.0.1", port=port, method=method, path=path.encode())
-    return written(dict(FLOW, request=request, response=None, error=None, is_replay=None, marked=False))
+    return written(dict(FLOW, request=request, response=None, error=None, is_replay=None, marked=False, websocket=None))
 
 
 def case_recorded_and_sent_again():
@@ -237,7 +237,7 @@ def case_websocket_that_is_sent_again():
     with save_file() as path:
         fields = [field.split(b": ", 1) for field in ASKS.split(b"\r\n")[1:-2]]
         request = dict(FLOW["request"], headers=fields, content=b"", trailers=None, host=b"127.0.0.1", port=PEER, method=b"GET", path=b"/chat")
-        put(path, written(dict(FLOW, request=request, response=None, error=None, websocket=True)) + flow_of("/a"))
+        put(path, written(dict(FLOW, request=request, response=None, error=None)) + flow_of("/a"))
         with Peer(serve, PEER) as peer, Mitm(sends(path)) as mitm:
             prints(mitm, [sent_line(0, "GET", "/chat", 101, 0, port=PEER), sent_line(1, "GET", "/a", 200, 3)])
             assert closed.wait(10), "the server's side is open"

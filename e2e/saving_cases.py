@@ -399,14 +399,15 @@ def post_many(number, failed):
 
 
 def case_flows_that_python_wrote():
-    """`flows` prints the flow of examples/write_flows.py, behind that of examples/written.flows."""
-    written = content(os.path.join(TOP, "examples", "written.flows"))
+    """`flows` prints the flows of examples/write_flows.py, of version 2 and of version 1, behind those of the stored files of both."""
+    written = content(os.path.join(TOP, "examples", "written.flows")) + content(os.path.join(TOP, "examples", "version_1.flows"))
     program = os.path.join(TOP, "examples", "write_flows.py")
-    written += subprocess.run([sys.executable, "-B", program], stdout=subprocess.PIPE, check=True).stdout
+    for words in ([], ["1"]):
+        written += subprocess.run([sys.executable, "-B", program, *words], stdout=subprocess.PIPE, check=True).stdout
     with save_file() as path:
         put(path, written)
         flows = whole_flows(written)[0]
-        same(len(flows), 2)
+        same([flow["version"] for flow in flows], [2, 1, 2, 1])
         shows(path, "~marked", [line_by_python(flow) for flow in flows])
         shows(path, "!~marked", [])
 

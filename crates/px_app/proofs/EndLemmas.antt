@@ -9,7 +9,8 @@ use Rattle.px_app.specs.declared.printing.Printing.{Printing}
 use Rattle.px_app.specs.declared.printing.Printing.TheVariants.{Whole, Failed}
 use Rattle.px_app.specs.declared.status.Status.{Status}
 use Rattle.px_app.specs.declared.status.Status.TheVariants.{Ended, NetFault, BudgetSpent, OutputFailed, NoMemory}
-use Rattle.px_app.proofs.PrintLemmas.{has_still, has_part, part_longer}
+use Rattle.px_app.proofs.PrintLemmas.{has_still, has_part}
+use Rattle.px_words.proofs.PrintLemmas.{part_longer}
 
 -- ---- statuses without a line
 

@@ -12,7 +12,7 @@ use Rattle.px_resend.specs.Due.{most_replayed}
 use Rattle.px_app.specs.Dues.{run_due}
 use Rattle.px_app.specs.Generates.{Generated, Generates, generator_mode, generator_settings}
 use Rattle.px_app.specs.Opened.{AreRulesOf}
-use Rattle.px_app.specs.Outside.{Outside}
+use Rattle.px_words.specs.Outside.{Outside}
 use Rattle.px_app.specs.Over.{course_from}
 use Rattle.px_app.specs.Serving.{Ran}
 use Rattle.px_app.specs.Statuses.{ends_heard}
@@ -23,7 +23,7 @@ use Rattle.px_app.proofs.DoorLemmas.{hears_plain, worked_plain}
 use Rattle.px_app.proofs.EndLemmas.{ended_not_lost}
 use Rattle.px_app.proofs.PromiseLemmas.{promises_of}
 use Rattle.px_app.proofs.RanLemmas.{replays_by}
-use Rattle.px_app.proofs.ToldLemmas.{none_part}
+use Rattle.px_words.proofs.ToldLemmas.{none_part}
 
 with_none : (trace : Option Trace) → trace ≡ with_steps trace []
 with_none None = refl

@@ -6,7 +6,8 @@ use Rattle.px_core.specs.declared.answerer.Answer.{Answer}
 use Rattle.px_core.specs.Answers.{Answering, AnswererState, ByAnswers, Failing, FilesAfter, FilesMeaning, after_answers, after_failure, by_answer, by_none}
 use Rattle.px_core.specs.Kind.{KeepsFiles}
 use Rattle.px_app.specs.Over.{Goes, LeavesBehind, goes_answer, goes_append, goes_drop, goes_none, left_by_answer, left_by_append, left_whole}
-use Rattle.px_app.specs.Saved.{Append, Appending, BrokeAppending, SavesTo}
+use Rattle.px_app.specs.Saved.{Appending, BrokeAppending, SavesTo}
+use Rattle.px_words.specs.Appends.{Append}
 
 module _ {S : Type 0} (answers : Answering S) (drops : List ℕ → S → S → Type 0) (to : Option SavesTo) where
   pub goes_by : (first last : AnswererState S) → ByAnswers answers first last → Goes answers drops to first last

@@ -16,7 +16,8 @@ use Rattle.px_core.proofs.AnswerLemmas.{kept_after}
 use Rattle.px_core.proofs.CourseLemmas.{begins_so, last_is, made_are}
 use Rattle.px_app.specs.Grown.{AddsUp, AreOfFlows, Grown, GrowsBy, GrowsUnder, texts}
 use Rattle.px_app.specs.Over.{Goes, LeavesBehind, SavedOver, all_saved, course_from, drops_one, goes_answer, goes_append, goes_drop, goes_none, is_broken, is_cut, left_by_answer, left_by_append, left_whole, nothing_yet, stays_cut}
-use Rattle.px_app.specs.Saved.{Append, Appending, BrokeAppending, IsMade, Piece, SavesTo, broke_at, broke_elsewhere, lost, none_made, one_made, piece_in, put}
+use Rattle.px_app.specs.Saved.{Appending, BrokeAppending, SavesTo, broke_at, broke_elsewhere, none_made, one_made}
+use Rattle.px_words.specs.Appends.{Append, IsMade, Piece, lost, piece_in, put}
 use Rattle.px_app.specs.declared.printing.Printing.{Printing}
 use Rattle.px_app.specs.declared.printing.Printing.TheVariants.{Whole, Failed}
 use Rattle.px_app.proofs.TouchedLemmas.{saved_at}

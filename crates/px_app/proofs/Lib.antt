@@ -39,6 +39,4 @@ pub mod DoorLemmas
 pub mod PromiseLemmas
 pub mod ServeLemmas
 pub mod GenerateLemmas
-pub mod FlowFileLemmas
-pub mod FlowsLemmas
 pub mod LoadLemmas

@@ -12,12 +12,12 @@ use Rattle.px_flowfile.specs.Reader.{BeginsWith}
 use Rattle.px_flowfile.specs.declared.entry.Entry.{Entry}
 use Rattle.px_map.specs.Reads.{Made, Seen}
 use Rattle.px_map.proofs.ReadsLemmas.{made_both, made_none}
-use Rattle.px_app.specs.FlowFile.{HasFlows, at_front}
+use Rattle.px_words.specs.FlowFile.{HasFlows, at_front}
 use Rattle.px_app.specs.Loaded.{Loaded, LoadsBehind, LoadsBoth, LoadsFiles, path_read, behind_flows, loaded, one_absent, one_bad, one_unread, unloaded, none_left, is_whole, is_absent, has_failed, is_bad, breaks_off, breaks_off_in}
 use Rattle.px_app.specs.Loading.{AddsAll, IsLoaded, IsNoNext, LoadsNoMore, came_of, stop_of}
 use Rattle.px_app.specs.declared.loading.LoadError.{LoadError}
 use Rattle.px_app.specs.declared.loading.LoadError.TheVariants as errors
-use Rattle.px_app.proofs.FlowFileLemmas.{has_more}
+use Rattle.px_words.proofs.FlowFileLemmas.{has_more}
 
 -- what holds of an error holds where it is handed on
 pub from_error : {T : Type 0} (result : Result T LoadError) (error : LoadError) (P : LoadError → Type 0) → IsErrAnd result (λ other. other ≡ error) → P error → IfErr result P

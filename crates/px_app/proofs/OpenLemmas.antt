@@ -10,12 +10,13 @@ use Rattle.px_map.proofs.ReadsLemmas.{made_both}
 use Rattle.px_core.specs.Answers.{Answering, Failing, FilesMeaning}
 use Rattle.px_addons.specs.Mapped.{seen_of}
 use Rattle.px_options.specs.Options.{Says, Settings}
-use Rattle.px_app.specs.Lines.{bad_flow_file, cannot_read}
+use Rattle.px_words.specs.Lines.{bad_flow_file, cannot_read}
 use Rattle.px_app.specs.Loaded.{Loaded, LoadsBoth, LoadsFiles, behind_loaded, flows_in, loaded, one_absent, one_bad, one_unread, unloaded}
 use Rattle.px_app.specs.Loading.{load_code, load_line, stop_of}
 use Rattle.px_app.specs.Opened.{IsNoOptions, IsNotOpened, Opened, nothing_read, absent, not_read, unjudged, refused, says, error_code, error_line, error_note}
-use Rattle.px_app.specs.Outside.{IsTold, Outside}
-use Rattle.px_app.specs.Serves.{RunsBy, RunsWith, Served, ServesFile, Stops}
+use Rattle.px_words.specs.Outside.{IsTold, Outside}
+use Rattle.px_app.specs.Serves.{RunsBy, RunsWith, Served, ServesFile}
+use Rattle.px_words.specs.Stops.{Stops}
 use Rattle.px_app.specs.declared.loading.LoadError.{LoadError}
 use Rattle.px_app.specs.declared.loading.LoadError.TheVariants as loads
 use Rattle.px_app.specs.declared.opening.OpenError.{OpenError}

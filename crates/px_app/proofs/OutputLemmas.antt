@@ -8,7 +8,8 @@ use Rattle.px_app.specs.Listed.{listed}
 use Rattle.px_app.specs.Over.{LeavesBehind, Reaches, ReachesPart}
 use Rattle.px_app.specs.Printed.{Has}
 use Rattle.px_app.specs.Promises.{Outputs}
-use Rattle.px_app.specs.Saved.{Append, SavesTo}
+use Rattle.px_app.specs.Saved.{SavesTo}
+use Rattle.px_words.specs.Appends.{Append}
 use Rattle.px_app.specs.declared.printing.Printing.{Printing}
 use Rattle.px_app.specs.declared.printing.Printing.TheVariants.{Whole, Failed}
 use Rattle.px_app.proofs.SavedLemmas.{came_part}

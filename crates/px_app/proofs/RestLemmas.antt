@@ -14,11 +14,12 @@ use Rattle.px_core.specs.Course.{AllAre, Change, change}
 use Rattle.px_core.proofs.CourseLemmas.{same_state}
 use Rattle.px_app.specs.Listed.{listed}
 use Rattle.px_app.specs.Over.{Reaches, ReachesPart, SavedOver, nothing_yet, all_saved, drops_one, is_cut, is_broken, stays_cut, finished_in, rests, rests_of}
-use Rattle.px_app.specs.Saved.{Append, Broke, Came, Puts, SavesTo}
+use Rattle.px_app.specs.Saved.{Broke, Came, Puts, SavesTo}
+use Rattle.px_words.specs.Appends.{Append}
 use Rattle.px_app.specs.declared.printing.Printing.{Printing}
 use Rattle.px_app.specs.declared.printing.Printing.TheVariants.{Whole, Failed}
 use Rattle.px_app.proofs.ListedLemmas.{listed_more}
-use Rattle.px_app.proofs.PrintLemmas.{part_longer}
+use Rattle.px_words.proofs.PrintLemmas.{part_longer}
 use Rattle.px_app.proofs.SavedLemmas.{came_none, came_part, came_put, not_ok, same_printing}
 use Rattle.px_app.proofs.TurnLemmas.{IsDrop, NoneHeard}
 

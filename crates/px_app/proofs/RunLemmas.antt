@@ -20,7 +20,8 @@ use Rattle.px_options.specs.Values.{Place}
 use Rattle.px_options.specs.View.{mode_view, place}
 use Rattle.px_app.specs.Over.{Reaches, course_from}
 use Rattle.px_app.specs.Run.{BreaksOff, IsEnd, IsRun, Told}
-use Rattle.px_app.specs.Saved.{Append, SavesTo}
+use Rattle.px_app.specs.Saved.{SavesTo}
+use Rattle.px_words.specs.Appends.{Append}
 use Rattle.px_app.specs.Statuses.{status_of, heard_count}
 use Rattle.px_app.specs.Worked.{Worked, all_worked}
 use Rattle.px_app.specs.declared.printing.Printing.{Printing}

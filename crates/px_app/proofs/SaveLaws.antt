@@ -5,7 +5,8 @@ use Rattle.px_core.specs.Answers.{Answering, AnswererState, Failing, FilesMeanin
 use Rattle.px_core.specs.Course.{AllAre, Change, MovesFiles}
 use Rattle.px_core.specs.Kind.{KeepsFiles}
 use Rattle.px_app.specs.Over.{LeavesBehind, SavedOver, all_saved, drops_one, is_broken, is_cut, nothing_yet, stays_cut}
-use Rattle.px_app.specs.Saved.{Append, Appending, BrokeAppending, SavesTo}
+use Rattle.px_app.specs.Saved.{Appending, BrokeAppending, SavesTo}
+use Rattle.px_words.specs.Appends.{Append}
 use Rattle.px_app.specs.declared.printing.Printing.{Printing}
 use Rattle.px_app.specs.declared.printing.Printing.TheVariants.{Whole, Failed}
 use Rattle.px_app.proofs.ChangeLemmas.{next_are}

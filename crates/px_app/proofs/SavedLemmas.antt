@@ -12,10 +12,11 @@ use Rattle.px_core.specs.Answers.{FilesMeaning}
 use Rattle.px_core.proofs.RunLemmas.{front_next}
 use Rattle.px_view.specs.Line.{flow_line}
 use Rattle.px_app.specs.Printed.{Has}
-use Rattle.px_app.specs.Saved.{SavesTo, Piece, piece_at, pieces_of, saved, Append, put, lost, piece_in, IsPut, IsLost, IsKept, IsMade, Appending, none_made, one_made, BrokeAppending, broke_elsewhere, broke_at, AppendsBy, StopsAt, at_line, at_text, HasStopped, Came, Broke, CameOrBroke, Puts, CameOfAppend, MadeOf, Saves, texts_in, KeepsCounts, ArePut, all_put, last_lost}
+use Rattle.px_app.specs.Saved.{SavesTo, pieces_of, saved, Appending, none_made, one_made, BrokeAppending, broke_elsewhere, broke_at, AppendsBy, StopsAt, at_line, at_text, HasStopped, Came, Broke, CameOrBroke, Puts, CameOfAppend, MadeOf, Saves, texts_in, KeepsCounts, ArePut, all_put, last_lost}
+use Rattle.px_words.specs.Appends.{Piece, piece_at, Append, put, lost, piece_in, IsPut, IsLost, IsKept, IsMade}
 use Rattle.px_app.specs.declared.printing.Printing.{Printing}
 use Rattle.px_app.specs.declared.printing.Printing.TheVariants.{Whole, Failed}
-use Rattle.px_app.proofs.PrintLemmas.{writes_none, writes_more, writes_part, whole_part, part_longer}
+use Rattle.px_words.proofs.PrintLemmas.{writes_none, writes_more, writes_part, whole_part, part_longer}
 
 -- the lines of flows, those of others behind them
 lines_more : (prefix more : List Flow) → flat_map flow_line (prefix ++ more) ≡ flat_map flow_line prefix ++ flat_map flow_line more

@@ -13,7 +13,7 @@ use Rattle.px_resend.specs.Due.{most_replayed}
 use Rattle.px_app.specs.Dues.{run_due}
 use Rattle.px_app.specs.Lines.{line_of}
 use Rattle.px_app.specs.Listed.{listed}
-use Rattle.px_app.specs.Outside.{Outside}
+use Rattle.px_words.specs.Outside.{Outside}
 use Rattle.px_app.specs.Printed.{Ends, Has, at_end}
 use Rattle.px_app.specs.Promises.{Prints}
 use Rattle.px_app.specs.Saved.{SavesTo}

@@ -142,7 +142,7 @@ servers_in atoms = flat_map atom_server atoms
 servers_unmarked : (atoms : List Atom) → servers_in (all_unmarked atoms) ≡ servers_in atoms
 servers_unmarked [] = refl
 servers_unmarked (byte value ∷ atoms) = servers_unmarked atoms
-servers_unmarked (close ∷ atoms) = servers_unmarked atoms
+servers_unmarked (close side ∷ atoms) = servers_unmarked atoms
 servers_unmarked (asked ask ∷ atoms) = servers_unmarked atoms
 servers_unmarked (dialled server address ∷ atoms) = ap (λ l. server ∷ l) (servers_unmarked atoms)
 servers_unmarked (done flow ∷ atoms) = servers_unmarked atoms

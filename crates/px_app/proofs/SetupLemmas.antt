@@ -5,7 +5,7 @@ use Rattle.px_outside.specs.Net.{Listening}
 use Rattle.px_options.specs.Mode.{ModeIs}
 use Rattle.px_options.specs.Values.{Place}
 use Rattle.px_app.specs.Lines.{start_note}
-use Rattle.px_app.specs.Outside.{IsTold}
+use Rattle.px_words.specs.Outside.{IsTold}
 use Rattle.px_app.specs.Promises.{EndsSo}
 use Rattle.px_app.specs.Printed.{at_end}
 use Rattle.px_app.specs.Run.{IsEnd, ListensAt}

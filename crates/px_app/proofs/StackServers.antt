@@ -127,9 +127,9 @@ module _ (conv : ℕ) (client : Visitor) where
   tunnel_dialled n place standing at None is here = is
   tunnel_dialled n place standing at (Some connect) is here = here
 
-  upgrades_dialled : (n : ℕ) (is : Bool) (flow : Flow) (ends : TunnelEnds) → DialledSo n (upgrades is flow ends)
-  upgrades_dialled n true flow ends = tt
-  upgrades_dialled n false flow ends = tt
+  upgrades_dialled : (n : ℕ) (is : Bool) (flow : Flow) (moment : ℕ) (ends : TunnelEnds) → DialledSo n (upgrades is flow moment ends)
+  upgrades_dialled n true flow moment ends = tt
+  upgrades_dialled n false flow moment ends = tt
 
   hands_dialled : (n : ℕ) (place : Place) (standing : Standing) (stage : flows.Stage) (seen : Sight) → DialledAt n standing → Dialled n stage →
       DialledSo n (or_stays (http place standing) (hands_by place standing stage seen))
@@ -138,7 +138,7 @@ module _ (conv : ℕ) (client : Visitor) where
   hands_dialled n place standing (busy at flow connection) seen is here = is
   hands_dialled n place standing (busy at flow (response_head side how)) seen is here = is
   hands_dialled n place standing (busy at flow (response_body side how)) seen is here = is
-  hands_dialled n place standing (busy at flow (upgraded side)) seen is here = upgrades_dialled n (is_websocket flow seen.closed) flow _
+  hands_dialled n place standing (busy at flow (upgraded side)) seen is here = upgrades_dialled n (is_websocket flow seen.closed) flow seen.now _
   hands_dialled n place standing (busy at flow given_head) seen is here = is
   hands_dialled n place standing (busy at flow given_body) seen is here = is
   hands_dialled n place standing (next at) seen is here = is

@@ -18,7 +18,8 @@ use Rattle.px_map.proofs.ReadsLemmas.{lists_none, lists_one, made_both, rose_non
 use Rattle.px_addons.specs.Mapped.{ReadsOfRules}
 use Rattle.px_addons.proofs.FilesLemmas.{reads_none}
 use Rattle.px_app.specs.Over.{LeavesBehind, SavedOver, course_from}
-use Rattle.px_app.specs.Saved.{Append, Appending, BrokeAppending, IsMade, Piece, SavesTo, broke_at, broke_elsewhere, is_taken, lost, none_made, one_made, piece_at, piece_in, pieces_of, put, texts_of}
+use Rattle.px_app.specs.Saved.{Appending, BrokeAppending, SavesTo, broke_at, broke_elsewhere, is_taken, none_made, one_made, pieces_of, texts_of}
+use Rattle.px_words.specs.Appends.{Append, IsMade, Piece, lost, piece_at, piece_in, put}
 use Rattle.px_app.specs.Touched.{AllStandBut, CallsOnly, IsSavedAt, SameBut, TouchesOnly}
 use Rattle.px_app.specs.declared.printing.Printing.{Printing}
 use Rattle.px_app.proofs.SavedLemmas.{none_appended, none_broke}

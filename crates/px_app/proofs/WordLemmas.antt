@@ -5,7 +5,11 @@ use Rattle.std.proofs.lemmas.Slice.Eq.{bytes_eq-Decides}
 use Rattle.std.specs.Str.Parse.{digits_value}
 use Rattle.px_gen.specs.Word.{IsCount}
 use Rattle.px_gen.proofs.WordLemmas.{is_the_number}
-use Rattle.px_app.specs.Words.{IsFlows, IsGen, IsServe}
+use Rattle.px_words.specs.Converts.{ConvertsFile, Taken}
+use Rattle.px_words.specs.Exports.{ExportsFile}
+use Rattle.px_words.specs.Flows.{Fetched}
+use Rattle.px_words.specs.Outside.{Outside}
+use Rattle.px_app.specs.Words.{IsGen, IsServe}
 
 -- a list of two is its elements
 pub two_are : {A : Type 0} (xs : List A) (a b : A) → 2 ≤ length xs → length xs < 3 → a ≡ get_or xs 0 a → b ≡ get_or xs 1 b → xs ≡ a ∷ b ∷ []
@@ -27,6 +31,9 @@ same_first a b x y e = cc
 
 same_second : (a b x y : List ℕ) → a ∷ b ∷ [] ≡ x ∷ y ∷ [] → b ≡ y
 same_second a b x y e = cc
+
+pub same_first_of_three : (a b c x y z : List ℕ) → a ∷ b ∷ c ∷ [] ≡ x ∷ y ∷ z ∷ [] → a ≡ x
+same_first_of_three a b c x y z e = cc
 
 same_second_of_three : (a b c x y z : List ℕ) → a ∷ b ∷ c ∷ [] ≡ x ∷ y ∷ z ∷ [] → b ≡ y
 same_second_of_three a b c x y z e = cc
@@ -64,10 +71,10 @@ one_count words count other is too =
     value : List ℕ → ℕ
     value word = digits_value 10 word
 
--- the path and the text of `flows` are the only ones
-pub one_flows : (words : List (List ℕ)) (path text other more : List ℕ) → IsFlows words path text → IsFlows words other more → (path ≡ other) × (text ≡ more)
-one_flows words path text other more is too =
-    let both : codes "flows" ∷ path ∷ text ∷ [] ≡ codes "flows" ∷ other ∷ more ∷ [] = sym is ∙ too in
+-- two words behind the same one are the only ones
+pub same_three : (words : List (List ℕ)) (name path text other more : List ℕ) → words ≡ name ∷ path ∷ text ∷ [] → words ≡ name ∷ other ∷ more ∷ [] → (path ≡ other) × (text ≡ more)
+same_three words name path text other more is too =
+    let both : name ∷ path ∷ text ∷ [] ≡ name ∷ other ∷ more ∷ [] = sym is ∙ too in
     (same_second_of_three _ path text _ other more both, same_third _ path text _ other more both)
 
 other_words : codes "serve" ≡ codes "gen" → ⊥
@@ -89,6 +96,12 @@ same_word word text name other same is compared = sym same ∙ (bytes_eq-Decides
     by true e = refl
     by false e = absurd (cc)
 
+-- one that is told apart is another
+pub other_word : (word text name : List ℕ) (other : Bool) → text ≡ word → other ≡ true → other ≡ not (bytes_eq text name) → word ≡ name → ⊥
+other_word word text name other same is compared equal =
+    let told : bytes_eq text name ≡ true = (bytes_eq-Decides text name).1 (same ∙ equal) in
+    let no : true ≡ false = sym is ∙ (compared ∙ ap not told) in cc
+
 -- the number in the words is that of the second word
 pub counted_by : (words : List (List ℕ)) (word : List ℕ) → words ≡ codes "gen" ∷ word ∷ [] → (read : Option ℕ) →
     MatchOption read ((n : ℕ) → ¬ (IsCount word n)) (λ n. IsCount word n) → MatchOption read ((count : ℕ) → ¬ (IsGen words count)) (λ count. IsGen words count)
@@ -96,8 +109,47 @@ counted_by words word are None none = λ count is. none count (let P : List ℕ 
 counted_by words word are (Some count) counts = (word, are, counts)
 
 -- no words are of two forms
-pub not_serve_flows : (words : List (List ℕ)) (path file text : List ℕ) → IsServe words path → IsFlows words file text → ⊥
-not_serve_flows words path file text is too = let same : codes "serve" ∷ path ∷ [] ≡ codes "flows" ∷ file ∷ text ∷ [] = sym is ∙ too in cc
+pub not_serve_three : (words : List (List ℕ)) (path name file text : List ℕ) → IsServe words path → words ≡ name ∷ file ∷ text ∷ [] → ⊥
+not_serve_three words path name file text is too = let same : codes "serve" ∷ path ∷ [] ≡ name ∷ file ∷ text ∷ [] = sym is ∙ too in cc
 
-pub not_flows_gen : (words : List (List ℕ)) (path text : List ℕ) (count : ℕ) → IsFlows words path text → IsGen words count → ⊥
-not_flows_gen words path text count is too = let same : codes "flows" ∷ path ∷ text ∷ [] ≡ codes "gen" ∷ too.0 ∷ [] = sym is ∙ too.1 in cc
+pub not_three_gen : (words : List (List ℕ)) (name path text : List ℕ) (count : ℕ) → words ≡ name ∷ path ∷ text ∷ [] → IsGen words count → ⊥
+not_three_gen words name path text count is too = let same : name ∷ path ∷ text ∷ [] ≡ codes "gen" ∷ too.0 ∷ [] = sym is ∙ too.1 in cc
+
+first_of_three : (a b c x y z : List ℕ) → a ∷ b ∷ c ∷ [] ≡ x ∷ y ∷ z ∷ [] → a ≡ x
+first_of_three a b c x y z e = cc
+
+not_both : (words : List (List ℕ)) (name path text other file more : List ℕ) → (name ≡ other → ⊥) → words ≡ name ∷ path ∷ text ∷ [] → words ≡ other ∷ file ∷ more ∷ [] → ⊥
+not_both words name path text other file more apart is too = apart (first_of_three name path text other file more (sym is ∙ too))
+
+flows_convert : codes "flows" ≡ codes "convert" → ⊥
+flows_convert e = cc
+
+flows_har : codes "flows" ≡ codes "har" → ⊥
+flows_har e = cc
+
+convert_har : codes "convert" ≡ codes "har" → ⊥
+convert_har e = cc
+
+pub not_flows_convert : (words : List (List ℕ)) (path text file more : List ℕ) → words ≡ codes "flows" ∷ path ∷ text ∷ [] → words ≡ codes "convert" ∷ file ∷ more ∷ [] → ⊥
+not_flows_convert words path text file more is too = not_both words _ path text _ file more flows_convert is too
+
+pub not_flows_har : (words : List (List ℕ)) (path text file more : List ℕ) → words ≡ codes "flows" ∷ path ∷ text ∷ [] → words ≡ codes "har" ∷ file ∷ more ∷ [] → ⊥
+not_flows_har words path text file more is too = not_both words _ path text _ file more flows_har is too
+
+pub not_convert_har : (words : List (List ℕ)) (path text file more : List ℕ) → words ≡ codes "convert" ∷ path ∷ text ∷ [] → words ≡ codes "har" ∷ file ∷ more ∷ [] → ⊥
+not_convert_har words path text file more is too = not_both words _ path text _ file more convert_har is too
+
+-- the same of equal words
+pub converts_at : {same out lost notes : Type 0} {before after : Outside} {status : ℕ} (path to other more : List ℕ) → (path ≡ other) × (to ≡ more) → (what : Taken) × ConvertsFile same out lost notes path to what before after status →
+    (what : Taken) × ConvertsFile same out lost notes other more what before after status
+converts_at {same = same} {out = out} {lost = lost} {notes = notes} {before = before} {after = after} {status = status} path to other more both converts =
+    let P : List ℕ → Type 0 = λ p. (what : Taken) × ConvertsFile same out lost notes p to what before after status in
+    let Q : List ℕ → Type 0 = λ t. (what : Taken) × ConvertsFile same out lost notes other t what before after status in
+    subst Q both.1 (subst P both.0 converts)
+
+pub exports_at : {same out notes : Type 0} {before after : Outside} {status : ℕ} (path text other more : List ℕ) → (path ≡ other) × (text ≡ more) → (what : Fetched) × ExportsFile same out notes path text what before after status →
+    (what : Fetched) × ExportsFile same out notes other more what before after status
+exports_at {same = same} {out = out} {notes = notes} {before = before} {after = after} {status = status} path text other more both exports =
+    let P : List ℕ → Type 0 = λ p. (what : Fetched) × ExportsFile same out notes p text what before after status in
+    let Q : List ℕ → Type 0 = λ t. (what : Fetched) × ExportsFile same out notes other t what before after status in
+    subst Q both.1 (subst P both.0 exports)

@@ -14,10 +14,10 @@ use Rattle.px_gen.specs.Peer.{server as generator_server}
 use Rattle.px_options.specs.Lines as lines
 use Rattle.px_options.specs.Options.{Settings}
 use Rattle.px_options.specs.View.{mode_view}
-use Rattle.px_app.specs.Outside.{Outside}
+use Rattle.px_words.specs.Outside.{Outside}
 use Rattle.px_app.specs.Over.{SavedOver}
 use Rattle.px_app.specs.Promises.{Promises}
-use Rattle.px_app.specs.Saved.{Append}
+use Rattle.px_words.specs.Appends.{Append}
 use Rattle.px_app.specs.Statuses.{ends_heard}
 use Rattle.px_app.specs.declared.printing.Printing.{Printing}
 

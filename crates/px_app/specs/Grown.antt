@@ -4,7 +4,8 @@ use Rattle.std.specs.List.{flat_map}
 use Rattle.px_text.specs.Prefix.{IsPrefixOf}
 use Rattle.px_message.specs.declared.flow.Flow.{Flow}
 use Rattle.px_outside.specs.Files.{Contents}
-use Rattle.px_app.specs.Saved.{Append, Piece, SavesTo, lost, piece_in, pieces_of, put}
+use Rattle.px_app.specs.Saved.{SavesTo, pieces_of}
+use Rattle.px_words.specs.Appends.{Append, Piece, lost, piece_in, put}
 
 abbrev pub text_in : Piece → List ℕ
 text_in piece = piece.text

@@ -1,8 +1,6 @@
 pub mod Words
 pub mod Lines
 pub mod Statuses
-pub mod Outside
-pub mod FlowFile
 pub mod Loaded
 pub mod Loading
 pub mod Opened
@@ -25,6 +23,4 @@ pub mod Promises
 pub mod Serves
 pub mod Setup
 pub mod Generates
-pub mod Flows
-pub mod FlowTurns
 pub mod Serving

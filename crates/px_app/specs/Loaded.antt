@@ -3,7 +3,7 @@ use Rattle.std.specs.Prelude.{◌≡◌, ℕ, ◌-◌, List, [], ◌∷◌, ◌+
 use Rattle.px_message.specs.declared.flow.Flow.{Flow}
 use Rattle.px_outside.specs.declared.files.FileCall.{FileCall}
 use Rattle.px_outside.specs.declared.files.FileCall.TheVariants.{Read, Missed, ReadFailed, Appended, AppendFailed}
-use Rattle.px_app.specs.FlowFile.{HasFlows, IsBadPlace}
+use Rattle.px_words.specs.FlowFile.{HasFlows, IsBadPlace}
 
 pub data Loaded : Type 0 where
   -- all of them were loaded: these are their flows, one file behind the other

@@ -4,8 +4,8 @@ use Rattle.px_message.specs.declared.flow.Flow.{Flow}
 use Rattle.px_outside.specs.declared.files.FileCall.{FileCall}
 use Rattle.px_outside.specs.declared.files.FileCall.TheVariants.{Read}
 use Rattle.px_map.specs.Reads.{Made, Seen}
-use Rattle.px_app.specs.FlowFile.{HasFlows, IsBadPlace}
-use Rattle.px_app.specs.Lines.{bad_flow_file, cannot_read}
+use Rattle.px_words.specs.FlowFile.{HasFlows, IsBadPlace}
+use Rattle.px_words.specs.Lines.{bad_flow_file, cannot_read}
 use Rattle.px_app.specs.Loaded.{Loaded, LoadsFiles, loaded, one_absent, one_bad, one_unread, unloaded}
 use Rattle.px_app.specs.declared.loading.LoadError.{LoadError}
 use Rattle.px_app.specs.declared.loading.LoadError.TheVariants as errors

@@ -13,7 +13,7 @@ use Rattle.px_rule.specs.View.{body_views, header_views}
 use Rattle.px_options.specs.Options.{IsRefused, Settings}
 use Rattle.px_options.specs.declared.error.OptionsError.{OptionsError}
 use Rattle.px_options.specs.Shown.{refusal_line, refusal_note}
-use Rattle.px_app.specs.Lines.{cannot_read}
+use Rattle.px_words.specs.Lines.{cannot_read}
 use Rattle.px_app.specs.Loaded.{Loaded}
 use Rattle.px_app.specs.declared.opening.OpenError.{OpenError}
 use Rattle.px_app.specs.declared.opening.OpenError.TheVariants as errors

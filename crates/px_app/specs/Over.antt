@@ -16,7 +16,8 @@ use Rattle.px_core.specs.Answers.{Answering, AnswererState, Failing, FilesMeanin
 use Rattle.px_core.specs.Course.{Change, Course, Operated}
 use Rattle.px_core.specs.Run.{done_of}
 use Rattle.px_app.specs.Listed.{listed}
-use Rattle.px_app.specs.Saved.{Append, Appending, ArePut, BrokeAppending, Came, SavesTo, put, saved}
+use Rattle.px_app.specs.Saved.{Appending, ArePut, BrokeAppending, Came, SavesTo, saved}
+use Rattle.px_words.specs.Appends.{Append, put}
 use Rattle.px_app.specs.declared.printing.Printing.{Printing}
 use Rattle.px_app.specs.declared.printing.Printing.TheVariants.{Whole, Failed}
 

@@ -16,7 +16,8 @@ use Rattle.px_app.specs.Lines.{line_of}
 use Rattle.px_app.specs.Replayed.{Replays}
 use Rattle.px_app.specs.Listed.{listed}
 use Rattle.px_app.specs.Over.{Reaches, ReachesPart, course_from}
-use Rattle.px_app.specs.Saved.{Append, SavesTo}
+use Rattle.px_app.specs.Saved.{SavesTo}
+use Rattle.px_words.specs.Appends.{Append}
 use Rattle.px_app.specs.Statuses.{heard_count}
 use Rattle.px_app.specs.Worked.{Worked, WorkedPart}
 use Rattle.px_app.specs.declared.printing.Printing.{Printing}

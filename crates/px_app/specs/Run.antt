@@ -8,7 +8,8 @@ use Rattle.px_core.specs.Answers.{Answering, AnswererState, Failing, FilesMeanin
 use Rattle.px_core.specs.Course.{Change, Operated}
 use Rattle.px_core.specs.Due.{Due, IsServed, IsAllTold}
 use Rattle.px_app.specs.Over.{Reaches, ReachesPart, course_from}
-use Rattle.px_app.specs.Saved.{Append, SavesTo}
+use Rattle.px_app.specs.Saved.{SavesTo}
+use Rattle.px_words.specs.Appends.{Append}
 use Rattle.px_app.specs.Statuses.{heard_count}
 use Rattle.px_app.specs.Worked.{Worked, WorkedPart}
 use Rattle.px_app.specs.declared.printing.Printing.{Printing}

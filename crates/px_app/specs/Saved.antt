@@ -7,10 +7,7 @@ use Rattle.std.specs.List.{flat_map}
 use Rattle.px_text.specs.Prefix.{IsPrefixOf}
 use Rattle.px_text.specs.declared.no_memory.NoMemory.{NoMemory}
 use Rattle.px_message.specs.declared.flow.Flow.{Flow}
-use Rattle.px_outside.specs.Count.{Rose}
-use Rattle.px_outside.specs.Files.{Appends, AppendsPart, Lists, SameContents, Told}
 use Rattle.px_outside.specs.Sink.{Writes, WritesPart}
-use Rattle.px_outside.specs.declared.files.FileCall.TheVariants.{Appended, AppendFailed}
 use Rattle.px_core.specs.Answers.{FilesMeaning}
 use Rattle.px_filter.specs.Expression.{Expression}
 use Rattle.px_filter.specs.Holds.{holds}
@@ -21,6 +18,7 @@ use Rattle.px_tnet.specs.Frame.{too_many}
 use Rattle.px_tnet.specs.Tree.{Tree, no_pair}
 use Rattle.px_tnet.specs.Written.{payload, written}
 use Rattle.px_view.specs.Line.{flow_line}
+use Rattle.px_words.specs.Appends.{Append, IsKept, IsLost, IsMade, IsPut, Piece, lost, piece_at, piece_in, put}
 use Rattle.px_app.specs.declared.printing.Printing.{Printing}
 use Rattle.px_app.specs.declared.printing.Printing.TheVariants.{Whole, Failed}
 use Rattle.px_app.specs.declared.saving.Saving.{Saving}
@@ -37,11 +35,6 @@ saves_to saving = record { path = path_view saving.path; filter = option_map exp
 abbrev pub saves_to_of : Option Saving → Option SavesTo
 saves_to_of saving = option_map saves_to saving
 
--- a text, and the path at whose end it is put
-pub record Piece : Type 0 where
-  pub path : List ℕ
-  pub text : List ℕ
-
 abbrev pub is_taken : Option Expression → Flow → Bool
 is_taken None flow = true
 is_taken (Some expression) flow = holds flow expression
@@ -55,9 +48,6 @@ abbrev pub texts_of : Flow → List (List ℕ)
 texts_of flow = if nat_le too_many (length (payload (tree_of flow))) then [] else written (tree_of flow) ∷ []
 
 -- what is to be put of a flow: its text, where it is taken
-abbrev pub piece_at : List ℕ → List ℕ → Piece
-piece_at path text = record { path = path; text = text }
-
 abbrev pub pieces_of : Option SavesTo → Flow → List Piece
 pieces_of None flow = []
 pieces_of (Some to) flow = if is_taken to.filter flow then map (piece_at to.path) (texts_of flow) else []
@@ -65,44 +55,6 @@ pieces_of (Some to) flow = if is_taken to.filter flow then map (piece_at to.path
 -- what is to be put of these flows, in their order
 abbrev pub saved : Option SavesTo → List Flow → List Piece
 saved to flows = flat_map (pieces_of to) flows
-
--- an append: all of its text was put, or it failed
-pub data Append : Type 0 where
-  put : (piece : Piece) → Append
-  lost : (piece : Piece) → Append
-
-abbrev pub piece_in : Append → Piece
-piece_in (put piece) = piece
-piece_in (lost piece) = piece
-
--- all of the text stands at the file's end, and the append is listed
-pub record IsPut (piece : Piece) (before after : FilesMeaning) : Type 0 where
-  pub contents : Told (Appends piece.path piece.text) before.contents after.contents
-  pub listed : Lists (Appended piece.path piece.text) before.calls after.calls
-  pub misses : after.misses ≡ before.misses
-  pub faults : after.faults ≡ before.faults
-  pub losses : before.losses ≤ after.losses
-
--- a part of the text may stand there, and the append is listed as one that failed
-pub record IsLost (piece : Piece) (before after : FilesMeaning) : Type 0 where
-  pub contents : Told (AppendsPart piece.path piece.text) before.contents after.contents
-  pub listed : Lists (AppendFailed piece.path) before.calls after.calls
-  pub misses : after.misses ≡ before.misses
-  pub faults : after.faults ≡ before.faults
-  pub losses : Rose before.losses after.losses
-  pub later : before.losses ≤ after.losses
-
--- memory ran out in an append: no file changed, and it is not listed
-pub record IsKept (before after : FilesMeaning) : Type 0 where
-  pub contents : Told SameContents before.contents after.contents
-  pub calls : after.calls ≡ before.calls
-  pub misses : after.misses ≡ before.misses
-  pub faults : after.faults ≡ before.faults
-  pub losses : before.losses ≤ after.losses
-
-abbrev pub IsMade : Append → FilesMeaning → FilesMeaning → Type 0
-IsMade (put piece) before after = IsPut piece before after
-IsMade (lost piece) before after = IsLost piece before after
 
 -- These appends were made, one behind the other and nothing else, each of a piece that is to be put of some flow.
 pub data Appending (to : Option SavesTo) (first : FilesMeaning) : List Append → FilesMeaning → Type 0 where

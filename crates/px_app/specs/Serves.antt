@@ -12,14 +12,16 @@ use Rattle.px_options.specs.Options.{IsRefused, Says, Settings}
 use Rattle.px_options.specs.Shown.{refusal_line, refusal_note}
 use Rattle.px_options.specs.View.{mode_view}
 use Rattle.px_addons.specs.Mapped.{seen_of}
-use Rattle.px_app.specs.Lines.{bad_flow_file, cannot_read, start_note}
+use Rattle.px_app.specs.Lines.{start_note}
+use Rattle.px_words.specs.Lines.{bad_flow_file, cannot_read}
 use Rattle.px_app.specs.Loaded.{Loaded, LoadsBoth, behind_loaded, flows_in, loaded, one_absent, one_bad, one_unread, unloaded}
 use Rattle.px_app.specs.Opened.{Opened, nothing_read, absent, not_read, unjudged, refused, says, reads_of}
-use Rattle.px_app.specs.Outside.{Outside, IsTold}
+use Rattle.px_words.specs.Outside.{Outside, IsTold}
 use Rattle.px_app.specs.Over.{LeavesBehind}
 use Rattle.px_app.specs.Promises.{EndsSo, HasCause, Outputs, Prints, Promises}
 use Rattle.px_app.specs.Run.{ListensAt}
 use Rattle.px_app.specs.Saved.{SavesTo}
+use Rattle.px_words.specs.Stops.{Stops}
 
 -- the text, where the network listens
 abbrev pub where_listening : Listening → List ℕ → List ℕ
@@ -34,15 +36,6 @@ saves_at (Some path) filter = Some (record { path = path; filter = filter })
 
 abbrev pub saves_of : Settings → Option SavesTo
 saves_of settings = saves_at settings.save_stream_file settings.save_stream_filter
-
--- A run that stopped before it asked anything of the network: with this status, or when out of memory. It printed this line and told
--- this note, and the files are these.
-pub record Stops (net_is_same out_failed notes_failed : Type 0) (code : ℕ) (line note : List ℕ) (files : FilesMeaning) (before after : Outside) (status : ℕ) : Type 0 where
-  pub is : (status ≡ code) ⊎ (status ≡ 8)
-  pub net : net_is_same
-  pub kept : after.files ≡ files
-  pub prints : IsTold out_failed status line before.written after.written
-  pub notes : IsTold notes_failed status note before.noted after.noted
 
 -- What was told of a run that served as these options say, with this key of masks, whose hooks this chain answered, that sent the requests of these flows again, and that began
 -- with these files.

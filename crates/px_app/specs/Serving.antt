@@ -16,7 +16,8 @@ use Rattle.px_core.specs.declared.router.Router.{Router}
 use Rattle.px_app.specs.Operating.{OperatorsStand}
 use Rattle.px_app.specs.Over.{Reaches, course_from, finished_in}
 use Rattle.px_app.specs.Run.{BreaksOff, IsRun}
-use Rattle.px_app.specs.Saved.{Append, SavesTo}
+use Rattle.px_app.specs.Saved.{SavesTo}
+use Rattle.px_words.specs.Appends.{Append}
 use Rattle.px_app.specs.Replayed.{NoneWaits, Replays}
 use Rattle.px_app.specs.Replaying.{ReplaysStand}
 use Rattle.px_app.specs.Statuses.{code_of, heard_count}

@@ -9,8 +9,6 @@ use Rattle.px_event.specs.Trace.{Trace}
 use Rattle.px_outside.specs.declared.net.NetError.{NetError}
 use Rattle.px_outside.specs.declared.net.NetError.TheVariants as net
 use Rattle.px_app.specs.declared.status.Status.{Status}
-use Rattle.px_app.specs.declared.stop.Stop.{Stop}
-use Rattle.px_app.specs.declared.stop.Stop.TheVariants as stops
 use Rattle.px_app.specs.declared.status.Status.TheVariants.{Ended, NetFault, BudgetSpent, OutputFailed, NoMemory}
 
 -- the number with which a run that served ends
@@ -20,13 +18,6 @@ code_of NetFault = 5
 code_of BudgetSpent = 6
 code_of OutputFailed = 7
 code_of NoMemory = 8
-
--- the number with which a run that did not serve ends
-abbrev pub stop_code : Stop → ℕ
-stop_code stops.Usage = 1
-stop_code stops.Refused = 2
-stop_code stops.NotRead = 3
-stop_code stops.BadPlace = 4
 
 -- the status of a net that failed
 abbrev pub status_of : NetError → Status

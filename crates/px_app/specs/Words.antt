@@ -10,6 +10,14 @@ IsServe words path = words ≡ codes "serve" ∷ path ∷ []
 abbrev pub IsFlows : List (List ℕ) → List ℕ → List ℕ → Type 0
 IsFlows words path text = words ≡ codes "flows" ∷ path ∷ text ∷ []
 
+-- `convert FILE OUT`: the path of a file of flows, and that of the file that gets them anew
+abbrev pub IsConvert : List (List ℕ) → List ℕ → List ℕ → Type 0
+IsConvert words path to = words ≡ codes "convert" ∷ path ∷ to ∷ []
+
+-- `har FILE FILTER`: the path of a file of flows, and the text of a filter
+abbrev pub IsHar : List (List ℕ) → List ℕ → List ℕ → Type 0
+IsHar words path text = words ≡ codes "har" ∷ path ∷ text ∷ []
+
 -- `gen N`: how many flows are generated
 abbrev pub IsGen : List (List ℕ) → ℕ → Type 0
 IsGen words count = (word : List ℕ) × (words ≡ codes "gen" ∷ word ∷ []) × IsCount word count
@@ -18,4 +26,6 @@ IsGen words count = (word : List ℕ) × (words ≡ codes "gen" ∷ word ∷ [])
 pub record HasNoForm (words : List (List ℕ)) : Type 0 where
   pub serve : (path : List ℕ) → ¬ (IsServe words path)
   pub flows : (path text : List ℕ) → ¬ (IsFlows words path text)
+  pub convert : (path to : List ℕ) → ¬ (IsConvert words path to)
+  pub har : (path text : List ℕ) → ¬ (IsHar words path text)
   pub gen : (count : ℕ) → ¬ (IsGen words count)

@@ -15,7 +15,7 @@ ghost use Rattle.px_resend.specs.Due.{most_replayed};
 ghost use Rattle.px_app.specs.Dues.{run_due};
 ghost use Rattle.px_app.specs.Generates.{Generates, generator_mode, generator_settings};
 ghost use Rattle.px_app.specs.Opened.{AreRulesOf};
-ghost use Rattle.px_app.specs.Outside.{outside};
+ghost use Rattle.px_words.specs.Outside.{outside};
 ghost use Rattle.px_app.specs.Over.{LeavesBehind};
 ghost use Rattle.px_app.specs.Run.{Told};
 ghost use Rattle.px_app.specs.Serving.{Ran};
@@ -23,7 +23,6 @@ ghost use Rattle.px_app.specs.Serving.{Ran};
 use crate::printing::Printing;
 use crate::serve::{maker_of, serve_by};
 use crate::status::Status;
-use crate::stop::NO_MEMORY;
 use px_addons::{Addon, Chain, Rules};
 use px_core::Answerer;
 use px_event::{Heard, Step};
@@ -33,6 +32,7 @@ use px_gen::{
 use px_outside::{Files, Net, Sink, SinkError};
 use px_stack::Mode;
 use px_text::NoMemory;
+use px_words::NO_MEMORY;
 use std::alloc::Global;
 use std::marker::Brand;
 

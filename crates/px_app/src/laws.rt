@@ -22,7 +22,8 @@ ghost use Rattle.px_app.specs.Loaded.{Loaded, LoadsBoth, LoadsFiles, loaded, pat
 ghost use Rattle.px_app.specs.Over.{Reaches, SavedOver, finished_in};
 ghost use Rattle.px_app.specs.Own.{IsOwn, IsIsolated};
 ghost use Rattle.px_app.specs.Promises.{Promises};
-ghost use Rattle.px_app.specs.Saved.{Append, SavesTo, saved};
+ghost use Rattle.px_app.specs.Saved.{SavesTo, saved};
+ghost use Rattle.px_words.specs.Appends.{Append};
 ghost use Rattle.px_app.specs.Servers.{CountsServers};
 ghost use Rattle.px_app.specs.Touched.{TouchesOnly};
 ghost use Rattle.px_app.specs.declared.printing.Printing.{Printing};

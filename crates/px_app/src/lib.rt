@@ -7,10 +7,10 @@
 
 mod beginning;
 mod finished;
-mod flows;
 mod generate;
 pub mod laws;
 mod loading;
+mod noting;
 mod opening;
 mod operators;
 mod printing;
@@ -21,7 +21,6 @@ mod serve;
 mod serving;
 mod setup;
 mod status;
-mod stop;
 mod turning;
 mod words;
 

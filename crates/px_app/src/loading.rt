@@ -11,15 +11,14 @@ ghost use Rattle.px_map.specs.Reads.{Made, seen};
 ghost use Rattle.px_options.specs.View.{path_view};
 ghost use Rattle.px_app.specs.Loaded.{LoadsFiles, unloaded};
 ghost use Rattle.px_app.specs.Loading.{AddsAll, IsLoaded, IsNoNext, LoadsNoMore, came_of, load_code, load_line, stop_of};
-ghost use Rattle.px_app.specs.Outside.{IsTold};
+ghost use Rattle.px_words.specs.Outside.{IsTold};
 
-use crate::flows::wants_memory;
-use crate::stop::{NO_MEMORY, refuse_bad_place, refuse_file};
 use px_flowfile::{Entry, FlowReader, ReadFault};
 use px_message::Flow;
 use px_options::FilePath;
 use px_outside::{FileError, Files, Sink};
 use px_text::{Bytes, NoMemory};
+use px_words::{NO_MEMORY, refuse_bad_place, refuse_file, wants_memory};
 use std::alloc::Global;
 
 /// Why the flows of files are not all there.

@@ -5,7 +5,8 @@ ghost use Rattle.std.specs.Prelude.{◌≡◌, ◌≤◌, ◌⊎◌, ◌++◌, �
 ghost use Rattle.px_outside.specs.Count.{Rose};
 ghost use Rattle.px_core.specs.Answers.{files_meaning};
 ghost use Rattle.px_view.specs.Line.{flow_line as line_of_flow};
-ghost use Rattle.px_app.specs.Saved.{CameOfAppend, Puts, Saves, piece_at, saves_to, saves_to_of};
+ghost use Rattle.px_app.specs.Saved.{CameOfAppend, Puts, Saves, saves_to, saves_to_of};
+ghost use Rattle.px_words.specs.Appends.{piece_at};
 
 use crate::saving::Saving;
 use px_message::Flow;

@@ -9,7 +9,8 @@
 //! conversation; the requests of `client_replay` are conversations without a client, each begun where the flow of the one before is finished (`specs/Replayed.antt`); each hook was
 //! answered by the chain of the options' rules, the flows of `server_replay` and the addons, or by an operator where `intercept` is set; what is printed is a line of each finished flow of the trace, and the status's line behind them; and each status has its cause in the
 //! trace or in a count of faults (`specs/Serves.antt`). With the words `flows FILE FILTER` the file is read, and the line of each of its flows on
-//! which the filter holds is printed (`specs/Flows.antt`). With the words `gen N` it is a run over what px_gen makes of that number
+//! which the filter holds is printed (px_words, `specs/Flows.antt`); with `har FILE FILTER` these flows are printed as an export (`Exports.antt`), and with `convert FILE OUT` all of them are appended anew
+//! to the other file (`Converts.antt`). With the words `gen N` it is a run over what px_gen makes of that number
 //! (`specs/Generates.antt`). Out of memory alone has no cause; after it each peer has got a prefix of what is due, and a prefix of the
 //! lines is printed.
 ghost use Rattle.std.specs.Prelude.{◌≡◌, ◌≤◌, ◌⊎◌, ◌++◌, ℕ, List, [], None, Option, map};
@@ -25,20 +26,22 @@ ghost use Rattle.px_addons.specs.Mapped.{seen_of};
 ghost use Rattle.px_options.specs.Options.{Settings};
 ghost use Rattle.px_options.specs.Shown.{refusal_line, refusal_note};
 ghost use Rattle.px_options.specs.View.{settings};
-ghost use Rattle.px_app.specs.Flows.{Fetched, ListsFile};
+ghost use Rattle.px_words.specs.Flows.{Fetched, ListsFile};
 ghost use Rattle.px_app.specs.Generates.{Generates};
 ghost use Rattle.px_app.specs.Lines.{line_of, usage};
 ghost use Rattle.px_app.specs.Loaded.{Loaded, LoadsBoth, LoadsFiles, loaded, unloaded};
 ghost use Rattle.px_app.specs.Opened.{Opened, AreRulesOf, replay_of};
-ghost use Rattle.px_app.specs.Outside.{IsTold, outside};
+ghost use Rattle.px_words.specs.Outside.{IsTold, outside};
 ghost use Rattle.px_app.specs.Printed.{Has, Ends, at_end};
 ghost use Rattle.px_app.specs.Opened.{error_code, error_line, error_note};
-ghost use Rattle.px_app.specs.Serves.{RunsWith, Serves, ServesFile, Stops};
+ghost use Rattle.px_app.specs.Serves.{RunsWith, Serves, ServesFile};
+ghost use Rattle.px_words.specs.Stops.{Stops};
 ghost use Rattle.px_app.specs.Setup.{IsSetupOf};
 ghost use Rattle.px_app.specs.Statuses.{code_of};
-ghost use Rattle.px_app.specs.Words.{HasNoForm, IsFlows, IsGen, IsServe};
+ghost use Rattle.px_app.specs.Words.{HasNoForm, IsConvert, IsFlows, IsGen, IsHar, IsServe};
+ghost use Rattle.px_words.specs.Converts.{ConvertsFile, Taken};
+ghost use Rattle.px_words.specs.Exports.{ExportsFile};
 
-use crate::flows::list_flows;
 use crate::generate::generate;
 use crate::loading::{load_flows, refuse_load};
 use crate::opening::{OpenError, read_file};
@@ -46,25 +49,27 @@ use crate::printing::Printing;
 use crate::serve::{Ending, serve};
 use crate::setup::{Setup, setup_of};
 use crate::status::Status;
-use crate::stop::{NO_MEMORY, Stop, cannot_read, stop_with};
-use crate::words::{flow_count, flow_words, options_path};
+use crate::words::{convert_words, flow_count, flow_words, har_words, options_path};
 use px_addons::{Addon, Chain};
 use px_core::Answerer;
 use px_message::Flow;
 use px_options::{Options, OptionsError, refusal_line, refusal_note};
 use px_outside::{Files, Net, Sink};
 use px_text::NoMemory;
+use px_words::{NO_MEMORY, Stop, cannot_read, convert, export, list_flows, stop_with};
 use std::alloc::Global;
 
 // What is printed where the words have no form.
-const USAGE: &str = "usage: mitm serve OPTIONS | flows FILE FILTER | gen N\n";
+const USAGE: &str =
+    "usage: mitm serve OPTIONS | flows FILE FILTER | convert FILE OUT | har FILE FILTER | gen N\n";
 
 /// Runs the program with these words, and answers the exit status.
 ///
 /// `serve OPTIONS` reads the options file of that path, loads the flows of the files of `server_replay` and `client_replay`, listens where it says, tells a note of that, serves
 /// each connection in the mode that it names by its rules, the flows of `server_replay` and these addons, with this key for the masks of frames, sends the requests of `client_replay`
 /// again, one behind the other, and prints a line of each finished flow. `flows FILE FILTER` reads that file of flows
-/// and prints the line of each on which the filter holds. `gen N` runs N generated flows over a network in memory, tells `net` what was
+/// and prints the line of each on which the filter holds; `har FILE FILTER` prints these flows as an export of the format HAR 1.2; `convert FILE OUT` writes all of the file's
+/// flows anew at the end of the other file. `gen N` runs N generated flows over a network in memory, tells `net` what was
 /// asked, answered and finished, and prints three counts.
 ///
 /// Where the options name a place for operators (`control`), it listens there too, and each whole line of such a connection is obeyed and answered.
@@ -72,7 +77,7 @@ const USAGE: &str = "usage: mitm serve OPTIONS | flows FILE FILTER | gen N\n";
 /// The status is 0 at the net's end or where an operator ends the run, or where the flows of a file or the counts are printed; 1 where the words have no form; 2 where the
 /// options file is none, or the filter; 3 where a file was not read; 4 at a place of a file of flows that has none; 5 where the net
 /// failed; 6 where as many things were heard as the options allow and the last did not end the run; 7 where a line was not printed whole and
-/// else it were 0, or while the flows of a file were printed; 8 where memory ran out. The lines of 1 to 6 are printed behind those of the
+/// else it were 0, or while the flows of a file were printed, or where an append to the other file failed; 8 where memory ran out. The lines of 1 to 6 are printed behind those of the
 /// flows; where a rule or a filter is refused, a note shows its text with a mark under the place. After a write to `out` that failed nothing
 /// more is printed, and a run that serves goes on to its end; a sink that fails to take a status's line, or a note, changes no status.
 pub fn run<N: Net, F: Files, S: Sink, T: Sink>(
@@ -98,6 +103,16 @@ pub fn run<N: Net, F: Files, S: Sink, T: Sink>(
         (outside N.trace N.listening F.contents F.calls F.misses F.faults F.losses S.written T.written net.old files.old out.old notes.old)
         (outside N.trace N.listening F.contents F.calls F.misses F.faults F.losses S.written T.written net.new files.new out.new notes.new) result }
 
+    // With the words `convert FILE OUT`: the entries of the file, written anew at the end of the other.
+    ensures converts { (path to : List ℕ) → IsConvert (map string_bytes words.now) path to → (what : Taken) × ConvertsFile (net.new ≡ net.old) (Rose (S.faults out.old) (S.faults out.new)) (Rose (F.losses files.old) (F.losses files.new)) (Rose (T.faults notes.old) (T.faults notes.new)) path to what
+        (outside N.trace N.listening F.contents F.calls F.misses F.faults F.losses S.written T.written net.old files.old out.old notes.old)
+        (outside N.trace N.listening F.contents F.calls F.misses F.faults F.losses S.written T.written net.new files.new out.new notes.new) result }
+
+    // With the words `har FILE FILTER`: the file's flows as an export of the format HAR 1.2.
+    ensures exports { (path text : List ℕ) → IsHar (map string_bytes words.now) path text → (what : Fetched) × ExportsFile (net.new ≡ net.old) (Rose (S.faults out.old) (S.faults out.new)) (Rose (T.faults notes.old) (T.faults notes.new)) path text what
+        (outside N.trace N.listening F.contents F.calls F.misses F.faults F.losses S.written T.written net.old files.old out.old notes.old)
+        (outside N.trace N.listening F.contents F.calls F.misses F.faults F.losses S.written T.written net.new files.new out.new notes.new) result }
+
     // With the words `gen N`: the run of so many generated flows.
     ensures generates { (count : ℕ) → IsGen (map string_bytes words.now) count → Generates ⟦<Chain as Answerer>⟧.answers ⟦<Chain as Answerer>⟧.drops ⟦<Chain as Answerer>⟧.names ⟦<Chain as Answerer>⟧.fails (key_of mask_key)
         (λ settings chain. AreRulesOf settings chain.rules × (chain.replay ≡ None) × (chain.addons.items ≡ [])) (Rose (S.faults out.old) (S.faults out.new)) count
@@ -116,6 +131,14 @@ pub fn run<N: Net, F: Files, S: Sink, T: Sink>(
     if let Some(found) = flow_words(words) {
         drop(addons);
         return list_flows(alloc, found.0, found.1, &*net, files, out, notes);
+    }
+    if let Some(found) = convert_words(words) {
+        drop(addons);
+        return convert(alloc, found.0, found.1, &*net, files, out, notes);
+    }
+    if let Some(found) = har_words(words) {
+        drop(addons);
+        return export(alloc, found.0, found.1, &*net, files, out, notes);
     }
     if let Some(count) = flow_count(words) {
         return generate(alloc, count, net, files, out, &*notes, addons, mask_key);

@@ -1,7 +1,8 @@
 //! Saving finished flows.
 ghost use Rattle.std.specs.Prelude.{◌≡◌, Some, map, option_map, IfOk};
 ghost use Rattle.px_filter.specs.View.{expression};
-ghost use Rattle.px_app.specs.Saved.{is_taken, piece_at, pieces_of, saves_to, texts_in, texts_of};
+ghost use Rattle.px_app.specs.Saved.{is_taken, pieces_of, saves_to, texts_in, texts_of};
+ghost use Rattle.px_words.specs.Appends.{piece_at};
 
 use px_filter::Filter;
 use px_flowfile::{Entry, Others, write_flow};

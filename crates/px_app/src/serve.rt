@@ -12,7 +12,7 @@ ghost use Rattle.px_core.specs.Due.{Due};
 ghost use Rattle.px_core.specs.Run.{IsDueOf};
 ghost use Rattle.px_options.specs.View.{mode_view};
 ghost use Rattle.px_app.specs.Lines.{start_note};
-ghost use Rattle.px_app.specs.Outside.{IsTold};
+ghost use Rattle.px_words.specs.Outside.{IsTold};
 ghost use Rattle.px_app.specs.Over.{KeepsLosses, LeavesBehind};
 ghost use Rattle.px_app.specs.Dues.{run_due};
 ghost use Rattle.px_app.specs.Run.{ListensAt, Told, place_of};
@@ -21,11 +21,11 @@ ghost use Rattle.px_app.specs.Serves.{where_listening};
 ghost use Rattle.px_app.specs.Serving.{Ran};
 ghost use Rattle.px_app.specs.Statuses.{code_of};
 
+use crate::noting::start_note;
 use crate::printing::Printing;
 use crate::saving::Saving;
 use crate::serving::{Serving, serve_all};
 use crate::status::Status;
-use crate::stop::{start_note, tell};
 use px_core::{Answerer, Gates};
 use px_gate::Gate;
 use px_message::{Address, Flow};
@@ -33,6 +33,7 @@ use px_outside::{Files, Net, Sink};
 use px_resend::{Conversation, Replays, proxy_of};
 use px_stack::{Mode, Placed, Stack};
 use px_text::NoMemory;
+use px_words::tell;
 use std::alloc::Global;
 
 /// A conversation, behind a gate that holds what comes while a question is open: one with a client, of HTTP and what follows it, or a recorded request that is

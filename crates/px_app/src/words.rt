@@ -1,11 +1,11 @@
 //! The words of the command line.
 //!
-//! `serve OPTIONS` names an options file by its path, `flows FILE FILTER` a file of flows by its path and a filter by its text, and `gen N` a
-//! number from 0 to 10,000 in decimal digits, without a sign or a leading zero. Whatever else stands there has no form, and the program
-//! answers with its usage. So a word is either taken whole or refused, and nothing is guessed.
-ghost use Rattle.std.specs.Prelude.{ℕ, List, MatchOption, map};
+//! `serve OPTIONS` names an options file by its path, `flows FILE FILTER` and `har FILE FILTER` a file of flows by its path and a filter by its text,
+//! `convert FILE OUT` two files by their paths, and `gen N` a number from 0 to 10,000 in decimal digits, without a sign or a leading zero. Whatever else stands
+//! there has no form, and the program answers with its usage. So a word is either taken whole or refused, and nothing is guessed.
+ghost use Rattle.std.specs.Prelude.{◌≡◌, ◌∷◌, [], ℕ, List, MatchOption, map};
 ghost use Rattle.std.specs.String.{string_bytes};
-ghost use Rattle.px_app.specs.Words.{IsFlows, IsGen, IsServe};
+ghost use Rattle.px_app.specs.Words.{IsConvert, IsFlows, IsGen, IsHar, IsServe};
 
 use px_gen::read_count;
 
@@ -26,10 +26,31 @@ pub(crate) fn options_path(words: &[String]) -> Option<&str>
 pub(crate) fn flow_words(words: &[String]) -> Option<(&str, &str)>
     ensures { MatchOption result ((path text : List ℕ) → ¬ (IsFlows (map string_bytes words.now) path text)) (λ found. IsFlows (map string_bytes words.now) found.0.now found.1.now) }
 {
+    two_behind(words, "flows")
+}
+
+/// The two paths in the words `convert FILE OUT`. None exactly where the words have no such form.
+pub(crate) fn convert_words(words: &[String]) -> Option<(&str, &str)>
+    ensures { MatchOption result ((path to : List ℕ) → ¬ (IsConvert (map string_bytes words.now) path to)) (λ found. IsConvert (map string_bytes words.now) found.0.now found.1.now) }
+{
+    two_behind(words, "convert")
+}
+
+/// The path and the filter's text in the words `har FILE FILTER`. None exactly where the words have no such form.
+pub(crate) fn har_words(words: &[String]) -> Option<(&str, &str)>
+    ensures { MatchOption result ((path text : List ℕ) → ¬ (IsHar (map string_bytes words.now) path text)) (λ found. IsHar (map string_bytes words.now) found.0.now found.1.now) }
+{
+    two_behind(words, "har")
+}
+
+// The two words behind this one, where the words are these three.
+fn two_behind<'a>(words: &'a [String], name: &str) -> Option<(&'a str, &'a str)>
+    ensures { MatchOption result ((a b : List ℕ) → ¬ (map string_bytes words.now ≡ name.now ∷ a ∷ b ∷ [])) (λ found. map string_bytes words.now ≡ name.now ∷ found.0.now ∷ found.1.now ∷ []) }
+{
     let [command, path, text] = words else {
         return None;
     };
-    if command.as_str() != "flows" {
+    if command.as_str() != name {
         return None;
     }
     Some((path.as_str(), text.as_str()))

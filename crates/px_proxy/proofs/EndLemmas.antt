@@ -12,7 +12,7 @@ use Rattle.px_core.specs.Answers.{Answering, Failing, FilesMeaning}
 use Rattle.px_options.specs.Options.{Settings}
 use Rattle.px_app.specs.Loaded.{Loaded, behind_loaded, flows_in, loaded, one_absent, one_bad, one_unread, unloaded}
 use Rattle.px_app.specs.Opened.{Opened, nothing_read, absent, not_read, unjudged, refused, says}
-use Rattle.px_app.specs.Outside.{Outside}
+use Rattle.px_words.specs.Outside.{Outside}
 use Rattle.px_app.specs.Promises.{HasCause}
 use Rattle.px_app.specs.Serves.{RunsBy, RunsOn, RunsWith, Serves, ServesFile}
 use Rattle.px_app.specs.Statuses.{is_end, ends_by, ends_from, ends_heard}

@@ -15,7 +15,7 @@ use Rattle.px_options.specs.View.{mode_view}
 use Rattle.px_app.specs.Dues.{run_due}
 use Rattle.px_app.specs.Loaded.{Loaded, behind_loaded, flows_in, loaded, one_absent, one_bad, one_unread, unloaded}
 use Rattle.px_app.specs.Opened.{Opened, nothing_read, absent, not_read, unjudged, refused, says}
-use Rattle.px_app.specs.Outside.{Outside}
+use Rattle.px_words.specs.Outside.{Outside}
 use Rattle.px_app.specs.Over.{course_from}
 use Rattle.px_app.specs.Serves.{RunsBy, RunsWith, Served, ServesFile}
 use Rattle.px_app.proofs.RunServers.{run_counts}

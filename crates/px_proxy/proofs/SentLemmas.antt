@@ -22,7 +22,7 @@ said_bytes side (said.Send other text) = by (is_same_side other side)
     by false = refl
 said_bytes side (said.Close other) = by (is_same_side other side)
   where
-    by : (b : Bool) → bytes_in (cond b (close ∷ []) []) ≡ []
+    by : (b : Bool) → bytes_in (cond b (close other ∷ []) []) ≡ []
     by true = refl
     by false = refl
 said_bytes side (said.Dial server address) = refl

@@ -5,14 +5,17 @@ ghost use Rattle.rand_chacha.specs.ChaCha.{key_of};
 ghost use Rattle.px_outside.specs.Count.{Rose};
 ghost use Rattle.px_outside.specs.Net.{idle};
 ghost use Rattle.px_core.specs.Answers.{files_meaning};
-ghost use Rattle.px_app.specs.Flows.{Fetched, ListsFile};
+ghost use Rattle.px_words.specs.Flows.{Fetched, ListsFile};
 ghost use Rattle.px_app.specs.Generates.{Generates};
 ghost use Rattle.px_app.specs.Lines.{usage};
 ghost use Rattle.px_app.specs.Opened.{AreRulesOf, Opened, replay_of};
-ghost use Rattle.px_app.specs.Outside.{outside};
-ghost use Rattle.px_app.specs.Serves.{ServesFile, Stops};
+ghost use Rattle.px_words.specs.Outside.{outside};
+ghost use Rattle.px_app.specs.Serves.{ServesFile};
+ghost use Rattle.px_words.specs.Stops.{Stops};
 ghost use Rattle.px_app.specs.Statuses.{ends_heard};
-ghost use Rattle.px_app.specs.Words.{HasNoForm, IsFlows, IsGen, IsServe};
+ghost use Rattle.px_words.specs.Converts.{ConvertsFile, Taken};
+ghost use Rattle.px_words.specs.Exports.{ExportsFile};
+ghost use Rattle.px_app.specs.Words.{HasNoForm, IsConvert, IsFlows, IsGen, IsHar, IsServe};
 ghost use Rattle.px_wire.specs.Calls.{Calls, steps_of};
 ghost use Rattle.px_wire.specs.Rules.{Obeys};
 ghost use Rattle.px_proxy.specs.Failed.{LinesFailed};
@@ -48,6 +51,16 @@ pub fn run<W: Wire, F: Files, S: Sink, T: Sink>(
 
     // With the words `flows FILE FILTER`: the lines of the file's flows.
     ensures lists { (path text : List ℕ) → IsFlows (map string_bytes words.now) path text → (what : Fetched) × ListsFile (lines.new ≡ lines.old) (Rose (S.faults out.old) (S.faults out.new)) (Rose (T.faults notes.old) (T.faults notes.new)) path text what
+        (outside W.steps W.listening F.contents F.calls F.misses F.faults F.losses S.written T.written lines.old.wire files.old out.old notes.old)
+        (outside W.steps W.listening F.contents F.calls F.misses F.faults F.losses S.written T.written lines.new.wire files.new out.new notes.new) result }
+
+    // With the words `convert FILE OUT`: the entries of the file, written anew at the end of the other.
+    ensures converts { (path to : List ℕ) → IsConvert (map string_bytes words.now) path to → (what : Taken) × ConvertsFile (lines.new ≡ lines.old) (Rose (S.faults out.old) (S.faults out.new)) (Rose (F.losses files.old) (F.losses files.new)) (Rose (T.faults notes.old) (T.faults notes.new)) path to what
+        (outside W.steps W.listening F.contents F.calls F.misses F.faults F.losses S.written T.written lines.old.wire files.old out.old notes.old)
+        (outside W.steps W.listening F.contents F.calls F.misses F.faults F.losses S.written T.written lines.new.wire files.new out.new notes.new) result }
+
+    // With the words `har FILE FILTER`: the file's flows as an export of the format HAR 1.2.
+    ensures exports { (path text : List ℕ) → IsHar (map string_bytes words.now) path text → (what : Fetched) × ExportsFile (lines.new ≡ lines.old) (Rose (S.faults out.old) (S.faults out.new)) (Rose (T.faults notes.old) (T.faults notes.new)) path text what
         (outside W.steps W.listening F.contents F.calls F.misses F.faults F.losses S.written T.written lines.old.wire files.old out.old notes.old)
         (outside W.steps W.listening F.contents F.calls F.misses F.faults F.losses S.written T.written lines.new.wire files.new out.new notes.new) result }
 

@@ -1,5 +1,5 @@
 use Rattle.std.proofs.Common.{Err, ap, refl}
-use Rattle.px_app.proofs.ToldLemmas.{none_part}
+use Rattle.px_words.proofs.ToldLemmas.{none_part}
 use Rattle.px_app.proofs.generate.tell_run.Goals as goal
 
 pub returns-then-is_err-clause-begun : goal.returns-then-is_err-clause-begun

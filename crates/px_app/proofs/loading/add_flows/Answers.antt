@@ -1,6 +1,6 @@
 use Rattle.std.proofs.Common.{◌∙◌}
 use Rattle.px_app.specs.Loading.{stop_of}
-use Rattle.px_app.proofs.FlowFileLemmas.{comes_so}
+use Rattle.px_words.proofs.FlowFileLemmas.{comes_so}
 use Rattle.px_app.proofs.LoadLemmas.{added_more, added_none, breaks_there, ends_there, from_error}
 use Rattle.px_app.proofs.loading.add_flows.Goals as goal
 

@@ -1,5 +1,6 @@
 use Rattle.std.proofs.Common.{Some}
-use Rattle.px_app.specs.Saved.{piece_at, saves_to}
+use Rattle.px_app.specs.Saved.{saves_to}
+use Rattle.px_words.specs.Appends.{piece_at}
 use Rattle.px_app.proofs.SavedLemmas.{pieces_none, pieces_some, saves_broke, saves_none, saves_one}
 use Rattle.px_app.proofs.printing.save_at.Goals as goal
 

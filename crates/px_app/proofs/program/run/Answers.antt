@@ -1,28 +1,82 @@
 use Rattle.std.proofs.Common.{List, ℕ, refl, subst}
 use Rattle.px_outside.specs.Count.{Rose}
-use Rattle.px_app.specs.Outside.{IsTold}
+use Rattle.px_words.specs.Outside.{IsTold}
+use Rattle.px_words.proofs.FlowsLemmas.{lists_at}
 use Rattle.px_app.proofs.GenerateLemmas.{generates_at}
-use Rattle.px_app.proofs.FlowsLemmas.{lists_at}
-use Rattle.px_app.proofs.WordLemmas.{not_flows_gen, not_serve_flows, one_count, one_flows}
+use Rattle.px_app.proofs.WordLemmas.{converts_at, exports_at, not_convert_har, not_flows_convert, not_flows_har, not_serve_three, not_three_gen, one_count, same_three}
 use Rattle.px_app.proofs.program.run.Goals as goal
 
 pub returns-in-Some-clause-lists : goal.returns-in-Some-clause-lists
-returns-in-Some-clause-lists g c = λ path text is. absurd (not_serve_flows _ c.in-Some.path.now path text c.in-Some.ensures is)
+returns-in-Some-clause-lists g c = λ path text is. absurd (not_serve_three _ c.in-Some.path.now _ path text c.in-Some.ensures is)
+
+pub returns-in-Some-clause-converts : goal.returns-in-Some-clause-converts
+returns-in-Some-clause-converts g c = λ path text is. absurd (not_serve_three _ c.in-Some.path.now _ path text c.in-Some.ensures is)
+
+pub returns-in-Some-clause-exports : goal.returns-in-Some-clause-exports
+returns-in-Some-clause-exports g c = λ path text is. absurd (not_serve_three _ c.in-Some.path.now _ path text c.in-Some.ensures is)
 
 pub returns-in-Some-flow_words-clause-serves : goal.returns-in-Some-flow_words-clause-serves
-returns-in-Some-flow_words-clause-serves g c = λ path is. absurd (not_serve_flows _ path _ _ is c.in-Some-flow_words.ensures)
+returns-in-Some-flow_words-clause-serves g c = λ path is. absurd (not_serve_three _ path _ _ _ is c.in-Some-flow_words.ensures)
 
 pub returns-in-Some-flow_words-clause-lists : goal.returns-in-Some-flow_words-clause-lists
-returns-in-Some-flow_words-clause-lists g c = λ path text is. lists_at _ _ path text (one_flows _ _ _ path text c.in-Some-flow_words.ensures is) c.list_flows.ensures.lists
+returns-in-Some-flow_words-clause-lists g c = λ path text is. lists_at _ _ path text (same_three _ _ _ _ path text c.in-Some-flow_words.ensures is) c.list_flows.ensures.lists
+
+pub returns-in-Some-flow_words-clause-converts : goal.returns-in-Some-flow_words-clause-converts
+returns-in-Some-flow_words-clause-converts g c = λ path text is. absurd (not_flows_convert _ _ _ path text c.in-Some-flow_words.ensures is)
+
+pub returns-in-Some-flow_words-clause-exports : goal.returns-in-Some-flow_words-clause-exports
+returns-in-Some-flow_words-clause-exports g c = λ path text is. absurd (not_flows_har _ _ _ path text c.in-Some-flow_words.ensures is)
 
 pub returns-in-Some-flow_words-clause-generates : goal.returns-in-Some-flow_words-clause-generates
-returns-in-Some-flow_words-clause-generates g c = λ count is. absurd (not_flows_gen _ _ _ count c.in-Some-flow_words.ensures is)
+returns-in-Some-flow_words-clause-generates g c = λ count is. absurd (not_three_gen _ _ _ _ count c.in-Some-flow_words.ensures is)
 
 pub returns-in-Some-flow_words-clause-refuses : goal.returns-in-Some-flow_words-clause-refuses
 returns-in-Some-flow_words-clause-refuses g c = λ none. absurd (none.flows _ _ c.in-Some-flow_words.ensures)
 
+pub returns-in-Some-convert_words-clause-serves : goal.returns-in-Some-convert_words-clause-serves
+returns-in-Some-convert_words-clause-serves g c = λ path is. absurd (not_serve_three _ path _ _ _ is c.in-Some-convert_words.ensures)
+
+pub returns-in-Some-convert_words-clause-lists : goal.returns-in-Some-convert_words-clause-lists
+returns-in-Some-convert_words-clause-lists g c = λ path text is. absurd (not_flows_convert _ path text _ _ is c.in-Some-convert_words.ensures)
+
+pub returns-in-Some-convert_words-clause-converts : goal.returns-in-Some-convert_words-clause-converts
+returns-in-Some-convert_words-clause-converts g c = λ path text is. converts_at _ _ path text (same_three _ _ _ _ path text c.in-Some-convert_words.ensures is) c.convert.ensures.converts
+
+pub returns-in-Some-convert_words-clause-exports : goal.returns-in-Some-convert_words-clause-exports
+returns-in-Some-convert_words-clause-exports g c = λ path text is. absurd (not_convert_har _ _ _ path text c.in-Some-convert_words.ensures is)
+
+pub returns-in-Some-convert_words-clause-generates : goal.returns-in-Some-convert_words-clause-generates
+returns-in-Some-convert_words-clause-generates g c = λ count is. absurd (not_three_gen _ _ _ _ count c.in-Some-convert_words.ensures is)
+
+pub returns-in-Some-convert_words-clause-refuses : goal.returns-in-Some-convert_words-clause-refuses
+returns-in-Some-convert_words-clause-refuses g c = λ none. absurd (none.convert _ _ c.in-Some-convert_words.ensures)
+
+pub returns-in-Some-har_words-clause-serves : goal.returns-in-Some-har_words-clause-serves
+returns-in-Some-har_words-clause-serves g c = λ path is. absurd (not_serve_three _ path _ _ _ is c.in-Some-har_words.ensures)
+
+pub returns-in-Some-har_words-clause-lists : goal.returns-in-Some-har_words-clause-lists
+returns-in-Some-har_words-clause-lists g c = λ path text is. absurd (not_flows_har _ path text _ _ is c.in-Some-har_words.ensures)
+
+pub returns-in-Some-har_words-clause-converts : goal.returns-in-Some-har_words-clause-converts
+returns-in-Some-har_words-clause-converts g c = λ path text is. absurd (not_convert_har _ path text _ _ is c.in-Some-har_words.ensures)
+
+pub returns-in-Some-har_words-clause-exports : goal.returns-in-Some-har_words-clause-exports
+returns-in-Some-har_words-clause-exports g c = λ path text is. exports_at _ _ path text (same_three _ _ _ _ path text c.in-Some-har_words.ensures is) c.export.ensures.exports
+
+pub returns-in-Some-har_words-clause-generates : goal.returns-in-Some-har_words-clause-generates
+returns-in-Some-har_words-clause-generates g c = λ count is. absurd (not_three_gen _ _ _ _ count c.in-Some-har_words.ensures is)
+
+pub returns-in-Some-har_words-clause-refuses : goal.returns-in-Some-har_words-clause-refuses
+returns-in-Some-har_words-clause-refuses g c = λ none. absurd (none.har _ _ c.in-Some-har_words.ensures)
+
 pub returns-in-Some-flow_count-clause-lists : goal.returns-in-Some-flow_count-clause-lists
 returns-in-Some-flow_count-clause-lists g c = λ path text is. absurd (c.in_default-flow_words.ensures path text is)
+
+pub returns-in-Some-flow_count-clause-converts : goal.returns-in-Some-flow_count-clause-converts
+returns-in-Some-flow_count-clause-converts g c = λ path text is. absurd (c.in_default-convert_words.ensures path text is)
+
+pub returns-in-Some-flow_count-clause-exports : goal.returns-in-Some-flow_count-clause-exports
+returns-in-Some-flow_count-clause-exports g c = λ path text is. absurd (c.in_default-har_words.ensures path text is)
 
 pub returns-in-Some-flow_count-clause-generates : goal.returns-in-Some-flow_count-clause-generates
 returns-in-Some-flow_count-clause-generates g c = λ count is. generates_at (one_count _ c.in-Some-flow_count.count count c.in-Some-flow_count.ensures is) c.generate.ensures
@@ -32,6 +86,12 @@ returns-in-Some-flow_count-clause-refuses g c = λ none. absurd (none.gen c.in-S
 
 pub returns-clause-lists : goal.returns-clause-lists
 returns-clause-lists g c = λ path text is. absurd (c.in_default-flow_words.ensures path text is)
+
+pub returns-clause-converts : goal.returns-clause-converts
+returns-clause-converts g c = λ path text is. absurd (c.in_default-convert_words.ensures path text is)
+
+pub returns-clause-exports : goal.returns-clause-exports
+returns-clause-exports g c = λ path text is. absurd (c.in_default-har_words.ensures path text is)
 
 pub returns-clause-generates : goal.returns-clause-generates
 returns-clause-generates g c = λ count is. absurd (c.in_default-flow_count.ensures count is)

@@ -1,7 +1,7 @@
 use Rattle.std.proofs.Common.{inl, inr, refl}
 use Rattle.px_options.specs.View.{settings}
 use Rattle.px_app.specs.Loaded.{loaded, unloaded}
-use Rattle.px_app.proofs.ToldLemmas.{told_none}
+use Rattle.px_words.proofs.ToldLemmas.{told_none}
 use Rattle.px_app.proofs.program.serve_flows.Goals as goal
 
 pub returns-in-Ok : goal.returns-in-Ok

@@ -1,0 +1,9 @@
+pub mod PrintLemmas
+pub mod ToldLemmas
+pub mod FlowFileLemmas
+pub mod FetchLemmas
+pub mod FlowsLemmas
+pub mod TakeLemmas
+pub mod WholeLemmas
+pub mod ConvertLemmas
+pub mod ExportLemmas

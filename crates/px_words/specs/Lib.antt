@@ -1,0 +1,13 @@
+pub mod Lines
+pub mod Outside
+pub mod Stops
+pub mod FlowFile
+pub mod Appends
+pub mod Flows
+pub mod FlowTurns
+pub mod Converts
+pub mod ConvertTurns
+pub mod Exports
+pub mod ExportTurns
+pub mod Takes
+pub mod Whole
