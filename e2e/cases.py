@@ -13,6 +13,7 @@ import time
 
 from busy_cases import BUSY_CASES
 from example_cases import examples
+from export_cases import EXPORT_CASES
 from mode_cases import MODE_CASES
 from operator_cases import OPERATOR_CASES
 from option_cases import OPTION_CASES
@@ -21,11 +22,13 @@ from replay_cases import REPLAY_CASES
 from resend_cases import RESEND_CASES
 from rows_cases import ROWS_CASES
 from saving_cases import SAVING_CASES
+from start_cases import START_CASES
 from tools import (
     ORIGIN, PROXY, TOP, Mitm, Origin, Tally, curl, get, line, raise_limit, raise_loopback, read_all, read_answers, same, talk, url, wait_for,
 )
 from tunnel_cases import TUNNEL_CASES
 from upstream_cases import UPSTREAM_CASES
+from view_cases import VIEW_CASES
 from websocket_cases import WEBSOCKET_CASES
 
 BIG = 10 * 1024 * 1024
@@ -205,8 +208,8 @@ CASES = [
 
 # The cases that have a run of their own.
 OWN_CASES = [
-    *BUSY_CASES, *OPTION_CASES, *MODE_CASES, *TUNNEL_CASES, *UPSTREAM_CASES, *WEBSOCKET_CASES, *PAGE_CASES, *SAVING_CASES, *REPLAY_CASES,
-    *RESEND_CASES, *OPERATOR_CASES, *ROWS_CASES,
+    *BUSY_CASES, *OPTION_CASES, *MODE_CASES, *TUNNEL_CASES, *UPSTREAM_CASES, *WEBSOCKET_CASES, *PAGE_CASES, *SAVING_CASES, *EXPORT_CASES, *REPLAY_CASES,
+    *RESEND_CASES, *OPERATOR_CASES, *VIEW_CASES, *START_CASES, *ROWS_CASES,
 ]
 
 # The cases whose lines come in no order.
@@ -265,17 +268,26 @@ def unescaped(text):
     return out
 
 
+FLOW_LINE = "POST http://h/a?b 200 256 -"
+
+
 def flow_files():
     """Flow files go both ways: Python reads what a row proves to be written, and a row reads what Python writes."""
     with open(os.path.join(TOP, "crates", "rows", "data", "flow_files.rows"), encoding="utf-8") as rows:
         halves = [row.rstrip("\n").split("=> ", 1) for row in rows if "=> " in row]
-    stored = os.path.join(TOP, "examples", "written.flows")
-    with open(stored, "rb") as file:
-        told = file.read()
-    by_python = run_python("write_flows.py")
-    assert any(half[0] == "" and unescaped(half[1]) == told for half in halves), "no row writes examples/written.flows"
-    assert any(unescaped(half[0]).rstrip(b" ") == by_python for half in halves), "no row reads what examples/write_flows.py writes"
-    same(run_python("read_flows.py", stored).decode().splitlines(), ["POST http://h/a?b 200 256 -"])
+    is_read = {unescaped(half[0]).rstrip(b" ") for half in halves}
+    stored, of_version_1 = (os.path.join(TOP, "examples", name) for name in ("written.flows", "version_1.flows"))
+    assert any(half[0] == "" and unescaped(half[1]) == told(stored) for half in halves), "no row writes examples/written.flows"
+    assert told(of_version_1) in is_read, "no row reads examples/version_1.flows"
+    for words in ([], ["1"]):
+        assert run_python("write_flows.py", *words) in is_read, f"no row reads what examples/write_flows.py writes, {words}"
+    same(run_python("read_flows.py", stored).decode().splitlines(), [FLOW_LINE, "    client text 'Hello'", "    server binary 00 ff dropped"])
+    same(run_python("read_flows.py", of_version_1).decode().splitlines(), [FLOW_LINE])
+
+
+def told(path):
+    with open(path, "rb") as file:
+        return file.read()
 
 
 def run_python(name, *words):

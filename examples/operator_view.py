@@ -8,12 +8,31 @@ no part of what is proved.
 """
 
 import curses
+import json
 import socket
 import sys
+import time
+from dataclasses import dataclass, field
 
 PLACE = "127.0.0.1:8081"
-KEYS = "a resume   A resume all   X kill   m mark   up/down or k/j move   q leave"
+KEYS = {
+    "a": "lets the flow under the cursor go on",
+    "A": "lets all go on that are live now, until none of them waits",
+    "X": "kills the flow under the cursor",
+    "m": "marks it",
+    "j, k": "and the arrows move the cursor",
+    "?": "shows these keys, or the flows again",
+    "q": "leaves; the run goes on",
+}
+SHORT = "a resume   A resume all   X kill   m mark   ? keys   q leave"
 WORDS = {"a": "resume", "X": "kill", "m": "mark"}
+# How often it looks, how long a flow that is finished stays in view, and how long none of those that are let go on has to wait, in seconds.
+LOOK, STAY, CALM = 0.5, 3.0, 1.0
+
+
+def printable(text: str) -> str:
+    """The text, with `?` for each character that would steer the terminal."""
+    return "".join(one if one.isprintable() else "?" for one in text)
 
 
 class Door:
@@ -24,7 +43,7 @@ class Door:
         self.stream = socket.create_connection((host.strip("[]"), int(port))).makefile("rwb")
 
     def ask(self, words: str) -> str:
-        """Says a line: the first line that it is answered. Characters that would steer the terminal become `?`."""
+        """Says a line: the first line that it is answered."""
         self.stream.write(words.encode() + b"\n")
         self.stream.flush()
         return self.read()
@@ -33,7 +52,7 @@ class Door:
         answer = self.stream.readline()
         if not answer.endswith(b"\n"):
             raise EOFError
-        return "".join(one if one.isprintable() else "?" for one in answer[:-1].decode())
+        return answer[:-1].decode()
 
     def flows(self) -> dict[str, str]:
         """The live flows in their order: whether each is waiting or going."""
@@ -44,43 +63,129 @@ class Door:
         return found
 
 
-def draw(screen: curses.window, place: str, flows: dict[str, str], chosen: str, about: str, said: str) -> None:
-    """The flows around the chosen one, what is shown of that, the keys, and what the last key was answered."""
+@dataclass
+class Flow:
+    """A flow as it is in view: its state, and its method and URL as they were when it was drawn first."""
+
+    state: str
+    began: float
+    ended: float | None = None
+    marked: bool = False
+    about: str | None = None
+
+    def line(self, name: str, cursor: str, width: int, now: float) -> str:
+        minutes, seconds = divmod(int((self.ended or now) - self.began), 60)
+        return f"{cursor} {name:{width}}  {self.state:8} {'*' if self.marked else ' '} {minutes:3}:{seconds:02}  {self.about or ''}"
+
+
+@dataclass
+class View:
+    """What is in view: the flows by their IDs, the one under the cursor, what the last key was answered, and those that are let go on."""
+
+    place: str
+    door: Door
+    flows: dict[str, Flow] = field(default_factory=dict)
+    chosen: str = ""
+    said: str = ""
+    released: set[str] = field(default_factory=set)
+    calm_since: float = 0.0
+    shows_keys: bool = False
+
+    def look(self, now: float) -> None:
+        """Takes what is live now. A flow that is no more stays for a moment."""
+        live = self.door.flows()
+        for name, state in live.items():
+            self.flows.setdefault(name, Flow(state, now)).state = state
+        for name, flow in self.flows.items():
+            if name not in live and flow.ended is None:
+                flow.state, flow.ended = "finished", now
+        names = sorted(self.flows, key=lambda name: [int(part) for part in name.split(".")])
+        self.flows = {name: self.flows[name] for name in names if self.flows[name].ended is None or now - self.flows[name].ended < STAY}
+        if self.chosen not in self.flows:
+            behind = names[names.index(self.chosen) if self.chosen in names else 0 :]
+            self.chosen = next((name for name in [*behind, *reversed(names)] if name in self.flows), "")
+        self.release(now)
+
+    def release(self, now: float) -> None:
+        """Lets go on what waits of all that was live at the key, until none of it has waited for a moment."""
+        waiting = [name for name in self.released if name in self.flows and self.flows[name].state == "waiting"]
+        for name in waiting:
+            if self.door.ask(f"resume {name}") == "ok":
+                self.flows[name].state = "going"
+        if waiting:
+            self.calm_since = now
+        elif now - self.calm_since >= CALM:
+            self.released = set()
+
+    def about(self, name: str) -> str:
+        """The method and URL of a flow, which are asked for once."""
+        flow = self.flows[name]
+        if flow.about is None and flow.ended is None:
+            try:
+                shown = json.loads(self.door.ask(f"show {name}"))
+                flow.about = printable(f"{shown['method']:7} {shown['url']}")
+                flow.marked = flow.marked or shown["marked"]
+            except ValueError:
+                flow.about = ""
+        return flow.about or ""
+
+    def key(self, key: str, now: float) -> None:
+        """What a key does; a key is for the flow that was drawn under the cursor."""
+        names = list(self.flows)
+        move = (key == "j") - (key == "k")
+        if key == "?":
+            self.shows_keys = not self.shows_keys
+        elif move and names:
+            self.chosen = names[max(0, min(names.index(self.chosen) + move, len(names) - 1))]
+        elif key == "A":
+            self.released, self.calm_since = {name for name, flow in self.flows.items() if flow.ended is None}, now
+            self.said = f"resume all of {len(self.released)}"
+        elif key in WORDS and self.chosen:
+            answer = self.door.ask(f"{WORDS[key]} {self.chosen}")
+            self.flows[self.chosen].marked |= key == "m" and answer == "ok"
+            self.said = f"{WORDS[key]} {self.chosen}: {answer}"
+
+    def lines(self, height: int, width: int, now: float) -> list[str]:
+        """What is drawn: the flows around the chosen one, what is shown of that, the keys, and what the last key was answered."""
+        if self.shows_keys:
+            return [*(f"{key:6} {meaning}" for key, meaning in KEYS.items()), "", "The time of a flow is since it was seen here first, and * in front of it is its mark."]
+        live = [flow for flow in self.flows.values() if flow.ended is None]
+        waiting = sum(flow.state == "waiting" for flow in live)
+        shown = ""
+        if self.chosen and self.flows[self.chosen].ended is None:
+            shown = printable(self.door.ask(f"show {self.chosen}"))
+        about = [shown[at : at + width - 1] for at in range(0, len(shown), width - 1)][: max(height - 6, 0)]
+        names, room = list(self.flows), max(height - 5 - len(about), 1)
+        first = max(0, names.index(self.chosen) - room + 1) if self.chosen else 0
+        drawn = names[first : first + room]
+        for name in drawn:
+            self.about(name)
+        wide = max(map(len, drawn), default=0)
+        rows = [self.flows[name].line(name, ">" if name == self.chosen else " ", wide, now) for name in drawn]
+        return [f"{self.place}: {len(live)} live, {waiting} waiting", "", *rows, "", *about, SHORT, self.said]
+
+
+def draw(screen: curses.window, lines: list[str]) -> None:
     height, width = screen.getmaxyx()
-    shown = [about[at : at + width - 1] for at in range(0, len(about), width - 1)][: max(height - 6, 0)]
-    names, room = list(flows), max(height - 5 - len(shown), 1)
-    first = max(0, names.index(chosen) - room + 1) if chosen else 0
-    waiting = sum(state == "waiting" for state in flows.values())
-    lines = [f"{place}: {len(flows)} live, {waiting} waiting", ""]
-    lines += [f"{'>' if name == chosen else ' '} {name} {flows[name]}" for name in names[first : first + room]]
-    lines += ["", *shown, KEYS, said]
     screen.erase()
     for row, text in enumerate(lines[:height]):
         screen.addnstr(row, 0, text, width - 1)
     screen.refresh()
 
 
-def view(screen: curses.window, place: str, door: Door) -> None:
-    """Draws twice a second, and behind each key. A key is for the flow that was drawn as the chosen one."""
-    row, chosen, said = 0, "", ""
-    screen.timeout(500)
+def run(screen: curses.window, place: str, door: Door) -> None:
+    """Looks and draws twice a second, and behind each key."""
+    view, arrows = View(place, door), {curses.KEY_DOWN: "j", curses.KEY_UP: "k"}
+    screen.timeout(int(LOOK * 1000))
     while True:
-        flows = door.flows()
-        names = list(flows)
-        row = names.index(chosen) if chosen in flows else max(0, min(row, len(names) - 1))
-        chosen = names[row] if names else ""
-        draw(screen, place, flows, chosen, door.ask(f"show {chosen}") if chosen else "", said)
+        now = time.monotonic()
+        view.look(now)
+        draw(screen, view.lines(*screen.getmaxyx(), now))
         code = screen.getch()
-        key = chr(code) if 0 <= code < 256 else ""
-        move = (code == curses.KEY_DOWN or key == "j") - (code == curses.KEY_UP or key == "k")
+        key = arrows.get(code) or (chr(code) if 0 <= code < 256 else "")
         if key == "q":
             return
-        if move and names:
-            chosen = names[max(0, min(row + move, len(names) - 1))]
-        elif key == "A":
-            said = f"resumed {sum(door.ask(f'resume {name}') == 'ok' for name in names if flows[name] == 'waiting')}"
-        elif key in WORDS and chosen:
-            said = f"{WORDS[key]} {chosen}: {door.ask(f'{WORDS[key]} {chosen}')}"
+        view.key(key, time.monotonic())
 
 
 def main() -> None:
@@ -90,7 +195,7 @@ def main() -> None:
     except (OSError, ValueError) as why:
         sys.exit(f"{place}: {why}")
     try:
-        curses.wrapper(view, place, door)
+        curses.wrapper(run, place, door)
     except (EOFError, OSError):
         sys.exit("the run has ended")
 
