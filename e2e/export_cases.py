@@ -13,7 +13,7 @@ WRITTEN = os.path.join(TOP, "examples", "written.flows")
 
 # What HAR 1.2 asks of each object, by its kind.
 REQUIRED = {
-    "log": ["version", "creator", "entries"],
+    "log": ["version", "creator", "pages", "entries"],
     "creator": ["name", "version"],
     "entry": ["startedDateTime", "time", "request", "response", "cache", "timings"],
     "request": ["method", "url", "httpVersion", "cookies", "headers", "queryString", "headersSize", "bodySize"],

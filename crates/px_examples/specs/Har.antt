@@ -109,7 +109,7 @@ hello = record (flow_with (Some (record (response_with 200 (codes "Content-Lengt
 -- exports of flows
 abbrev pub exports : List (List Flow × List ℕ)
 exports =
-    ([], codes "{\"log\":{\"creator\":{\"name\":\"mitm\",\"version\":\"1\"},\"entries\":[],\"version\":\"1.2\"}}")
-    ∷ (flow_with None ∷ flow_with (Some (response_with 200 (codes "|hi"))) ∷ [], codes "{\"log\":{\"creator\":{\"name\":\"mitm\",\"version\":\"1\"},\"entries\":[{\"cache\":{},\"request\":{\"bodySize\":0,\"cookies\":[],\"headers\":[],\"headersSize\":-1,\"httpVersion\":\"HTTP/1.1\",\"method\":\"POST\",\"queryString\":[{\"name\":\"b\",\"value\":\"\"}],\"url\":\"http://h:81/a?b\"},\"response\":{\"bodySize\":-1,\"content\":{\"mimeType\":\"\",\"size\":0},\"cookies\":[],\"headers\":[],\"headersSize\":-1,\"httpVersion\":\"\",\"redirectURL\":\"\",\"status\":0,\"statusText\":\"\"},\"startedDateTime\":\"1970-01-01T00:00:00.000Z\",\"time\":0,\"timings\":{\"receive\":0,\"send\":0,\"wait\":0}},{\"cache\":{},\"request\":{\"bodySize\":0,\"cookies\":[],\"headers\":[],\"headersSize\":-1,\"httpVersion\":\"HTTP/1.1\",\"method\":\"POST\",\"queryString\":[{\"name\":\"b\",\"value\":\"\"}],\"url\":\"http://h:81/a?b\"},\"response\":{\"bodySize\":2,\"content\":{\"mimeType\":\"\",\"size\":2,\"text\":\"hi\"},\"cookies\":[],\"headers\":[],\"headersSize\":-1,\"httpVersion\":\"HTTP/1.1\",\"redirectURL\":\"\",\"status\":200,\"statusText\":\"\"},\"startedDateTime\":\"1970-01-01T00:00:00.000Z\",\"time\":0,\"timings\":{\"receive\":0,\"send\":0,\"wait\":0}}],\"version\":\"1.2\"}}")
-    ∷ (hello ∷ [], codes "{\"log\":{\"creator\":{\"name\":\"mitm\",\"version\":\"1\"},\"entries\":[{\"cache\":{},\"request\":{\"bodySize\":0,\"cookies\":[],\"headers\":[{\"name\":\"Host\",\"value\":\"a\"}],\"headersSize\":-1,\"httpVersion\":\"HTTP/1.1\",\"method\":\"GET\",\"queryString\":[],\"url\":\"http://h/\"},\"response\":{\"bodySize\":5,\"content\":{\"mimeType\":\"\",\"size\":5,\"text\":\"hello\"},\"cookies\":[],\"headers\":[{\"name\":\"Content-Length\",\"value\":\"5\"}],\"headersSize\":-1,\"httpVersion\":\"HTTP/1.1\",\"redirectURL\":\"\",\"status\":200,\"statusText\":\"OK\"},\"startedDateTime\":\"1970-01-01T00:00:00.000Z\",\"time\":0,\"timings\":{\"receive\":0,\"send\":0,\"wait\":0}}],\"version\":\"1.2\"}}")
+    ([], codes "{\"log\":{\"creator\":{\"name\":\"mitm\",\"version\":\"1\"},\"entries\":[],\"pages\":[],\"version\":\"1.2\"}}")
+    ∷ (flow_with None ∷ flow_with (Some (response_with 200 (codes "|hi"))) ∷ [], codes "{\"log\":{\"creator\":{\"name\":\"mitm\",\"version\":\"1\"},\"entries\":[{\"cache\":{},\"request\":{\"bodySize\":0,\"cookies\":[],\"headers\":[],\"headersSize\":-1,\"httpVersion\":\"HTTP/1.1\",\"method\":\"POST\",\"queryString\":[{\"name\":\"b\",\"value\":\"\"}],\"url\":\"http://h:81/a?b\"},\"response\":{\"bodySize\":-1,\"content\":{\"mimeType\":\"\",\"size\":0},\"cookies\":[],\"headers\":[],\"headersSize\":-1,\"httpVersion\":\"\",\"redirectURL\":\"\",\"status\":0,\"statusText\":\"\"},\"startedDateTime\":\"1970-01-01T00:00:00.000Z\",\"time\":0,\"timings\":{\"receive\":0,\"send\":0,\"wait\":0}},{\"cache\":{},\"request\":{\"bodySize\":0,\"cookies\":[],\"headers\":[],\"headersSize\":-1,\"httpVersion\":\"HTTP/1.1\",\"method\":\"POST\",\"queryString\":[{\"name\":\"b\",\"value\":\"\"}],\"url\":\"http://h:81/a?b\"},\"response\":{\"bodySize\":2,\"content\":{\"mimeType\":\"\",\"size\":2,\"text\":\"hi\"},\"cookies\":[],\"headers\":[],\"headersSize\":-1,\"httpVersion\":\"HTTP/1.1\",\"redirectURL\":\"\",\"status\":200,\"statusText\":\"\"},\"startedDateTime\":\"1970-01-01T00:00:00.000Z\",\"time\":0,\"timings\":{\"receive\":0,\"send\":0,\"wait\":0}}],\"pages\":[],\"version\":\"1.2\"}}")
+    ∷ (hello ∷ [], codes "{\"log\":{\"creator\":{\"name\":\"mitm\",\"version\":\"1\"},\"entries\":[{\"cache\":{},\"request\":{\"bodySize\":0,\"cookies\":[],\"headers\":[{\"name\":\"Host\",\"value\":\"a\"}],\"headersSize\":-1,\"httpVersion\":\"HTTP/1.1\",\"method\":\"GET\",\"queryString\":[],\"url\":\"http://h/\"},\"response\":{\"bodySize\":5,\"content\":{\"mimeType\":\"\",\"size\":5,\"text\":\"hello\"},\"cookies\":[],\"headers\":[{\"name\":\"Content-Length\",\"value\":\"5\"}],\"headersSize\":-1,\"httpVersion\":\"HTTP/1.1\",\"redirectURL\":\"\",\"status\":200,\"statusText\":\"OK\"},\"startedDateTime\":\"1970-01-01T00:00:00.000Z\",\"time\":0,\"timings\":{\"receive\":0,\"send\":0,\"wait\":0}}],\"pages\":[],\"version\":\"1.2\"}}")
     ∷ []

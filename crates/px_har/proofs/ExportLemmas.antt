@@ -39,7 +39,7 @@ items_are later (flow ∷ flows) =
 
 -- what follows the list of entries in its object
 abbrev version_text : List ℕ
-version_text = codes ",\"version\":\"1.2\"}"
+version_text = codes ",\"pages\":[],\"version\":\"1.2\"}"
 
 whole : (flows : List Flow) → har_text flows ≡ begin_text ++ (entries_text First flows ++ end_text)
 unfolding escape_byte har_value
@@ -111,7 +111,7 @@ entries_good (flow ∷ flows) each =
 
 har_good : (flows : List Flow) → All IsReadable flows → IsGood 7 (har_value flows)
 unfolding har_value
-har_good flows each = (((((((tt, (tt, tt)), refl), (entries_good flows each, (tt, tt))), refl), tt)), refl)
+har_good flows each = (((((((tt, (tt, tt)), refl), (entries_good flows each, (tt, (tt, tt)))), refl), tt)), refl)
 
 separator_utf8 : (place : Place) → IsUtf8 (separator place)
 separator_utf8 First = IsUtf8-nil

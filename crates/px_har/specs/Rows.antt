@@ -10,4 +10,4 @@ pub record RowsHold : Type 0 where
   pub leap_year : next_day 1972 2 28 ≡ (1972, 2, 29)
   pub other_year : next_day 1970 2 28 ≡ (1970, 3, 1)
   pub beyond : (more : ℕ) → moment_text (last_moment + more) ≡ moment_text last_moment
-  pub no_flow : har_text [] ≡ codes "{\"log\":{\"creator\":{\"name\":\"mitm\",\"version\":\"1\"},\"entries\":[],\"version\":\"1.2\"}}"
+  pub no_flow : har_text [] ≡ codes "{\"log\":{\"creator\":{\"name\":\"mitm\",\"version\":\"1\"},\"entries\":[],\"pages\":[],\"version\":\"1.2\"}}"

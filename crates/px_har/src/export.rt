@@ -73,7 +73,7 @@ pub fn end_har(out: &mut Vec<u8>) -> Result<(), NoMemory>
     ensures ok { OnOk result (out.new.items ≡ out.old.items ++ end_text) }
     ensures err { OnErr result (out.new.items ≡ out.old.items) }
 {
-    out.extend_from_slice(b"],\"version\":\"1.2\"}}")?;
+    out.extend_from_slice(b"],\"pages\":[],\"version\":\"1.2\"}}")?;
     Ok(())
 }
 
