@@ -77,6 +77,22 @@ key_decides a b = (
   λ same. subst (λ k. is_same_key a k ≡ true) same (own a),
 )
 
+-- the test in the order of a key's parts
+pub in_order : (a b : MatchKey) → is_same_key a b ≡ (is_same_text a.path b.path && (are_same_parameters a.parameters b.parameters
+    && (option_eq is_same_text a.content b.content && (is_same_text a.method b.method && (option_eq is_same_text a.host b.host
+    && (option_eq nat_eq a.port b.port && are_same_values a.values b.values))))))
+in_order a b =
+    later (is_same_text a.method b.method) (is_same_text a.path b.path) (are_same_parameters a.parameters b.parameters)
+    (option_eq is_same_text a.content b.content) (option_eq is_same_text a.host b.host
+    && (option_eq nat_eq a.port b.port && are_same_values a.values b.values))
+  where
+    later : (m p q c rest : Bool) → (m && (p && (q && (c && rest)))) ≡ (p && (q && (c && (m && rest))))
+    later true p q c rest = refl
+    later false true true true rest = refl
+    later false true true false rest = refl
+    later false true false c rest = refl
+    later false false q c rest = refl
+
 -- ---- what counts
 
 counts : {T : Type 0} (ignored : Bool) (x y : T) → unless ignored x ≡ unless ignored y → ignored ≡ false → x ≡ y

@@ -7,7 +7,8 @@ use Rattle.std.specs.Option.{unwrap_or}
 use Rattle.std.specs.Ordering.{is_eq}
 use Rattle.std.specs.declared.cmp.Ordering.{Ordering}
 use Rattle.std.proofs.lemmas.Bool.{cases_lt, le-ltb, lt-ltb}
-use Rattle.std.proofs.lemmas.List.{take_all, take_more}
+use Rattle.std.proofs.lemmas.Grind.{flat_map-append}
+use Rattle.std.proofs.lemmas.List.{append-nil, take_all, take_more}
 use Rattle.std.proofs.lemmas.List.Elements.{All-head, All-tail}
 use Rattle.std.proofs.lemmas.Option.{none-some, same_Some}
 use Rattle.px_message.specs.declared.flow.Flow.{Flow}
@@ -20,7 +21,7 @@ use Rattle.px_replay.specs.Left.{Adds, Gives, GivesUnless, IsAnswerTo, IsIndex, 
 use Rattle.px_replay.specs.declared.replay.Replay.{Replay}
 use Rattle.px_replay.specs.declared.replay.Replay.TheVariants as replays
 use Rattle.px_replay.specs.Key.{key_of}
-use Rattle.px_replay.specs.Replaying.{IsAnswer, Replaying, may_answer, recordings, use_at}
+use Rattle.px_replay.specs.Replaying.{IsAnswer, Replaying, may_answer, recording, recordings, use_at}
 use Rattle.px_replay.specs.Same.{is_same_key}
 use Rattle.px_replay.proofs.KeyLemmas.{both_tests, key_decides}
 use Rattle.px_replay.proofs.PlaceLemmas.{clash, first_passes, none_before}
@@ -107,6 +108,11 @@ places_more test (y ∷ ys) x at =
 
 -- ---- the list before the first ask
 
+-- with one flow more
+pub one_more : (how : KeyOptions) (flows : List Flow) (flow : Flow) → recordings how (flows ++ flow ∷ []) ≡ recordings how flows ++ recording how flow
+one_more how flows flow =
+    flat_map-append (recording how) flows (flow ∷ []) ∙ ap (λ l. recordings how flows ++ l) (append-nil (recording how flow))
+
 none_used : (reuse : Bool) (key : MatchKey) (rs : List Recording) (at : ℕ) → All Unused rs →
     places_from at (λ r. is_same_key r.key key) rs ≡ places_from at (may_answer reuse key) rs
 none_used reuse key [] at all = refl
@@ -176,17 +182,11 @@ module _ (cmp : MatchKey → MatchKey → Ordering) (ties : (a b : MatchKey) →
           ap (λ o. unwrap_or o []) (updates.0 other ∙ ap (λ t. if t then Some now else get cmp old other) (sym (ties key other) ∙ same))
           ∙ sym (ap (λ t. if t then f (listed cmp old other) else listed cmp old other) same)
 
-  pub adds_behind : (key : MatchKey) (place : ℕ) (was now : List ℕ) (old new : BTreeMap MatchKey (List ℕ)) → Some was ≡ get cmp old key →
-      now ≡ was ++ place ∷ [] → UpdatesBy cmp (cmp key) old new (Some now) → Adds cmp key place old new
-  adds_behind key place was now old new had is updates = record {
-    adds = changes (λ l. l ++ place ∷ []) key now old new (is ∙ ap (λ o. unwrap_or o [] ++ place ∷ []) had) updates;
-  }
-
-  pub adds_first : (key copy : MatchKey) (place : ℕ) (now : List ℕ) (old mid new : BTreeMap MatchKey (List ℕ)) → None ≡ get cmp old key →
-      now ≡ place ∷ [] → copy ≡ key → mid ≡ old → UpdatesBy cmp (cmp copy) mid new (Some now) → Adds cmp key place old new
-  adds_first key copy place now old mid new had is same still updates = record {
-    adds = changes (λ l. l ++ place ∷ []) key now old new (is ∙ ap (λ o. unwrap_or o [] ++ place ∷ []) had)
-        (subst (λ m. UpdatesBy cmp (cmp key) m new (Some now)) still (subst (λ k. UpdatesBy cmp (cmp k) mid new (Some now)) same updates));
+  pub adds_at : (key copy : MatchKey) (place : ℕ) (now : List ℕ) (old mid new : BTreeMap MatchKey (List ℕ)) → now ≡ listed cmp old copy ++ place ∷ [] →
+      copy ≡ key → UpdatesBy cmp (cmp copy) old mid (Some now) → mid ≡ new → Adds cmp key place old new
+  adds_at key copy place now old mid new is same updates still = record {
+    adds = changes (λ l. l ++ place ∷ []) key now old new (is ∙ ap (λ k. listed cmp old k ++ place ∷ []) same)
+        (subst (λ m. UpdatesBy cmp (cmp key) old m (Some now)) still (subst (λ k. UpdatesBy cmp (cmp k) old mid (Some now)) same updates));
   }
 
   pub gives_one : (key : MatchKey) (was now : List ℕ) (old new : BTreeMap MatchKey (List ℕ)) → Some was ≡ get cmp old key →

@@ -24,7 +24,7 @@ pub fn index_of(
     Ok(index)
 }
 
-// Adds the place behind those of its key.
+// Adds the place behind those of its key, which is sought once.
 fn add(
     alloc: Global,
     index: &mut BTreeMap<MatchKey, Places>,
@@ -33,12 +33,10 @@ fn add(
 ) -> Result<(), NoMemory>
     ensures adds { OnOk result (Adds ⟦<MatchKey as Ord>⟧.cmp key.now place index.old index.new) }
 {
-    if let Some(places) = index.get_mut(key) {
-        places.push(place)?;
-        return Ok(());
-    }
-    let places = Places::one(alloc, place)?;
-    index.insert(key.try_clone()?, places)?;
+    let places = index
+        .entry(key.try_clone()?)?
+        .or_insert(Places::none(alloc));
+    places.push(place)?;
     Ok(())
 }
 

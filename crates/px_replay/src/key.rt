@@ -14,13 +14,13 @@ use std::alloc::{AllocError, Global};
 
 /// What counts of a request when a recorded one is looked for: its parts as they are. A part that an option ignores is none.
 ///
-/// Keys have an order: by these parts, one after the other, each byte by byte.
+/// Keys have an order: by these parts, one after the other, each byte by byte. What tells most keys apart comes first.
 #[derive(Debug, Drop, PartialEq, Eq, PartialOrd, Ord)]
 pub struct MatchKey {
-    method: OrderedName,
     path: OrderedBytes,
     parameters: Parameters,
     content: Option<OrderedBody>,
+    method: OrderedName,
     host: Option<OrderedHost>,
     port: Option<u16>,
     values: NamedValues,
@@ -31,10 +31,10 @@ impl Clone for MatchKey {
 
     fn clone(&self) -> Result<MatchKey, AllocError> {
         Ok(MatchKey {
-            method: self.method.clone()?,
             path: self.path.clone()?,
             parameters: self.parameters.clone()?,
             content: self.content.clone()?,
+            method: self.method.clone()?,
             host: self.host.clone()?,
             port: self.port,
             values: self.values.clone()?,
@@ -55,10 +55,10 @@ impl MatchKey {
         let content = content_of(request, how)?;
         let host = host_of(request, how)?;
         Ok(MatchKey {
-            method: OrderedName::new(method),
             path: OrderedBytes::new(path),
             parameters,
             content,
+            method: OrderedName::new(method),
             host,
             port: port_of(request, how),
             values,

@@ -1,5 +1,5 @@
 //! Places under a key.
-ghost use Rattle.std.specs.Prelude.{◌≡◌, ◌∷◌, ◌++◌, [], drop, IfOk, OnOk};
+ghost use Rattle.std.specs.Prelude.{◌≡◌, ◌∷◌, ◌++◌, [], drop, OnOk};
 
 use px_text::NoMemory;
 use std::alloc::Global;
@@ -23,13 +23,14 @@ impl Model for Places {
 }
 
 impl Places {
-    /// This place alone.
-    pub fn one(alloc: Global, place: usize) -> Result<Places, NoMemory>
-        ensures { IfOk result (λ made. made ≡ place ∷ []) }
+    /// No place. It takes no memory.
+    pub fn none(alloc: Global) -> Places
+        ensures { result ≡ [] }
     {
-        let mut all = Vec::new(alloc);
-        all.push(place)?;
-        Ok(Places { all, given: 0 })
+        Places {
+            all: Vec::new(alloc),
+            given: 0,
+        }
     }
 
     /// Adds a place behind them.

@@ -58,7 +58,7 @@ impl Recorded {
     ) -> Result<Recorded, NoMemory>
         ensures { IfOk result (λ made. made ≡ started how reuse extra flows.items) }
     {
-        let recordings = recordings_of(alloc, flows.as_slice(), &how)?;
+        let recordings = recordings_of(alloc, flows, &how)?;
         let index = index_of(alloc, recordings.as_slice())?;
         Ok(Recorded {
             alloc,
@@ -177,17 +177,17 @@ impl Recorded {
     }
 }
 
-// The flows that have a response, with the keys of their requests.
+// The flows that have a response, with the keys of their requests. Each flow is dropped before the next one is looked at.
 fn recordings_of(
     alloc: Global,
-    flows: &[Flow],
+    flows: Vec<Flow>,
     how: &KeyOptions,
 ) -> Result<Vec<Recording>, NoMemory>
-    ensures { IfOk result (λ made. made.items ≡ recordings how.now flows.now) }
+    ensures { IfOk result (λ made. made.items ≡ recordings how.now flows.items) }
 {
     let mut made = Vec::new(alloc);
     for flow in flows {
-        add(alloc, &mut made, flow, how)?;
+        add(alloc, &mut made, &flow, how)?;
     }
     Ok(made)
 }

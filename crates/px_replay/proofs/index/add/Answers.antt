@@ -1,18 +1,21 @@
-use Rattle.std.proofs.Common.{rules}
-use Rattle.px_replay.proofs.LeftLemmas.{adds_behind, adds_first}
+use Rattle.std.proofs.Common.{◌∙◌, ◌∷◌, ◌++◌, [], ap, rules}
+use Rattle.std.specs.BTreeMap.{get}
+use Rattle.std.specs.BTreeMap.Entry.{map_with_value}
+use Rattle.std.specs.Option.{unwrap_or}
+use Rattle.px_replay.proofs.KeyLemmas.{in_order}
+use Rattle.px_replay.proofs.LeftLemmas.{adds_at}
 use Rattle.px_replay.specs.contracts.key.MatchKeyOrd.TheImpl.{ghosts}
 use Rattle.px_replay.specs.contracts.key.MatchKeyOrd.TheImpl.Laws.{matches_eq-law}
 use Rattle.px_replay.proofs.index.add.Goals as goal
 
-pub returns-in-Some : goal.returns-in-Some
-returns-in-Some c = record {
-  adds = adds_behind ghosts.cmp matches_eq-law c.args.key.now c.args.place c.in-Some.places.now c.push.new.self c.args.index.now
-      (c.get_mut.follows.lender c.push.new.self) c.in-Some.ensures.value c.in_ok-push.ensures ((c.get_mut.follows.holds c.push.new.self).3 (search rules));
-}
-
 pub returns : goal.returns
-returns c = record {
-  adds = adds_first ghosts.cmp matches_eq-law c.args.key.now c.in_ok-try_clone.field-0 c.args.place c.in_ok-places.places c.args.index.now
-      c.get_mut.follows.lender-at-none c.insert.new.self c.in_default.ensures.value c.in_ok-places.ensures c.in_ok-try_clone.ensures
-      c.get_mut.follows.holds-at-none c.in_ok-insert.ensures.updates;
-}
+returns c =
+    let copy = c.in_ok-try_clone.field-0 in
+    let old = c.args.index.now in
+    let now = c.push.new.self in
+    record {
+      adds = adds_at ghosts.cmp (λ a b. in_order a b ∙ matches_eq-law a b) c.args.key.now copy c.args.place now old (map_with_value c.in_ok-index.field-0 now) _
+          (c.in_ok-push.ensures ∙ ap (λ l. l ++ c.args.place ∷ []) (c.or_insert-places.ensures.value
+          ∙ ap (λ o. unwrap_or o c.none.result) c.in_ok-index.ensures.value ∙ ap (λ l. unwrap_or (get ghosts.cmp old copy) l) c.none.ensures))
+          c.in_ok-try_clone.ensures (c.in_ok-index.ensures.update.0 now) (search rules);
+    }
