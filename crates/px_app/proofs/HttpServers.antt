@@ -21,13 +21,13 @@ use Rattle.px_exchange.specs.declared.taken.Taken.{Taken}
 use Rattle.px_exchange.specs.declared.taken.Taken.TheVariants.{GoesOn, Responds, Kills}
 use Rattle.px_exchange.specs.declared.place.Place.{Place}
 use Rattle.px_exchange.specs.declared.terms.Terms.{Terms}
-use Rattle.px_chain.specs.Chain.{finish_by, goes_on_by, http_chain, sequence, look, leaving, pass, pass_body, side_behind, so_far, turn, turn_taken_head, turn_judged, turn_head, turn_taken_body, turn_taken_whole, turn_body, used_more, dial_leads, turn_taken_answer, turn_answer, turn_taken_returned, turn_response, turn_returned, turn_taken_given, behind_flow}
+use Rattle.px_chain.specs.Chain.{behind as behind_ask, finish_by, goes_on_by, http_chain, sequence, look, leaving, parked_for, pass, pass_body, side_behind, so_far, turn, turn_taken_head, turn_judged, turn_head, turn_taken_body, turn_taken_whole, turn_body, used_more, dial_leads, turn_taken_answer, turn_answer, turn_taken_returned, turn_response, turn_returned, turn_taken_given, behind_flow}
 use Rattle.px_exchange.specs.Finds.{or_leaves, look_judged, look_head, look_body, look_answer_head, look_answer, look_returned, is_relayed}
 use Rattle.px_exchange.specs.Flows.{ask_of, response_of, with_answer, with_body, with_end, with_returned, with_start}
 use Rattle.px_chain.proofs.Quiet.{AllQuiet, LooksQuiet, any_flow}
-use Rattle.px_chain.specs.Sights.{Sight, Standing, Unused, answers_in, request_in, server_in, sight_over}
-use Rattle.px_chain.specs.Stages.{At, ServerSide, Stage, busy, connection, given_body, given_head, idle, next, over, request_body, response_body, response_head, upgraded}
-use Rattle.px_chain.proofs.QuietLemmas.{so_far_quiet, turn_quiet, finds_quiet_end}
+use Rattle.px_chain.specs.Sights.{Sight, Standing, answers_in, request_in, server_in, server_parked, sight_over}
+use Rattle.px_chain.specs.Stages.{At, ServerSide, Stage, busy, connection, given_body, given_head, idle, next, over, request_body, response_body, response_head, unparked, upgraded}
+use Rattle.px_chain.proofs.QuietLemmas.{behind_quiet, so_far_quiet, turn_quiet, finds_quiet_end}
 use Rattle.px_resend.specs.Dialled.{dials_in}
 use Rattle.px_app.specs.Servers.{CountsFrom}
 use Rattle.px_app.proofs.ServerLemmas.{CountsDials}
@@ -62,24 +62,24 @@ leaves_not false leaving NotYet not = tt
 leaves_not closed leaving (Asks ask) not = not
 leaves_not closed leaving (Ends owed) not = tt
 
-judged_not : (terms : Terms) (index : ℕ) (head : ReadRequest) (j : Judged) (moment : ℕ) (closed : Bool) → DialsNot (look_judged terms index head j moment closed)
-judged_not terms index head (Refused fault) moment closed = tt
-judged_not terms index head (Accepted request) moment closed = refl
-judged_not terms index head (Connects address) moment closed = tt
+judged_not : (terms : Terms) (index : ℕ) (head : ReadRequest) (j : Judged) (moment : ℕ) (used : Used) (closed : Bool) → DialsNot (look_judged terms index head j moment used closed)
+judged_not terms index head (Refused fault) moment used closed = tt
+judged_not terms index head (Accepted request) moment used closed = refl
+judged_not terms index head (Connects address) moment used closed = tt
 
-head_not : (terms : Terms) (index : ℕ) (item : Item ReadRequest) (moment : ℕ) (closed : Bool) → DialsNot (look_head terms index item moment closed)
-head_not terms index missing moment closed = tt
-head_not terms index (part head body) moment closed = judged_not terms index head _ moment closed
-head_not terms index (complete head body trailers used) moment closed = judged_not terms index head _ moment closed
-head_not terms index (bad_head fault) moment closed = tt
-head_not terms index (bad_body fault head body) moment closed = judged_not terms index head _ moment closed
+head_not : (terms : Terms) (index : ℕ) (item : Item ReadRequest) (moment : ℕ) (used : Used) (closed : Bool) → DialsNot (look_head terms index item moment used closed)
+head_not terms index missing moment used closed = tt
+head_not terms index (part head body) moment used closed = judged_not terms index head _ moment used closed
+head_not terms index (complete head body trailers size) moment used closed = judged_not terms index head _ moment used closed
+head_not terms index (bad_head fault) moment used closed = tt
+head_not terms index (bad_body fault head body) moment used closed = judged_not terms index head _ moment used closed
 
-body_not : (flow : Flow) (item : Item ReadRequest) (moment : ℕ) (closed : Bool) → DialsNot (look_body flow item moment closed)
-body_not flow missing moment closed = tt
-body_not flow (part head body) moment closed = tt
-body_not flow (complete head body trailers used) moment closed = refl
-body_not flow (bad_head fault) moment closed = tt
-body_not flow (bad_body fault head body) moment closed = tt
+body_not : (flow : Flow) (item : Item ReadRequest) (moment : ℕ) (used : Used) (closed : Bool) → DialsNot (look_body flow item moment used closed)
+body_not flow missing moment used closed = tt
+body_not flow (part head body) moment used closed = tt
+body_not flow (complete head body trailers size) moment used closed = refl
+body_not flow (bad_head fault) moment used closed = tt
+body_not flow (bad_body fault head body) moment used closed = tt
 
 relayed_not : (fails : Bool) (owed : List Command) (flow : Flow) (hook : Hook) → DialsNot (if fails then Ends owed else Asks (ask_of flow hook))
 relayed_not true owed flow hook = tt
@@ -112,8 +112,8 @@ counts_found n (Asks ask) not quiet = let P : List ℕ → Type 0 = CountsFrom n
 counts_found n (Ends owed) not quiet = let P : List ℕ → Type 0 = CountsFrom n in subst P (sym (quiet_dials any_flow owed quiet)) tt
 
 looks : (terms : Terms) (n : ℕ) (stage : Stage) (seen : Sight) → Dialled n stage → CountsFrom n (dials_in (found (look terms stage seen)))
-looks terms n (idle at) seen is = counts_found n _ (leaves_not _ _ _ (head_not terms at.flow (request_in at seen) seen.now seen.closed)) (finds_quiet_end terms (idle at) seen)
-looks terms n (busy at flow (request_body given)) seen is = counts_found n _ (leaves_not _ _ _ (body_not flow _ _ _)) (finds_quiet_end terms (busy at flow (request_body given)) seen)
+looks terms n (idle at) seen is = counts_found n _ (leaves_not _ _ _ (head_not terms at.flow (request_in at seen) seen.now (server_parked at.parked seen) seen.closed)) (finds_quiet_end terms (idle at) seen)
+looks terms n (busy at flow (request_body given)) seen is = counts_found n _ (leaves_not _ _ _ (body_not flow _ _ _ _)) (finds_quiet_end terms (busy at flow (request_body given)) seen)
 looks terms n (busy at flow connection) seen is = (is, tt)
 looks terms n (busy at flow (response_head side how)) seen is = counts_found n _ (leaves_not _ _ _ (answer_not flow (answers_in flow.request side seen).final seen.now (server_in side seen) seen.closed)) (finds_quiet_end terms (busy at flow (response_head side how)) seen)
 looks terms n (busy at flow (response_body side how)) seen is = counts_found n _ (leaves_not _ _ _ (returned_not flow _ _ _ _)) (finds_quiet_end terms (busy at flow (response_body side how)) seen)
@@ -125,16 +125,16 @@ looks terms n over seen is = tt
 
 -- ---- where a stage leads
 
-head_leads : (n : ℕ) (at : At) (flow : Flow) (expected : Bool) (taken : Taken Request) (moment : ℕ) (closed : Bool) → at.dials ≡ n → Dialled n (turn_taken_head at flow expected taken moment closed).stage
-head_leads n at flow expected (GoesOn request) moment closed is = is
-head_leads n at flow expected (Responds response) moment closed is = is
-head_leads n at flow expected Kills moment closed is = tt
+head_leads : (n : ℕ) (at : At) (flow : Flow) (expected : Bool) (taken : Taken Request) (moment : ℕ) (seen : Sight) → at.dials ≡ n → Dialled n (turn_taken_head at flow expected taken moment seen).stage
+head_leads n at flow expected (GoesOn request) moment seen is = is
+head_leads n at flow expected (Responds response) moment seen is = is
+head_leads n at flow expected Kills moment seen is = tt
 
 judged_leads : (n : ℕ) (terms : Terms) (at : At) (head : ReadRequest) (j : Judged) (seen : Sight) (answer : Timed Reply) → at.dials ≡ n →
     Dialled n (turn_judged terms at head j seen answer).stage
 judged_leads n terms at head (Refused fault) seen answer is = tt
 judged_leads n terms at head (Connects address) seen answer is = tt
-judged_leads n terms at head (Accepted request) seen answer is = head_leads n at _ _ _ answer.moment _ is
+judged_leads n terms at head (Accepted request) seen answer is = head_leads n at _ _ _ answer.moment seen is
 
 item_leads : (n : ℕ) (terms : Terms) (at : At) (item : Item ReadRequest) (seen : Sight) (answer : Timed Reply) → at.dials ≡ n →
     Dialled n (turn_head terms at item seen answer).stage
@@ -144,23 +144,23 @@ item_leads n terms at (complete head body trailers used) seen answer is = judged
 item_leads n terms at (bad_head fault) seen answer is = tt
 item_leads n terms at (bad_body fault head body) seen answer is = judged_leads n terms at head _ seen answer is
 
--- the spare side was dialled before
-goes_leads : (n : ℕ) (spare : Option Unused) (place : Place) (at : At) (flow : Flow) → at.dials ≡ n → Dialled n (goes_on_by spare place at flow).stage
+-- the parked side was dialled before
+goes_leads : (n : ℕ) (side : Option ServerSide) (place : Place) (at : At) (flow : Flow) → at.dials ≡ n → Dialled n (goes_on_by side place at flow).stage
 goes_leads n None place at flow is = is
-goes_leads n (Some unused) place at flow is = is
+goes_leads n (Some side) place at flow is = is
 
-taken_body_leads : (n : ℕ) (place : Place) (at : At) (flow : Flow) (spare : Option Unused) (taken : Taken Request) (moment : ℕ) (closed : Bool) → at.dials ≡ n →
-    Dialled n (turn_taken_body place at flow spare taken moment closed).stage
-taken_body_leads n place at flow spare (GoesOn request) moment closed is = goes_leads n _ place at _ is
-taken_body_leads n place at flow spare (Responds response) moment closed is = is
-taken_body_leads n place at flow spare Kills moment closed is = tt
+taken_body_leads : (n : ℕ) (place : Place) (at : At) (flow : Flow) (taken : Taken Request) (moment : ℕ) (seen : Sight) → at.dials ≡ n →
+    Dialled n (turn_taken_body place at flow taken moment seen).stage
+taken_body_leads n place at flow (GoesOn request) moment seen is = goes_leads n (parked_for place request at.parked) place at _ is
+taken_body_leads n place at flow (Responds response) moment seen is = is
+taken_body_leads n place at flow Kills moment seen is = tt
 
 body_leads : (n : ℕ) (place : Place) (at : At) (flow : Flow) (item : Item ReadRequest) (seen : Sight) (answer : Timed Reply) → at.dials ≡ n →
     Dialled n (turn_body place at flow item seen answer).stage
 body_leads n place at flow missing seen answer is = tt
 body_leads n place at flow (part head body) seen answer is = tt
 body_leads n place at flow (complete head body trailers used) seen answer is =
-    taken_body_leads n place (used_more at used) (with_body flow body.content trailers seen.now) seen.spare _ answer.moment _ is
+    taken_body_leads n place (used_more at used) (with_body flow body.content trailers seen.now) _ answer.moment seen is
 body_leads n place at flow (bad_head fault) seen answer is = tt
 body_leads n place at flow (bad_body fault head body) seen answer is = tt
 
@@ -190,11 +190,11 @@ behind : (n : ℕ) (stays : Bool) (at : At) → at.dials ≡ n → Dialled n (be
 behind n true at is = is
 behind n false at is = tt
 
-taken_returned_leads : (n : ℕ) (at : At) (flow : Flow) (taken : Taken Response) (moment : ℕ) (used : Used) (closed : Bool) → at.dials ≡ n →
-    Dialled n (turn_taken_returned at flow taken moment used closed).stage
-taken_returned_leads n at flow (GoesOn response) moment used closed is = behind n _ at is
-taken_returned_leads n at flow (Responds response) moment used closed is = tt
-taken_returned_leads n at flow Kills moment used closed is = tt
+taken_returned_leads : (n : ℕ) (at : At) (flow : Flow) (taken : Taken Response) (moment : ℕ) (parked : Used) (closed : Bool) → at.dials ≡ n →
+    Dialled n (turn_taken_returned at flow taken moment parked closed).stage
+taken_returned_leads n at flow (GoesOn response) moment parked closed is = behind n _ at is
+taken_returned_leads n at flow (Responds response) moment parked closed is = tt
+taken_returned_leads n at flow Kills moment parked closed is = tt
 
 response_leads : (n : ℕ) (response : Option Response) (takes : Response → Taken Response) (goes : Taken Response → Turn Stage Command) →
     ((taken : Taken Response) → Dialled n (goes taken).stage) → Dialled n (turn_response response takes goes).stage
@@ -205,7 +205,7 @@ response_leads n (Some response) takes goes leads = leads (takes response)
 finish_leads : (n : ℕ) (switches : Bool) (at : At) (flow : Flow) (response : Response) (side : ServerSide) (used : Used) (closed : Bool) → at.dials ≡ n →
     Dialled n (finish_by switches at flow response side used closed).stage
 finish_leads n true at flow response side used closed is = is
-finish_leads n false at flow response side used closed is = behind n _ at is
+finish_leads n false at flow response side used closed is = behind n _ (unparked at) is
 
 taken_whole_leads : (n : ℕ) (at : At) (flow : Flow) (side : ServerSide) (taken : Taken Response) (moment : ℕ) (used : Used) (closed : Bool) → at.dials ≡ n →
     Dialled n (turn_taken_whole at flow side taken moment used closed).stage
@@ -223,10 +223,11 @@ returned_leads n at flow side interim (complete head body trailers size) seen an
 returned_leads n at flow side interim (bad_head fault) seen answer is = tt
 returned_leads n at flow side interim (bad_body fault head body) seen answer is = tt
 
-taken_given_leads : (n : ℕ) (at : At) (flow : Flow) (taken : Taken Response) (moment : ℕ) (closed : Bool) → at.dials ≡ n → Dialled n (turn_taken_given at flow taken moment closed).stage
-taken_given_leads n at flow (GoesOn response) moment closed is = is
-taken_given_leads n at flow (Responds response) moment closed is = tt
-taken_given_leads n at flow Kills moment closed is = tt
+taken_given_leads : (n : ℕ) (at : At) (flow : Flow) (taken : Taken Response) (moment : ℕ) (parked : Used) (closed : Bool) → at.dials ≡ n →
+    Dialled n (turn_taken_given at flow taken moment parked closed).stage
+taken_given_leads n at flow (GoesOn response) moment parked closed is = is
+taken_given_leads n at flow (Responds response) moment parked closed is = tt
+taken_given_leads n at flow Kills moment parked closed is = tt
 
 -- the next flow knows as much
 onward : (n : ℕ) (stage : Stage) → Dialled n stage → Dialled n (sequence stage)
@@ -267,8 +268,8 @@ dial_asked at flow seen terms ask is = let P : Look Command → Type 0 = λ l. l
 
 turns : (terms : Terms) (n : ℕ) (stage : Stage) (seen : Sight) (ask : Command) (answer : Timed Reply) → Dialled n stage → look terms stage seen ≡ Asks ask →
     Dialled (n + length (dials_in (ask ∷ []))) (turn terms stage seen answer).stage
-turns terms n (idle at) seen ask answer is asks = stays n _ ask (asked_not _ ask asks (leaves_not _ _ _ (head_not terms at.flow (request_in at seen) seen.now seen.closed))) (item_leads n terms at (request_in at seen) seen answer is)
-turns terms n (busy at flow (request_body given)) seen ask answer is asks = stays n _ ask (asked_not _ ask asks (leaves_not _ _ _ (body_not flow _ _ _))) (body_leads n terms.place at flow (request_in at seen) seen answer is)
+turns terms n (idle at) seen ask answer is asks = stays n _ ask (asked_not _ ask asks (leaves_not _ _ _ (head_not terms at.flow (request_in at seen) seen.now (server_parked at.parked seen) seen.closed))) (item_leads n terms at (request_in at seen) seen answer is)
+turns terms n (busy at flow (request_body given)) seen ask answer is asks = stays n _ ask (asked_not _ ask asks (leaves_not _ _ _ (body_not flow _ _ _ _))) (body_leads n terms.place at flow (request_in at seen) seen answer is)
 turns terms n (busy at flow connection) seen ask answer is asks =
     let P : ℕ → Type 0 = λ k. Dialled (n + k) (dial_leads terms.place at flow answer.value) in
     subst P (sym (dial_asked at flow seen terms ask asks)) (dial_on n terms.place at flow answer.value is)
@@ -277,7 +278,7 @@ turns terms n (busy at flow (response_body side how)) seen ask answer is asks = 
 turns terms n (busy at flow (upgraded side)) seen ask answer is asks = tt
 turns terms n (busy at flow given_head) seen ask answer is asks =
     stays n _ ask (asked_not (look terms (busy at flow given_head) seen) ask asks refl) (response_leads n flow.response _ _
-    (λ taken. taken_given_leads n at (with_start flow seen.now) taken answer.moment _ is))
+    (λ taken. taken_given_leads n at (with_start flow seen.now) taken answer.moment _ _ is))
 turns terms n (busy at flow given_body) seen ask answer is asks =
     stays n _ ask (asked_not (look terms (busy at flow given_body) seen) ask asks refl) (response_leads n flow.response _ _
     (λ taken. taken_returned_leads n at (with_end flow seen.now) taken answer.moment _ _ is))
@@ -292,6 +293,7 @@ pub counts : (terms : Terms) → CountsDials (http_chain sequence terms) Dialled
 counts terms = record {
   pass = λ n place prefix is. (refl, passed n place.stage (sight_over place prefix) is);
   so_far = λ place prefix. quiet_dials any_flow (so_far place.stage (sight_over place prefix)) (so_far_quiet any_flow place.stage (sight_over place prefix));
+  behind = λ place prefix. quiet_dials any_flow (behind_ask place.stage (sight_over place prefix)) (behind_quiet any_flow place.stage (sight_over place prefix));
   look = λ n place prefix is. looks terms n place.stage (sight_over place prefix) is;
   turn = λ n place prefix ask answer is asks.
       let seen : Sight = sight_over place prefix in (

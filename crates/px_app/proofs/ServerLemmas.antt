@@ -13,7 +13,7 @@ use Rattle.px_event.specs.declared.said.Said.{Said}
 use Rattle.px_event.specs.declared.said.Said.TheVariants as said
 use Rattle.px_event.specs.declared.step.Step.{Step}
 use Rattle.px_event.specs.declared.step.Step.TheVariants as steps
-use Rattle.px_event.specs.Chain.{Stamp, Stamped, Timed, worked_off, at_its_step, never, Chain, Look, NotYet, Asks, Ends, Reached, reach, reach_by, Stop, stop_at, walk, walk_by, found, owed_at}
+use Rattle.px_event.specs.Chain.{Stamp, Stamped, Timed, worked_off, at_its_step, never, Chain, Look, NotYet, Asks, Ends, Reached, reach, reach_by, Stop, stop_at, walk, walk_by, found, found_with, owed_at}
 use Rattle.px_event.specs.Layer.{Move}
 use Rattle.px_event.specs.Stands.{events_in, replies_in, due_by}
 use Rattle.px_event.specs.Trace.{Trace, Always, said_in}
@@ -45,11 +45,18 @@ dials_more xs ys = flat_map-append dial_in xs ys
 none_behind : (xs ys : List Command) → dials_in ys ≡ [] → dials_in (xs ++ ys) ≡ dials_in xs
 none_behind xs ys none = dials_more xs ys ∙ (ap (λ l. dials_in xs ++ l) none ∙ append-nil (dials_in xs))
 
+-- what is owed behind an ask, and dials nothing, leaves its dials as they were
+found_dials : (behind : List Command) (l : Look Command) → dials_in behind ≡ [] → dials_in (found_with behind l) ≡ dials_in (found l)
+found_dials behind NotYet none = refl
+found_dials behind (Asks ask) none = none_behind (ask ∷ []) behind none
+found_dials behind (Ends owed) none = refl
+
 -- A chain whose stages know how many servers were dialled: what a stage finds dials the next one or none, and nothing else
 -- dials.
 pub record CountsDials {S E R : Type 0} (chain : Chain S E R Command) (dialled_so : ℕ → S → Type 0) : Type 0 where
   pub pass : (n : ℕ) (stage : S) (prefix : List (Timed E)) → dialled_so n stage → (dials_in (chain.pass stage prefix).owed ≡ []) × dialled_so n (chain.pass stage prefix).stage
   pub so_far : (stage : S) (prefix : List (Timed E)) → dials_in (chain.so_far stage prefix) ≡ []
+  pub behind : (stage : S) (prefix : List (Timed E)) → dials_in (chain.behind stage prefix) ≡ []
   pub look : (n : ℕ) (stage : S) (prefix : List (Timed E)) → dialled_so n stage → CountsFrom n (dials_in (found (chain.look stage prefix)))
   pub turn : (n : ℕ) (stage : S) (prefix : List (Timed E)) (ask : Command) (reply : Timed R) → dialled_so n stage → chain.look stage prefix ≡ Asks ask →
       (dials_in (chain.turn stage prefix reply).owed ≡ []) × dialled_so (n + length (dials_in (ask ∷ []))) (chain.turn stage prefix reply).stage
@@ -85,22 +92,30 @@ module _ {S E R : Type 0} (chain : Chain S E R Command) (dialled_so : ℕ → S 
   there_counted w (counts, knows) =
       let P : List ℕ → Type 0 = CountsFrom 0 in
       let so_far = chain.so_far w.stage w.prefix in
-      let ends = found (chain.look w.stage w.prefix) in
+      let looks = chain.look w.stage w.prefix in
+      let behind = chain.behind w.stage w.prefix in
+      let ends = found looks in
+      let all = found_with behind looks in
       let same : dials_in (owed_at chain w) ≡ dials_in w.before ++ dials_in ends =
-      dials_more w.before (so_far ++ ends) ∙ ap (λ l. dials_in w.before ++ l) (dials_more so_far ends ∙ ap (λ l. l ++ dials_in ends) (law.so_far w.stage w.prefix)) in
+      dials_more w.before (so_far ++ all)
+      ∙ ap (λ l. dials_in w.before ++ l)
+      (dials_more so_far all ∙ (ap (λ l. l ++ dials_in all) (law.so_far w.stage w.prefix) ∙ found_dials behind looks (law.behind w.stage w.prefix))) in
       let Q : ℕ → Type 0 = λ k. CountsFrom k (dials_in ends) in
       subst P (sym same) (counts_more 0 (dials_in w.before) (dials_in ends) counts (subst Q (sym (zero-add (length (dials_in w.before)))) (law.look (length (dials_in w.before)) w.stage w.prefix knows)))
 
   turned : (before : List Command) (s : S) (prefix : List (Timed E)) (ask : Command) (reply : Timed R) → Counted before s → chain.look s prefix ≡ Asks ask →
-      Counted (before ++ (chain.so_far s prefix ++ ask ∷ (chain.turn s prefix reply).owed)) (chain.turn s prefix reply).stage
+      Counted (before ++ (chain.so_far s prefix ++ ask ∷ (chain.behind s prefix ++ (chain.turn s prefix reply).owed))) (chain.turn s prefix reply).stage
   turned before s prefix ask reply (counts, knows) asks =
       let n = length (dials_in before) in
       let on = law.turn n s prefix ask reply knows asks in
       let one = dials_in (ask ∷ []) in
-      let behind : dials_in (ask ∷ (chain.turn s prefix reply).owed) ≡ one = none_behind (ask ∷ []) (chain.turn s prefix reply).owed on.0 in
-      let same : dials_in (before ++ (chain.so_far s prefix ++ ask ∷ (chain.turn s prefix reply).owed)) ≡ dials_in before ++ one =
-      dials_more before (chain.so_far s prefix ++ ask ∷ (chain.turn s prefix reply).owed)
-      ∙ ap (λ l. dials_in before ++ l) (dials_more (chain.so_far s prefix) (ask ∷ (chain.turn s prefix reply).owed) ∙ (ap (λ l. l ++ dials_in (ask ∷ (chain.turn s prefix reply).owed)) (law.so_far s prefix) ∙ behind)) in
+      let owed = (chain.turn s prefix reply).owed in
+      let rest = chain.behind s prefix ++ owed in
+      let none : dials_in rest ≡ [] = dials_more (chain.behind s prefix) owed ∙ (ap (λ l. l ++ dials_in owed) (law.behind s prefix) ∙ on.0) in
+      let asked : dials_in (ask ∷ rest) ≡ one = none_behind (ask ∷ []) rest none in
+      let same : dials_in (before ++ (chain.so_far s prefix ++ ask ∷ rest)) ≡ dials_in before ++ one =
+      dials_more before (chain.so_far s prefix ++ ask ∷ rest)
+      ∙ ap (λ l. dials_in before ++ l) (dials_more (chain.so_far s prefix) (ask ∷ rest) ∙ (ap (λ l. l ++ dials_in (ask ∷ rest)) (law.so_far s prefix) ∙ asked)) in
       let Q : Look Command → Type 0 = λ l. CountsFrom n (dials_in (found l)) in
       let P : List ℕ → Type 0 = λ l. CountsFrom 0 l × dialled_so (length l) (chain.turn s prefix reply).stage in
       let Z : ℕ → Type 0 = λ k. CountsFrom k one in

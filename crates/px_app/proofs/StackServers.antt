@@ -1,17 +1,14 @@
 -- The dials that are due in a conversation are numbered by their order: those of HTTP, that of a CONNECT, and those of HTTP inside it. A proxy
 -- that is asked for a tunnel stands behind its dial, and a WebSocket dials nothing.
-use Rattle.std.proofs.Common.{◌≡◌, ◌∙◌, ℕ, ◌+◌, Bool, true, false, List, [], ◌∷◌, ◌++◌, drop, length, Option, Some, None, refl, sym, ap, subst}
+use Rattle.std.proofs.Common.{◌≡◌, ◌∙◌, ℕ, ◌+◌, Bool, true, false, List, [], ◌∷◌, ◌++◌, length, Option, Some, None, refl, sym, ap, subst}
 use Rattle.std.specs.Prelude.{⊤, ◌||◌}
-use Rattle.std.proofs.lemmas.List.{append-nil}
 use Rattle.px_message.specs.declared.address.Address.{Address}
-use Rattle.px_message.specs.declared.fault.Fault.TheVariants.{UpstreamRefused}
 use Rattle.px_message.specs.declared.flow.Flow.{Flow}
 use Rattle.px_event.specs.declared.command.Command.{Command}
 use Rattle.px_event.specs.declared.command.Command.TheVariants as commands
 use Rattle.px_event.specs.declared.event.Event.{Event}
 use Rattle.px_event.specs.declared.reply.Reply.{Reply}
 use Rattle.px_event.specs.declared.reply.Reply.TheVariants as reply
-use Rattle.px_event.specs.declared.side.Side.TheVariants.{Server}
 use Rattle.px_event.specs.Chain.{Timed, Look, NotYet, Asks, Ends, Turn, found}
 use Rattle.px_event.specs.Layer.{Move}
 use Rattle.px_exchange.specs.declared.mode.Mode.{Mode}
@@ -22,21 +19,21 @@ use Rattle.px_exchange.specs.Endings.{shut_all, shut_client, shut_server}
 use Rattle.px_exchange.specs.declared.ending.Used.{Used}
 use Rattle.px_exchange.specs.declared.ending.Used.TheVariants.{NoServer, ByServer}
 use Rattle.px_chain.specs.Chain.{Connect, connect_in, look as look_of}
-use Rattle.px_chain.specs.Sights.{Sight, Spare, Standing, Unused, request_in, sight_over, unused_over}
+use Rattle.px_chain.specs.Sights.{Sight, Standing, request_in, sight_over}
 use Rattle.px_chain.specs.Stages.{At, busy, connection, given_body, given_head, idle, next, request_body, response_body, response_head, upgraded}
 use Rattle.px_chain.specs.Stages as flows
-use Rattle.px_chain.specs.Streams.{Since, client_closed, from_here, is_closed, now_over}
+use Rattle.px_chain.specs.Streams.{Since, client_closed, from_here, now_over}
 use Rattle.px_tunnel.specs.Upstream.{Granting, awaited, granted, refused}
 use Rattle.px_relay.specs.Chain as relay
 use Rattle.px_relay.specs.Sending.{Terms}
 use Rattle.px_relay.specs.Sights.{Sight as SocketSight}
 use Rattle.px_relay.specs.Stages.{Stage as Frames, holding, over as ended, relaying}
-use Rattle.px_stack.specs.Chain.{answer_of, begins, begun, closed_of, closes_all, finished_flow, flows_at, follows, goes_by, hands_by, has_answered, is_empty, is_shut, led_at, led_by, opening_look, opening_text, opens_by, or_stays, pass_http, pass_reached, pass_socket, raw_look, shut_proxy, shut_unused, socket_sight, socket_terms, stack_chain, standing_of, text_behind, tunnel_for, tunnel_found, turn_connected, turn_dial, turn_http, upgrades, waits_for, with_closes}
+use Rattle.px_stack.specs.Chain.{answer_of, begins, begun, closed_before, closes_all, finished_flow, flows_at, follows, goes_by, hands_by, has_answered, is_shut, led_at, led_by, opening_look, opening_text, or_stays, pass_http, pass_reached, pass_socket, raw_look, socket_sight, socket_terms, stack_chain, tunnel_for, tunnel_found, turn_connected, turn_dial, turn_http, upgrades, used_proxy, way_to}
 use Rattle.px_stack.specs.Decides.{Decision, decided, is_http, is_raw, still}
 use Rattle.px_stack.specs.Frames.{AreSaid, pass_says, turn_says}
 use Rattle.px_stack.specs.Modes.{mode_due}
 use Rattle.px_stack.specs.Sockets.{is_websocket}
-use Rattle.px_stack.specs.Stages.{Dialling, Ends as TunnelEnds, Goal, Stage, Tunnel, Visitor, a_flow, a_tunnel, connecting, http, over, raw, reaching, socket, undecided}
+use Rattle.px_stack.specs.Stages.{Dialling, Ends as TunnelEnds, Goal, Link, Stage, Tunnel, Visitor, a_flow, a_tunnel, connecting, http, over, raw, reaching, socket, undecided}
 use Rattle.px_resend.specs.Dialled.{dials_in}
 use Rattle.px_app.specs.Servers.{CountsFrom}
 use Rattle.px_app.proofs.HttpServers.{Dialled, DialledAt, counts as flows_count}
@@ -50,8 +47,8 @@ DialledFor n (a_flow place from) = from.at.dials + 1 ≡ n
 abbrev DialledSo : ℕ → Stage → Type 0
 DialledSo n (http place standing) = DialledAt n standing
 DialledSo n (connecting tunnel) = tunnel.at.dials ≡ n
-DialledSo n (reaching goal side since) = DialledFor n goal
-DialledSo n (undecided tunnel spare since) = tunnel.at.dials ≡ n
+DialledSo n (reaching goal link since) = DialledFor n goal
+DialledSo n (undecided tunnel link since) = tunnel.at.dials ≡ n
 DialledSo n (raw ends) = ⊤
 DialledSo n (socket ends flow frames) = ⊤
 DialledSo n over = ⊤
@@ -72,10 +69,6 @@ client_none false = refl
 
 all_none : (used : Used) (closed : Bool) → dials_in (shut_all used closed) ≡ []
 all_none used closed = none_both (shut_server used) (shut_client closed) (server_none used) (client_none closed)
-
-unused_none : (unused : Option Unused) → dials_in (shut_unused unused) ≡ []
-unused_none None = refl
-unused_none (Some unused) = server_none (ByServer unused.server unused.shut)
 
 flow_none : (flow : Option Flow) → dials_in (finished_flow flow) ≡ []
 flow_none None = refl
@@ -104,22 +97,6 @@ counts_none : (n : ℕ) (list : List Command) → dials_in list ≡ [] → Count
 counts_none n list none = let P : List ℕ → Type 0 = CountsFrom n in subst P (sym none) tt
 
 module _ (conv : ℕ) (client : Visitor) where
-  -- the closes behind an end leave the dials as they were
-  with_same : (unused : Option Unused) (l : Look Command) → dials_in (found (with_closes conv client unused l)) ≡ dials_in (found l)
-  with_same unused NotYet = refl
-  with_same unused (Asks ask) = refl
-  with_same unused (Ends owed) =
-      dials_more owed (shut_unused unused) ∙ (ap (λ l. dials_in owed ++ l) (unused_none unused) ∙ append-nil (dials_in owed))
-
-  with_counts : (n : ℕ) (unused : Option Unused) (l : Look Command) → CountsFrom n (dials_in (found l)) → CountsFrom n (dials_in (found (with_closes conv client unused l)))
-  with_counts n unused l all = let P : List ℕ → Type 0 = CountsFrom n in subst P (sym (with_same unused l)) all
-
-  -- what is asked behind the closes was asked
-  asks_same : (unused : Option Unused) (l : Look Command) (ask : Command) → with_closes conv client unused l ≡ Asks ask → l ≡ Asks ask
-  asks_same unused NotYet ask is = is
-  asks_same unused (Asks other) ask is = is
-  asks_same unused (Ends owed) ask is = absurd (let no : Ends (owed ++ shut_unused unused) ≡ Asks ask = is in cc)
-
   -- ---- where a stage goes on to
 
   tunnel_dialled : (n : ℕ) (place : Place) (standing : Standing) (at : At) (connect : Option Connect) → DialledAt n standing → at.dials ≡ n →
@@ -144,48 +121,29 @@ module _ (conv : ℕ) (client : Visitor) where
   hands_dialled n place standing (next at) seen is here = is
   hands_dialled n place standing flows.over seen is here = is
 
-  follows_dialled : (n : ℕ) (d : Decision) (tunnel : Tunnel) (spare : Spare) (since : Since) → tunnel.at.dials ≡ n → DialledSo n (follows d tunnel spare since)
-  follows_dialled n still tunnel spare since is = is
-  follows_dialled n is_http tunnel spare since is = is
-  follows_dialled n is_raw tunnel spare since is = tt
+  follows_dialled : (n : ℕ) (d : Decision) (tunnel : Tunnel) (link : Link) (since : Since) → tunnel.at.dials ≡ n → DialledSo n (follows d tunnel link since)
+  follows_dialled n still tunnel link since is = is
+  follows_dialled n is_http tunnel link since is = is
+  follows_dialled n is_raw tunnel link since is = tt
 
   flows_counts : (place : Place) → CountsDials (flows_at conv client place) DialledAt
   flows_counts place = flows_count (terms_of conv client.address place)
 
-  goes_dialled : (n : ℕ) (closed : Bool) (tunnel : Tunnel) (spare : Spare) (since : Since) (prefix : List (Timed Event)) → tunnel.at.dials ≡ n →
-      DialledSo n (goes_by closed tunnel spare since prefix)
-  goes_dialled n true tunnel spare since prefix is = is
-  goes_dialled n false tunnel spare since prefix is = follows_dialled n (decided (opening_text tunnel prefix) (has_answered spare prefix)) tunnel spare since is
+  goes_dialled : (n : ℕ) (closed : Bool) (tunnel : Tunnel) (link : Link) (since : Since) (prefix : List (Timed Event)) → tunnel.at.dials ≡ n →
+      DialledSo n (goes_by closed tunnel link since prefix)
+  goes_dialled n true tunnel link since prefix is = is
+  goes_dialled n false tunnel link since prefix is = follows_dialled n (decided (opening_text tunnel prefix) (has_answered link prefix)) tunnel link since is
 
   -- ---- another proxy, which has answered
 
-  opens_dialled : (n : ℕ) (empty : Bool) (tunnel : Tunnel) (side : Spare) (used : ℕ) (since : Since) (prefix : List (Timed Event)) → tunnel.at.dials ≡ n →
-      DialledSo n (opens_by empty tunnel side used since prefix)
-  opens_dialled n true tunnel side used since prefix is =
-      goes_dialled n (client_closed prefix) tunnel (record { server = side.server; opened = length prefix }) since prefix is
-  opens_dialled n false tunnel side used since prefix is = tt
-
-  shut_none : (side : Spare) (prefix : List (Timed Event)) → dials_in (shut_proxy side prefix) ≡ []
-  shut_none side prefix = server_none (ByServer side.server (closed_of side.server (drop side.opened prefix)))
-
-  refused_dialled : (n : ℕ) (place : Place) (from : Dialling) (side : Spare) (since : Since) (prefix : List (Timed Event)) → from.at.dials + 1 ≡ n →
-      (dials_in (pass_reached conv client (a_flow place from) side since prefix refused).owed ≡ [])
-      × DialledSo n (pass_reached conv client (a_flow place from) side since prefix refused).stage
-  refused_dialled n place from side since prefix is =
-      let answer : Timed Reply = record { moment = now_over since prefix; value = reply.Refused UpstreamRefused } in
-      let dial : Command = commands.Dial from.at.dials (dialled_for place from.flow.request) None in
-      let on = (flows_counts place).turn from.at.dials (standing_of from) prefix dial answer refl refl in
-      (none_both ((flows_at conv client place).turn (standing_of from) prefix answer).owed (shut_proxy side prefix) on.0 (shut_none side prefix), tt)
-
-  reached_dialled : (n : ℕ) (goal : Goal) (side : Spare) (since : Since) (prefix : List (Timed Event)) (g : Granting) → DialledFor n goal →
-      (dials_in (pass_reached conv client goal side since prefix g).owed ≡ []) × DialledSo n (pass_reached conv client goal side since prefix g).stage
-  reached_dialled n goal side since prefix awaited is = (refl, is)
-  reached_dialled n (a_tunnel tunnel) side since prefix (granted used) is =
-      (refl, opens_dialled n (is_empty (text_behind side used prefix)) tunnel side used (from_here (now_over since prefix) prefix) prefix is)
-  reached_dialled n (a_flow place from) side since prefix (granted used) is = (refl, is)
-  reached_dialled n (a_tunnel tunnel) side since prefix refused is =
-      (none_both (shut_client (client_closed prefix)) (shut_proxy side prefix) (client_none (client_closed prefix)) (shut_none side prefix), tt)
-  reached_dialled n (a_flow place from) side since prefix refused is = refused_dialled n place from side since prefix is
+  reached_dialled : (n : ℕ) (goal : Goal) (link : Link) (since : Since) (prefix : List (Timed Event)) (g : Granting) → DialledFor n goal →
+      (dials_in (pass_reached conv client goal link since prefix g).owed ≡ []) × DialledSo n (pass_reached conv client goal link since prefix g).stage
+  reached_dialled n goal link since prefix awaited is = (refl, is)
+  reached_dialled n (a_tunnel tunnel) link since prefix (granted used) is =
+      (refl, goes_dialled n (client_closed prefix) tunnel (way_to link used prefix) (from_here (now_over since prefix) prefix) prefix is)
+  reached_dialled n (a_flow place from) link since prefix (granted used) is = (refl, is)
+  reached_dialled n (a_tunnel tunnel) link since prefix refused is = (all_none (used_proxy link prefix) (closed_before link prefix), tt)
+  reached_dialled n (a_flow place from) link since prefix refused is = (all_none (used_proxy link prefix) (closed_before link prefix), tt)
 
   -- a WebSocket
   socket_none : (ends : TunnelEnds) (flow : Flow) (frames : Frames) (prefix : List (Timed Event)) → dials_in (pass_socket conv client ends flow frames prefix).owed ≡ []
@@ -198,8 +156,8 @@ module _ (conv : ℕ) (client : Visitor) where
       (dials_in (begun conv client stage prefix).owed ≡ []) × DialledSo n (begun conv client stage prefix).stage
   begun_dialled n (http place standing) prefix is = (refl, is)
   begun_dialled n (connecting tunnel) prefix is = (refl, is)
-  begun_dialled n (reaching goal side since) prefix is = (refl, is)
-  begun_dialled n (undecided tunnel spare since) prefix is = (refl, is)
+  begun_dialled n (reaching goal link since) prefix is = (refl, is)
+  begun_dialled n (undecided tunnel link since) prefix is = (refl, is)
   begun_dialled n (raw ends) prefix is = (refl, tt)
   begun_dialled n (socket ends flow frames) prefix is = (socket_none ends flow frames prefix, tt)
   begun_dialled n over prefix is = (refl, tt)
@@ -213,8 +171,8 @@ module _ (conv : ℕ) (client : Visitor) where
       let further = begun_dialled n to prefix (hands_dialled n place on.stage on.stage.stage (sight_over on.stage prefix) knows.1 knows.1) in
       (none_both on.owed (begun conv client to prefix).owed knows.0 further.0, further.1)
   passes n (connecting tunnel) prefix is = (refl, is)
-  passes n (reaching goal side since) prefix is = reached_dialled n goal side since prefix (answer_of side prefix) is
-  passes n (undecided tunnel spare since) prefix is = (refl, goes_dialled n (client_closed prefix) tunnel spare since prefix is)
+  passes n (reaching goal link since) prefix is = reached_dialled n goal link since prefix (answer_of link prefix) is
+  passes n (undecided tunnel link since) prefix is = (refl, goes_dialled n (client_closed prefix) tunnel link since prefix is)
   passes n (raw ends) prefix is = (refl, tt)
   passes n (socket ends flow frames) prefix is = (socket_none ends flow frames prefix, tt)
   passes n over prefix is = (refl, tt)
@@ -224,41 +182,44 @@ module _ (conv : ℕ) (client : Visitor) where
   waits : (stage : Stage) (prefix : List (Timed Event)) → dials_in ((stack_chain conv client).so_far stage prefix) ≡ []
   waits (http place standing) prefix = (flows_counts place).so_far standing prefix
   waits (connecting tunnel) prefix = refl
-  waits (reaching goal side since) prefix = refl
-  waits (undecided tunnel spare since) prefix = refl
+  waits (reaching goal link since) prefix = refl
+  waits (undecided tunnel link since) prefix = refl
   waits (raw ends) prefix = refl
   waits (socket ends flow frames) prefix = refl
   waits over prefix = refl
 
-  opening_none : (spare : Spare) (prefix : List (Timed Event)) → dials_in (found (opening_look spare prefix)) ≡ []
-  opening_none spare prefix =
+  parts : (stage : Stage) (prefix : List (Timed Event)) → dials_in ((stack_chain conv client).behind stage prefix) ≡ []
+  parts (http place standing) prefix = (flows_counts place).behind standing prefix
+  parts (connecting tunnel) prefix = refl
+  parts (reaching goal link since) prefix = refl
+  parts (undecided tunnel link since) prefix = refl
+  parts (raw ends) prefix = refl
+  parts (socket ends flow frames) prefix = refl
+  parts over prefix = refl
+
+  opening_none : (link : Link) (prefix : List (Timed Event)) → dials_in (found (opening_look link prefix)) ≡ []
+  opening_none link prefix =
       let closed : Bool = client_closed prefix in
-      let shut : Bool = is_closed (Server spare.server) (drop spare.opened prefix) in
-      found_none (closed || shut) (closes_all spare.server shut closed) (all_none (ByServer spare.server shut) closed)
+      let shut : Bool = is_shut link prefix in
+      found_none (closed || shut) (closes_all link.side.server shut closed) (all_none (ByServer link.side.server shut) closed)
 
   raw_none : (ends : TunnelEnds) (prefix : List (Timed Event)) → dials_in (found (raw_look ends prefix)) ≡ []
   raw_none ends prefix =
       let closed : Bool = client_closed prefix in
-      let shut : Bool = is_shut ends prefix in
-      let unused : Option Unused = unused_over ends.spare prefix in
-      let closes : List Command = closes_all ends.side.server shut closed in
-      found_none (closed || shut) (finished_flow ends.flow ++ (shut_unused unused ++ closes))
-      (none_both (finished_flow ends.flow) (shut_unused unused ++ closes) (flow_none ends.flow)
-      (none_both (shut_unused unused) closes (unused_none unused) (all_none (ByServer ends.side.server shut) closed)))
-
-  waits_none : (goal : Goal) (side : Spare) (prefix : List (Timed Event)) → dials_in (found (waits_for goal side prefix)) ≡ []
-  waits_none (a_tunnel tunnel) side prefix = found_none (client_closed prefix) (shut_proxy side prefix) (shut_none side prefix)
-  waits_none (a_flow place from) side prefix = refl
+      let shut : Bool = is_shut ends.link prefix in
+      let closes : List Command = closes_all ends.link.side.server shut closed in
+      found_none (closed || shut) (finished_flow ends.flow ++ closes)
+      (none_both (finished_flow ends.flow) closes (flow_none ends.flow) (all_none (ByServer ends.link.side.server shut) closed))
 
   looks : (n : ℕ) (stage : Stage) (prefix : List (Timed Event)) → DialledSo n stage → CountsFrom n (dials_in (found ((stack_chain conv client).look stage prefix)))
-  looks n (http place standing) prefix is = with_counts n (unused_over standing.spare prefix) ((flows_at conv client place).look standing prefix) ((flows_counts place).look n standing prefix is)
+  looks n (http place standing) prefix is = (flows_counts place).look n standing prefix is
   looks n (connecting tunnel) prefix is = (is, tt)
-  looks n (reaching goal side since) prefix is = counts_none n (found (waits_for goal side prefix)) (waits_none goal side prefix)
-  looks n (undecided tunnel spare since) prefix is = counts_none n (found (opening_look spare prefix)) (opening_none spare prefix)
+  looks n (reaching goal link since) prefix is = tt
+  looks n (undecided tunnel link since) prefix is = counts_none n (found (opening_look link prefix)) (opening_none link prefix)
   looks n (raw ends) prefix is = counts_none n (found (raw_look ends prefix)) (raw_none ends prefix)
   looks n (socket ends flow frames) prefix is =
       let terms : Terms = socket_terms client.key ends flow in
-      with_counts n (unused_over ends.spare prefix) (relay.look terms frames) (counts_none n (found (relay.look terms frames)) (frames_none terms frames))
+      counts_none n (found (relay.look terms frames)) (frames_none terms frames)
   looks n over prefix is = tt
 
   -- ---- what a reply brings
@@ -275,7 +236,7 @@ module _ (conv : ℕ) (client : Visitor) where
   dial_turns n tunnel prefix reply.Kill moment is = (refl, tt)
   dial_turns n tunnel prefix reply.Discard moment is = (refl, tt)
   dial_turns n tunnel prefix reply.Dialled moment is = connected_turns n tunnel.proxy tunnel prefix moment is
-  dial_turns n tunnel prefix (reply.Refused fault) moment is = (client_none (client_closed prefix), tt)
+  dial_turns n tunnel prefix (reply.Refused fault) moment is = (all_none NoServer (client_closed prefix), tt)
 
   dial_asked : (tunnel : Tunnel) (prefix : List (Timed Event)) (ask : Command) → (stack_chain conv client).look (connecting tunnel) prefix ≡ Asks ask → length (dials_in (ask ∷ [])) ≡ 1
   dial_asked tunnel prefix ask is = let P : Look Command → Type 0 = λ l. length (dials_in (found l)) ≡ 1 in subst P is refl
@@ -283,10 +244,6 @@ module _ (conv : ℕ) (client : Visitor) where
   found_asks : (closed : Bool) (owed : List Command) (ask : Command) → tunnel_found closed owed ≡ Asks ask → ⊥
   found_asks true owed ask is = let no : Ends owed ≡ Asks ask = is in cc
   found_asks false owed ask is = let no : NotYet ≡ Asks ask = is in cc
-
-  waits_not : (goal : Goal) (side : Spare) (prefix : List (Timed Event)) (ask : Command) → waits_for goal side prefix ≡ Asks ask → ⊥
-  waits_not (a_tunnel tunnel) side prefix ask is = found_asks (client_closed prefix) (shut_proxy side prefix) ask is
-  waits_not (a_flow place from) side prefix ask is = let no : NotYet ≡ Asks ask = is in cc
 
   -- ---- a flow whose dial connected another proxy
 
@@ -297,7 +254,7 @@ module _ (conv : ℕ) (client : Visitor) where
       (from.at.dials ≡ n) × ((flows_at conv client place).look standing prefix ≡ Asks (commands.Dial from.at.dials (dialled_for place from.flow.request) None))
 
   led_is_by : (n : ℕ) (place : Place) (standing : Standing) (prefix : List (Timed Event)) (stage : flows.Stage) → standing.stage ≡ stage → Dialled n stage →
-      IsLed n place standing prefix (led_by standing stage)
+      IsLed n place standing prefix (led_by stage)
   led_is_by n place standing prefix (idle at) is here = tt
   led_is_by n place standing prefix (busy at flow (request_body given)) is here = tt
   led_is_by n place standing prefix (busy at flow connection) is here = (here, ap (λ s. look_of (terms_of conv client.address place) s (sight_over standing prefix)) is)
@@ -309,7 +266,7 @@ module _ (conv : ℕ) (client : Visitor) where
   led_is_by n place standing prefix (next at) is here = tt
   led_is_by n place standing prefix flows.over is here = tt
 
-  led_is : (n : ℕ) (place : Place) (standing : Standing) (prefix : List (Timed Event)) → DialledAt n standing → IsLed n place standing prefix (led_at place standing)
+  led_is : (n : ℕ) (place : Place) (standing : Standing) (prefix : List (Timed Event)) → DialledAt n standing → IsLed n place standing prefix (led_at place standing.stage)
   led_is n places.Regular standing prefix here = tt
   led_is n (places.Upstream proxy) standing prefix here = tt
   led_is n (places.Fixed address side None) standing prefix here = tt
@@ -339,14 +296,13 @@ module _ (conv : ℕ) (client : Visitor) where
   turns : (n : ℕ) (stage : Stage) (prefix : List (Timed Event)) (ask : Command) (answer : Timed Reply) → DialledSo n stage → (stack_chain conv client).look stage prefix ≡ Asks ask →
       (dials_in ((stack_chain conv client).turn stage prefix answer).owed ≡ []) × DialledSo (n + length (dials_in (ask ∷ []))) ((stack_chain conv client).turn stage prefix answer).stage
   turns n (http place standing) prefix ask answer is asks =
-      http_turns n (led_at place standing) place standing prefix ask answer answer.value (led_is n place standing prefix is) is
-      (asks_same (unused_over standing.spare prefix) _ ask asks)
+      http_turns n (led_at place standing.stage) place standing prefix ask answer answer.value (led_is n place standing prefix is) is asks
   turns n (connecting tunnel) prefix ask answer is asks =
       let on = dial_turns n tunnel prefix answer.value answer.moment is in
       let P : ℕ → Type 0 = λ k. DialledSo (n + k) (turn_dial conv client tunnel prefix answer.value answer.moment).stage in
       (on.0, subst P (sym (dial_asked tunnel prefix ask asks)) on.1)
-  turns n (reaching goal side since) prefix ask answer is asks = absurd (waits_not goal side prefix ask asks)
-  turns n (undecided tunnel spare since) prefix ask answer is asks = absurd (found_asks _ _ ask asks)
+  turns n (reaching goal link since) prefix ask answer is asks = absurd (let no : NotYet ≡ Asks ask = asks in cc)
+  turns n (undecided tunnel link since) prefix ask answer is asks = absurd (found_asks _ _ ask asks)
   turns n (raw ends) prefix ask answer is asks = (refl, tt)
   turns n (socket ends flow frames) prefix ask answer is asks =
       let terms : Terms = socket_terms client.key ends flow in
@@ -356,7 +312,7 @@ module _ (conv : ℕ) (client : Visitor) where
   turns n over prefix ask answer is asks = (refl, tt)
 
   counts : CountsDials (stack_chain conv client) DialledSo
-  counts = record { pass = passes; so_far = waits; look = looks; turn = turns }
+  counts = record { pass = passes; so_far = waits; behind = parts; look = looks; turn = turns }
 
 -- the n-th dial that is due names server n
 pub mode_counts : (mode : Mode) (key : List ℕ) (conv : ℕ) (peer : Option Address) (moves : List Move) → CountsFrom 0 (dials_in (mode_due mode key conv peer moves))

@@ -27,7 +27,7 @@ use Rattle.px_exchange.specs.Finds.{or_leaves}
 use Rattle.px_exchange.specs.Requests.{is_head}
 use Rattle.px_exchange.specs.Texts.{interim_command, interim_commands}
 use Rattle.px_chain.specs.Chain.{find, http_chain, leaving, look, pass, pass_body, so_far}
-use Rattle.px_chain.specs.Sights.{Sight, Spare, Standing, bytes_over, request_in, shut_over, sight_over}
+use Rattle.px_chain.specs.Sights.{Sight, Standing, bytes_over, request_in, shut_over, sight_over}
 use Rattle.px_chain.specs.Stages.{At, ServerSide, Stage, busy, connection, given_body, given_head, idle, next, over, request_body, response_body, response_head, upgraded}
 use Rattle.px_chain.specs.Streams.{Since, bytes_of, client_closed, is_closed}
 use Rattle.px_chain.proofs.FrontLaws.{DropMore, behind, none, bytes_more, bytes_shut, closed_stays, drop_more, open_behind}
@@ -150,27 +150,27 @@ commands_grow view request heads longer owed (more, is) = (
       ∙ append_assoc (seen_of view (interim_commands request heads)) (seen_of view (interim_commands request more)) (seen_of view owed)))),
 )
 
-abbrev placed : Stage → Since → ℕ → Option Spare → Standing
-placed stage since opened spare = record { stage = stage; since = since; opened = opened; spare = spare }
+abbrev placed : Stage → Since → ℕ → Standing
+placed stage since opened = record { stage = stage; since = since; opened = opened }
 
-grows_at : (onward : Stage → Stage) (terms : Terms) (view : View) (stage : Stage) (since : Since) (opened : ℕ) (spare : Option Spare) (prefix : List (Timed Event)) (e : Timed Event) →
+grows_at : (onward : Stage → Stage) (terms : Terms) (view : View) (stage : Stage) (since : Since) (opened : ℕ) (prefix : List (Timed Event)) (e : Timed Event) →
     client_closed prefix ≡ false →
-    IsPrefixOf (seen_of view (so_far stage (sight_over (placed stage since opened spare) prefix)))
-    (seen_of view (owed_over (http_chain onward terms) (placed stage since opened spare) (prefix ++ e ∷ [])))
-grows_at onward terms view (idle at) since opened spare prefix e open_client = (_, refl)
-grows_at onward terms view (busy at flow (request_body given)) since opened spare prefix e open_client = (_, refl)
-grows_at onward terms view (busy at flow connection) since opened spare prefix e open_client = (_, refl)
-grows_at onward terms view (busy at flow (response_head side how)) since opened spare prefix e open_client =
+    IsPrefixOf (seen_of view (so_far stage (sight_over (placed stage since opened) prefix)))
+    (seen_of view (owed_over (http_chain onward terms) (placed stage since opened) (prefix ++ e ∷ [])))
+grows_at onward terms view (idle at) since opened prefix e open_client = (_, refl)
+grows_at onward terms view (busy at flow (request_body given)) since opened prefix e open_client = (_, refl)
+grows_at onward terms view (busy at flow connection) since opened prefix e open_client = (_, refl)
+grows_at onward terms view (busy at flow (response_head side how)) since opened prefix e open_client =
     commands_grow view flow.request _ _ _ (answers_grow (is_head flow.request.method) side opened prefix e open_client)
-grows_at onward terms view (busy at flow (response_body side how)) since opened spare prefix e open_client = (_, refl)
-grows_at onward terms view (busy at flow (upgraded side)) since opened spare prefix e open_client = (_, refl)
-grows_at onward terms view (busy at flow given_head) since opened spare prefix e open_client = (_, refl)
-grows_at onward terms view (busy at flow given_body) since opened spare prefix e open_client = (_, refl)
-grows_at onward terms view (next at) since opened spare prefix e open_client = (_, refl)
-grows_at onward terms view over since opened spare prefix e open_client = (_, refl)
+grows_at onward terms view (busy at flow (response_body side how)) since opened prefix e open_client = (_, refl)
+grows_at onward terms view (busy at flow (upgraded side)) since opened prefix e open_client = (_, refl)
+grows_at onward terms view (busy at flow given_head) since opened prefix e open_client = (_, refl)
+grows_at onward terms view (busy at flow given_body) since opened prefix e open_client = (_, refl)
+grows_at onward terms view (next at) since opened prefix e open_client = (_, refl)
+grows_at onward terms view over since opened prefix e open_client = (_, refl)
 
 -- In each view what is owed while it waits only grows.
 pub so_far_grows : (onward : Stage → Stage) (terms : Terms) (view : View) → SoFarGrows (http_chain onward terms) (seen_of view)
 so_far_grows onward terms view = record {
-  grows = λ place prefix e is. grows_at onward terms view place.stage place.since place.opened place.spare prefix e (open_still terms place.stage (sight_over place prefix) is);
+  grows = λ place prefix e is. grows_at onward terms view place.stage place.since place.opened prefix e (open_still terms place.stage (sight_over place prefix) is);
 }

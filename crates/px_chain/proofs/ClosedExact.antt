@@ -1,5 +1,5 @@
 -- Where a conversation stands whose replies go on: what is due there begins what is left of all that is said; and one event more.
-use Rattle.std.proofs.Common.{◌≡◌, ℕ, ◌+◌, Bool, true, false, List, [], ◌++◌, length, drop, Option, Some, None, suc, refl, ap, sym, ◌∙◌, subst, append_assoc, arith}
+use Rattle.std.proofs.Common.{◌≡◌, ℕ, ◌+◌, Bool, true, false, List, [], ◌++◌, length, drop, Some, None, suc, refl, ap, sym, ◌∙◌, subst, append_assoc, arith}
 use Rattle.std.specs.Prelude.{map, take}
 use Rattle.std.proofs.lemmas.List.{append-nil, map-append}
 use Rattle.px_text.specs.Prefix.{IsPrefixOf}
@@ -14,21 +14,20 @@ use Rattle.px_read.specs.Items.{Answers, Item, missing, part, complete, bad_head
 use Rattle.px_read.specs.Laws.{is_begun}
 use Rattle.px_read.specs.declared.head.ResponseHead.{ResponseHead as ReadResponse}
 use Rattle.px_read.proofs.ItemLemmas.{Carries}
-use Rattle.px_exchange.specs.declared.ending.Used.TheVariants.{NoServer}
 use Rattle.px_exchange.specs.declared.terms.Terms.{Terms}
 use Rattle.px_exchange.specs.Endings.{closed_message, ends_early, without_response}
 use Rattle.px_exchange.specs.Finds.{look_answer, look_head, or_leaves}
 use Rattle.px_exchange.specs.Requests.{is_http11}
 use Rattle.px_exchange.specs.Texts.{interim_command, interim_commands, sends_on}
-use Rattle.px_chain.specs.Chain.{finds, leaves, look, so_far}
+use Rattle.px_chain.specs.Chain.{finds, leaves, leaving, look, so_far}
 use Rattle.px_chain.specs.ClosedForm.{Point, dial_answers, is_whole, request_is_whole, said, said_final, said_from, said_item}
-use Rattle.px_chain.specs.Sights.{Sight, Spare, answers_in, request_in, server_in, sight_of}
-use Rattle.px_chain.specs.Stages.{At, Doing, Sent, ServerSide, Stage, busy, connection, given_body, given_head, idle, next, over, request_body, response_body, response_head, side_of, upgraded}
+use Rattle.px_chain.specs.Sights.{Sight, answers_in, request_in, server_in, server_parked, sight_of}
+use Rattle.px_chain.specs.Stages.{At, Doing, Sent, ServerSide, Stage, busy, connection, given_body, given_head, idle, next, over, request_body, response_body, response_head, side_of, side_parked, upgraded}
 use Rattle.px_chain.specs.Streams.{Since, bytes_of}
 use Rattle.px_chain.proofs.ClosedFronts.{IsFront, IsSame, same_bytes, same_taken, waits_more}
 use Rattle.px_chain.proofs.ClosedItems.{items_after, items_split}
 use Rattle.px_chain.proofs.ClosedLooks.{Here, answer_tells, body_tells, head_tells, here_waiting, here_with, no_answer, no_body, no_request, no_return, none_found, returned_tells}
-use Rattle.px_chain.proofs.ClosedQuiet.{early_said, says_interim}
+use Rattle.px_chain.proofs.ClosedQuiet.{early_said, says_interim, says_server}
 use Rattle.px_chain.proofs.ClosedReturns.{answers_carried, answers_same}
 use Rattle.px_chain.proofs.ClosedStages.{Answering, IsAt, IsDoing, Onward, all_bytes, behind_answer, further_after, standing, told}
 use Rattle.px_chain.proofs.ClosedTurns.{client_carried}
@@ -54,42 +53,45 @@ module _ (terms : Terms) (events : List (Timed Event)) (all : List Command) wher
   request_same used prefix same = ap (λ l. request_item (drop used l)) (sym (same_bytes Client prefix events same))
 
   -- with so many flows behind the one that it stands at
-  module _ (flows : ℕ) (spare : Option Spare) where
+  module _ (flows : ℕ) where
     idle_stood : (at : At) (since : Since) (opened come : ℕ) (sent : List Command) (replies : List Reply) (prefix : List (Timed Event)) →
-        IsAt terms events all flows spare (idle at) opened come sent replies → IsFront prefix events → Stood (idle at) (sight_of None since opened spare prefix) sent prefix
+        IsAt terms events all flows (idle at) opened come sent replies → IsFront prefix events → Stood (idle at) (sight_of (side_parked at.parked) since opened prefix) sent prefix
     idle_stood at since opened come sent replies prefix b is =
-        let seen = sight_of None since opened spare prefix in
+        let seen = sight_of (side_parked at.parked) since opened prefix in
+        let parked = server_parked at.parked seen in
         let bytes = drop at.used (all_bytes terms events all) in
-        let point = standing at b.from (dial_answers replies) spare in
+        let point = standing at opened b.from (dial_answers replies) in
         let further : Point → List Command = λ there. said_from terms events there (take flows (items_after bytes)) in
         record {
           left = said_item terms events point (request_item bytes) further;
           is = b.rest ∙ ap (λ l. said sent ++ said_from terms events point (take (suc flows) l)) (items_split bytes);
-          here = here_with (IsSame prefix events) seen.closed [] (look_head terms at.flow (request_in at seen) seen.now seen.closed) [] [] _ refl refl
-              (head_tells (IsSame prefix events) terms events point further at.flow (request_in at seen) (request_item bytes) seen.now seen.closed
+          here = here_with (IsSame prefix events) seen.closed (leaving (idle at) seen) (look_head terms at.flow (request_in at seen) seen.now parked seen.closed) [] [] _ refl
+              (says_server parked).is
+              (head_tells (IsSame prefix events) terms events point further at.flow (request_in at seen) (request_item bytes) seen.now parked seen.closed
               (client_carried terms events all at.used prefix is) (request_same at.used prefix));
         }
 
     body_stood : (at : At) (flow : Flow) (since : Since) (opened come : ℕ) (sent : List Command) (replies : List Reply) (prefix : List (Timed Event)) →
-        IsDoing terms events all flows spare at flow (request_body None) opened come sent replies → IsFront prefix events →
-        Stood (busy at flow (request_body None)) (sight_of None since opened spare prefix) sent prefix
+        IsDoing terms events all flows at flow (request_body None) opened come sent replies → IsFront prefix events →
+        Stood (busy at flow (request_body None)) (sight_of (side_parked at.parked) since opened prefix) sent prefix
     body_stood at flow since opened come sent replies prefix b is =
-        let seen = sight_of None since opened spare prefix in
+        let seen = sight_of (side_parked at.parked) since opened prefix in
+        let parked = server_parked at.parked seen in
         let bytes = drop at.used (all_bytes terms events all) in
-        let point = standing at b.from (dial_answers replies) spare in
+        let point = standing at opened b.from (dial_answers replies) in
         record {
           left = _;
           is = b.rest;
-          here = here_with (IsSame prefix events) seen.closed (leaves flow (request_body None) seen) (finds terms.place at flow (request_body None) seen) [] [] _ refl
-              (early_said flow closed_message seen.now NoServer true)
-              (body_tells (IsSame prefix events) terms events point (further_after terms events all flows at.used) flow (request_in at seen) (request_item bytes) seen.now seen.closed
+          here = here_with (IsSame prefix events) seen.closed (leaves at flow (request_body None) seen) (finds terms.place at flow (request_body None) seen) [] [] _ refl
+              (early_said flow closed_message seen.now parked true)
+              (body_tells (IsSame prefix events) terms events point (further_after terms events all flows at.used) flow (request_in at seen) (request_item bytes) seen.now parked seen.closed
               (client_carried terms events all at.used prefix is) (request_same at.used prefix));
         }
 
     connecting_stood : (at : At) (flow : Flow) (since : Since) (opened come : ℕ) (sent : List Command) (replies : List Reply) (prefix : List (Timed Event)) →
-        IsDoing terms events all flows spare at flow connection opened come sent replies → Stood (busy at flow connection) (sight_of None since opened spare prefix) sent prefix
+        IsDoing terms events all flows at flow connection opened come sent replies → Stood (busy at flow connection) (sight_of (side_parked at.parked) since opened prefix) sent prefix
     connecting_stood at flow since opened come sent replies prefix c =
-        let seen = sight_of None since opened spare prefix in
+        let seen = sight_of (side_parked at.parked) since opened prefix in
         record {
           left = _;
           is = c.rest;
@@ -97,15 +99,14 @@ module _ (terms : Terms) (events : List (Timed Event)) (all : List Command) wher
         }
 
     -- over all events the responses that are seen are all
-    told_same : (asked : Request) (side : ServerSide) (since : Since) (opened went come : ℕ) (prefix : List (Timed Event)) →
-        Onward terms events all flows spare asked side opened went come → IsSame prefix events →
-        told terms events all side opened asked ≡ answers_in asked side (sight_of (Some side) since opened spare prefix)
-    told_same asked side since opened went come prefix o same = sym (answers_same terms events all flows spare asked side opened went come o since prefix events same)
+    told_same : (asked : Request) (side : ServerSide) (since : Since) (opened : ℕ) (prefix : List (Timed Event)) → IsSame prefix events →
+        told terms events all side opened asked ≡ answers_in asked side (sight_of (Some side) since opened prefix)
+    told_same asked side since opened prefix same = sym (answers_same terms events all flows asked side opened since prefix events same)
 
     module _ (at : At) (flow : Flow) (side : ServerSide) (since : Since) (opened come : ℕ) (sent : List Command) (replies : List Reply) (prefix : List (Timed Event))
         (is_front : IsFront prefix events) where
       abbrev seen : Sight
-      seen = sight_of (Some side) since opened spare prefix
+      seen = sight_of (Some side) since opened prefix
 
       abbrev found_answers : Answers
       found_answers = answers_in flow.request side seen
@@ -113,26 +114,26 @@ module _ (terms : Terms) (events : List (Timed Event)) (all : List Command) wher
       abbrev all_answers : Answers
       all_answers = told terms events all side opened flow.request
 
-      returned_stood : (how : Sent) → IsDoing terms events all flows spare at flow (response_body side how) opened come sent replies → Stood (busy at flow (response_body side how)) seen sent prefix
+      returned_stood : (how : Sent) → IsDoing terms events all flows at flow (response_body side how) opened come sent replies → Stood (busy at flow (response_body side how)) seen sent prefix
       returned_stood how s =
-          let carried = answers_carried terms events all flows spare flow.request side opened s.went come s.onward since prefix is_front in
+          let carried = answers_carried terms events all flows flow.request side opened since prefix is_front in
           record {
             left = _;
             is = s.rest;
-            here = here_with (IsSame prefix events) seen.closed (leaves flow (response_body side how) seen) (finds terms.place at flow (response_body side how) seen) [] [] _ refl
+            here = here_with (IsSame prefix events) seen.closed (leaves at flow (response_body side how) seen) (finds terms.place at flow (response_body side how) seen) [] [] _ refl
                 (early_said (without_response flow) closed_message seen.now (server_in side seen) true)
-                (returned_tells (IsSame prefix events) flow (server_in side seen) (behind_answer terms events all flows spare at side opened s.went s.from flow.request replies)
+                (returned_tells (IsSame prefix events) flow (server_in side seen) (behind_answer terms events all flows at side opened s.went s.from flow.request replies)
                 found_answers.final all_answers.final seen.now seen.closed carried.final
-                (λ same. ap (λ (answers : Answers). answers.final) (told_same flow.request side since opened s.went come prefix s.onward same)));
+                (λ same. ap (λ (answers : Answers). answers.final) (told_same flow.request side since opened prefix same)));
           }
 
-      module _ (s : Answering terms events all flows spare at flow.request side opened come sent replies) where
+      module _ (s : Answering terms events all flows at flow.request side opened come sent replies) where
         abbrev interim : List Command
         interim = interim_commands flow.request found_answers.interim
 
         -- what is said behind the interim responses, and with them
         abbrev final_left : List Command
-        final_left = said_final flow.request all_answers.final (behind_answer terms events all flows spare at side opened s.went s.from flow.request replies)
+        final_left = said_final flow.request all_answers.final (behind_answer terms events all flows at side opened s.went s.from flow.request replies)
 
         abbrev left_there : List Command
         left_there = interim_commands flow.request all_answers.interim ++ final_left
@@ -147,29 +148,29 @@ module _ (terms : Terms) (events : List (Timed Event)) (all : List Command) wher
         -- where the final response has begun, its interim responses are all there
         begun_here : (item : Item ReadResponse) → found_answers.final ≡ item → is_begun item ≡ true → HereFor item
         begun_here item is begun =
-            let carried = answers_carried terms events all flows spare flow.request side opened s.went come s.onward since prefix is_front in
+            let carried = answers_carried terms events all flows flow.request side opened since prefix is_front in
             let all_there = carried.begun (ap is_begun is ∙ begun) in
             let C : Item ReadResponse → Type 0 = λ i. Carries i all_answers.final in
             here_with (IsSame prefix events) seen.closed leaving_there (look_answer flow item seen.now (server_in side seen) seen.closed)
             interim (interim_commands flow.request all_answers.interim) final_left
             ((says_interim flow.request found_answers.interim).is ∙ ap (interim_commands flow.request) (sym all_there.0))
             (early_said flow closed_message seen.now (server_in side seen) true)
-            (answer_tells (IsSame prefix events) flow (server_in side seen) (behind_answer terms events all flows spare at side opened s.went s.from flow.request replies)
+            (answer_tells (IsSame prefix events) flow (server_in side seen) (behind_answer terms events all flows at side opened s.went s.from flow.request replies)
             item all_answers.final seen.now seen.closed (subst C is carried.final)
-            (λ same. ap (λ (answers : Answers). answers.final) (told_same flow.request side since opened s.went come prefix s.onward same) ∙ is))
+            (λ same. ap (λ (answers : Answers). answers.final) (told_same flow.request side since opened prefix same) ∙ is))
 
         here_for : (item : Item ReadResponse) → found_answers.final ≡ item → HereFor item
         here_for missing is =
-            let carried = answers_carried terms events all flows spare flow.request side opened s.went come s.onward since prefix is_front in
+            let carried = answers_carried terms events all flows flow.request side opened since prefix is_front in
             here_waiting (IsSame prefix events) seen.closed leaving_there interim interim left_there
             (says_interim flow.request found_answers.interim).is (early_said flow closed_message seen.now (server_in side seen) true)
             (prefix_more interim (interim_commands flow.request all_answers.interim) final_left
             (interim_more (is_http11 flow.request.version) found_answers.interim all_answers.interim carried.interim))
             (λ same.
-            let told_is = told_same flow.request side since opened s.went come prefix s.onward same in
+            let told_is = told_same flow.request side since opened prefix same in
             let final : all_answers.final ≡ missing = ap (λ (answers : Answers). answers.final) told_is ∙ is in
             ap (λ (answers : Answers). interim_commands flow.request answers.interim ++ final_left) told_is
-            ∙ (ap (λ (i : Item ReadResponse). interim ++ said_final flow.request i (behind_answer terms events all flows spare at side opened s.went s.from flow.request replies)) final
+            ∙ (ap (λ (i : Item ReadResponse). interim ++ said_final flow.request i (behind_answer terms events all flows at side opened s.went s.from flow.request replies)) final
             ∙ append-nil interim))
         here_for (part head body) is = begun_here (part head body) is refl
         here_for (complete head body trailers size) is = begun_here (complete head body trailers size) is refl
@@ -184,8 +185,8 @@ module _ (terms : Terms) (events : List (Timed Event)) (all : List Command) wher
     over_here over_all closed = record { begins = ([], refl); is_all = λ no last. refl; asks = λ ask no. absurd (let e : Ends [] ≡ Asks ask = no in cc) }
 
     doing_stood : (at : At) (flow : Flow) (doing : Doing) (since : Since) (opened come : ℕ) (sent : List Command) (replies : List Reply) (prefix : List (Timed Event)) →
-        IsDoing terms events all flows spare at flow doing opened come sent replies → IsFront prefix events →
-        Stood (busy at flow doing) (sight_of (side_of (busy at flow doing)) since opened spare prefix) sent prefix
+        IsDoing terms events all flows at flow doing opened come sent replies → IsFront prefix events →
+        Stood (busy at flow doing) (sight_of (side_of (busy at flow doing)) since opened prefix) sent prefix
     doing_stood at flow (request_body None) since opened come sent replies prefix stands is = body_stood at flow since opened come sent replies prefix stands is
     doing_stood at flow (request_body (Some response)) since opened come sent replies prefix stands is = absurd stands
     doing_stood at flow connection since opened come sent replies prefix stands is = connecting_stood at flow since opened come sent replies prefix stands
@@ -199,7 +200,7 @@ module _ (terms : Terms) (events : List (Timed Event)) (all : List Command) wher
     doing_stood at flow given_body since opened come sent replies prefix stands is = absurd stands
 
     pub stage_stood : (stage : Stage) (since : Since) (opened come : ℕ) (sent : List Command) (replies : List Reply) (prefix : List (Timed Event)) →
-        IsAt terms events all flows spare stage opened come sent replies → IsFront prefix events → Stood stage (sight_of (side_of stage) since opened spare prefix) sent prefix
+        IsAt terms events all flows stage opened come sent replies → IsFront prefix events → Stood stage (sight_of (side_of stage) since opened prefix) sent prefix
     stage_stood (idle at) since opened come sent replies prefix stands is = idle_stood at since opened come sent replies prefix stands is
     stage_stood (busy at flow doing) since opened come sent replies prefix stands is = doing_stood at flow doing since opened come sent replies prefix stands is
     stage_stood (next at) since opened come sent replies prefix stands is = absurd stands
@@ -214,27 +215,26 @@ module _ (terms : Terms) (events : List (Timed Event)) (all : List Command) wher
         ap (λ l. is_whole (request_item (drop bytes l))) (sym (same_bytes Client prefix _ (same_taken prefix events is))) ∙ not_whole
 
     onward_more : (asked : Request) (side : ServerSide) (since : Since) (opened went : ℕ) (prefix : List (Timed Event)) →
-        IsFront prefix events → is_whole (answers_in asked side (sight_of (Some side) since opened spare prefix)).final ≡ false →
-        Onward terms events all flows spare asked side opened went (length prefix) → Onward terms events all flows spare asked side opened went (length prefix + 1)
+        IsFront prefix events → is_whole (answers_in asked side (sight_of (Some side) since opened prefix)).final ≡ false →
+        Onward terms events all flows asked side opened went (length prefix) → Onward terms events all flows asked side opened went (length prefix + 1)
     onward_more asked side since opened went prefix is not_whole o = record {
-      used = o.used;
       within = let so_many = o.within in omega arith;
       waits = waits_more _ went (length prefix) o.waits
           (ap (λ (answers : Answers). is_whole answers.final)
-          (sym (answers_same terms events all flows spare asked side opened went (length prefix) o since prefix _ (same_taken prefix events is))) ∙ not_whole);
+          (sym (answers_same terms events all flows asked side opened since prefix _ (same_taken prefix events is))) ∙ not_whole);
     }
 
     doing_more : (at : At) (flow : Flow) (doing : Doing) (since : Since) (opened : ℕ) (sent : List Command) (replies : List Reply) (prefix : List (Timed Event)) → IsFront prefix events →
-        let seen = sight_of (side_of (busy at flow doing)) since opened spare prefix in
-        finds terms.place at flow doing seen ≡ NotYet → IsDoing terms events all flows spare at flow doing opened (length prefix) sent replies →
-        IsDoing terms events all flows spare at flow doing opened (length prefix + 1) sent replies
+        let seen = sight_of (side_of (busy at flow doing)) since opened prefix in
+        finds terms.place at flow doing seen ≡ NotYet → IsDoing terms events all flows at flow doing opened (length prefix) sent replies →
+        IsDoing terms events all flows at flow doing opened (length prefix + 1) sent replies
     doing_more at flow (request_body None) since opened sent replies prefix is none b =
-        let seen = sight_of None since opened spare prefix in
+        let seen = sight_of (side_parked at.parked) since opened prefix in
         record {
           from = b.from;
           within = let so_many = b.within in omega arith;
           waits = waits_more (request_is_whole events at.used) b.from (length prefix) b.waits
-              (asks_here at.used prefix is (no_body flow (request_in at seen) seen.now seen.closed none));
+              (asks_here at.used prefix is (no_body flow (request_in at seen) seen.now (server_parked at.parked seen) seen.closed none));
           head = b.head;
           there = b.there;
           accepted = b.accepted;
@@ -243,7 +243,7 @@ module _ (terms : Terms) (events : List (Timed Event)) (all : List Command) wher
     doing_more at flow (request_body (Some response)) since opened sent replies prefix is none stands = absurd stands
     doing_more at flow connection since opened sent replies prefix is none stands = absurd (cc)
     doing_more at flow (response_head side how) since opened sent replies prefix is none s =
-        let seen = sight_of (Some side) since opened spare prefix in
+        let seen = sight_of (Some side) since opened prefix in
         record {
           went = s.went;
           onward = onward_more flow.request side since opened s.went prefix is
@@ -252,7 +252,7 @@ module _ (terms : Terms) (events : List (Timed Event)) (all : List Command) wher
           rest = s.rest;
         }
     doing_more at flow (response_body side how) since opened sent replies prefix is none s =
-        let seen = sight_of (Some side) since opened spare prefix in
+        let seen = sight_of (Some side) since opened prefix in
         record {
           went = s.went;
           onward = onward_more flow.request side since opened s.went prefix is
@@ -268,19 +268,20 @@ module _ (terms : Terms) (events : List (Timed Event)) (all : List Command) wher
     doing_more at flow given_body since opened sent replies prefix is none stands = absurd stands
 
     pub stage_more : (stage : Stage) (since : Since) (opened : ℕ) (sent : List Command) (replies : List Reply) (prefix : List (Timed Event)) → IsFront prefix events →
-        look terms stage (sight_of (side_of stage) since opened spare prefix) ≡ NotYet → IsAt terms events all flows spare stage opened (length prefix) sent replies →
-        IsAt terms events all flows spare stage opened (length prefix + 1) sent replies
+        look terms stage (sight_of (side_of stage) since opened prefix) ≡ NotYet → IsAt terms events all flows stage opened (length prefix) sent replies →
+        IsAt terms events all flows stage opened (length prefix + 1) sent replies
     stage_more (idle at) since opened sent replies prefix is none b =
-        let seen = sight_of None since opened spare prefix in
+        let seen = sight_of (side_parked at.parked) since opened prefix in
         record {
           from = b.from;
           within = let so_many = b.within in omega arith;
           waits = waits_more (request_is_whole events at.used) b.from (length prefix) b.waits
-              (asks_here at.used prefix is (no_request terms at.flow (request_in at seen) seen.now seen.closed (none_found seen.closed [] _ none)));
+              (asks_here at.used prefix is (no_request terms at.flow (request_in at seen) seen.now (server_parked at.parked seen) seen.closed
+              (none_found seen.closed (leaving (idle at) seen) _ none)));
           rest = b.rest;
         }
     stage_more (busy at flow doing) since opened sent replies prefix is none stands =
-        let seen = sight_of (side_of (busy at flow doing)) since opened spare prefix in
-        doing_more at flow doing since opened sent replies prefix is (none_found seen.closed (leaves flow doing seen) (finds terms.place at flow doing seen) none) stands
+        let seen = sight_of (side_of (busy at flow doing)) since opened prefix in
+        doing_more at flow doing since opened sent replies prefix is (none_found seen.closed (leaves at flow doing seen) (finds terms.place at flow doing seen) none) stands
     stage_more (next at) since opened sent replies prefix is none stands = absurd stands
     stage_more over since opened sent replies prefix is none stands = stands

@@ -90,14 +90,14 @@ same_closed side (e ∷ prefix) (x ∷ events) is =
     ∙ ap (λ b. if closes side x.value then true else (if closes Client x.value then false else b)) (same_closed side prefix events is.1)
 
 -- the responses over the same events
-pub same_answers : (asked_head : Bool) (side : ServerSide) (opened : ℕ) (prefix events : List (Timed Event)) → side.used ≡ 0 → IsSame prefix events →
-    answer_list asked_head (is_closed (Server side.server) (drop opened prefix)) (drop side.used (bytes_of (Server side.server) (drop opened prefix)))
-    ≡ answers_at events side.server opened asked_head
-same_answers asked_head side opened prefix events none is =
+pub same_answers : (asked_head : Bool) (side : ServerSide) (opened : ℕ) (prefix events : List (Timed Event)) → IsSame prefix events →
+    answers_at prefix side opened asked_head ≡ answers_at events side opened asked_head
+same_answers asked_head side opened prefix events is =
     let behind = same_behind opened prefix events is in
-    ap (λ n. answer_list asked_head (is_closed (Server side.server) (drop opened prefix)) (drop n (bytes_of (Server side.server) (drop opened prefix)))) none
-    ∙ (ap (λ b. answer_list asked_head b (bytes_of (Server side.server) (drop opened prefix))) (same_closed (Server side.server) (drop opened prefix) (drop opened events) behind)
-    ∙ ap (λ l. answer_list asked_head (is_closed (Server side.server) (drop opened events)) l) (same_bytes (Server side.server) (drop opened prefix) (drop opened events) behind))
+    ap (λ b. answer_list asked_head b (drop side.used (bytes_of (Server side.server) (drop opened prefix))))
+    (same_closed (Server side.server) (drop opened prefix) (drop opened events) behind)
+    ∙ ap (λ l. answer_list asked_head (is_closed (Server side.server) (drop opened events)) (drop side.used l))
+    (same_bytes (Server side.server) (drop opened prefix) (drop opened events) behind)
 
 -- ---- the fewest events over which something holds
 
@@ -127,6 +127,17 @@ pub record Grows (bytes : List ℕ) (shut : Bool) (all : List ℕ) (ended : Bool
   pub more : List ℕ
   pub grown : all ≡ bytes ++ more
   pub shuts : shut ≡ true → (ended ≡ true) × (all ≡ bytes)
+
+pub drop_on : (n : ℕ) (xs ys : List ℕ) → (more : List ℕ) × (drop n (xs ++ ys) ≡ drop n xs ++ more)
+drop_on zero xs ys = (ys, refl)
+drop_on (suc n) [] ys = (drop (suc n) ys, refl)
+drop_on (suc n) (x ∷ xs) ys = drop_on n xs ys
+
+-- so do those behind the first of them
+grows_behind : (used : ℕ) (bytes all : List ℕ) (shut ended : Bool) → Grows bytes shut all ended → Grows (drop used bytes) shut (drop used all) ended
+grows_behind used bytes all shut ended on =
+    let further = drop_on used bytes on.more in
+    record { more = further.0; grown = ap (drop used) on.grown ∙ further.1; shuts = λ e. (let both = on.shuts e in (both.0, ap (drop used) both.1)) }
 
 grows_by : (ends closing : Bool) (piece bytes all : List ℕ) (shut ended : Bool) → Grows bytes shut all ended →
     Grows (if ends || closing then [] else (piece ++ bytes)) (if closing then true else (if ends then false else shut))
@@ -174,16 +185,13 @@ carry_by asked_head false ended bytes all grows =
     subst P (sym grows.grown) (answers_carry chunk_laws asked_head ended bytes grows.more)
 
 -- the responses that a prefix has, and those of all events
-pub answers_grow : (asked_head : Bool) (side : ServerSide) (opened : ℕ) (prefix events : List (Timed Event)) → side.used ≡ 0 → IsFront prefix events →
-    AnswersCarry
-    (answer_list asked_head (is_closed (Server side.server) (drop opened prefix)) (drop side.used (bytes_of (Server side.server) (drop opened prefix))))
-    (answers_at events side.server opened asked_head)
-answers_grow asked_head side opened prefix events none is =
+pub answers_grow : (asked_head : Bool) (side : ServerSide) (opened : ℕ) (prefix events : List (Timed Event)) → IsFront prefix events →
+    AnswersCarry (answers_at prefix side opened asked_head) (answers_at events side opened asked_head)
+answers_grow asked_head side opened prefix events is =
     let bytes = bytes_of (Server side.server) (drop opened prefix) in
     let shut = is_closed (Server side.server) (drop opened prefix) in
-    let P : ℕ → Type 0 = λ n. AnswersCarry (answer_list asked_head shut (drop n bytes)) (answers_at events side.server opened asked_head) in
-    subst P (sym none)
-    (carry_by asked_head shut _ bytes _ (side_grows (Server side.server) (drop opened prefix) (drop opened events) (front_behind opened prefix events is)))
+    carry_by asked_head shut _ (drop side.used bytes) _
+    (grows_behind side.used bytes _ shut _ (side_grows (Server side.server) (drop opened prefix) (drop opened events) (front_behind opened prefix events is)))
 
 by_open : (prefix events : List (Timed Event)) (shut : Bool) → is_closed Client prefix ≡ shut →
     Grows (bytes_of Client prefix) (is_closed Client prefix) (bytes_of Client events) (is_closed Client events) →

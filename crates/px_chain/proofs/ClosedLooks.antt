@@ -20,7 +20,6 @@ use Rattle.px_read.proofs.ItemLemmas.{Carries}
 use Rattle.px_exchange.specs.declared.asked.Judged.{Judged}
 use Rattle.px_exchange.specs.declared.asked.Judged.TheVariants.{Refused, Accepted, Connects}
 use Rattle.px_exchange.specs.declared.ending.Used.{Used}
-use Rattle.px_exchange.specs.declared.ending.Used.TheVariants.{NoServer}
 use Rattle.px_exchange.specs.declared.terms.Terms.{Terms}
 use Rattle.px_exchange.specs.Endings.{ends_by_fault}
 use Rattle.px_exchange.specs.Finds.{is_relayed, look_answer, look_answer_head, look_body, look_head, look_judged, look_returned, or_leaves}
@@ -104,36 +103,36 @@ asks_hook over_all flow hook left = ((left, refl), λ goes. goes)
 
 module _ (over_all : Type 0) where
   module _ (terms : Terms) (events : List (Timed Event)) (point : Point) (further : Point → List Command) where
-    judged_tells : (index : ℕ) (head : ReadRequest) (made : Judged) (item : Item ReadRequest) (moment : ℕ) (closed : Bool) →
-        Tells over_all (look_judged terms index head made moment closed) (said_judged terms events point head made item further)
-    judged_tells index head (Refused fault) item moment closed = refused_said fault (is_head head.method) closed
-    judged_tells index head (Connects address) item moment closed = refl
-    judged_tells index head (Accepted message) item moment closed = ((_, refl), λ goes. goes)
+    judged_tells : (index : ℕ) (head : ReadRequest) (made : Judged) (item : Item ReadRequest) (moment : ℕ) (used : Used) (closed : Bool) →
+        Tells over_all (look_judged terms index head made moment used closed) (said_judged terms events point head made item further)
+    judged_tells index head (Refused fault) item moment used closed = refused_said fault (is_head head.method) used closed
+    judged_tells index head (Connects address) item moment used closed = refl
+    judged_tells index head (Accepted message) item moment used closed = ((_, refl), λ goes. goes)
 
-    asked_tells : (index : ℕ) (head : ReadRequest) (item : Item ReadRequest) (moment : ℕ) (closed : Bool) → head_in item ≡ Some head →
-        Tells over_all (look_judged terms index head (judged terms.place head) moment closed) (said_item terms events point item further)
-    asked_tells index head item moment closed there =
+    asked_tells : (index : ℕ) (head : ReadRequest) (item : Item ReadRequest) (moment : ℕ) (used : Used) (closed : Bool) → head_in item ≡ Some head →
+        Tells over_all (look_judged terms index head (judged terms.place head) moment used closed) (said_item terms events point item further)
+    asked_tells index head item moment used closed there =
         let P : Option ReadRequest → Type 0 = λ o.
-        Tells over_all (look_judged terms index head (judged terms.place head) moment closed) (said_asked terms events point o item further) in
-        subst P (sym there) (judged_tells index head (judged terms.place head) item moment closed)
+        Tells over_all (look_judged terms index head (judged terms.place head) moment used closed) (said_asked terms events point o item further) in
+        subst P (sym there) (judged_tells index head (judged terms.place head) item moment used closed)
 
-    pub head_tells : (index : ℕ) (item all : Item ReadRequest) (moment : ℕ) (closed : Bool) → Carries item all → (over_all → all ≡ item) →
-        Tells over_all (look_head terms index item moment closed) (said_item terms events point all further)
-    head_tells index missing all moment closed carries same = λ o. ap (λ (i : Item ReadRequest). said_item terms events point i further) (same o)
-    head_tells index (part head body) all moment closed carries same = asked_tells index head all moment closed (carries.head head refl)
-    head_tells index (complete head body trailers used) all moment closed carries same = asked_tells index head all moment closed (carries.head head refl)
-    head_tells index (bad_head fault) all moment closed carries same =
-        refused_said fault false closed ∙ ap (λ (i : Item ReadRequest). said_item terms events point i further) (sym (carries.stays refl))
-    head_tells index (bad_body fault head body) all moment closed carries same = asked_tells index head all moment closed (carries.head head refl)
+    pub head_tells : (index : ℕ) (item all : Item ReadRequest) (moment : ℕ) (used : Used) (closed : Bool) → Carries item all → (over_all → all ≡ item) →
+        Tells over_all (look_head terms index item moment used closed) (said_item terms events point all further)
+    head_tells index missing all moment used closed carries same = λ o. ap (λ (i : Item ReadRequest). said_item terms events point i further) (same o)
+    head_tells index (part head body) all moment used closed carries same = asked_tells index head all moment used closed (carries.head head refl)
+    head_tells index (complete head body trailers size) all moment used closed carries same = asked_tells index head all moment used closed (carries.head head refl)
+    head_tells index (bad_head fault) all moment used closed carries same =
+        refused_said fault false used closed ∙ ap (λ (i : Item ReadRequest). said_item terms events point i further) (sym (carries.stays refl))
+    head_tells index (bad_body fault head body) all moment used closed carries same = asked_tells index head all moment used closed (carries.head head refl)
 
-    pub body_tells : (flow : Flow) (item all : Item ReadRequest) (moment : ℕ) (closed : Bool) → Carries item all → (over_all → all ≡ item) →
-        Tells over_all (look_body flow item moment closed) (said_whole terms events point flow.request all further)
-    body_tells flow missing all moment closed carries same = λ o. ap (λ (i : Item ReadRequest). said_whole terms events point flow.request i further) (same o)
-    body_tells flow (part head body) all moment closed carries same = λ o. ap (λ (i : Item ReadRequest). said_whole terms events point flow.request i further) (same o)
-    body_tells flow (complete head body trailers used) all moment closed carries same = ((_, refl), λ goes. goes)
-    body_tells flow (bad_head fault) all moment closed carries same = λ o. ap (λ (i : Item ReadRequest). said_whole terms events point flow.request i further) (same o)
-    body_tells flow (bad_body fault head body) all moment closed carries same =
-        (says_fault flow fault moment NoServer closed).is
+    pub body_tells : (flow : Flow) (item all : Item ReadRequest) (moment : ℕ) (used : Used) (closed : Bool) → Carries item all → (over_all → all ≡ item) →
+        Tells over_all (look_body flow item moment used closed) (said_whole terms events point flow.request all further)
+    body_tells flow missing all moment used closed carries same = λ o. ap (λ (i : Item ReadRequest). said_whole terms events point flow.request i further) (same o)
+    body_tells flow (part head body) all moment used closed carries same = λ o. ap (λ (i : Item ReadRequest). said_whole terms events point flow.request i further) (same o)
+    body_tells flow (complete head body trailers size) all moment used closed carries same = ((_, refl), λ goes. goes)
+    body_tells flow (bad_head fault) all moment used closed carries same = λ o. ap (λ (i : Item ReadRequest). said_whole terms events point flow.request i further) (same o)
+    body_tells flow (bad_body fault head body) all moment used closed carries same =
+        (says_fault flow fault moment used closed).is
         ∙ ap (λ (i : Item ReadRequest). said_whole terms events point flow.request i further) (sym (carries.stays refl))
 
   module _ (flow : Flow) (used : Used) (behind : Response → List Command) where
@@ -175,24 +174,24 @@ none_found closed leaving NotYet is = refl
 none_found closed leaving (Asks ask) is = is
 none_found closed leaving (Ends owed) is = is
 
-judged_found : (terms : Terms) (index : ℕ) (head : ReadRequest) (made : Judged) (moment : ℕ) (closed : Bool) → look_judged terms index head made moment closed ≡ NotYet → ⊥
-judged_found terms index head (Refused fault) moment closed is = cc
-judged_found terms index head (Connects address) moment closed is = cc
-judged_found terms index head (Accepted message) moment closed is = cc
+judged_found : (terms : Terms) (index : ℕ) (head : ReadRequest) (made : Judged) (moment : ℕ) (used : Used) (closed : Bool) → look_judged terms index head made moment used closed ≡ NotYet → ⊥
+judged_found terms index head (Refused fault) moment used closed is = cc
+judged_found terms index head (Connects address) moment used closed is = cc
+judged_found terms index head (Accepted message) moment used closed is = cc
 
-pub no_request : (terms : Terms) (index : ℕ) (item : Item ReadRequest) (moment : ℕ) (closed : Bool) → look_head terms index item moment closed ≡ NotYet → is_whole item ≡ false
-no_request terms index missing moment closed is = refl
-no_request terms index (part head body) moment closed is = refl
-no_request terms index (complete head body trailers used) moment closed is = absurd (judged_found terms index head (judged terms.place head) moment closed is)
-no_request terms index (bad_head fault) moment closed is = refl
-no_request terms index (bad_body fault head body) moment closed is = refl
+pub no_request : (terms : Terms) (index : ℕ) (item : Item ReadRequest) (moment : ℕ) (used : Used) (closed : Bool) → look_head terms index item moment used closed ≡ NotYet → is_whole item ≡ false
+no_request terms index missing moment used closed is = refl
+no_request terms index (part head body) moment used closed is = refl
+no_request terms index (complete head body trailers size) moment used closed is = absurd (judged_found terms index head (judged terms.place head) moment used closed is)
+no_request terms index (bad_head fault) moment used closed is = refl
+no_request terms index (bad_body fault head body) moment used closed is = refl
 
-pub no_body : (flow : Flow) (item : Item ReadRequest) (moment : ℕ) (closed : Bool) → look_body flow item moment closed ≡ NotYet → is_whole item ≡ false
-no_body flow missing moment closed is = refl
-no_body flow (part head body) moment closed is = refl
-no_body flow (complete head body trailers used) moment closed is = absurd (cc)
-no_body flow (bad_head fault) moment closed is = refl
-no_body flow (bad_body fault head body) moment closed is = refl
+pub no_body : (flow : Flow) (item : Item ReadRequest) (moment : ℕ) (used : Used) (closed : Bool) → look_body flow item moment used closed ≡ NotYet → is_whole item ≡ false
+no_body flow missing moment used closed is = refl
+no_body flow (part head body) moment used closed is = refl
+no_body flow (complete head body trailers size) moment used closed is = absurd (cc)
+no_body flow (bad_head fault) moment used closed is = refl
+no_body flow (bad_body fault head body) moment used closed is = refl
 
 relays_found : (flow : Flow) (head : ReadResponse) (moment : ℕ) (used : Used) (closed relays : Bool) →
     (if not relays then Ends (ends_by_fault flow BadResponse moment used closed) else Asks (ask_of (with_answer flow (response_of head) moment) ResponseHead)) ≡ NotYet → ⊥

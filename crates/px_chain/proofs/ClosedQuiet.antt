@@ -10,6 +10,7 @@ use Rattle.px_event.specs.declared.command.Command.{Command}
 use Rattle.px_event.specs.declared.command.Command.TheVariants as commands
 use Rattle.px_event.specs.declared.reply.Reply.{Reply}
 use Rattle.px_event.specs.declared.reply.Reply.TheVariants as reply
+use Rattle.px_event.specs.declared.side.Side.{Side}
 use Rattle.px_event.specs.declared.side.Side.TheVariants.{Client}
 use Rattle.px_read.specs.declared.head.ResponseHead.{ResponseHead}
 use Rattle.px_write.specs.Error.{error_text, fault_message}
@@ -73,23 +74,43 @@ says_both a b first second = record {
   keeps = keep_both a b first.keeps second.keeps;
 }
 
+-- behind commands that say nothing
+says_behind : (quiet owed texts : List Command) → Says quiet [] → Says owed texts → Says (quiet ++ owed) texts
+says_behind quiet owed texts none says = record {
+  is = said_join quiet owed ∙ (ap (λ l. l ++ said owed) none.is ∙ says.is);
+  skips = skip_both quiet owed none.skips says.skips;
+  keeps = keep_both quiet owed none.keeps says.keeps;
+}
+
+pub says_last_behind : (quiet owed texts : List Command) → Says quiet [] → SaysLast owed texts → SaysLast (quiet ++ owed) texts
+says_last_behind quiet owed texts none says =
+    let first : (more : ℕ) (rest : List Command) → first_flows (suc more) ((quiet ++ owed) ++ rest) ≡ quiet ++ first_flows (suc more) (owed ++ rest) = λ more rest.
+    ap (first_flows (suc more)) (append_assoc quiet owed rest) ∙ none.keeps more (owed ++ rest) in
+    record {
+      is = said_join quiet owed ∙ (ap (λ l. l ++ said owed) none.is ∙ says.is);
+      skips = skip_both quiet owed none.skips says.skips;
+      last = λ rest. ap said (first 0 rest)
+          ∙ (said_join quiet (first_flows 1 (owed ++ rest)) ∙ (ap (λ l. l ++ said (first_flows 1 (owed ++ rest))) none.is ∙ says.last rest));
+      keeps = λ more rest. first (suc more) rest ∙ (ap (λ l. quiet ++ l) (says.keeps more rest) ∙ sym (append_assoc quiet owed (first_flows (suc more) rest)));
+    }
+
 -- ---- closes and ends
 
 says_client : (closed : Bool) → Says (shut_client closed) []
 says_client true = says_none
 says_client false = record { is = refl; skips = λ waits rest replies goes. goes; keeps = λ more rest. refl }
 
-says_server : (used : Used) → Says (shut_server used) []
+pub says_server : (used : Used) → Says (shut_server used) []
 says_server NoServer = says_none
 says_server (ByServer number true) = says_none
 says_server (ByServer number false) = record { is = refl; skips = λ waits rest replies goes. goes; keeps = λ more rest. refl }
 
-says_unless : (stays closed : Bool) → Says (shut_unless stays closed) []
-says_unless true closed = says_none
-says_unless false closed = says_client closed
-
 says_all : (used : Used) (closed : Bool) → Says (shut_all used closed) []
 says_all used closed = says_both (shut_server used) (shut_client closed) (says_server used) (says_client closed)
+
+says_unless : (stays : Bool) (used : Used) (closed : Bool) → Says (shut_unless stays used closed) []
+says_unless true used closed = says_none
+says_unless false used closed = says_all used closed
 
 pub early_said : (flow : Flow) (message : List ℕ) (moment : ℕ) (used : Used) (closed : Bool) → said (ends_early flow message moment used closed) ≡ []
 early_said flow message moment used closed = (says_all used closed).is
@@ -107,15 +128,15 @@ says_fault flow fault moment used closed =
       keeps = λ more rest. ap (λ l. text ∷ done ∷ l) (closes.keeps more rest);
     }
 
-pub refused_said : (fault : Fault) (asked_head closed : Bool) → said (refuses fault asked_head closed) ≡ fault_said fault asked_head
-refused_said fault asked_head closed =
-    let text : Command = commands.Send Client (error_text fault asked_head) in ap (λ l. text ∷ l) (says_client closed).is
+pub refused_said : (fault : Fault) (asked_head : Bool) (used : Used) (closed : Bool) → said (refuses fault asked_head used closed) ≡ fault_said fault asked_head
+refused_said fault asked_head used closed =
+    let text : Command = commands.Send Client (error_text fault asked_head) in ap (λ l. text ∷ l) (says_all used closed).is
 
 -- a flow that is finished
-pub says_finished : (flow : Flow) (response : Response) (used : Used) (stays closed : Bool) →
-    SaysLast (finished flow response used ++ shut_unless stays closed) (commands.Send Client (returned_text flow.request response) ∷ [])
-says_finished flow response used stays closed =
-    let closes = says_both (shut_server used) (shut_unless stays closed) (says_server used) (says_unless stays closed) in
+pub says_finished : (flow : Flow) (response : Response) (used parked : Used) (stays closed : Bool) →
+    SaysLast (finished flow response used ++ shut_unless stays parked closed) (commands.Send Client (returned_text flow.request response) ∷ [])
+says_finished flow response used parked stays closed =
+    let closes = says_both (shut_server used) (shut_unless stays parked closed) (says_server used) (says_unless stays parked closed) in
     let text : Command = commands.Send Client (returned_text flow.request response) in
     let done : Command = commands.Done (record flow { response = Some response }) in
     record {
@@ -124,6 +145,12 @@ says_finished flow response used stays closed =
       last = λ rest. refl;
       keeps = λ more rest. ap (λ l. text ∷ done ∷ l) (closes.keeps more rest);
     }
+
+-- a request that is sent on, behind such commands
+pub says_sent : (quiet : List Command) (side : Side) (text : List ℕ) → Says quiet [] → Says (quiet ++ commands.Send side text ∷ []) (commands.Send side text ∷ [])
+says_sent quiet side text none =
+    says_behind quiet (commands.Send side text ∷ []) (commands.Send side text ∷ []) none
+    (record { is = refl; skips = λ waits rest replies goes. goes; keeps = λ more rest. refl })
 
 -- ---- interim responses and the expectation
 
@@ -152,11 +179,7 @@ says_expectation false = says_none
 
 -- ---- what is found: up to the end of a flow it says the same
 
-pub first_none : (more : ℕ) → first_flows more [] ≡ []
-first_none zero = refl
-first_none (suc more) = refl
-
-closes_said : (more : ℕ) (owed : List Command) → OnlyCloses owed → said (first_flows more owed) ≡ []
+pub closes_said : (more : ℕ) (owed : List Command) → OnlyCloses owed → said (first_flows more owed) ≡ []
 closes_said zero owed is = refl
 closes_said (suc more) [] is = refl
 closes_said (suc more) (commands.Close side ∷ owed) is = closes_said (suc more) owed is

@@ -19,6 +19,7 @@ use Rattle.px_read.specs.Laws.{head_in, is_begun, is_decided}
 use Rattle.px_read.specs.declared.head.ResponseHead.{ResponseHead as ReadResponse}
 use Rattle.px_read.proofs.AnswerLemmas.{AnswersCarry}
 use Rattle.px_exchange.specs.declared.ending.Used.{Used}
+use Rattle.px_exchange.specs.declared.ending.Used.TheVariants.{NoServer}
 use Rattle.px_exchange.specs.declared.taken.Taken.{Taken}
 use Rattle.px_exchange.specs.declared.taken.Taken.TheVariants as taken
 use Rattle.px_exchange.specs.declared.terms.Terms.{Terms}
@@ -30,12 +31,12 @@ use Rattle.px_exchange.specs.Requests.{is_head}
 use Rattle.px_exchange.specs.Texts.{interim_commands, returned_text}
 use Rattle.px_chain.specs.Chain.{behind_flow, finish_by, sequence, side_behind, turn_answer, turn_answer_head, turn_read_whole, turn_response, turn_returned, turn_taken_answer, turn_taken_whole}
 use Rattle.px_chain.specs.ClosedForm.{answers_at, dial_answers, ended_at, is_whole, response_is_whole, said, said_answers, said_behind, said_final, said_headed, said_on, said_relayed, said_returned, whole_response}
-use Rattle.px_chain.specs.Sights.{Sight, Spare, answers_in, server_in, sight_of}
-use Rattle.px_chain.specs.Stages.{At, ServerSide, Stage}
+use Rattle.px_chain.specs.Sights.{Sight, answers_in, server_in, sight_of}
+use Rattle.px_chain.specs.Stages.{At, ServerSide, Stage, unparked}
 use Rattle.px_chain.specs.Streams.{Since}
 use Rattle.px_chain.proofs.ClosedFronts.{IsFront, IsSame, answers_grow, front_length, least_at, same_answers, same_taken}
 use Rattle.px_chain.proofs.ClosedQuiet.{no_dial, said_join, says_finished, says_interim, takes_response_body, takes_response_head}
-use Rattle.px_chain.proofs.ClosedStages.{Answering, IsAt, Onward, Returning, further_behind, goes_further, standing, told}
+use Rattle.px_chain.proofs.ClosedStages.{Answering, IsAt, Returning, further_behind, goes_further, standing, told}
 use Rattle.px_chain.proofs.ClosedTurns.{Leads, asks_nothing, asks_same, ending_led, ends_ask, goes_on}
 
 begun_by : (item : Item ReadResponse) (head : ReadResponse) → head_in item ≡ Some head → is_begun item ≡ true
@@ -45,22 +46,21 @@ begun_by item head is = ap (λ (o : Option ReadResponse). is_some o || is_decide
 abbrev early : Flow → Sight → Used → List Command
 early flow seen used = ends_early flow closed_message seen.now used true
 
-module _ (terms : Terms) (events : List (Timed Event)) (all : List Command) (flows : ℕ) (spare : Option Spare) where
-  module _ (asked : Request) (side : ServerSide) (opened went come : ℕ) (o : Onward terms events all flows spare asked side opened went come) where
-    -- the responses that were seen, and those of all events
-    pub answers_carried : (since : Since) (prefix : List (Timed Event)) → IsFront prefix events →
-        AnswersCarry (answers_in asked side (sight_of (Some side) since opened spare prefix)) (told terms events all side opened asked)
-    answers_carried since prefix is = answers_grow (is_head asked.method) side opened prefix events o.used is
+module _ (terms : Terms) (events : List (Timed Event)) (all : List Command) (flows : ℕ) where
+  -- the responses that were seen, and those of all events
+  pub answers_carried : (asked : Request) (side : ServerSide) (opened : ℕ) (since : Since) (prefix : List (Timed Event)) → IsFront prefix events →
+      AnswersCarry (answers_in asked side (sight_of (Some side) since opened prefix)) (told terms events all side opened asked)
+  answers_carried asked side opened since prefix is = answers_grow (is_head asked.method) side opened prefix events is
 
-    -- over the same events they are the same
-    pub answers_same : (since : Since) (prefix others : List (Timed Event)) → IsSame prefix others →
-        answers_in asked side (sight_of (Some side) since opened spare prefix) ≡ answers_at others side.server opened (is_head asked.method)
-    answers_same since prefix others is = same_answers (is_head asked.method) side opened prefix others o.used is
+  -- over the same events they are the same
+  pub answers_same : (asked : Request) (side : ServerSide) (opened : ℕ) (since : Since) (prefix others : List (Timed Event)) → IsSame prefix others →
+      answers_in asked side (sight_of (Some side) since opened prefix) ≡ answers_at others side opened (is_head asked.method)
+  answers_same asked side opened since prefix others is = same_answers (is_head asked.method) side opened prefix others is
 
   -- what is left behind a flow: of the flows that are to come
   by_stays : (more : ℕ) (stays : Bool) (at : At) (from opened come : ℕ) (sent : List Command) (left : List Reply) →
-      all ≡ said sent ++ said_behind stays (standing at from (dial_answers left) spare) (Some come) (further_behind terms events all (suc more) at.used) →
-      IsAt terms events all more spare (sequence (behind_flow stays at)) opened come sent left
+      all ≡ said sent ++ said_behind stays (standing at opened from (dial_answers left)) (Some come) (further_behind terms events all (suc more) at.used) →
+      IsAt terms events all more (sequence (behind_flow stays at)) opened come sent left
   by_stays more true at from opened come sent left is = record {
     from = come;
     within = omega arith;
@@ -70,10 +70,10 @@ module _ (terms : Terms) (events : List (Timed Event)) (all : List Command) (flo
   by_stays more false at from opened come sent left is = record { is_all = is ∙ append-nil (said sent) }
 
   -- and behind the last one nothing
-  by_last : (stays : Bool) (at : At) (from come : ℕ) (sent : List Command) (left : List Reply) →
-      all ≡ said sent ++ said_behind stays (standing at from (dial_answers left) spare) (Some come) (further_behind terms events all 0 at.used) → all ≡ said sent
-  by_last true at from come sent left is = is ∙ append-nil (said sent)
-  by_last false at from come sent left is = is ∙ append-nil (said sent)
+  by_last : (stays : Bool) (at : At) (from opened come : ℕ) (sent : List Command) (left : List Reply) →
+      all ≡ said sent ++ said_behind stays (standing at opened from (dial_answers left)) (Some come) (further_behind terms events all 0 at.used) → all ≡ said sent
+  by_last true at from opened come sent left is = is ∙ append-nil (said sent)
+  by_last false at from opened come sent left is = is ∙ append-nil (said sent)
 
   module _ (sent : List Command) (moment : ℕ) (value : Reply) (waits : Bool) (rest : List Command) (replies : List Reply)
       (since : Since) (opened : ℕ) (prefix : List (Timed Event)) (is_front : IsFront prefix events) (ask : Command) (at : At) (flow : Flow) (side : ServerSide) where
@@ -85,7 +85,7 @@ module _ (terms : Terms) (events : List (Timed Event)) (all : List Command) (flo
     answer = record { moment = moment; value = value }
 
     abbrev seen : Sight
-    seen = sight_of (Some side) since opened spare prefix
+    seen = sight_of (Some side) since opened prefix
 
     abbrev found_answers : Answers
     found_answers = answers_in flow.request side seen
@@ -100,25 +100,26 @@ module _ (terms : Terms) (events : List (Timed Event)) (all : List Command) (flo
     -- what is said behind the response, where the request went to its server over so many events, and these dials are answered
     abbrev behind : ℕ → ℕ → List (Option Fault) → Response → List Command
     behind went from dials =
-        said_on events (standing at from dials spare) (record { server = side.server; opened = opened; went = went }) (further_behind terms events all flows at.used) flow.request
+        said_on events (standing (unparked at) opened from dials) (record { side = side; opened = opened; went = went })
+        (further_behind terms events all flows at.used) flow.request
 
     -- how many events its response has used
     abbrev ended_there : ℕ → Option ℕ
-    ended_there went = ended_at events (record { server = side.server; opened = opened; went = went }) (is_head flow.request.method)
+    ended_there went = ended_at events (record { side = side; opened = opened; went = went }) (is_head flow.request.method)
 
     -- ---- the head of the final response
 
-    module _ (s : Answering terms events all flows spare at flow.request side opened come sent left) where
+    module _ (s : Answering terms events all flows at flow.request side opened come sent left) where
       abbrev interim : List Command
       interim = interim_commands flow.request found_answers.interim
 
       relayed_led : (head : ReadResponse) → head_in found_answers.final ≡ Some head → is_relayed head.code ≡ true →
-          Leads terms events all flows (turn_answer_head at flow side head seen answer) spare opened come sent interim
+          Leads terms events all flows (turn_answer_head at flow side head seen answer) opened come sent interim
           (ask_of (with_answer flow (response_of head) seen.now) ResponseHead) waits rest value replies
       relayed_led head is relays goes =
           let whole = with_answer flow (response_of head) seen.now in
           let asked = ask_of whole ResponseHead in
-          let carried = answers_carried flow.request side opened s.went come s.onward since prefix is_front in
+          let carried = answers_carried flow.request side opened since prefix is_front in
           let begun = carried.begun (begun_by found_answers.final head is) in
           let there : head_in all_answers.final ≡ Some head = carried.final.head head is in
           let says = says_interim flow.request found_answers.interim in
@@ -131,7 +132,7 @@ module _ (terms : Terms) (events : List (Timed Event)) (all : List Command) (flo
           ∙ (ap (λ (o : Option ReadResponse). interim ++ said_headed flow.request o all_answers.final (behind s.went s.from (dial_answers replies))) there
           ∙ ap (λ b. interim ++ said_relayed b flow.request ends_here) relays)) in
           let P : Taken Response → Type 0 = λ t. Leads terms events all flows
-          (turn_taken_answer at whole side t moment (server_in side seen) seen.closed) spare opened come sent interim asked waits rest value replies in
+          (turn_taken_answer at whole side t moment (server_in side seen) seen.closed) opened come sent interim asked waits rest value replies in
           let led : P (taken.GoesOn (response_of head)) = λ on_it.
           goes_on flows
           (record {
@@ -148,7 +149,7 @@ module _ (terms : Terms) (events : List (Timed Event)) (all : List Command) (flo
 
       head_led : (head : ReadResponse) (relays : Bool) → is_relayed head.code ≡ relays → head_in found_answers.final ≡ Some head →
           or_leaves seen.closed (early flow seen (server_in side seen)) (look_answer_head flow head seen.now (server_in side seen) seen.closed) ≡ Asks ask →
-          Leads terms events all flows (turn_answer_head at flow side head seen answer) spare opened come sent interim ask waits rest value replies
+          Leads terms events all flows (turn_answer_head at flow side head seen answer) opened come sent interim ask waits rest value replies
       head_led head false relays is asks =
           let P : Bool → Type 0 = λ b. or_leaves seen.closed (early flow seen (server_in side seen))
           (if not b then Ends (ends_by_fault flow BadResponse seen.now (server_in side seen) seen.closed)
@@ -158,12 +159,12 @@ module _ (terms : Terms) (events : List (Timed Event)) (all : List Command) (flo
           let P : Bool → Type 0 = λ b. or_leaves seen.closed (early flow seen (server_in side seen))
           (if not b then Ends (ends_by_fault flow BadResponse seen.now (server_in side seen) seen.closed)
           else Asks (ask_of (with_answer flow (response_of head) seen.now) ResponseHead)) ≡ Asks ask in
-          let Q : Command → Type 0 = λ c. Leads terms events all flows (turn_answer_head at flow side head seen answer) spare opened come sent interim c waits rest value replies in
+          let Q : Command → Type 0 = λ c. Leads terms events all flows (turn_answer_head at flow side head seen answer) opened come sent interim c waits rest value replies in
           subst Q (asks_same _ ask (subst P relays asks)) (relayed_led head is relays)
 
       pub answer_led : (item : Item ReadResponse) → found_answers.final ≡ item →
           or_leaves seen.closed (early flow seen (server_in side seen)) (look_answer flow item seen.now (server_in side seen) seen.closed) ≡ Asks ask →
-          Leads terms events all flows (turn_answer at flow side item seen answer) spare opened come sent interim ask waits rest value replies
+          Leads terms events all flows (turn_answer at flow side item seen answer) opened come sent interim ask waits rest value replies
       answer_led missing is asks = absurd (asks_nothing seen.closed _ ask asks)
       answer_led (part head body) is asks = head_led head (is_relayed head.code) refl (ap head_in is) asks
       answer_led (complete head body trailers size) is asks = head_led head (is_relayed head.code) refl (ap head_in is) asks
@@ -172,17 +173,17 @@ module _ (terms : Terms) (events : List (Timed Event)) (all : List Command) (flo
 
     -- ---- the response's body
 
-    module _ (s : Returning terms events all flows spare at flow side opened come sent left) where
+    module _ (s : Returning terms events all flows at flow side opened come sent left) where
       -- A response that switches protocols is the last thing that is said; behind another one it may go on.
       finished_led : (switches : Bool) (whole : Flow) (response : Response) (after : ServerSide) → (response.status == 101) ≡ switches → whole.request ≡ flow.request →
           ended_there s.went ≡ Some come →
           all ≡ said sent ++ commands.Send Client (returned_text flow.request response) ∷ behind s.went s.from (dial_answers replies) response →
-          Leads terms events all flows (finish_by switches at whole response after (server_in side seen) seen.closed) spare opened come sent []
+          Leads terms events all flows (finish_by switches at whole response after (server_in side seen) seen.closed) opened come sent []
           (ask_of whole ResponseBody) waits rest value replies
       finished_led true whole response after switches request ends is goes =
           let text : Request → Command = λ r. commands.Send Client (returned_text r response) in
           let more : List Command = ask_of whole ResponseBody ∷ text whole.request ∷ [] in
-          let point = standing at s.from (dial_answers replies) spare in
+          let point = standing (unparked at) opened s.from (dial_answers replies) in
           let last : behind s.went s.from (dial_answers replies) response ≡ [] =
           ap (λ b. said_behind (not b && connection_goes_on at.flow flow.request response) point
           (ended_there s.went) (further_behind terms events all flows at.used)) switches in
@@ -194,9 +195,9 @@ module _ (terms : Terms) (events : List (Timed Event)) (all : List Command) (flo
       finished_led false whole response after switches request ends is goes =
           let text : Request → Command = λ r. commands.Send Client (returned_text r response) in
           let stays = connection_goes_on at.flow whole.request response in
-          let closes = says_finished whole response (server_in side seen) stays seen.closed in
-          let more : List Command = ask_of whole ResponseBody ∷ (finished whole response (server_in side seen) ++ shut_unless stays seen.closed) in
-          let point = standing at s.from (dial_answers replies) spare in
+          let closes = says_finished whole response (server_in side seen) NoServer stays seen.closed in
+          let more : List Command = ask_of whole ResponseBody ∷ (finished whole response (server_in side seen) ++ shut_unless stays NoServer seen.closed) in
+          let point = standing (unparked at) opened s.from (dial_answers replies) in
           let F = further_behind terms events all flows at.used in
           let left_there : List Command = said_behind stays point (Some come) F in
           let last : behind s.went s.from (dial_answers replies) response ≡ left_there =
@@ -208,20 +209,20 @@ module _ (terms : Terms) (events : List (Timed Event)) (all : List Command) (flo
           let there : all ≡ said (sent ++ more) ++ left_there =
           goes_further all sent more (text flow.request ∷ []) _ left_there is (closes.is ∙ ap (λ r. text r ∷ []) request) (ap (λ l. text flow.request ∷ l) last) in
           let P : ℕ → Type 0 = λ n. all ≡ said (sent ++ more) ++ said_behind stays point (Some come) (further_behind terms events all n at.used) in
-          ending_led terms events all flows (finish_by false at whole response after (server_in side seen) seen.closed) spare opened come sent [] (ask_of whole ResponseBody)
+          ending_led terms events all flows (finish_by false at whole response after (server_in side seen) seen.closed) opened come sent [] (ask_of whole ResponseBody)
           waits rest replies _ refl closes
-          (λ none. by_last stays at s.from come (sent ++ more) replies (subst P none there))
-          (λ n is. by_stays n stays at s.from opened come (sent ++ more) replies (subst P is there)) goes.1
+          (λ none. by_last stays (unparked at) s.from opened come (sent ++ more) replies (subst P none there))
+          (λ n is. by_stays n stays (unparked at) s.from opened come (sent ++ more) replies (subst P is there)) goes.1
 
       whole_led : (head : ReadResponse) (body : Body) (trailers : List (List ℕ × List ℕ)) (size : ℕ) → found_answers.final ≡ complete head body trailers size →
-          Leads terms events all flows (turn_returned at flow side found_answers.used (complete head body trailers size) seen answer) spare opened come sent []
+          Leads terms events all flows (turn_returned at flow side found_answers.used (complete head body trailers size) seen answer) opened come sent []
           (ask_of (with_returned flow body.content trailers seen.now) ResponseBody) waits rest value replies
       whole_led head body trailers size is goes =
           let whole = with_returned flow body.content trailers seen.now in
           let used = server_in side seen in
           let after = side_behind side (found_answers.used + size) in
           let response = whole_response s.head body trailers in
-          let carried = answers_carried flow.request side opened s.went come s.onward since prefix is_front in
+          let carried = answers_carried flow.request side opened since prefix is_front in
           let final : all_answers.final ≡ complete head body trailers size = carried.final.stays (rw is refl) ∙ is in
           let same : Some head ≡ Some s.head = sym (ap head_in final) ∙ s.final in
           let heads : head ≡ s.head = cc in
@@ -232,11 +233,11 @@ module _ (terms : Terms) (events : List (Timed Event)) (all : List Command) (flo
           let two : turn_taken_whole at whole after (taken_at_response_body response value) moment used seen.closed
           ≡ finish_by (response.status == 101) at whole response after used seen.closed =
           ap (λ t. turn_taken_whole at whole after t moment used seen.closed) takes in
-          let P : Turn Stage Command → Type 0 = λ t. Leads terms events all flows t spare opened come sent [] (ask_of whole ResponseBody) waits rest value replies in
-          let test = response_is_whole events side.server opened (is_head flow.request.method) in
+          let P : Turn Stage Command → Type 0 = λ t. Leads terms events all flows t opened come sent [] (ask_of whole ResponseBody) waits rest value replies in
+          let test = response_is_whole events side opened (is_head flow.request.method) in
           let here : test come ≡ true =
           ap (λ (answers : Answers). is_whole answers.final)
-          (sym (answers_same flow.request side opened s.went come s.onward since prefix (take (length prefix) events) (same_taken prefix events is_front)))
+          (sym (answers_same flow.request side opened since prefix (take (length prefix) events) (same_taken prefix events is_front)))
           ∙ ap is_whole is in
           let ends = least_at test s.went come (length events) s.onward.within (front_length prefix events is_front) s.onward.waits here in
           let rest_is : all ≡ said sent ++ commands.Send Client (returned_text flow.request response) ∷ behind s.went s.from (dial_answers replies) response =
@@ -247,11 +248,11 @@ module _ (terms : Terms) (events : List (Timed Event)) (all : List Command) (flo
 
       pub returned_led : (item : Item ReadResponse) → found_answers.final ≡ item →
           or_leaves seen.closed (early (without_response flow) seen (server_in side seen)) (look_returned flow item seen.now (server_in side seen) seen.closed) ≡ Asks ask →
-          Leads terms events all flows (turn_returned at flow side found_answers.used item seen answer) spare opened come sent [] ask waits rest value replies
+          Leads terms events all flows (turn_returned at flow side found_answers.used item seen answer) opened come sent [] ask waits rest value replies
       returned_led missing is asks = absurd (asks_nothing seen.closed _ ask asks)
       returned_led (part head body) is asks = absurd (asks_nothing seen.closed _ ask asks)
       returned_led (complete head body trailers size) is asks =
-          let P : Command → Type 0 = λ c. Leads terms events all flows (turn_returned at flow side found_answers.used (complete head body trailers size) seen answer) spare opened come sent [] c waits rest value replies in
+          let P : Command → Type 0 = λ c. Leads terms events all flows (turn_returned at flow side found_answers.used (complete head body trailers size) seen answer) opened come sent [] c waits rest value replies in
           subst P (asks_same _ ask asks) (whole_led head body trailers size is)
       returned_led (bad_head fault) is asks = absurd (asks_nothing seen.closed _ ask asks)
       returned_led (bad_body fault head body) is asks = absurd (ends_ask _ ask asks)

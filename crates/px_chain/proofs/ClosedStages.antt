@@ -19,8 +19,7 @@ use Rattle.px_exchange.specs.declared.terms.Terms.{Terms}
 use Rattle.px_exchange.specs.Flows.{response_of}
 use Rattle.px_exchange.specs.Requests.{is_head, judged}
 use Rattle.px_chain.specs.ClosedForm.{Point, answers_at, dial_answers, request_is_whole, request_items, response_is_whole, said, said_answers, said_by, said_from, said_on, said_returned, said_whole}
-use Rattle.px_chain.specs.Sights.{Spare}
-use Rattle.px_chain.specs.Stages.{At, Doing, ServerSide, Stage, busy, connection, idle, next, over, request_body, response_body, response_head, upgraded}
+use Rattle.px_chain.specs.Stages.{At, Doing, ServerSide, Stage, busy, connection, idle, next, over, request_body, response_body, response_head, unparked, upgraded}
 use Rattle.px_chain.specs.Streams.{bytes_of}
 use Rattle.px_chain.proofs.ClosedFronts.{Waits}
 use Rattle.px_chain.proofs.ClosedItems.{items_after}
@@ -33,9 +32,10 @@ goes_further all sent more texts before left is more_is before_is =
     let on : said (sent ++ more) ≡ said sent ++ texts = said_join sent more ∙ ap (λ l. said sent ++ l) more_is in
     is ∙ (ap (λ l. said sent ++ l) before_is ∙ (sym (append_assoc (said sent) texts left) ∙ ap (λ l. l ++ left) (sym on)))
 
--- where the request of this flow stands
-abbrev pub standing : At → ℕ → List (Option Fault) → Option Spare → Point
-standing at from dials spare = record { flow = at.flow; server = at.dials; bytes = at.used; events = from; dials = dials; spare = spare }
+-- where the request of this flow stands, with its server's side, if one is parked, heard behind so many events
+abbrev pub standing : At → ℕ → ℕ → List (Option Fault) → Point
+standing at opened from dials =
+    record { flow = at.flow; server = at.dials; bytes = at.used; events = from; dials = dials; parked = at.parked; opened = opened }
 
 -- all that is said, whatever it is
 module _ (terms : Terms) (events : List (Timed Event)) (all : List Command) where
@@ -55,25 +55,26 @@ module _ (terms : Terms) (events : List (Timed Event)) (all : List Command) wher
 
   -- the responses of its server
   abbrev pub told : ServerSide → ℕ → Request → Answers
-  told side opened asked = answers_at events side.server opened (is_head asked.method)
+  told side opened asked = answers_at events side opened (is_head asked.method)
 
   -- ---- where it stands, over so many events, with these replies left, and with so many flows behind this one
 
-  module _ (flows : ℕ) (spare : Option Spare) where
+  module _ (flows : ℕ) where
     -- what is said behind its response, where the request went to its server over so many events
     abbrev pub behind_answer : At → ServerSide → ℕ → ℕ → ℕ → Request → List Reply → Response → List Command
     behind_answer at side opened went from asked left =
-        said_on events (standing at from (dial_answers left) spare) (record { server = side.server; opened = opened; went = went }) (further_behind flows at.used) asked
+        said_on events (standing (unparked at) opened from (dial_answers left)) (record { side = side; opened = opened; went = went })
+        (further_behind flows at.used) asked
 
     -- between two requests: the next one is not whole over fewer
-    pub record Between (at : At) (come : ℕ) (sent : List Command) (left : List Reply) : Type 0 where
+    pub record Between (at : At) (opened come : ℕ) (sent : List Command) (left : List Reply) : Type 0 where
       pub from : ℕ
       pub within : from ≤ come
       pub waits : Waits (request_is_whole events at.used) from come
-      pub rest : all ≡ said sent ++ further_behind (suc flows) at.used (standing at from (dial_answers left) spare)
+      pub rest : all ≡ said sent ++ further_behind (suc flows) at.used (standing at opened from (dial_answers left))
 
     -- a request's body is awaited
-    pub record Begun (at : At) (asked : Request) (come : ℕ) (sent : List Command) (left : List Reply) : Type 0 where
+    pub record Begun (at : At) (asked : Request) (opened come : ℕ) (sent : List Command) (left : List Reply) : Type 0 where
       pub from : ℕ
       pub within : from ≤ come
       pub waits : Waits (request_is_whole events at.used) from come
@@ -81,19 +82,18 @@ module _ (terms : Terms) (events : List (Timed Event)) (all : List Command) wher
       pub there : head_in (request_item (drop at.used all_bytes)) ≡ Some head
       pub accepted : judged terms.place head ≡ Accepted asked
       pub rest : all ≡ said sent
-          ++ said_whole terms events (standing at from (dial_answers left) spare) asked (request_item (drop at.used all_bytes)) (further_after flows at.used)
+          ++ said_whole terms events (standing at opened from (dial_answers left)) asked (request_item (drop at.used all_bytes)) (further_after flows at.used)
 
     -- the connection to its server
-    pub record Connecting (at : At) (asked : Request) (come : ℕ) (sent : List Command) (left : List Reply) : Type 0 where
+    pub record Connecting (at : At) (asked : Request) (opened come : ℕ) (sent : List Command) (left : List Reply) : Type 0 where
       pub from : ℕ
       pub rest : all ≡ said sent
-          ++ said_by terms events (standing at from (dial_answers left) spare) asked come None (further_behind flows at.used)
+          ++ said_by terms events (standing at opened from (dial_answers left)) asked come None (further_behind flows at.used)
 
     -- the request was sent on, over so many events, and its response is not whole over fewer
     pub record Onward (asked : Request) (side : ServerSide) (opened went come : ℕ) : Type 0 where
-      pub used : side.used ≡ 0
       pub within : went ≤ come
-      pub waits : Waits (response_is_whole events side.server opened (is_head asked.method)) went come
+      pub waits : Waits (response_is_whole events side opened (is_head asked.method)) went come
 
     -- its final response is awaited
     pub record Answering (at : At) (asked : Request) (side : ServerSide) (opened come : ℕ) (sent : List Command) (left : List Reply) : Type 0 where
@@ -118,15 +118,15 @@ module _ (terms : Terms) (events : List (Timed Event)) (all : List Command) wher
       pub is_all : all ≡ said sent
 
     abbrev pub IsDoing : At → Flow → Doing → ℕ → ℕ → List Command → List Reply → Type 0
-    IsDoing at flow (request_body None) opened come sent left = Begun at flow.request come sent left
-    IsDoing at flow connection opened come sent left = Connecting at flow.request come sent left
+    IsDoing at flow (request_body None) opened come sent left = Begun at flow.request opened come sent left
+    IsDoing at flow connection opened come sent left = Connecting at flow.request opened come sent left
     IsDoing at flow (response_head side how) opened come sent left = Answering at flow.request side opened come sent left
     IsDoing at flow (response_body side how) opened come sent left = Returning at flow side opened come sent left
     IsDoing at flow (upgraded side) opened come sent left = Ended sent
     IsDoing at flow _ opened come sent left = ⊥
 
     abbrev pub IsAt : Stage → ℕ → ℕ → List Command → List Reply → Type 0
-    IsAt (idle at) opened come sent left = Between at come sent left
+    IsAt (idle at) opened come sent left = Between at opened come sent left
     IsAt (busy at flow doing) opened come sent left = IsDoing at flow doing opened come sent left
     IsAt (next at) opened come sent left = ⊥
     IsAt over opened come sent left = Ended sent

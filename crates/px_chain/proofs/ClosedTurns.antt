@@ -18,26 +18,27 @@ use Rattle.px_read.specs.Laws.{head_in}
 use Rattle.px_read.specs.declared.head.RequestHead.{RequestHead as ReadRequest}
 use Rattle.px_read.proofs.ItemLemmas.{Carries, request_carries}
 use Rattle.px_read.proofs.LawLemmas.{chunk_laws}
-use Rattle.px_exchange.specs.Places.{dialled_for, form_at, goes_home}
+use Rattle.px_exchange.specs.Places.{dialled_for, form_at}
 use Rattle.px_exchange.specs.declared.asked.Judged.{Judged}
 use Rattle.px_exchange.specs.declared.asked.Judged.TheVariants.{Refused, Accepted, Connects}
+use Rattle.px_exchange.specs.declared.ending.Used.{Used}
 use Rattle.px_exchange.specs.declared.ending.Used.TheVariants.{NoServer}
 use Rattle.px_exchange.specs.declared.taken.Taken.{Taken}
 use Rattle.px_exchange.specs.declared.taken.Taken.TheVariants as taken
 use Rattle.px_exchange.specs.declared.terms.Terms.{Terms}
-use Rattle.px_exchange.specs.Endings.{closed_message, ends_by_fault, ends_early}
+use Rattle.px_exchange.specs.Endings.{ends_by_fault, shut_server}
 use Rattle.px_exchange.specs.Finds.{look_body, look_head, look_judged, or_leaves}
 use Rattle.px_exchange.specs.Flows.{ask_of, with_body}
 use Rattle.px_exchange.specs.Requests.{expects, flow_of, is_head, judged}
 use Rattle.px_exchange.specs.Texts.{meets_expectation, onward_text}
-use Rattle.px_chain.specs.Chain.{goes_on_by, opened_spare, sequence, spare_for, turn_body, turn_dial, turn_head, turn_judged, turn_taken_body, turn_taken_head, used_more}
-use Rattle.px_chain.specs.ClosedForm.{GoesOn, request_items, behind_request, connected_at, dial_answers, fault_said, first_flows, flows_behind, is_whole, request_is_whole, said, said_by, said_connected, said_from, said_of, said_whole, side_for}
-use Rattle.px_chain.specs.Sights.{Sight, Spare, is_taken, request_in, sight_of, unless_taken, unused_over}
-use Rattle.px_chain.specs.Stages.{At, Stage, request_body, side_of}
+use Rattle.px_chain.specs.Chain.{goes_on_by, parked_for, sequence, turn_body, turn_dial, turn_head, turn_judged, turn_taken_body, turn_taken_head, used_more}
+use Rattle.px_chain.specs.ClosedForm.{GoesOn, request_items, behind_request, connected_at, dial_answers, fault_said, first_flows, flows_behind, is_whole, request_is_whole, said, said_by, said_connected, said_from, said_of, said_whole}
+use Rattle.px_chain.specs.Sights.{Sight, request_in, server_parked, sight_of}
+use Rattle.px_chain.specs.Stages.{At, ServerSide, Stage, side_parked}
 use Rattle.px_chain.specs.Streams.{Since, bytes_of}
-use Rattle.px_chain.proofs.ClosedFronts.{IsFront, front_length, least_at, same_bytes, same_taken, side_grows}
+use Rattle.px_chain.proofs.ClosedFronts.{IsFront, drop_on, front_length, least_at, same_bytes, same_taken, side_grows}
 use Rattle.px_chain.proofs.ClosedItems.{after_on, items_after, opening_on}
-use Rattle.px_chain.proofs.ClosedQuiet.{SaysLast, goes_behind, no_dial, said_join, says_expectation, says_fault, takes_request_body, takes_request_head}
+use Rattle.px_chain.proofs.ClosedQuiet.{SaysLast, goes_behind, no_dial, said_join, says_expectation, says_fault, says_last_behind, says_sent, says_server, takes_request_body, takes_request_head}
 use Rattle.px_chain.proofs.ClosedStages.{Begun, Between, Connecting, IsAt, all_bytes, further_after, further_behind, goes_further, items_behind, standing}
 
 -- ---- nothing asked
@@ -52,36 +53,33 @@ ends_ask owed ask is = cc
 pub asks_same : (one ask : Command) → Asks one ≡ Asks ask → one ≡ ask
 asks_same one ask is = cc
 
--- ---- the client's requests over a prefix
-
-pub drop_on : (n : ℕ) (xs ys : List ℕ) → (more : List ℕ) × (drop n (xs ++ ys) ≡ drop n xs ++ more)
-drop_on zero xs ys = (ys, refl)
-drop_on (suc n) [] ys = (drop (suc n) ys, refl)
-drop_on (suc n) (x ∷ xs) ys = drop_on n xs ys
+-- what a reply brings, behind what was owed behind the ask
+abbrev pub behind_these : List Command → Turn Stage Command → Turn Stage Command
+behind_these parts turned = record turned { owed = parts ++ turned.owed }
 
 module _ (terms : Terms) (events : List (Timed Event)) (all : List Command) where
   -- Where it stands behind the reply, with so many flows behind that one, and the replies that are left go on; or the last of these flows
   -- has ended.
-  pub data Led (flows : ℕ) (turned : Turn Stage Command) (spare : Option Spare) (opened come : ℕ) (sent so_far : List Command) (ask : Command) (waits : Bool)
+  pub data Led (flows : ℕ) (turned : Turn Stage Command) (opened come : ℕ) (sent so_far : List Command) (ask : Command) (waits : Bool)
       (rest : List Command) (replies : List Reply) : Type 0 where
-    goes_on : (more : ℕ) → IsAt terms events all more spare (sequence turned.stage) opened come (sent ++ (so_far ++ ask ∷ turned.owed)) replies →
+    goes_on : (more : ℕ) → IsAt terms events all more (sequence turned.stage) opened come (sent ++ (so_far ++ ask ∷ turned.owed)) replies →
         first_flows (flows_behind flows ask) (turned.owed ++ rest) ≡ turned.owed ++ first_flows (suc more) rest → GoesOn waits (first_flows (suc more) rest) replies →
-        Led flows turned spare opened come sent so_far ask waits rest replies
+        Led flows turned opened come sent so_far ask waits rest replies
     has_ended : said (sent ++ (so_far ++ ask ∷ first_flows (flows_behind flows ask) (turned.owed ++ rest))) ≡ all →
-        Led flows turned spare opened come sent so_far ask waits rest replies
+        Led flows turned opened come sent so_far ask waits rest replies
 
-  abbrev pub Leads : ℕ → Turn Stage Command → Option Spare → ℕ → ℕ → List Command → List Command → Command → Bool → List Command → Reply → List Reply → Type 0
-  Leads flows turned spare opened come sent so_far ask waits rest value replies =
+  abbrev pub Leads : ℕ → Turn Stage Command → ℕ → ℕ → List Command → List Command → Command → Bool → List Command → Reply → List Reply → Type 0
+  Leads flows turned opened come sent so_far ask waits rest value replies =
       GoesOn waits (ask ∷ first_flows (flows_behind flows ask) (turned.owed ++ rest)) (value ∷ replies) →
-      Led flows turned spare opened come sent so_far ask waits rest replies
+      Led flows turned opened come sent so_far ask waits rest replies
 
   -- a reply that ends its flow
-  pub ending_led : (flows : ℕ) (turned : Turn Stage Command) (spare : Option Spare) (opened come : ℕ) (sent so_far : List Command) (ask : Command) (waits : Bool)
+  pub ending_led : (flows : ℕ) (turned : Turn Stage Command) (opened come : ℕ) (sent so_far : List Command) (ask : Command) (waits : Bool)
       (rest : List Command) (replies : List Reply) (texts : List Command) → flows_behind flows ask ≡ suc flows → SaysLast turned.owed texts →
       (flows ≡ 0 → all ≡ said (sent ++ (so_far ++ ask ∷ turned.owed))) →
-      ((more : ℕ) → flows ≡ suc more → IsAt terms events all more spare (sequence turned.stage) opened come (sent ++ (so_far ++ ask ∷ turned.owed)) replies) →
-      GoesOn waits (first_flows (flows_behind flows ask) (turned.owed ++ rest)) replies → Led flows turned spare opened come sent so_far ask waits rest replies
-  ending_led zero turned spare opened come sent so_far ask waits rest replies texts behind says last more goes =
+      ((more : ℕ) → flows ≡ suc more → IsAt terms events all more (sequence turned.stage) opened come (sent ++ (so_far ++ ask ∷ turned.owed)) replies) →
+      GoesOn waits (first_flows (flows_behind flows ask) (turned.owed ++ rest)) replies → Led flows turned opened come sent so_far ask waits rest replies
+  ending_led zero turned opened come sent so_far ask waits rest replies texts behind says last more goes =
       let asked : List Command → List Command = λ l. sent ++ (so_far ++ ask ∷ l) in
       let split : (l : List Command) → said (asked l) ≡ said sent ++ (said so_far ++ (said_of ask ++ said l)) = λ l.
       said_join sent (so_far ++ ask ∷ l) ∙ ap (λ m. said sent ++ m) (said_join so_far (ask ∷ l)) in
@@ -90,34 +88,28 @@ module _ (terms : Terms) (events : List (Timed Event)) (all : List Command) wher
       ∙ (ap (λ n. said sent ++ (said so_far ++ (said_of ask ++ said (first_flows n (turned.owed ++ rest))))) behind
       ∙ (ap (λ l. said sent ++ (said so_far ++ (said_of ask ++ l))) (says.last rest ∙ sym says.is)
       ∙ (sym (split turned.owed) ∙ sym (last refl)))))
-  ending_led (suc more) turned spare opened come sent so_far ask waits rest replies texts behind says last on goes =
+  ending_led (suc more) turned opened come sent so_far ask waits rest replies texts behind says last on goes =
       let cut : first_flows (flows_behind (suc more) ask) (turned.owed ++ rest) ≡ turned.owed ++ first_flows (suc more) rest =
       ap (λ n. first_flows n (turned.owed ++ rest)) behind ∙ says.keeps more rest in
       let P : List Command → Type 0 = λ l. GoesOn waits l replies in
       goes_on more (on more refl) cut (says.skips waits (first_flows (suc more) rest) replies (subst P cut goes))
 
-  -- a request that goes on: its server is dialled, or it goes to the spare side
-  side_led : (flows : ℕ) (spare : Option Spare) (home : Bool) (at : At) (whole : Flow) (from later : ℕ) (sent : List Command) (waits : Bool) (rest : List Command)
+  -- a request that goes on: its server is dialled, or it goes to the parked side
+  side_led : (flows : ℕ) (side : Option ServerSide) (at : At) (whole : Flow) (opened from : ℕ) (sent : List Command) (waits : Bool) (rest : List Command)
       (replies : List Reply) (prefix : List (Timed Event)) →
       let ask = ask_of whole RequestBody in
-      let turned = goes_on_by (spare_for home (unused_over spare prefix)) terms.place at whole in
-      let taken = is_taken (request_body None) (side_of (sequence turned.stage)) in
-      all ≡ said sent ++ said_by terms events (standing at from (dial_answers replies) spare) whole.request (length prefix) (side_for home spare) (further_behind terms events all flows at.used) →
-      GoesOn waits (first_flows (suc flows) (turned.owed ++ rest)) replies →
-      Led flows turned (unless_taken taken spare) (opened_spare taken spare later) (length prefix) sent [] ask waits rest replies
-  side_led flows None true at whole from later sent waits rest replies prefix is goes =
+      let turned = goes_on_by side terms.place at whole in
+      all ≡ said sent
+      ++ said_by terms events (standing at opened from (dial_answers replies)) whole.request (length prefix) side (further_behind terms events all flows at.used) →
+      GoesOn waits (first_flows (suc flows) (turned.owed ++ rest)) replies → Led flows turned opened (length prefix) sent [] ask waits rest replies
+  side_led flows None at whole opened from sent waits rest replies prefix is goes =
       goes_on flows (record { from = from; rest = goes_further all sent (ask_of whole RequestBody ∷ []) [] _ _ is refl refl }) refl goes
-  side_led flows None false at whole from later sent waits rest replies prefix is goes =
-      goes_on flows (record { from = from; rest = goes_further all sent (ask_of whole RequestBody ∷ []) [] _ _ is refl refl }) refl goes
-  side_led flows (Some spare) false at whole from later sent waits rest replies prefix is goes =
-      goes_on flows (record { from = from; rest = goes_further all sent (ask_of whole RequestBody ∷ []) [] _ _ is refl refl }) refl goes
-  side_led flows (Some spare) true at whole from later sent waits rest replies prefix is goes =
-      let text : Command = commands.Send (Server spare.server) (onward_text (form_at terms.place) whole.request) in
+  side_led flows (Some side) at whole opened from sent waits rest replies prefix is goes =
+      let text : Command = commands.Send (Server side.server) (onward_text (form_at terms.place) whole.request) in
       goes_on flows
       (record {
         went = length prefix;
         onward = record {
-          used = refl;
           within = omega arith;
           waits = λ k low high. absurd (omega arith);
         };
@@ -135,9 +127,8 @@ module _ (terms : Terms) (events : List (Timed Event)) (all : List Command) wher
       let P : List ℕ → Type 0 = λ l. Carries (request_item (drop used bytes)) (request_item l) in
       subst P (sym (ap (drop used) grows.grown ∙ on.1)) (request_carries chunk_laws (drop used bytes) on.0)
 
-  module _ (flows : ℕ) (spare : Option Spare) (sent : List Command) (moment : ℕ) (value : Reply) (waits : Bool) (rest : List Command) (replies : List Reply)
-      (since : Since) (opened : ℕ)
-      (prefix : List (Timed Event)) (is_front : IsFront prefix events) (ask : Command) where
+  module _ (flows : ℕ) (sent : List Command) (moment : ℕ) (value : Reply) (waits : Bool) (rest : List Command) (replies : List Reply)
+      (since : Since) (opened : ℕ) (prefix : List (Timed Event)) (is_front : IsFront prefix events) (ask : Command) (leaving : List Command) (at : At) where
     abbrev answer : Timed Reply
     answer = record { moment = moment; value = value }
 
@@ -145,9 +136,12 @@ module _ (terms : Terms) (events : List (Timed Event)) (all : List Command) wher
     abbrev come : ℕ
     come = length prefix
 
-    -- while no server is used
+    -- while no flow uses a server's side
     abbrev seen : Sight
-    seen = sight_of None since opened spare prefix
+    seen = sight_of (side_parked at.parked) since opened prefix
+
+    abbrev parked : Used
+    parked = server_parked at.parked seen
 
     -- the replies that are left before this one, and behind it
     abbrev left : List Reply
@@ -160,18 +154,18 @@ module _ (terms : Terms) (events : List (Timed Event)) (all : List Command) wher
 
     -- ---- the head of a request
 
-    accepted_led : (later : ℕ) (at : At) (head : ReadRequest) (message : Request) → Between terms events all flows spare at come sent left →
+    accepted_led : (head : ReadRequest) (message : Request) → Between terms events all flows at opened come sent left →
         head_in (request_item (drop at.used (all_bytes terms events all))) ≡ Some head → judged terms.place head ≡ Accepted message →
-        Leads flows (turn_judged terms at head (Accepted message) seen answer) spare later come sent [] (ask_of (flow_of terms at.flow message seen.now) RequestHead) waits rest value replies
-    accepted_led later at head message b there accepted goes =
+        Leads flows (turn_judged terms at head (Accepted message) seen answer) opened come sent [] (ask_of (flow_of terms at.flow message seen.now) RequestHead) waits rest value replies
+    accepted_led head message b there accepted goes =
         let flow = flow_of terms at.flow message seen.now in
         let asked = ask_of flow RequestHead in
         let bytes = drop at.used (all_bytes terms events all) in
         let meets = says_expectation (expects head) in
         let whole : List (Option Fault) → List Command = λ d.
-        said_whole terms events (standing at b.from d spare) message (request_item bytes) (further_after terms events all flows at.used) in
-        let opening = opening_on terms events (standing at b.from (dial_answers left) spare) flows bytes head message there accepted in
-        let P : Taken Request → Type 0 = λ t. Leads flows (turn_taken_head at flow (expects head) t moment seen.closed) spare later come sent [] asked waits rest value replies in
+        said_whole terms events (standing at opened b.from d) message (request_item bytes) (further_after terms events all flows at.used) in
+        let opening = opening_on terms events (standing at opened b.from (dial_answers left)) flows bytes head message there accepted in
+        let P : Taken Request → Type 0 = λ t. Leads flows (turn_taken_head at flow (expects head) t moment seen) opened come sent [] asked waits rest value replies in
         let led : P (taken.GoesOn message) = λ on.
         goes_on flows
         (record {
@@ -188,40 +182,35 @@ module _ (terms : Terms) (events : List (Timed Event)) (all : List Command) wher
         (goes_behind (meets_expectation (expects head)) (meets_expectation (expects head)) meets waits flows rest replies on.1) in
         subst P (sym (takes_request_head flow value goes.0)) led goes
 
-    judged_led : (later : ℕ) (at : At) (head : ReadRequest) (made : Judged) → judged terms.place head ≡ made → Between terms events all flows spare at come sent left →
+    judged_led : (head : ReadRequest) (made : Judged) → judged terms.place head ≡ made → Between terms events all flows at opened come sent left →
         head_in (request_item (drop at.used (all_bytes terms events all))) ≡ Some head →
-        or_leaves seen.closed [] (look_judged terms at.flow head made seen.now seen.closed) ≡ Asks ask →
-        Leads flows (turn_judged terms at head made seen answer) spare later come sent [] ask waits rest value replies
-    judged_led later at head (Refused fault) made b there asks = absurd (ends_ask _ ask asks)
-    judged_led later at head (Connects address) made b there asks = absurd (ends_ask _ ask asks)
-    judged_led later at head (Accepted message) made b there asks =
-        let P : Command → Type 0 = λ c. Leads flows (turn_judged terms at head (Accepted message) seen answer) spare later come sent [] c waits rest value replies in
-        subst P (asks_same _ ask asks) (accepted_led later at head message b there made)
+        or_leaves seen.closed leaving (look_judged terms at.flow head made seen.now parked seen.closed) ≡ Asks ask →
+        Leads flows (turn_judged terms at head made seen answer) opened come sent [] ask waits rest value replies
+    judged_led head (Refused fault) made b there asks = absurd (ends_ask _ ask asks)
+    judged_led head (Connects address) made b there asks = absurd (ends_ask _ ask asks)
+    judged_led head (Accepted message) made b there asks =
+        let P : Command → Type 0 = λ c. Leads flows (turn_judged terms at head (Accepted message) seen answer) opened come sent [] c waits rest value replies in
+        subst P (asks_same _ ask asks) (accepted_led head message b there made)
 
-    pub idle_led : (later : ℕ) (at : At) (item : Item ReadRequest) → request_in at seen ≡ item → Between terms events all flows spare at come sent left →
-        or_leaves seen.closed [] (look_head terms at.flow item seen.now seen.closed) ≡ Asks ask →
-        Leads flows (turn_head terms at item seen answer) spare later come sent [] ask waits rest value replies
-    idle_led later at missing is b asks = absurd (asks_nothing seen.closed [] ask asks)
-    idle_led later at (part head body) is b asks =
-        judged_led later at head (judged terms.place head) refl b ((client_carried at.used prefix is_front).head head (ap head_in is)) asks
-    idle_led later at (complete head body trailers used) is b asks =
-        judged_led later at head (judged terms.place head) refl b ((client_carried at.used prefix is_front).head head (ap head_in is)) asks
-    idle_led later at (bad_head fault) is b asks = absurd (ends_ask _ ask asks)
-    idle_led later at (bad_body fault head body) is b asks =
-        judged_led later at head (judged terms.place head) refl b ((client_carried at.used prefix is_front).head head (ap head_in is)) asks
+    pub idle_led : (item : Item ReadRequest) → request_in at seen ≡ item → Between terms events all flows at opened come sent left →
+        or_leaves seen.closed leaving (look_head terms at.flow item seen.now parked seen.closed) ≡ Asks ask →
+        Leads flows (turn_head terms at item seen answer) opened come sent [] ask waits rest value replies
+    idle_led missing is b asks = absurd (asks_nothing seen.closed leaving ask asks)
+    idle_led (part head body) is b asks =
+        judged_led head (judged terms.place head) refl b ((client_carried at.used prefix is_front).head head (ap head_in is)) asks
+    idle_led (complete head body trailers used) is b asks =
+        judged_led head (judged terms.place head) refl b ((client_carried at.used prefix is_front).head head (ap head_in is)) asks
+    idle_led (bad_head fault) is b asks = absurd (ends_ask _ ask asks)
+    idle_led (bad_body fault head body) is b asks =
+        judged_led head (judged terms.place head) refl b ((client_carried at.used prefix is_front).head head (ap head_in is)) asks
 
     -- ---- the request's body
 
-    -- by the reply to its hook the spare side may be taken
-    abbrev LeadsOn : ℕ → Turn Stage Command → Command → Type 0
-    LeadsOn later turned asked =
-        let taken = is_taken (request_body None) (side_of (sequence turned.stage)) in
-        Leads flows turned (unless_taken taken spare) (opened_spare taken spare later) come sent [] asked waits rest value replies
-
-    whole_led : (later : ℕ) (at : At) (flow : Flow) (head : ReadRequest) (body : Body) (trailers : List (List ℕ × List ℕ)) (used : ℕ) →
-        request_in at seen ≡ complete head body trailers used → Begun terms events all flows spare at flow.request come sent left →
-        LeadsOn later (turn_body terms.place at flow (complete head body trailers used) seen answer) (ask_of (with_body flow body.content trailers seen.now) RequestBody)
-    whole_led later at flow head body trailers used is b goes =
+    whole_led : (flow : Flow) (head : ReadRequest) (body : Body) (trailers : List (List ℕ × List ℕ)) (used : ℕ) →
+        request_in at seen ≡ complete head body trailers used → Begun terms events all flows at flow.request opened come sent left →
+        Leads flows (turn_body terms.place at flow (complete head body trailers used) seen answer) opened come sent []
+        (ask_of (with_body flow body.content trailers seen.now) RequestBody) waits rest value replies
+    whole_led flow head body trailers used is b goes =
         let whole = with_body flow body.content trailers seen.now in
         let asked = ask_of whole RequestBody in
         let bytes = drop at.used (all_bytes terms events all) in
@@ -229,7 +218,7 @@ module _ (terms : Terms) (events : List (Timed Event)) (all : List Command) wher
         let same : Some b.head ≡ Some head = sym b.there ∙ ap head_in item in
         let heads : b.head ≡ head = cc in
         let accepted : judged terms.place head ≡ Accepted flow.request = ap (judged terms.place) (sym heads) ∙ b.accepted in
-        let point = standing at b.from (dial_answers replies) spare in
+        let point = standing at opened b.from (dial_answers replies) in
         let connected : connected_at events point ≡ Some come =
         least_at (request_is_whole events at.used) b.from come (length events) b.within (front_length prefix events is_front) b.waits
         (whole_here at.used ∙ ap is_whole is) in
@@ -238,63 +227,75 @@ module _ (terms : Terms) (events : List (Timed Event)) (all : List Command) wher
         ∙ ap (λ l. request_items l) (drop-drop used at.used (all_bytes terms events all)) in
         let F = further_after terms events all flows at.used in
         let ends_here : List Command = said_connected terms events (behind_request point used) whole.request (Some come) (further_behind terms events all flows (at.used + used)) in
-        let on : dial_answers left ≡ dial_answers replies → said_whole terms events (standing at b.from (dial_answers left) spare) flow.request (request_item bytes) F ≡ ends_here = λ same.
-        ap (λ d. said_whole terms events (standing at b.from d spare) flow.request (request_item bytes) F) same
+        let on : dial_answers left ≡ dial_answers replies →
+        said_whole terms events (standing at opened b.from (dial_answers left)) flow.request (request_item bytes) F ≡ ends_here = λ same.
+        ap (λ d. said_whole terms events (standing at opened b.from d) flow.request (request_item bytes) F) same
         ∙ (ap (λ i. said_whole terms events point flow.request i F) item
         ∙ (ap (λ o. said_connected terms events (behind_request point used) whole.request o F) connected
         ∙ ap (λ l. said_connected terms events (behind_request point used) whole.request (Some come) (λ next. said_from terms events next (take flows l))) after)) in
-        let P : Taken Request → Type 0 = λ t. LeadsOn later (turn_taken_body terms.place (used_more at used) whole seen.spare t moment seen.closed) asked in
-        let home : P (taken.GoesOn whole.request) = λ on_it.
-        side_led flows spare (goes_home terms.place whole.request) (used_more at used) whole b.from later sent waits rest replies prefix
+        let P : Taken Request → Type 0 = λ t.
+        Leads flows (turn_taken_body terms.place (used_more at used) whole t moment seen) opened come sent [] asked waits rest value replies in
+        let led : P (taken.GoesOn whole.request) = λ on_it.
+        side_led flows (parked_for terms.place whole.request at.parked) (used_more at used) whole opened b.from sent waits rest replies prefix
         (b.rest ∙ ap (λ l. said sent ++ l) (on (no_dial whole value replies on_it.0))) on_it.1 in
-        subst P (sym (takes_request_body whole value goes.0)) home goes
+        subst P (sym (takes_request_body whole value goes.0)) led goes
 
-    pub body_led : (later : ℕ) (at : At) (flow : Flow) (item : Item ReadRequest) → request_in at seen ≡ item → Begun terms events all flows spare at flow.request come sent left →
-        or_leaves seen.closed (ends_early flow closed_message seen.now NoServer true) (look_body flow item seen.now seen.closed) ≡ Asks ask →
-        LeadsOn later (turn_body terms.place at flow item seen answer) ask
-    body_led later at flow missing is b asks = absurd (asks_nothing seen.closed _ ask asks)
-    body_led later at flow (part head body) is b asks = absurd (asks_nothing seen.closed _ ask asks)
-    body_led later at flow (complete head body trailers used) is b asks =
-        let P : Command → Type 0 = LeadsOn later (turn_body terms.place at flow (complete head body trailers used) seen answer) in
-        subst P (asks_same _ ask asks) (whole_led later at flow head body trailers used is b)
-    body_led later at flow (bad_head fault) is b asks = absurd (asks_nothing seen.closed _ ask asks)
-    body_led later at flow (bad_body fault head body) is b asks = absurd (ends_ask _ ask asks)
+    pub body_led : (flow : Flow) (item : Item ReadRequest) → request_in at seen ≡ item → Begun terms events all flows at flow.request opened come sent left →
+        or_leaves seen.closed leaving (look_body flow item seen.now parked seen.closed) ≡ Asks ask →
+        Leads flows (turn_body terms.place at flow item seen answer) opened come sent [] ask waits rest value replies
+    body_led flow missing is b asks = absurd (asks_nothing seen.closed leaving ask asks)
+    body_led flow (part head body) is b asks = absurd (asks_nothing seen.closed leaving ask asks)
+    body_led flow (complete head body trailers used) is b asks =
+        let P : Command → Type 0 = λ c.
+        Leads flows (turn_body terms.place at flow (complete head body trailers used) seen answer) opened come sent [] c waits rest value replies in
+        subst P (asks_same _ ask asks) (whole_led flow head body trailers used is b)
+    body_led flow (bad_head fault) is b asks = absurd (asks_nothing seen.closed leaving ask asks)
+    body_led flow (bad_body fault head body) is b asks = absurd (ends_ask _ ask asks)
 
     -- ---- the connection
 
-    answered_led : (at : At) (flow : Flow) (answered : Reply) → Connecting terms events all flows spare at flow.request come sent (answered ∷ replies) →
-        Leads flows (turn_dial terms.place at flow (record { moment = moment; value = answered }) seen.closed) spare come come sent []
-        (commands.Dial at.dials (dialled_for terms.place flow.request) None) waits rest answered replies
-    answered_led at flow reply.Dialled c goes =
+    -- what the answer of a dial brings, behind the close of the parked side
+    abbrev dial_turned : Flow → Reply → Turn Stage Command
+    dial_turned flow answered = behind_these (shut_server parked) (turn_dial terms.place at flow (record { moment = moment; value = answered }) seen.closed)
+
+    answered_led : (flow : Flow) (answered : Reply) → Connecting terms events all flows at flow.request opened come sent (answered ∷ replies) →
+        Leads flows (dial_turned flow answered) come come sent [] (commands.Dial at.dials (dialled_for terms.place flow.request) None) waits rest answered replies
+    answered_led flow reply.Dialled c goes =
+        let dial = commands.Dial at.dials (dialled_for terms.place flow.request) None in
+        let text = onward_text (form_at terms.place) flow.request in
+        let send = commands.Send (Server at.dials) text in
+        let owed = shut_server parked ++ send ∷ [] in
+        let sends = says_sent (shut_server parked) (Server at.dials) text (says_server parked) in
         goes_on flows
         (record {
           went = come;
           onward = record {
-            used = refl;
             within = omega arith;
             waits = λ k low high. absurd (omega arith);
           };
           from = c.from;
-          rest = goes_further all sent _ _ _ _ c.rest refl refl;
+          rest = goes_further all sent (dial ∷ owed) (dial ∷ send ∷ []) _ _ c.rest (ap (λ l. dial ∷ l) sends.is) refl;
         })
-        refl goes.1
-    answered_led at flow (reply.Refused fault) c goes =
-        let ends = says_fault flow fault moment NoServer seen.closed in
+        (sends.keeps flows rest) (goes_behind owed (send ∷ []) sends waits flows rest replies goes.1)
+    answered_led flow (reply.Refused fault) c goes =
+        let texts = fault_said fault (is_head flow.request.method) in
+        let ends = says_last_behind (shut_server parked) (ends_by_fault flow fault moment NoServer seen.closed) texts (says_server parked)
+        (says_fault flow fault moment NoServer seen.closed) in
         let dial = commands.Dial at.dials (dialled_for terms.place flow.request) None in
-        let owed = ends_by_fault flow fault moment NoServer seen.closed in
+        let owed = shut_server parked ++ ends_by_fault flow fault moment NoServer seen.closed in
         let on : all ≡ said (sent ++ dial ∷ owed) ++ [] =
-        goes_further all sent (dial ∷ owed) (dial ∷ fault_said fault (is_head flow.request.method)) _ [] c.rest (ap (λ l. dial ∷ l) ends.is) refl in
+        goes_further all sent (dial ∷ owed) (dial ∷ texts) _ [] c.rest (ap (λ l. dial ∷ l) ends.is) refl in
         let is_all = on ∙ append-nil _ in
-        ending_led flows (turn_dial terms.place at flow (record { moment = moment; value = reply.Refused fault }) seen.closed) spare come come sent [] dial waits rest replies
-        (fault_said fault (is_head flow.request.method)) refl ends (λ none. is_all) (λ more is. record { is_all = is_all }) goes.1
-    answered_led at flow (reply.Go given streamed) c goes = absurd goes.0
-    answered_led at flow (reply.Respond response) c goes = absurd goes.0
-    answered_led at flow reply.Kill c goes = absurd goes.0
-    answered_led at flow reply.Discard c goes = absurd goes.0
+        ending_led flows (dial_turned flow (reply.Refused fault)) come come sent [] dial waits rest replies texts refl ends
+        (λ none. is_all) (λ more is. record { is_all = is_all }) goes.1
+    answered_led flow (reply.Go given streamed) c goes = absurd goes.0
+    answered_led flow (reply.Respond response) c goes = absurd goes.0
+    answered_led flow reply.Kill c goes = absurd goes.0
+    answered_led flow reply.Discard c goes = absurd goes.0
 
-    pub dial_led : (at : At) (flow : Flow) → Connecting terms events all flows spare at flow.request come sent left →
-        or_leaves seen.closed [] (Asks (commands.Dial at.dials (dialled_for terms.place flow.request) None)) ≡ Asks ask →
-        Leads flows (turn_dial terms.place at flow answer seen.closed) spare come come sent [] ask waits rest value replies
-    dial_led at flow c asks =
-        let P : Command → Type 0 = λ d. Leads flows (turn_dial terms.place at flow answer seen.closed) spare come come sent [] d waits rest value replies in
-        subst P (asks_same _ ask asks) (answered_led at flow value c)
+    pub dial_led : (flow : Flow) → Connecting terms events all flows at flow.request opened come sent left →
+        or_leaves seen.closed leaving (Asks (commands.Dial at.dials (dialled_for terms.place flow.request) None)) ≡ Asks ask →
+        Leads flows (dial_turned flow value) come come sent [] ask waits rest value replies
+    dial_led flow c asks =
+        let P : Command → Type 0 = λ d. Leads flows (dial_turned flow value) come come sent [] d waits rest value replies in
+        subst P (asks_same _ ask asks) (answered_led flow value c)

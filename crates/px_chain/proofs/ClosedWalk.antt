@@ -1,46 +1,47 @@
 -- The walk of a conversation whose replies go on: from one ask to the next, and all that is due is in closed form.
-use Rattle.std.proofs.Common.{◌≡◌, ℕ, zero, suc, ◌+◌, Bool, true, false, List, [], ◌∷◌, ◌++◌, length, map, Option, Some, None, refl, ap, sym, ◌∙◌, subst, append_assoc, length-append, arith}
+use Rattle.std.proofs.Common.{◌≡◌, ℕ, zero, suc, ◌+◌, Bool, true, false, List, [], ◌∷◌, ◌++◌, length, map, Some, None, refl, ap, sym, ◌∙◌, subst, append_assoc, length-append, arith}
 use Rattle.std.proofs.lemmas.List.{append-nil, map-append}
 use Rattle.px_text.specs.Prefix.{IsPrefixOf}
 use Rattle.px_event.specs.declared.command.Command.{Command}
+use Rattle.px_event.specs.declared.command.Command.TheVariants as commands
 use Rattle.px_event.specs.declared.event.Event.{Event}
 use Rattle.px_event.specs.declared.reply.Reply.{Reply}
-use Rattle.px_event.specs.Chain.{Stamp, Stamped, Timed, Look, NotYet, Asks, Ends, Reached, Stop, Chain, Turn, worked_off, at_its_step, reach, reach_by, stop_at, walk, walk_by, found, owed_at}
+use Rattle.px_event.specs.Chain.{Stamp, Stamped, Timed, Look, NotYet, Asks, Ends, Reached, Stop, Chain, Turn, worked_off, at_its_step, reach, reach_by, stop_at, walk, walk_by, found, found_at, found_with, owed_at}
 use Rattle.px_event.specs.Laws.{seen_values, waiting_values}
 use Rattle.px_event.proofs.Growth.{prefix_behind}
 use Rattle.px_event.proofs.Reach.{reach_all, reach_values}
 use Rattle.px_event.proofs.Walk.{walk_on}
-use Rattle.px_exchange.specs.EndOrder.{FoundInOrder}
+use Rattle.px_exchange.specs.EndOrder.{FoundInOrder, OnlyCloses}
 use Rattle.px_exchange.specs.declared.terms.Terms.{Terms}
-use Rattle.px_chain.specs.Chain.{http_chain, look, opened_by, opened_spare, pass, sequence, so_far, turn}
+use Rattle.px_chain.specs.Chain.{behind, http_chain, leaving, look, opened_by, pass, sequence, so_far, turn}
 use Rattle.px_chain.specs.ClosedForm.{GoesOn, first_flows, flows_behind, said, said_of_flows}
-use Rattle.px_chain.specs.Sights.{Sight, Spare, Standing, answers_in, request_in, sight_of, sight_over, took_spare, unless_taken}
-use Rattle.px_chain.specs.Stages.{At, Stage, busy, connection, given_body, given_head, idle, next, over, request_body, response_body, response_head, side_of, upgraded}
+use Rattle.px_chain.specs.Sights.{Sight, Standing, answers_in, dials_at, request_in, sight_of, sight_over}
+use Rattle.px_chain.specs.Stages.{At, Stage, busy, connection, given_body, given_head, idle, next, over, request_body, response_body, response_head, side_of, side_parked, upgraded}
 use Rattle.px_chain.specs.Streams.{Since, client_closed}
 use Rattle.px_chain.specs.Walks.{Walk, answered, due_from, heard, point_at}
 use Rattle.px_chain.proofs.ClosedExact.{stage_more, stage_stood}
 use Rattle.px_chain.proofs.ClosedFronts.{IsFront, IsSame, front_of, same_of, still_open}
 use Rattle.px_chain.proofs.ClosedLooks.{IsLast}
-use Rattle.px_chain.proofs.ClosedQuiet.{Keeps, Skips, end_said, first_none, said_join, says_interim}
+use Rattle.px_chain.proofs.ClosedQuiet.{Keeps, Skips, closes_said, end_said, said_join, says_interim}
 use Rattle.px_chain.proofs.ClosedReturns.{answer_led, returned_led}
 use Rattle.px_chain.proofs.ClosedStages.{IsAt}
-use Rattle.px_chain.proofs.ClosedTurns.{Leads, Led, body_led, dial_led, ends_ask, goes_on, has_ended, idle_led}
-use Rattle.px_chain.proofs.EndLemmas.{looks_in_order}
+use Rattle.px_chain.proofs.ClosedTurns.{Leads, Led, behind_these, body_led, dial_led, ends_ask, goes_on, has_ended, idle_led}
+use Rattle.px_chain.proofs.EndLemmas.{behind_closes, looks_in_order}
 
 -- ---- what was owed before is owed in front
 
 module _ {S E R A : Type 0} (chain : Chain S E R A) (a : List A) where
-  abbrev behind_these : Reached S E A → Reached S E A
-  behind_these here = record here { before = a ++ here.before }
+  abbrev with_these : Reached S E A → Reached S E A
+  with_these here = record here { before = a ++ here.before }
 
-  reach_by_behind : (l : Look A) (further here other there : Reached S E A) → further ≡ behind_these other → here ≡ behind_these there →
-      reach_by l further here ≡ behind_these (reach_by l other there)
+  reach_by_behind : (l : Look A) (further here other there : Reached S E A) → further ≡ with_these other → here ≡ with_these there →
+      reach_by l further here ≡ with_these (reach_by l other there)
   reach_by_behind NotYet further here other there on at = on
   reach_by_behind (Asks ask) further here other there on at = at
   reach_by_behind (Ends owed) further here other there on at = at
 
   reach_behind : (last : Stamp) (before : List A) (s : S) (f : List (Timed E)) (es : List (Stamped E)) →
-      reach chain last (a ++ before) s f es ≡ behind_these (reach chain last before s f es)
+      reach chain last (a ++ before) s f es ≡ with_these (reach chain last before s f es)
   reach_behind last before s f [] =
       let on = chain.pass s f in
       ap (λ b. record { before = b; stage = on.stage; prefix = f; rest = [] }) (append_assoc a before on.owed)
@@ -70,7 +71,7 @@ module _ {S E R A : Type 0} (chain : Chain S E R A) (a : List A) where
       ap (λ h. owed_at chain (walk_on chain (r ∷ rs) last h)) (reach_behind last before s f es)
       ∙ walk_by_behind (chain.look here.stage here.prefix) _ _ _ _
       (λ ask.
-      let more = chain.so_far here.stage here.prefix ++ ask ∷ on.owed in
+      let more = chain.so_far here.stage here.prefix ++ ask ∷ (chain.behind here.stage here.prefix ++ on.owed) in
       ap (λ b. owed_at chain (walk chain rs r.stamp b on.stage here.prefix here.rest)) (append_assoc a here.before more)
       ∙ walk_behind rs r.stamp (here.before ++ more) on.stage here.prefix here.rest)
       (append_assoc a here.before _)
@@ -102,16 +103,26 @@ so_far_keeps (busy at flow given_body) seen more rest = refl
 so_far_keeps (next at) seen more rest = refl
 so_far_keeps over seen more rest = refl
 
--- what is found says the same up to the end of a flow
-found_said : (more : ℕ) (l : Look Command) → FoundInOrder l → said (first_flows (suc more) (found l)) ≡ said (found l)
-found_said more NotYet is = refl
-found_said more (Asks ask) is = ap (λ l. said (ask ∷ l)) (first_none (flows_behind more ask))
-found_said more (Ends owed) is = end_said more owed is
+-- what is found says the same up to the end of a flow, and the closes behind an ask say nothing
+found_said : (more : ℕ) (parts : List Command) (l : Look Command) → OnlyCloses parts → FoundInOrder l → said (first_flows (suc more) (found_with parts l)) ≡ said (found l)
+found_said more parts NotYet closes is = refl
+found_said more parts (Asks ask) closes is =
+    said_join (ask ∷ []) (first_flows (flows_behind more ask) parts)
+    ∙ (ap (λ l. said (ask ∷ []) ++ l) (closes_said (flows_behind more ask) parts closes) ∙ append-nil (said (ask ∷ [])))
+found_said more parts (Ends owed) closes is = end_said more owed is
+
+-- a question that waits does so whatever is owed behind it
+waits_alone : (ask : Command) (more : List Command) → GoesOn false (ask ∷ more) [] → GoesOn false (ask ∷ []) []
+waits_alone (commands.Ask asked flow) more goes = goes
+waits_alone (commands.Dial server address inside) more goes = goes
+waits_alone (commands.Send side text) more goes = tt
+waits_alone (commands.Close side) more goes = tt
+waits_alone (commands.Done flow) more goes = tt
 
 module _ (terms : Terms) (events : List (Timed Event)) (all : List Command) where
-  module _ (flows : ℕ) (spare : Option Spare) where
-    pass_at : (stage : Stage) (seen : Sight) (opened come : ℕ) (sent : List Command) (left : List Reply) → IsAt terms events all flows spare stage opened come sent left →
-        IsAt terms events all flows spare (pass stage seen) opened come sent left
+  module _ (flows : ℕ) where
+    pass_at : (stage : Stage) (seen : Sight) (opened come : ℕ) (sent : List Command) (left : List Reply) → IsAt terms events all flows stage opened come sent left →
+        IsAt terms events all flows (pass stage seen) opened come sent left
     pass_at (idle at) seen opened come sent left is = is
     pass_at (busy at flow (request_body None)) seen opened come sent left is = is
     pass_at (busy at flow (request_body (Some response))) seen opened come sent left is = absurd is
@@ -125,25 +136,28 @@ module _ (terms : Terms) (events : List (Timed Event)) (all : List Command) wher
     pass_at over seen opened come sent left is = is
 
     stage_led : (stage : Stage) (since : Since) (opened : ℕ) (prefix : List (Timed Event)) → IsFront prefix events → (sent : List Command) (replies : List Reply) (value : Reply) →
-        IsAt terms events all flows spare stage opened (length prefix) sent (value ∷ replies) → (moment : ℕ) (ask : Command) (may_wait : Bool) (rest : List Command) →
-        let seen = sight_of (side_of stage) since opened spare prefix in
+        IsAt terms events all flows stage opened (length prefix) sent (value ∷ replies) → (moment : ℕ) (ask : Command) (may_wait : Bool) (rest : List Command) →
+        let seen = sight_of (side_of stage) since opened prefix in
         look terms stage seen ≡ Asks ask →
         let turned = turn terms stage seen (record { moment = moment; value = value }) in
-        let taken = took_spare stage (sequence turned.stage) in
-        Leads terms events all flows turned (unless_taken taken spare) (opened_spare taken spare (opened_by stage opened (length prefix))) (length prefix) sent (so_far stage seen) ask may_wait rest value replies
+        Leads terms events all flows (behind_these (behind stage seen) turned) (opened_by (dials_at stage) opened (length prefix)) (length prefix) sent (so_far stage seen) ask
+        may_wait rest value replies
     stage_led (idle at) since opened prefix is sent replies value stands moment ask may_wait rest asks =
-        idle_led terms events all flows spare sent moment value may_wait rest replies since opened prefix is ask opened at (request_in at (sight_of None since opened spare prefix)) refl stands asks
+        let seen = sight_of (side_parked at.parked) since opened prefix in
+        idle_led terms events all flows sent moment value may_wait rest replies since opened prefix is ask (leaving (idle at) seen) at (request_in at seen) refl stands asks
     stage_led (busy at flow (request_body None)) since opened prefix is sent replies value stands moment ask may_wait rest asks =
-        body_led terms events all flows spare sent moment value may_wait rest replies since opened prefix is ask opened at flow (request_in at (sight_of None since opened spare prefix)) refl stands asks
+        let seen = sight_of (side_parked at.parked) since opened prefix in
+        body_led terms events all flows sent moment value may_wait rest replies since opened prefix is ask (leaving (busy at flow (request_body None)) seen) at flow
+        (request_in at seen) refl stands asks
     stage_led (busy at flow (request_body (Some response))) since opened prefix is sent replies value stands moment ask may_wait rest asks = absurd stands
     stage_led (busy at flow connection) since opened prefix is sent replies value stands moment ask may_wait rest asks =
-        dial_led terms events all flows spare sent moment value may_wait rest replies since opened prefix is ask at flow stands asks
+        dial_led terms events all flows sent moment value may_wait rest replies since opened prefix is ask [] at flow stands asks
     stage_led (busy at flow (response_head side how)) since opened prefix is sent replies value stands moment ask may_wait rest asks =
-        answer_led terms events all flows spare sent moment value may_wait rest replies since opened prefix is ask at flow side stands
-        (answers_in flow.request side (sight_of (Some side) since opened spare prefix)).final refl asks
+        answer_led terms events all flows sent moment value may_wait rest replies since opened prefix is ask at flow side stands
+        (answers_in flow.request side (sight_of (Some side) since opened prefix)).final refl asks
     stage_led (busy at flow (response_body side how)) since opened prefix is sent replies value stands moment ask may_wait rest asks =
-        returned_led terms events all flows spare sent moment value may_wait rest replies since opened prefix is ask at flow side stands
-        (answers_in flow.request side (sight_of (Some side) since opened spare prefix)).final refl asks
+        returned_led terms events all flows sent moment value may_wait rest replies since opened prefix is ask at flow side stands
+        (answers_in flow.request side (sight_of (Some side) since opened prefix)).final refl asks
     stage_led (busy at flow (upgraded side)) since opened prefix is sent replies value stands moment ask may_wait rest asks = absurd (ends_ask [] ask asks)
     stage_led (busy at flow given_head) since opened prefix is sent replies value stands moment ask may_wait rest asks = absurd stands
     stage_led (busy at flow given_body) since opened prefix is sent replies value stands moment ask may_wait rest asks = absurd stands
@@ -157,7 +171,7 @@ module _ (terms : Terms) (events : List (Timed Event)) (all : List Command) wher
 
   -- a place of the walk, with so many flows behind the one that stands there
   abbrev Stands : ℕ → Standing → ℕ → List Command → List Reply → Type 0
-  Stands flows place come sent left = IsAt terms events all flows place.spare place.stage place.opened come sent left
+  Stands flows place come sent left = IsAt terms events all flows place.stage place.opened come sent left
 
   -- all events are those of the prefix and those that wait
   abbrev IsAll : List (Timed Event) → List (Stamped Event) → Type 0
@@ -185,16 +199,16 @@ module _ (terms : Terms) (events : List (Timed Event)) (all : List Command) wher
   reach_kept : (flows : ℕ) (last : Stamp) (before : List Command) (s : Standing) (f : List (Timed Event)) (es : List (Stamped Event)) (sent : List Command) (left : List Reply) →
       before ≡ [] → IsAll f es → Stands flows s (length f) sent left → Kept flows (reach chain last before s f es) sent left
   reach_kept flows last before s f [] sent left none whole is =
-      record { none = append-nil before ∙ none; place = pass_at flows s.spare s.stage (sight_over s f) s.opened (length f) sent left is }
+      record { none = append-nil before ∙ none; place = pass_at flows s.stage (sight_over s f) s.opened (length f) sent left is }
   reach_kept flows last before s f (e ∷ es) sent left none whole is =
       let still = append-nil before ∙ none in
       let on = (chain.pass s f).stage in
-      let passed : Stands flows on (length f) sent left = pass_at flows s.spare s.stage (sight_over s f) s.opened (length f) sent left is in
+      let passed : Stands flows on (length f) sent left = pass_at flows s.stage (sight_over s f) s.opened (length f) sent left is in
       let longer : length f + 1 ≡ length (f ++ worked_off last e ∷ []) = sym (length-append f (worked_off last e ∷ [])) in
       let P : ℕ → Type 0 = λ n. Stands flows on n sent left in
       reach_by_kept flows (chain.look on f) _ _ sent left
       (λ found_none. reach_kept flows last (before ++ []) on (f ++ worked_off last e ∷ []) es sent left still (all_on last f e es whole)
-      (subst P longer (stage_more terms events all flows on.spare on.stage on.since on.opened sent left f (front_in f (e ∷ es) whole) found_none passed)))
+      (subst P longer (stage_more terms events all flows on.stage on.since on.opened sent left f (front_in f (e ∷ es) whole) found_none passed)))
       (record { none = still; place = passed })
 
   -- what is said there begins all that is said, and is all of it where nothing more can come
@@ -212,13 +226,14 @@ module _ (terms : Terms) (events : List (Timed Event)) (all : List Command) wher
 
   -- what a stage owes says the same up to the end of a flow
   owed_said : (flows : ℕ) (stage : Stage) (seen : Sight) →
-      said (first_flows (suc flows) (so_far stage seen ++ found (look terms stage seen))) ≡ said (so_far stage seen ++ found (look terms stage seen))
+      said (first_flows (suc flows) (so_far stage seen ++ found_with (behind stage seen) (look terms stage seen))) ≡ said (so_far stage seen ++ found (look terms stage seen))
   owed_said flows stage seen =
       let waits = so_far stage seen in
-      let finds = found (look terms stage seen) in
+      let finds = found_with (behind stage seen) (look terms stage seen) in
       ap said (so_far_keeps stage seen flows finds)
       ∙ (said_join waits (first_flows (suc flows) finds)
-      ∙ (ap (λ l. said waits ++ l) (found_said flows (look terms stage seen) (looks_in_order terms stage seen)) ∙ sym (said_join waits finds)))
+      ∙ (ap (λ l. said waits ++ l) (found_said flows (behind stage seen) (look terms stage seen) (behind_closes stage seen) (looks_in_order terms stage seen))
+      ∙ sym (said_join waits (found (look terms stage seen)))))
 
   there_sent : (flows : ℕ) (may_wait : Bool) (last : Stamp) (here : Reached Standing Event Command) (unused : List (Stamped Reply)) (sent : List Command) (left : List Reply) →
       Kept flows here sent left → IsAll here.prefix here.rest → (chain.look here.stage here.prefix ≡ NotYet → here.rest ≡ []) →
@@ -227,15 +242,16 @@ module _ (terms : Terms) (events : List (Timed Event)) (all : List Command) wher
   there_sent flows may_wait last here unused sent left kept whole none asked =
       let place = here.stage in
       let front = front_in here.prefix here.rest whole in
-      let stood = stage_stood terms events all flows place.spare place.stage place.since place.opened (length here.prefix) sent left here.prefix kept.place front in
-      let owed = chain.so_far place here.prefix ++ found (chain.look place here.prefix) in
-      let joined : said (sent ++ first_flows (suc flows) owed) ≡ said sent ++ said owed =
+      let stood = stage_stood terms events all flows place.stage place.since place.opened (length here.prefix) sent left here.prefix kept.place front in
+      let owed = chain.so_far place here.prefix ++ found_at chain place here.prefix in
+      let says = said (chain.so_far place here.prefix ++ found (chain.look place here.prefix)) in
+      let joined : said (sent ++ first_flows (suc flows) owed) ≡ said sent ++ says =
       said_join sent (first_flows (suc flows) owed) ∙ ap (λ l. said sent ++ l) (owed_said flows place.stage (sight_over place here.prefix)) in
       let P : List Command → Type 0 = λ b. Result may_wait (sent ++ first_flows (suc flows) (b ++ owed)) in
       let B : List Command → Type 0 = λ l. IsPrefixOf l all in
-      let A : List Command → Type 0 = λ l. IsPrefixOf (said sent ++ said owed) l in
+      let A : List Command → Type 0 = λ l. IsPrefixOf (said sent ++ says) l in
       subst P (sym kept.none) (record {
-        begins = subst B (sym joined) (subst A (sym stood.is) (prefix_behind (said sent) (said owed) stood.left stood.here.begins));
+        begins = subst B (sym joined) (subst A (sym stood.is) (prefix_behind (said sent) says stood.left stood.here.begins));
         exact = λ strict never. joined
             ∙ (ap (λ l. said sent ++ l)
             (stood.here.is_all (still_open here.prefix events front never) (last_there may_wait here (chain.look place here.prefix) whole none asked strict))
@@ -261,31 +277,31 @@ module _ (terms : Terms) (events : List (Timed Event)) (all : List Command) wher
       let place = here.stage in
       let seen = sight_over place here.prefix in
       let so_far_there = chain.so_far place here.prefix in
-      let P : Bool → List Command → Look Command → Type 0 = λ b before l. GoesOn b (first_flows (suc flows) (before ++ (so_far_there ++ found l))) [] in
+      let parts = chain.behind place here.prefix in
+      let P : Bool → List Command → Look Command → Type 0 = λ b before l. GoesOn b (first_flows (suc flows) (before ++ (so_far_there ++ found_with parts l))) [] in
       let B : Bool → Type 0 = λ b. P b here.before (chain.look place here.prefix) in
       let N : List Command → Type 0 = λ before. P false before (chain.look place here.prefix) in
       let L : Look Command → Type 0 = λ l. P false [] l in
       let G : List Command → Type 0 = λ l. GoesOn false l [] in
-      let cut : first_flows (suc flows) (so_far_there ++ (ask ∷ [])) ≡ so_far_there ++ (ask ∷ []) =
-      so_far_keeps place.stage seen flows (ask ∷ []) ∙ ap (λ l. so_far_there ++ (ask ∷ l)) (first_none (flows_behind flows ask)) in
-      let question : GoesOn false (so_far_there ++ (ask ∷ [])) [] = subst G cut (subst L asks (subst N kept.none (subst B strict goes))) in
-      (stage_stood terms events all flows place.spare place.stage place.since place.opened (length here.prefix) sent left here.prefix kept.place front).here.asks ask asks
-      (so_far_skips place.stage seen false (ask ∷ []) [] question)
+      let tail = first_flows (flows_behind flows ask) parts in
+      let question : GoesOn false (so_far_there ++ (ask ∷ tail)) [] = subst G (so_far_keeps place.stage seen flows (ask ∷ parts)) (subst L asks (subst N kept.none (subst B strict goes))) in
+      (stage_stood terms events all flows place.stage place.since place.opened (length here.prefix) sent left here.prefix kept.place front).here.asks ask asks
+      (waits_alone ask tail (so_far_skips place.stage seen false (ask ∷ tail) [] question))
 
   -- where a reply led
-  led_result : (flows : ℕ) (turned : Turn Stage Command) (spare : Option Spare) (opened come : ℕ) (sent so_far : List Command) (ask : Command) (may_wait : Bool) (rest : List Command)
-      (replies : List Reply) → Led terms events all flows turned spare opened come sent so_far ask may_wait rest replies →
-      ((more : ℕ) → IsAt terms events all more spare (sequence turned.stage) opened come (sent ++ (so_far ++ ask ∷ turned.owed)) replies →
+  led_result : (flows : ℕ) (turned : Turn Stage Command) (opened come : ℕ) (sent so_far : List Command) (ask : Command) (may_wait : Bool) (rest : List Command)
+      (replies : List Reply) → Led terms events all flows turned opened come sent so_far ask may_wait rest replies →
+      ((more : ℕ) → IsAt terms events all more (sequence turned.stage) opened come (sent ++ (so_far ++ ask ∷ turned.owed)) replies →
       GoesOn may_wait (first_flows (suc more) rest) replies → Result may_wait ((sent ++ (so_far ++ ask ∷ turned.owed)) ++ first_flows (suc more) rest)) →
       Result may_wait (sent ++ (so_far ++ ask ∷ first_flows (flows_behind flows ask) (turned.owed ++ rest)))
-  led_result flows turned spare opened come sent so_far ask may_wait rest replies (goes_on more place cut goes) further =
+  led_result flows turned opened come sent so_far ask may_wait rest replies (goes_on more place cut goes) further =
       let tail = first_flows (suc more) rest in
       let P : List Command → Type 0 = Result may_wait in
       subst P
       (append_assoc sent (so_far ++ ask ∷ turned.owed) tail
       ∙ (ap (λ l. sent ++ l) (append_assoc so_far (ask ∷ turned.owed) tail) ∙ ap (λ l. sent ++ (so_far ++ ask ∷ l)) (sym cut)))
       (further more place goes)
-  led_result flows turned spare opened come sent so_far ask may_wait rest replies (has_ended is) further =
+  led_result flows turned opened come sent so_far ask may_wait rest replies (has_ended is) further =
       record { begins = ([], sym is ∙ sym (append-nil _)); exact = λ strict never. is }
 
   walk_sent : (flows : ℕ) (may_wait : Bool) (rs : List (Stamped Reply)) (last : Stamp) (s : Standing) (f : List (Timed Event)) (es : List (Stamped Event)) (sent : List Command) →
@@ -305,27 +321,29 @@ module _ (terms : Terms) (events : List (Timed Event)) (all : List Command) wher
       let whole = reach_values chain last [] s f es ∙ whole_there in
       let on = chain.turn here.stage here.prefix (at_its_step r) in
       let so_far_there = chain.so_far here.stage here.prefix in
+      let brought = chain.behind here.stage here.prefix ++ on.owed in
       walk_by_sent flows may_wait (chain.look here.stage here.prefix) _ _ sent (r.value ∷ replies)
       (λ ask asks goes_there.
-      let more = so_far_there ++ ask ∷ on.owed in
+      let more = so_far_there ++ ask ∷ brought in
       let tail = owed_at chain (walk chain rs r.stamp [] on.stage here.prefix here.rest) in
       let split : owed_at chain (walk chain rs r.stamp (here.before ++ more) on.stage here.prefix here.rest) ≡ more ++ tail =
       ap (λ b. owed_at chain (walk chain rs r.stamp (b ++ more) on.stage here.prefix here.rest)) kept.none
       ∙ (ap (λ b. owed_at chain (walk chain rs r.stamp b on.stage here.prefix here.rest)) (sym (append-nil more))
       ∙ walk_behind chain more rs r.stamp [] on.stage here.prefix here.rest) in
-      let behind = first_flows (flows_behind flows ask) (on.owed ++ tail) in
-      let cut : first_flows (suc flows) (owed_at chain (walk chain rs r.stamp (here.before ++ more) on.stage here.prefix here.rest)) ≡ so_far_there ++ (ask ∷ behind) =
-      ap (first_flows (suc flows)) (split ∙ append_assoc so_far_there (ask ∷ on.owed) tail)
-      ∙ so_far_keeps here.stage.stage (sight_over here.stage here.prefix) flows (ask ∷ (on.owed ++ tail)) in
+      let left_there = first_flows (flows_behind flows ask) (brought ++ tail) in
+      let cut : first_flows (suc flows) (owed_at chain (walk chain rs r.stamp (here.before ++ more) on.stage here.prefix here.rest)) ≡ so_far_there ++ (ask ∷ left_there) =
+      ap (first_flows (suc flows)) (split ∙ append_assoc so_far_there (ask ∷ brought) tail)
+      ∙ so_far_keeps here.stage.stage (sight_over here.stage here.prefix) flows (ask ∷ (brought ++ tail)) in
       let G : List Command → Type 0 = λ l. GoesOn may_wait l (r.value ∷ replies) in
-      let question : GoesOn may_wait (ask ∷ behind) (r.value ∷ replies) =
-      so_far_skips here.stage.stage (sight_over here.stage here.prefix) may_wait (ask ∷ behind) (r.value ∷ replies) (subst G cut goes_there) in
+      let question : GoesOn may_wait (ask ∷ left_there) (r.value ∷ replies) =
+      so_far_skips here.stage.stage (sight_over here.stage here.prefix) may_wait (ask ∷ left_there) (r.value ∷ replies) (subst G cut goes_there) in
       let place = here.stage in
-      let led = stage_led flows place.spare place.stage place.since place.opened here.prefix (front_in here.prefix here.rest whole) sent replies r.value kept.place
+      let led = stage_led flows place.stage place.since place.opened here.prefix (front_in here.prefix here.rest whole) sent replies r.value kept.place
       r.stamp.moment ask may_wait tail asks question in
       let P : List Command → Type 0 = λ l. Result may_wait (sent ++ l) in
       subst P (sym cut)
-      (led_result flows (turn terms place.stage (sight_over place here.prefix) (at_its_step r)) on.stage.spare on.stage.opened (length here.prefix) sent so_far_there ask may_wait tail
+      (led_result flows (behind_these (behind place.stage (sight_over place here.prefix)) (turn terms place.stage (sight_over place here.prefix) (at_its_step r))) on.stage.opened
+      (length here.prefix) sent so_far_there ask may_wait tail
       replies led (λ n stands goes_further. walk_sent n may_wait rs r.stamp on.stage here.prefix here.rest (sent ++ more) stands whole goes_further)))
       (λ no_ask. there_sent flows may_wait last here (r ∷ rs) sent (r.value ∷ replies) kept whole (reach_all chain last [] s f es) (λ ask asks strict. no_ask ask asks))
       goes
@@ -343,7 +361,7 @@ result_from may_wait terms here at zero is goes = record { begins = ([], refl); 
 result_from may_wait terms here at (suc flows) is goes =
     let events = heard here in
     let all = said_of_flows terms events (point_at at here) (suc flows) in
-    let P : Stage → Type 0 = λ stage. IsAt terms events all flows here.place.spare stage here.place.opened (length here.prefix) [] (answered here) in
+    let P : Stage → Type 0 = λ stage. IsAt terms events all flows stage here.place.opened (length here.prefix) [] (answered here) in
     let stands : P (idle at) = record {
       from = length here.prefix;
       within = omega arith;

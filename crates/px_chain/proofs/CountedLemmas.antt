@@ -4,7 +4,7 @@ use Rattle.px_event.specs.declared.command.Command.{Command}
 use Rattle.px_event.specs.declared.event.Event.{Event}
 use Rattle.px_event.specs.declared.reply.Reply.{Reply}
 use Rattle.px_event.specs.declared.side.Side.TheVariants.{Server}
-use Rattle.px_event.specs.Chain.{Stamp, Stamped, Timed, Look, NotYet, Asks, Ends, Turn, Reached, Stop, Chain, worked_off, at_its_step, never, reach, reach_by, walk, walk_by, found, owed_at}
+use Rattle.px_event.specs.Chain.{Stamp, Stamped, Timed, Look, NotYet, Asks, Ends, Turn, Reached, Stop, Chain, worked_off, at_its_step, never, reach, reach_by, walk, walk_by, found, found_at, found_with, owed_at}
 use Rattle.px_event.specs.Layer.{Move, Took, Replied}
 use Rattle.px_event.specs.Stands.{due_by, events_in, replies_in}
 use Rattle.px_event.specs.View.{bytes_in, line, seen_of}
@@ -22,6 +22,12 @@ silent_both server xs ys a b =
     ∙ (bytes_join (seen_of (line (Server server)) xs) (seen_of (line (Server server)) ys)
     ∙ (ap (λ l. l ++ bytes_in (seen_of (line (Server server)) ys)) a ∙ b))
 
+-- nor what is found, with what is owed behind an ask
+pub silent_found : (server : ℕ) (behind : List Command) (l : Look Command) → IsSilent server behind → IsSilent server (found l) → IsSilent server (found_with behind l)
+silent_found server behind NotYet silent is = refl
+silent_found server behind (Asks ask) silent is = silent_both server (ask ∷ []) behind is silent
+silent_found server behind (Ends owed) silent is = is
+
 -- What is owed at once goes to so many servers at most, and leads to a stage of the kind at which no more were dialled.
 pub record Counts {S : Type 0} (dials : S → ℕ) (kind : S → Type 0) (most : ℕ) (turned : Turn S Command) : Type 0 where
   pub silent : (server : ℕ) → most ≤ server → IsSilent server turned.owed
@@ -34,6 +40,7 @@ pub record CountsServers {S : Type 0} (chain : Chain S Event Reply Command) (dia
   pub passes : (stage : S) (prefix : List (Timed Event)) → kind stage → Counts dials kind (dials stage) (chain.pass stage prefix)
   pub looks : (stage : S) (prefix : List (Timed Event)) → kind stage → (server : ℕ) → dials stage ≤ server → IsSilent server (found (chain.look stage prefix))
   pub waits : (stage : S) (prefix : List (Timed Event)) → kind stage → (server : ℕ) → dials stage ≤ server → IsSilent server (chain.so_far stage prefix)
+  pub behind : (stage : S) (prefix : List (Timed Event)) → kind stage → (server : ℕ) → dials stage ≤ server → IsSilent server (chain.behind stage prefix)
   pub turns : (stage : S) (prefix : List (Timed Event)) (ask : Command) (answer : Timed Reply) → kind stage → chain.look stage prefix ≡ Asks ask →
       Counts dials kind (dials stage + connects answer.value) (chain.turn stage prefix answer)
 
@@ -80,16 +87,19 @@ module _ {S : Type 0} (chain : Chain S Event Reply Command) (dials : S → ℕ) 
       (reach_silent more last (before ++ on.owed) on.stage (prefix ++ worked_off last e ∷ []) es here.silent here.is_kind here.few) here
 
   there_silent : (before : List Command) (stage : S) (prefix : List (Timed Event)) → IsSilent server before → kind stage → dials stage ≤ server →
-      IsSilent server (before ++ (chain.so_far stage prefix ++ found (chain.look stage prefix)))
+      IsSilent server (before ++ (chain.so_far stage prefix ++ found_at chain stage prefix))
   there_silent before stage prefix silent is few =
-      silent_both server before (chain.so_far stage prefix ++ found (chain.look stage prefix)) silent
-      (silent_both server (chain.so_far stage prefix) (found (chain.look stage prefix)) (counts.waits stage prefix is server few) (counts.looks stage prefix is server few))
+      silent_both server before (chain.so_far stage prefix ++ found_at chain stage prefix) silent
+      (silent_both server (chain.so_far stage prefix) (found_at chain stage prefix) (counts.waits stage prefix is server few)
+      (silent_found server (chain.behind stage prefix) (chain.look stage prefix) (counts.behind stage prefix is server few) (counts.looks stage prefix is server few)))
 
   asked_silent : (ask : Command) (stage : S) (prefix : List (Timed Event)) (owed : List Command) → chain.look stage prefix ≡ Asks ask → kind stage → dials stage ≤ server →
-      IsSilent server owed → IsSilent server (chain.so_far stage prefix ++ ask ∷ owed)
+      IsSilent server owed → IsSilent server (chain.so_far stage prefix ++ ask ∷ (chain.behind stage prefix ++ owed))
   asked_silent ask stage prefix owed asked is few silent =
+      let more = chain.behind stage prefix ++ owed in
       let one : IsSilent server (ask ∷ []) = ap (λ l. bytes_in (seen_of (line (Server server)) (found l))) (sym asked) ∙ counts.looks stage prefix is server few in
-      silent_both server (chain.so_far stage prefix) (ask ∷ owed) (counts.waits stage prefix is server few) (silent_both server (ask ∷ []) owed one silent)
+      let both : IsSilent server more = silent_both server (chain.behind stage prefix) owed (counts.behind stage prefix is server few) silent in
+      silent_both server (chain.so_far stage prefix) (ask ∷ more) (counts.waits stage prefix is server few) (silent_both server (ask ∷ []) more one both)
 
   walk_by_silent : (l : Look Command) (on : Command → Stop S Event Reply Command) (stop : Stop S Event Reply Command) →
       ((ask : Command) → l ≡ Asks ask → IsSilent server (owed_at chain (on ask))) → IsSilent server (owed_at chain stop) → IsSilent server (owed_at chain (walk_by l on stop))
@@ -113,8 +123,9 @@ module _ {S : Type 0} (chain : Chain S Event Reply Command) (dials : S → ℕ) 
       (λ ask asked.
       let turned = counts.turns here.stage here.prefix ask (at_its_step r) there.is_kind asked in
       let fewer = turned.few in
-      walk_silent rs r.stamp (here.before ++ (chain.so_far here.stage here.prefix ++ ask ∷ at.owed)) at.stage here.prefix here.rest
-      (silent_both server here.before (chain.so_far here.stage here.prefix ++ ask ∷ at.owed) there.silent
+      let more : List Command = chain.so_far here.stage here.prefix ++ ask ∷ (chain.behind here.stage here.prefix ++ at.owed) in
+      walk_silent rs r.stamp (here.before ++ more) at.stage here.prefix here.rest
+      (silent_both server here.before more there.silent
       (asked_silent ask here.stage here.prefix at.owed asked there.is_kind (omega arith) (turned.silent server (omega arith))))
       turned.stays (omega arith))
       (there_silent here.before here.stage here.prefix there.silent there.is_kind (omega arith))

@@ -18,23 +18,22 @@ use Rattle.px_exchange.specs.declared.taken.Taken.{Taken}
 use Rattle.px_exchange.specs.declared.taken.Taken.TheVariants.{GoesOn, Responds, Kills}
 use Rattle.px_exchange.specs.declared.place.Place.{Place}
 use Rattle.px_exchange.specs.declared.terms.Terms.{Terms}
-use Rattle.px_chain.specs.Chain.{find, finish_by, goes_on_by, leaving, look, side_behind, spare_for, turn, turn_head, turn_judged, turn_taken_head, turn_body, turn_taken_body, turn_dial, turn_answer, turn_answer_head, turn_taken_answer, turn_returned, turn_taken_whole, turn_whole_answer, turn_response, turn_taken_returned, turn_taken_given, used_more}
+use Rattle.px_chain.specs.Chain.{behind, find, finish_by, goes_on_by, leaving, look, parked_for, side_behind, turn, turn_head, turn_judged, turn_taken_head, turn_body, turn_taken_body, turn_dial, turn_answer, turn_answer_head, turn_taken_answer, turn_returned, turn_taken_whole, turn_whole_answer, turn_response, turn_taken_returned, turn_taken_given, used_more}
 use Rattle.px_exchange.specs.Flows.{response_of, with_answer, with_body, with_end, with_returned, with_start}
-use Rattle.px_exchange.specs.Endings.{without_response, killed_message, closed_message, connection_goes_on}
-use Rattle.px_exchange.specs.EndOrder.{EndsInOrder, FoundInOrder}
+use Rattle.px_exchange.specs.Endings.{without_response, killed_message, closed_message, connection_goes_on, shut_server}
+use Rattle.px_exchange.specs.EndOrder.{EndsInOrder, FoundInOrder, OnlyCloses}
 use Rattle.px_exchange.specs.Replies.{taken_at_request_body, taken_at_request_head, taken_at_response_body, taken_at_response_head}
-use Rattle.px_exchange.specs.Places.{goes_home}
 use Rattle.px_exchange.specs.Requests.{expects, flow_of, judged}
 use Rattle.px_chain.specs.Stages.{At, ServerSide, Stage, idle, busy, next, over, request_body, connection, response_head, response_body, given_head, given_body, upgraded}
-use Rattle.px_exchange.proofs.OrderLemmas.{early_ends, finished_ends, dial_ends, expectation_ends, head_ends, body_ends, answer_ends, returned_ends, leaves_ends}
-use Rattle.px_chain.specs.Sights.{Sight, Unused, answers_in, request_in, server_in}
+use Rattle.px_exchange.proofs.OrderLemmas.{closes_end, server_closes, early_ends, finished_ends, dial_ends, expectation_ends, head_ends, body_ends, answer_ends, returned_ends, leaves_ends}
+use Rattle.px_chain.specs.Sights.{Sight, answers_in, request_in, server_in, server_parked}
 
 -- ---- what is found
 
 module _ (terms : Terms) where
   finds_ends : (stage : Stage) (seen : Sight) → FoundInOrder (find terms stage seen)
-  finds_ends (idle at) seen = head_ends terms at.flow (request_in at seen) seen.now seen.closed
-  finds_ends (busy at flow (request_body given)) seen = body_ends flow (request_in at seen) seen.now seen.closed
+  finds_ends (idle at) seen = head_ends terms at.flow (request_in at seen) seen.now (server_parked at.parked seen) seen.closed
+  finds_ends (busy at flow (request_body given)) seen = body_ends flow (request_in at seen) seen.now (server_parked at.parked seen) seen.closed
   finds_ends (busy at flow connection) seen = tt
   finds_ends (busy at flow (response_head side how)) seen = answer_ends flow (answers_in flow.request side seen).final seen.now (server_in side seen) seen.closed
   finds_ends (busy at flow (response_body side how)) seen = returned_ends flow (answers_in flow.request side seen).final seen.now (server_in side seen) seen.closed
@@ -45,8 +44,8 @@ module _ (terms : Terms) where
   finds_ends over seen = tt
 
   leaving_ends : (stage : Stage) (seen : Sight) → EndsInOrder (leaving stage seen)
-  leaving_ends (idle at) seen = tt
-  leaving_ends (busy at flow (request_body given)) seen = early_ends flow closed_message seen.now NoServer true
+  leaving_ends (idle at) seen = closes_end (shut_server (server_parked at.parked seen)) (server_closes (server_parked at.parked seen))
+  leaving_ends (busy at flow (request_body given)) seen = early_ends flow closed_message seen.now (server_parked at.parked seen) true
   leaving_ends (busy at flow connection) seen = tt
   leaving_ends (busy at flow (response_head side how)) seen = early_ends flow closed_message seen.now (server_in side seen) true
   leaving_ends (busy at flow (response_body side how)) seen = early_ends (without_response flow) closed_message seen.now (server_in side seen) true
@@ -62,16 +61,16 @@ module _ (terms : Terms) where
 
   -- ---- replies
 
-  taken_head_ends : (at : At) (flow : Flow) (expected : Bool) (taken : Taken Request) (moment : ℕ) (closed : Bool) → EndsInOrder (turn_taken_head at flow expected taken moment closed).owed
-  taken_head_ends at flow expected (GoesOn message) moment closed = expectation_ends expected
-  taken_head_ends at flow expected (Responds response) moment closed = expectation_ends expected
-  taken_head_ends at flow expected Kills moment closed = early_ends flow killed_message moment NoServer closed
+  taken_head_ends : (at : At) (flow : Flow) (expected : Bool) (taken : Taken Request) (moment : ℕ) (seen : Sight) → EndsInOrder (turn_taken_head at flow expected taken moment seen).owed
+  taken_head_ends at flow expected (GoesOn message) moment seen = expectation_ends expected
+  taken_head_ends at flow expected (Responds response) moment seen = expectation_ends expected
+  taken_head_ends at flow expected Kills moment seen = early_ends flow killed_message moment (server_parked at.parked seen) seen.closed
 
   turn_judged_ends : (at : At) (head : ReadRequest) (made : Judged) (seen : Sight) (answer : Timed Reply) → EndsInOrder (turn_judged terms at head made seen answer).owed
   turn_judged_ends at head (Refused fault) seen answer = tt
   turn_judged_ends at head (Connects address) seen answer = tt
   turn_judged_ends at head (Accepted message) seen answer =
-      taken_head_ends at (flow_of terms at.flow message seen.now) (expects head) (taken_at_request_head message answer.value) answer.moment seen.closed
+      taken_head_ends at (flow_of terms at.flow message seen.now) (expects head) (taken_at_request_head message answer.value) answer.moment seen
 
   turn_head_ends : (at : At) (item : Item ReadRequest) (seen : Sight) (answer : Timed Reply) → EndsInOrder (turn_head terms at item seen answer).owed
   turn_head_ends at missing seen answer = tt
@@ -80,23 +79,22 @@ module _ (terms : Terms) where
   turn_head_ends at (bad_head fault) seen answer = tt
   turn_head_ends at (bad_body fault head body) seen answer = turn_judged_ends at head (judged terms.place head) seen answer
 
-  goes_on_ends : (home : Bool) (spare : Option Unused) (place : Place) (at : At) (flow : Flow) → EndsInOrder (goes_on_by (spare_for home spare) place at flow).owed
-  goes_on_ends true None place at flow = tt
-  goes_on_ends true (Some unused) place at flow = tt
-  goes_on_ends false spare place at flow = tt
+  goes_on_ends : (side : Option ServerSide) (place : Place) (at : At) (flow : Flow) → EndsInOrder (goes_on_by side place at flow).owed
+  goes_on_ends None place at flow = tt
+  goes_on_ends (Some side) place at flow = tt
 
-  taken_body_ends : (place : Place) (at : At) (flow : Flow) (spare : Option Unused) (taken : Taken Request) (moment : ℕ) (closed : Bool) →
-      EndsInOrder (turn_taken_body place at flow spare taken moment closed).owed
-  taken_body_ends place at flow spare (GoesOn message) moment closed = goes_on_ends (goes_home place message) spare place at (record flow { request = message })
-  taken_body_ends place at flow spare (Responds response) moment closed = tt
-  taken_body_ends place at flow spare Kills moment closed = early_ends flow killed_message moment NoServer closed
+  taken_body_ends : (place : Place) (at : At) (flow : Flow) (taken : Taken Request) (moment : ℕ) (seen : Sight) →
+      EndsInOrder (turn_taken_body place at flow taken moment seen).owed
+  taken_body_ends place at flow (GoesOn message) moment seen = goes_on_ends (parked_for place message at.parked) place at (record flow { request = message })
+  taken_body_ends place at flow (Responds response) moment seen = tt
+  taken_body_ends place at flow Kills moment seen = early_ends flow killed_message moment (server_parked at.parked seen) seen.closed
 
   turn_body_ends : (place : Place) (at : At) (flow : Flow) (item : Item ReadRequest) (seen : Sight) (answer : Timed Reply) → EndsInOrder (turn_body place at flow item seen answer).owed
   turn_body_ends place at flow missing seen answer = tt
   turn_body_ends place at flow (part head body) seen answer = tt
   turn_body_ends place at flow (complete head body trailers used) seen answer =
       let asked_flow : Flow = with_body flow body.content trailers seen.now in
-      taken_body_ends place (used_more at used) asked_flow seen.spare (taken_at_request_body asked_flow.request answer.value) answer.moment seen.closed
+      taken_body_ends place (used_more at used) asked_flow (taken_at_request_body asked_flow.request answer.value) answer.moment seen
   turn_body_ends place at flow (bad_head fault) seen answer = tt
   turn_body_ends place at flow (bad_body fault head body) seen answer = tt
 
@@ -120,7 +118,7 @@ module _ (terms : Terms) where
   turn_answer_ends at flow side (bad_body fault head body) seen answer = answer_head_ends at flow side head seen answer
 
   taken_returned_ends : (at : At) (flow : Flow) (taken : Taken Response) (moment : ℕ) (used : Used) (closed : Bool) → EndsInOrder (turn_taken_returned at flow taken moment used closed).owed
-  taken_returned_ends at flow (GoesOn message) moment used closed = finished_ends flow message used (connection_goes_on at.flow flow.request message) closed
+  taken_returned_ends at flow (GoesOn message) moment used closed = finished_ends flow message NoServer used (connection_goes_on at.flow flow.request message) closed
   taken_returned_ends at flow (Responds response) moment used closed = early_ends flow killed_message moment used closed
   taken_returned_ends at flow Kills moment used closed = early_ends flow killed_message moment used closed
 
@@ -137,7 +135,7 @@ module _ (terms : Terms) where
   finish_ends : (switches : Bool) (at : At) (flow : Flow) (message : Response) (side : ServerSide) (used : Used) (closed : Bool) →
       EndsInOrder (finish_by switches at flow message side used closed).owed
   finish_ends true at flow message side used closed = tt
-  finish_ends false at flow message side used closed = finished_ends flow message used (connection_goes_on at.flow flow.request message) closed
+  finish_ends false at flow message side used closed = finished_ends flow message used NoServer (connection_goes_on at.flow flow.request message) closed
 
   taken_whole_ends : (at : At) (flow : Flow) (side : ServerSide) (taken : Taken Response) (moment : ℕ) (used : Used) (closed : Bool) →
       EndsInOrder (turn_taken_whole at flow side taken moment used closed).owed
@@ -158,10 +156,10 @@ module _ (terms : Terms) where
   turn_returned_ends at flow side interim (bad_head fault) seen answer = tt
   turn_returned_ends at flow side interim (bad_body fault head body) seen answer = tt
 
-  given_ends : (at : At) (flow : Flow) (taken : Taken Response) (moment : ℕ) (closed : Bool) → EndsInOrder (turn_taken_given at flow taken moment closed).owed
-  given_ends at flow (GoesOn message) moment closed = tt
-  given_ends at flow (Responds response) moment closed = early_ends (without_response flow) killed_message moment NoServer closed
-  given_ends at flow Kills moment closed = early_ends (without_response flow) killed_message moment NoServer closed
+  given_ends : (at : At) (flow : Flow) (taken : Taken Response) (moment : ℕ) (parked : Used) (closed : Bool) → EndsInOrder (turn_taken_given at flow taken moment parked closed).owed
+  given_ends at flow (GoesOn message) moment parked closed = tt
+  given_ends at flow (Responds response) moment parked closed = early_ends (without_response flow) killed_message moment parked closed
+  given_ends at flow Kills moment parked closed = early_ends (without_response flow) killed_message moment parked closed
 
   -- What a reply brings is in order.
   pub turns_in_order : (stage : Stage) (seen : Sight) (answer : Timed Reply) → EndsInOrder (turn terms stage seen answer).owed
@@ -174,8 +172,23 @@ module _ (terms : Terms) where
   turns_in_order (busy at flow given_head) seen answer =
       let asked_flow : Flow = with_start flow seen.now in
       response_ends asked_flow.response (λ message. taken_at_response_head message answer.value)
-      (λ taken. turn_taken_given at asked_flow taken answer.moment seen.closed)
-      (λ taken. given_ends at asked_flow taken answer.moment seen.closed)
-  turns_in_order (busy at flow given_body) seen answer = whole_answer_ends at (with_end flow seen.now) answer NoServer seen.closed
+      (λ taken. turn_taken_given at asked_flow taken answer.moment (server_parked at.parked seen) seen.closed)
+      (λ taken. given_ends at asked_flow taken answer.moment (server_parked at.parked seen) seen.closed)
+  turns_in_order (busy at flow given_body) seen answer = whole_answer_ends at (with_end flow seen.now) answer (server_parked at.parked seen) seen.closed
   turns_in_order (next at) seen answer = tt
   turns_in_order over seen answer = tt
+
+-- ---- behind an ask
+
+-- What is owed behind an ask is closes alone.
+pub behind_closes : (stage : Stage) (seen : Sight) → OnlyCloses (behind stage seen)
+behind_closes (idle at) seen = tt
+behind_closes (busy at flow (request_body given)) seen = tt
+behind_closes (busy at flow connection) seen = server_closes (server_parked at.parked seen)
+behind_closes (busy at flow (response_head side how)) seen = tt
+behind_closes (busy at flow (response_body side how)) seen = tt
+behind_closes (busy at flow (upgraded side)) seen = tt
+behind_closes (busy at flow given_head) seen = tt
+behind_closes (busy at flow given_body) seen = tt
+behind_closes (next at) seen = tt
+behind_closes over seen = tt

@@ -12,7 +12,7 @@ use Rattle.px_event.specs.declared.command.Command.{Command}
 use Rattle.px_event.specs.declared.command.Command.TheVariants as commands
 use Rattle.px_event.specs.declared.event.Event.{Event}
 use Rattle.px_event.specs.declared.reply.Reply.{Reply}
-use Rattle.px_event.specs.Chain.{Asks, Chain, Ends, Look, NotYet, Reached, Stamp, Stamped, Stop, Timed, at_its_step, found, owed_at, reach, reach_by, stop_at, walk, walk_by, worked_off}
+use Rattle.px_event.specs.Chain.{Asks, Chain, Ends, Look, NotYet, Reached, Stamp, Stamped, Stop, Timed, at_its_step, found_with, owed_at, reach, reach_by, stop_at, walk, walk_by, worked_off}
 use Rattle.px_read.specs.Items.{Item, bad_body, bad_head, complete, missing, part}
 use Rattle.px_read.specs.declared.head.RequestHead.{RequestHead as ReadRequest}
 use Rattle.px_read.specs.declared.head.ResponseHead.{ResponseHead as ReadResponse}
@@ -28,12 +28,12 @@ use Rattle.px_exchange.specs.declared.ending.Used.{Used}
 use Rattle.px_exchange.specs.declared.terms.Terms.{Terms}
 use Rattle.px_exchange.specs.Requests.{is_http11}
 use Rattle.px_chain.specs.Chain.{http_chain, leaving, look, pass, pass_body, sequence, so_far}
-use Rattle.px_chain.specs.Sights.{Sight, Standing, answers_in, request_in, server_in, sight_over}
+use Rattle.px_chain.specs.Sights.{Sight, Standing, answers_in, request_in, server_in, server_parked, sight_over}
 use Rattle.px_chain.specs.Stages.{At, Stage, busy, connection, given_body, given_head, idle, next, over, request_body, response_body, response_head, upgraded}
 use Rattle.px_chain.specs.Walks.{ComesBy, FlowBegins, Walk, behind_reply, due_by_reply, due_from, goes_on, is_there}
 use Rattle.px_chain.proofs.ClosedTurns.{asks_nothing, asks_same, ends_ask}
 use Rattle.px_chain.proofs.ClosedWalk.{walk_behind}
-use Rattle.px_chain.proofs.EndLemmas.{looks_in_order, turns_in_order}
+use Rattle.px_chain.proofs.EndLemmas.{behind_closes, looks_in_order, turns_in_order}
 use Rattle.px_read.specs.declared.head.ResponseHead.{ResponseHead as AnswerHead}
 
 -- ---- commands without a question of a hook
@@ -61,6 +61,14 @@ ends_none (commands.Send side text ∷ owed) is = ends_none owed is
 ends_none (commands.Done flow ∷ owed) is = closes_ask owed is
 ends_none (commands.Ask asked flow ∷ owed) is = absurd is
 ends_none (commands.Dial server address inside ∷ owed) is = absurd is
+
+both_none : (first second : List Command) → AsksNone first → AsksNone second → AsksNone (first ++ second)
+both_none [] second none more = more
+both_none (commands.Ask asked flow ∷ first) second none more = absurd none
+both_none (commands.Send side text ∷ first) second none more = both_none first second none more
+both_none (commands.Dial server address inside ∷ first) second none more = both_none first second none more
+both_none (commands.Close side ∷ first) second none more = both_none first second none more
+both_none (commands.Done flow ∷ first) second none more = both_none first second none more
 
 interim_none : (heads : List AnswerHead) → AsksNone (map interim_command heads)
 interim_none [] = tt
@@ -123,6 +131,15 @@ nothing_behind : (middle behind : List Command) (question : Command) → middle 
 nothing_behind [] behind question is = let no : question ∷ behind ≡ [] = is in cc
 nothing_behind (first ∷ middle) behind question is = let no : first ∷ (middle ++ question ∷ behind) ≡ [] = is in cc
 
+-- what stands in front of it, where a reply was brought between
+more_begins : (before waiting brought middle owed : List Command) (ask : Command) (rest : List Command) → before ≡ waiting ++ ask ∷ rest → rest ≡ brought ++ middle → owed ≡ [] →
+    before ≡ (owed ++ (waiting ++ ask ∷ brought)) ++ middle
+more_begins before waiting brought middle owed ask rest front second none =
+    front
+    ∙ (ap (λ l. waiting ++ ask ∷ l) second
+    ∙ (sym (append_assoc waiting (ask ∷ brought) middle)
+    ∙ ap (λ b. (b ++ (waiting ++ ask ∷ brought)) ++ middle) (sym none)))
+
 module _ (terms : Terms) (index : ℕ) (flow : Flow) where
   -- the question about a request's head
   abbrev question : Command
@@ -135,25 +152,25 @@ module _ (terms : Terms) (index : ℕ) (flow : Flow) where
     pub is : stage ≡ idle at
     pub number : at.flow ≡ index
 
-  judged_index : (number : ℕ) (head : ReadRequest) (made : Judged) (moment : ℕ) (closed : Bool) → or_leaves closed [] (look_judged terms number head made moment closed) ≡ Asks question →
+  judged_index : (number : ℕ) (head : ReadRequest) (made : Judged) (leaving : List Command) (moment : ℕ) (parked : Used) (closed : Bool) → or_leaves closed leaving (look_judged terms number head made moment parked closed) ≡ Asks question →
       number ≡ index
-  judged_index number head (Refused fault) moment closed is = absurd (ends_ask _ question is)
-  judged_index number head (Connects address) moment closed is = absurd (ends_ask _ question is)
-  judged_index number head (Accepted request) moment closed is = let same = asks_same _ question is in cc
+  judged_index number head (Refused fault) leaving moment parked closed is = absurd (ends_ask _ question is)
+  judged_index number head (Connects address) leaving moment parked closed is = absurd (ends_ask _ question is)
+  judged_index number head (Accepted request) leaving moment parked closed is = let same = asks_same _ question is in cc
 
-  head_index : (number : ℕ) (item : Item ReadRequest) (moment : ℕ) (closed : Bool) → or_leaves closed [] (look_head terms number item moment closed) ≡ Asks question → number ≡ index
-  head_index number missing moment closed is = absurd (asks_nothing closed [] question is)
-  head_index number (part head body) moment closed is = judged_index number head (judged terms.place head) moment closed is
-  head_index number (complete head body trailers used) moment closed is = judged_index number head (judged terms.place head) moment closed is
-  head_index number (bad_head fault) moment closed is = absurd (ends_ask _ question is)
-  head_index number (bad_body fault head body) moment closed is = judged_index number head (judged terms.place head) moment closed is
+  head_index : (number : ℕ) (item : Item ReadRequest) (leaving : List Command) (moment : ℕ) (parked : Used) (closed : Bool) → or_leaves closed leaving (look_head terms number item moment parked closed) ≡ Asks question → number ≡ index
+  head_index number missing leaving moment parked closed is = absurd (asks_nothing closed leaving question is)
+  head_index number (part head body) leaving moment parked closed is = judged_index number head (judged terms.place head) leaving moment parked closed is
+  head_index number (complete head body trailers used) leaving moment parked closed is = judged_index number head (judged terms.place head) leaving moment parked closed is
+  head_index number (bad_head fault) leaving moment parked closed is = absurd (ends_ask _ question is)
+  head_index number (bad_body fault head body) leaving moment parked closed is = judged_index number head (judged terms.place head) leaving moment parked closed is
 
-  body_asks : (told : Flow) (leaving : List Command) (item : Item ReadRequest) (moment : ℕ) (closed : Bool) → or_leaves closed leaving (look_body told item moment closed) ≡ Asks question → ⊥
-  body_asks told leaving missing moment closed is = asks_nothing closed leaving question is
-  body_asks told leaving (part head body) moment closed is = asks_nothing closed leaving question is
-  body_asks told leaving (complete head body trailers used) moment closed is = let same = asks_same _ question is in cc
-  body_asks told leaving (bad_head fault) moment closed is = asks_nothing closed leaving question is
-  body_asks told leaving (bad_body fault head body) moment closed is = ends_ask _ question is
+  body_asks : (told : Flow) (leaving : List Command) (item : Item ReadRequest) (moment : ℕ) (parked : Used) (closed : Bool) → or_leaves closed leaving (look_body told item moment parked closed) ≡ Asks question → ⊥
+  body_asks told leaving missing moment parked closed is = asks_nothing closed leaving question is
+  body_asks told leaving (part head body) moment parked closed is = asks_nothing closed leaving question is
+  body_asks told leaving (complete head body trailers used) moment parked closed is = let same = asks_same _ question is in cc
+  body_asks told leaving (bad_head fault) moment parked closed is = asks_nothing closed leaving question is
+  body_asks told leaving (bad_body fault head body) moment parked closed is = ends_ask _ question is
 
   relayed_asks : (relays : Bool) (told : Flow) (leaving : List Command) (head : ReadResponse) (moment : ℕ) (used : Used) (closed : Bool) →
       or_leaves closed leaving (if not relays then Ends (ends_by_fault told BadResponse moment used closed) else Asks (ask_of (with_answer told (response_of head) moment) ResponseHead))
@@ -178,8 +195,8 @@ module _ (terms : Terms) (index : ℕ) (flow : Flow) where
   returned_asks told leaving (bad_body fault head body) moment used closed is = ends_ask _ question is
 
   asks_at : (stage : Stage) (seen : Sight) → look terms stage seen ≡ Asks question → AsksAt stage
-  asks_at (idle at) seen is = record { at = at; is = refl; number = head_index at.flow (request_in at seen) seen.now seen.closed is }
-  asks_at (busy at told (request_body given)) seen is = absurd (body_asks told _ (request_in at seen) seen.now seen.closed is)
+  asks_at (idle at) seen is = record { at = at; is = refl; number = head_index at.flow (request_in at seen) _ seen.now (server_parked at.parked seen) seen.closed is }
+  asks_at (busy at told (request_body given)) seen is = absurd (body_asks told _ (request_in at seen) seen.now (server_parked at.parked seen) seen.closed is)
   asks_at (busy at told connection) seen is = absurd (let same = asks_same _ question is in cc)
   asks_at (busy at told (response_head side how)) seen is = absurd (answer_asks told _ (answers_in told.request side seen).final seen.now (server_in side seen) seen.closed is)
   asks_at (busy at told (response_body side how)) seen is = absurd (returned_asks told _ (answers_in told.request side seen).final seen.now (server_in side seen) seen.closed is)
@@ -250,6 +267,13 @@ module _ (terms : Terms) (index : ℕ) (flow : Flow) where
     abbrev waits : List Command
     waits = chain.so_far reached.stage reached.prefix
 
+    abbrev parts : List Command
+    parts = chain.behind reached.stage reached.prefix
+
+    -- the closes behind an ask have none
+    parts_none : AsksNone parts
+    parts_none = closes_ask parts (behind_closes reached.stage.stage (sight_over reached.stage reached.prefix))
+
     -- it is what is asked there
     begins_here : (ask : Command) → chain.look reached.stage reached.prefix ≡ Asks ask → ask ≡ question → before ≡ waits ++ [] → FlowBegins terms here before index
     begins_here ask asks same is =
@@ -271,13 +295,16 @@ module _ (terms : Terms) (index : ℕ) (flow : Flow) where
         further more (front ∙ ap (λ c. waits ++ c ∷ more) (head_same first ask (more ++ question ∷ behind) rest is)) (tail_same first ask (more ++ question ∷ behind) rest is)
 
     -- where it stopped
-    by_found : (l : Look Command) → chain.look reached.stage reached.prefix ≡ l → FoundInOrder l → waits ++ found l ≡ before ++ question ∷ behind → FlowBegins terms here before index
+    by_found : (l : Look Command) → chain.look reached.stage reached.prefix ≡ l → FoundInOrder l → waits ++ found_with parts l ≡ before ++ question ∷ behind → FlowBegins terms here before index
     by_found NotYet looks order is =
         let split = behind_quiet waits [] before behind _ flow (so_far_none reached.stage.stage (sight_over reached.stage reached.prefix)) (sym is) in
         absurd (nothing_behind split.middle behind question split.is)
     by_found (Asks ask) looks order is =
-        let split = behind_quiet waits (ask ∷ []) before behind _ flow (so_far_none reached.stage.stage (sight_over reached.stage reached.prefix)) (sym is) in
-        by_asked ask split.middle [] looks split.front split.is (λ more front none. absurd (nothing_behind more behind question none))
+        let split = behind_quiet waits (ask ∷ parts) before behind _ flow (so_far_none reached.stage.stage (sight_over reached.stage reached.prefix)) (sym is) in
+        by_asked ask split.middle parts looks split.front split.is
+        (λ more front left.
+        let none = behind_quiet parts [] more behind _ flow parts_none (left ∙ sym (append-nil parts)) in
+        absurd (nothing_behind none.middle behind question none.is))
     by_found (Ends owed) looks order is =
         let split = behind_quiet waits owed before behind _ flow (so_far_none reached.stage.stage (sight_over reached.stage reached.prefix)) (sym is) in
         let none = behind_quiet owed [] split.middle behind _ flow (ends_none owed order) (split.is ∙ sym (append-nil owed)) in
@@ -286,7 +313,7 @@ module _ (terms : Terms) (index : ℕ) (flow : Flow) where
     stopped : (unused : List (Stamped Reply)) → owed_at chain (stop_at here.last reached unused) ≡ before ++ question ∷ behind → FlowBegins terms here before index
     stopped unused is =
         let search = searched here.last [] here.place here.prefix here.coming refl in
-        let P : List Command → Type 0 = λ b. b ++ (waits ++ found (chain.look reached.stage reached.prefix)) ≡ before ++ question ∷ behind in
+        let P : List Command → Type 0 = λ b. b ++ (waits ++ found_with parts (chain.look reached.stage reached.prefix)) ≡ before ++ question ∷ behind in
         by_found (chain.look reached.stage reached.prefix) refl (looks_in_order terms reached.stage.stage (sight_over reached.stage reached.prefix)) (subst P search.none is)
 
     by_walk : (l : Look Command) → chain.look reached.stage reached.prefix ≡ l → (onward : Command → Stop Standing Event Reply Command) (unused : List (Stamped Reply)) →
@@ -306,30 +333,29 @@ module _ (terms : Terms) (index : ℕ) (flow : Flow) where
       let search = searched last [] s f es refl in
       let on = chain.turn there.stage there.prefix (at_its_step r) in
       let waiting = chain.so_far there.stage there.prefix in
+      let brought = chain.behind there.stage there.prefix ++ on.owed in
+      let none_asked : AsksNone brought = both_none (chain.behind there.stage there.prefix) on.owed
+      (closes_ask (chain.behind there.stage there.prefix) (behind_closes there.stage.stage (sight_over there.stage there.prefix)))
+      (ends_none on.owed (turns_in_order terms there.stage.stage (sight_over there.stage there.prefix) (at_its_step r))) in
       by_walk here before behind (chain.look there.stage there.prefix) refl _ (r ∷ rs)
       (λ ask asks due.
-      let more = waiting ++ ask ∷ on.owed in
+      let more = waiting ++ ask ∷ brought in
       let tail = owed_at chain (walk chain rs r.stamp [] on.stage there.prefix there.rest) in
-      let split : owed_at chain (walk chain rs r.stamp (there.before ++ more) on.stage there.prefix there.rest) ≡ waiting ++ (ask ∷ (on.owed ++ tail)) =
+      let split : owed_at chain (walk chain rs r.stamp (there.before ++ more) on.stage there.prefix there.rest) ≡ waiting ++ (ask ∷ (brought ++ tail)) =
       ap (λ b. owed_at chain (walk chain rs r.stamp (b ++ more) on.stage there.prefix there.rest)) search.none
       ∙ (ap (λ b. owed_at chain (walk chain rs r.stamp b on.stage there.prefix there.rest)) (sym (append-nil more))
-      ∙ (walk_behind chain more rs r.stamp [] on.stage there.prefix there.rest ∙ append_assoc waiting (ask ∷ on.owed) tail)) in
-      let first = behind_quiet waiting (ask ∷ (on.owed ++ tail)) before behind _ flow (so_far_none there.stage.stage (sight_over there.stage there.prefix)) (sym due ∙ split) in
-      by_asked here before behind ask first.middle (on.owed ++ tail) asks first.front first.is
+      ∙ (walk_behind chain more rs r.stamp [] on.stage there.prefix there.rest ∙ append_assoc waiting (ask ∷ brought) tail)) in
+      let first = behind_quiet waiting (ask ∷ (brought ++ tail)) before behind _ flow (so_far_none there.stage.stage (sight_over there.stage there.prefix)) (sym due ∙ split) in
+      by_asked here before behind ask first.middle (brought ++ tail) asks first.front first.is
       (λ rest front left.
-      let second = behind_quiet on.owed tail rest behind _ flow
-      (ends_none on.owed (turns_in_order terms there.stage.stage (sight_over there.stage there.prefix) (at_its_step r))) left in
+      let second = behind_quiet brought tail rest behind _ flow none_asked left in
       let further = begins rs r.stamp on.stage there.prefix there.rest second.middle behind (sym second.is) in
       record {
         there = further.there;
         at = further.at;
         awaits = further.awaits;
         flow = further.flow;
-        comes = subst (ComesBy terms here further.there)
-            (sym (front
-            ∙ (ap (λ l. waiting ++ ask ∷ l) second.front
-            ∙ (sym (append_assoc waiting (ask ∷ on.owed) second.middle)
-            ∙ ap (λ b. (b ++ more) ++ second.middle) (sym search.none)))))
+        comes = subst (ComesBy terms here further.there) (sym (more_begins before waiting brought second.middle there.before ask rest front second.front search.none))
             (goes_on here (behind_reply terms here r rs) further.there (due_by_reply terms here ask r) second.middle
             (record { ask = ask; asks = asks; reply = r; replies = rs; answers = refl; leads = refl; owes = refl }) further.comes);
       }))

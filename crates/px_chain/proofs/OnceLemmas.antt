@@ -5,13 +5,13 @@ use Rattle.px_event.specs.declared.command.Command.{Command}
 use Rattle.px_event.specs.declared.event.Event.{Event}
 use Rattle.px_event.specs.declared.reply.Reply.{Reply}
 use Rattle.px_event.specs.declared.side.Side.TheVariants.{Server}
-use Rattle.px_event.specs.Chain.{Stamp, Stamped, Timed, Look, NotYet, Asks, Ends, Turn, Reached, Stop, Chain, worked_off, at_its_step, never, reach, reach_by, walk, walk_by, found, owed_at}
+use Rattle.px_event.specs.Chain.{Stamp, Stamped, Timed, Look, NotYet, Asks, Ends, Turn, Reached, Stop, Chain, worked_off, at_its_step, never, reach, reach_by, walk, walk_by, found, found_at, owed_at}
 use Rattle.px_event.specs.Layer.{Move}
 use Rattle.px_event.specs.Stands.{due_by, events_in, replies_in}
 use Rattle.px_event.specs.View.{bytes_in, line, seen_of}
 use Rattle.px_event.proofs.LineLemmas.{bytes_join}
 use Rattle.px_event.proofs.Seen.{seen_append}
-use Rattle.px_chain.proofs.CountedLemmas.{IsSilent, silent_both}
+use Rattle.px_chain.proofs.CountedLemmas.{IsSilent, silent_both, silent_found}
 
 -- the bytes that are sent to the server
 abbrev pub sent_to : ℕ → List Command → List ℕ
@@ -32,6 +32,7 @@ pub record SpeaksOnce {S : Type 0} (chain : Chain S Event Reply Command) (kind u
       IsSilent server (chain.pass stage prefix).owed × kind (chain.pass stage prefix).stage × (used_up stage → used_up (chain.pass stage prefix).stage)
   pub looks : (stage : S) (prefix : List (Timed Event)) → kind stage → IsSilent server (found (chain.look stage prefix))
   pub waits : (stage : S) (prefix : List (Timed Event)) → kind stage → IsSilent server (chain.so_far stage prefix)
+  pub behind : (stage : S) (prefix : List (Timed Event)) → kind stage → IsSilent server (chain.behind stage prefix)
   pub stays : (stage : S) (prefix : List (Timed Event)) (answer : Timed Reply) → kind stage → kind (chain.turn stage prefix answer).stage
   pub turns : (stage : S) (prefix : List (Timed Event)) (answer : Timed Reply) → kind stage →
       SaysOnce server is_text (used_up stage) (used_up (chain.turn stage prefix answer).stage) (chain.turn stage prefix answer).owed
@@ -95,23 +96,26 @@ module _ {S : Type 0} (chain : Chain S Event Reply Command) (kind used_up : S �
       (reach_once last (before ++ on.owed) on.stage (prefix ++ worked_off last e ∷ []) es here.so here.is_kind) here
 
   there_once : (before : List Command) (stage : S) (prefix : List (Timed Event)) → SoFar (used_up stage) before → kind stage →
-      IsOnce server is_text (before ++ (chain.so_far stage prefix ++ found (chain.look stage prefix)))
+      IsOnce server is_text (before ++ (chain.so_far stage prefix ++ found_at chain stage prefix))
   there_once before stage prefix so is =
-      once_of (used_up stage) (before ++ (chain.so_far stage prefix ++ found (chain.look stage prefix)))
-      (said_on (used_up stage) (used_up stage) before (chain.so_far stage prefix ++ found (chain.look stage prefix)) so
-      (silent_both server (chain.so_far stage prefix) (found (chain.look stage prefix)) (speaks.waits stage prefix is) (speaks.looks stage prefix is)) (λ used. used))
+      let found_silent = silent_found server (chain.behind stage prefix) (chain.look stage prefix) (speaks.behind stage prefix is) (speaks.looks stage prefix is) in
+      once_of (used_up stage) (before ++ (chain.so_far stage prefix ++ found_at chain stage prefix))
+      (said_on (used_up stage) (used_up stage) before (chain.so_far stage prefix ++ found_at chain stage prefix) so
+      (silent_both server (chain.so_far stage prefix) (found_at chain stage prefix) (speaks.waits stage prefix is) found_silent) (λ used. used))
+
+  -- what a reply brings, behind what says nothing
+  says_behind : (used later : Type 0) (quiet owed : List Command) → IsSilent server quiet → SaysOnce server is_text used later owed →
+      SaysOnce server is_text used later (quiet ++ owed)
+  says_behind used later quiet owed none (says_nothing silent on) = says_nothing (silent_both server quiet owed none silent) on
+  says_behind used later quiet owed none (says_text text fresh on) = says_text (text_behind quiet owed none text) fresh on
 
   asked_once : (used later : Type 0) (ask : Command) (stage : S) (prefix : List (Timed Event)) (owed : List Command) → chain.look stage prefix ≡ Asks ask → kind stage →
-      SaysOnce server is_text used later owed → SaysOnce server is_text used later (chain.so_far stage prefix ++ ask ∷ owed)
+      SaysOnce server is_text used later owed → SaysOnce server is_text used later (chain.so_far stage prefix ++ ask ∷ (chain.behind stage prefix ++ owed))
   asked_once used later ask stage prefix owed asked is says =
+      let more = chain.behind stage prefix ++ owed in
       let one : IsSilent server (ask ∷ []) = ap (λ l. bytes_in (seen_of (line (Server server)) (found l))) (sym asked) ∙ speaks.looks stage prefix is in
-      behind says one
-    where
-      behind : SaysOnce server is_text used later owed → IsSilent server (ask ∷ []) → SaysOnce server is_text used later (chain.so_far stage prefix ++ ask ∷ owed)
-      behind (says_nothing silent on) one =
-          says_nothing (silent_both server (chain.so_far stage prefix) (ask ∷ owed) (speaks.waits stage prefix is) (silent_both server (ask ∷ []) owed one silent)) on
-      behind (says_text text fresh on) one =
-          says_text (text_behind (chain.so_far stage prefix) (ask ∷ owed) (speaks.waits stage prefix is) (text_behind (ask ∷ []) owed one text)) fresh on
+      says_behind used later (chain.so_far stage prefix) (ask ∷ more) (speaks.waits stage prefix is)
+      (says_behind used later (ask ∷ []) more one (says_behind used later (chain.behind stage prefix) owed (speaks.behind stage prefix is) says))
 
   walk_by_once : (l : Look Command) (on : Command → Stop S Event Reply Command) (stop : Stop S Event Reply Command) →
       ((ask : Command) → l ≡ Asks ask → IsOnce server is_text (owed_at chain (on ask))) → IsOnce server is_text (owed_at chain stop) → IsOnce server is_text (owed_at chain (walk_by l on stop))
@@ -130,8 +134,10 @@ module _ {S : Type 0} (chain : Chain S Event Reply Command) (kind used_up : S �
       let there = reach_once last before stage prefix es so is in
       let at : Turn S Command = chain.turn here.stage here.prefix (at_its_step r) in
       walk_by_once (chain.look here.stage here.prefix) _ _
-      (λ ask asked. walk_once rs r.stamp (here.before ++ (chain.so_far here.stage here.prefix ++ ask ∷ at.owed)) at.stage here.prefix here.rest
-      (said_more (used_up here.stage) (used_up at.stage) here.before (chain.so_far here.stage here.prefix ++ ask ∷ at.owed) there.so
+      (λ ask asked.
+      let more : List Command = chain.so_far here.stage here.prefix ++ ask ∷ (chain.behind here.stage here.prefix ++ at.owed) in
+      walk_once rs r.stamp (here.before ++ more) at.stage here.prefix here.rest
+      (said_more (used_up here.stage) (used_up at.stage) here.before more there.so
       (asked_once (used_up here.stage) (used_up at.stage) ask here.stage here.prefix at.owed asked there.is_kind (speaks.turns here.stage here.prefix (at_its_step r) there.is_kind)))
       (speaks.stays here.stage here.prefix (at_its_step r) there.is_kind))
       (there_once here.before here.stage here.prefix there.so there.is_kind)

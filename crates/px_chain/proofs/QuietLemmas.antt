@@ -24,7 +24,7 @@ use Rattle.px_exchange.specs.declared.ending.Used.TheVariants.{NoServer, ByServe
 use Rattle.px_exchange.specs.declared.taken.Taken.{Taken}
 use Rattle.px_exchange.specs.declared.taken.Taken.TheVariants.{GoesOn, Responds, Kills}
 use Rattle.px_exchange.specs.declared.terms.Terms.{Terms}
-use Rattle.px_chain.specs.Chain.{dial_leads, find, finish, finish_by, goes_on_by, side_behind, spare_for, turn_taken_whole, leaving, look, pass, pass_body, so_far, turn, turn_head, turn_judged, turn_taken_head, turn_body, turn_taken_body, turn_answer, turn_answer_head, turn_taken_answer, turn_returned, turn_whole_answer, turn_response, turn_taken_returned, turn_taken_given, killed, behind_flow, used_more}
+use Rattle.px_chain.specs.Chain.{behind, dial_leads, find, finish, finish_by, goes_on_by, parked_for, side_behind, turn_taken_whole, leaving, look, pass, pass_body, so_far, turn, turn_head, turn_judged, turn_taken_head, turn_body, turn_taken_body, turn_answer, turn_answer_head, turn_taken_answer, turn_returned, turn_whole_answer, turn_response, turn_taken_returned, turn_taken_given, killed, behind_flow, used_more}
 use Rattle.px_exchange.specs.Finds.{or_leaves, look_head, look_judged, look_body, look_answer, look_answer_head, look_returned, is_relayed}
 use Rattle.px_exchange.specs.Texts.{meets_expectation, interim_command, interim_commands}
 use Rattle.px_exchange.specs.Dials.{dial_owes}
@@ -34,10 +34,9 @@ use Rattle.px_chain.specs.Left.{stage_left}
 use Rattle.px_chain.proofs.Quiet.{AllQuiet, LooksQuiet, IsOf, any_flow, no_flow, id_in, SameFlow, IsBehind, Leads}
 use Rattle.px_exchange.specs.Replies.{taken_at_request_body, taken_at_request_head, taken_at_response_body, taken_at_response_head}
 use Rattle.px_exchange.specs.declared.place.Place.{Place}
-use Rattle.px_exchange.specs.Places.{goes_home}
 use Rattle.px_exchange.specs.Requests.{is_head, expects, flow_of, judged}
-use Rattle.px_chain.specs.Stages.{At, ServerSide, Stage, idle, busy, next, over, request_body, connection, response_head, response_body, given_head, given_body, upgraded, place_of}
-use Rattle.px_chain.specs.Sights.{Sight, Unused, answers_in, request_in, server_in}
+use Rattle.px_chain.specs.Stages.{At, ServerSide, Stage, idle, busy, next, over, request_body, connection, response_head, response_body, given_head, given_body, upgraded, place_of, unparked}
+use Rattle.px_chain.specs.Sights.{Sight, answers_in, request_in, server_in, server_parked}
 
 -- ---- lists
 
@@ -93,12 +92,12 @@ module _ (names : FlowId → Type 0) where
   fault_quiet : (flow : Flow) (fault : Fault) (moment : ℕ) (used : Used) (closed : Bool) → names flow.id → AllQuiet names (ends_by_fault flow fault moment used closed)
   fault_quiet flow fault moment used closed is = (tt, (is, shuts_quiet used closed))
 
-  refuses_quiet : (fault : Fault) (asked_head closed : Bool) → AllQuiet names (refuses fault asked_head closed)
-  refuses_quiet fault asked_head closed = (tt, client_quiet closed)
+  refuses_quiet : (fault : Fault) (asked_head : Bool) (used : Used) (closed : Bool) → AllQuiet names (refuses fault asked_head used closed)
+  refuses_quiet fault asked_head used closed = (tt, shuts_quiet used closed)
 
-  unless_quiet : (stays closed : Bool) → AllQuiet names (shut_unless stays closed)
-  unless_quiet true closed = tt
-  unless_quiet false closed = client_quiet closed
+  unless_quiet : (stays : Bool) (used : Used) (closed : Bool) → AllQuiet names (shut_unless stays used closed)
+  unless_quiet true used closed = tt
+  unless_quiet false used closed = shuts_quiet used closed
 
   finished_quiet : (flow : Flow) (response : Response) (used : Used) → names flow.id → AllQuiet names (finished flow response used)
   finished_quiet flow response used is = (tt, (is, server_quiet used))
@@ -106,24 +105,24 @@ module _ (names : FlowId → Type 0) where
   -- ---- looks
 
   module _ (terms : Terms) where
-    judged_quiet : (index : ℕ) (head : ReadRequest) (made : Judged) (moment : ℕ) (closed : Bool) → names (id_in terms index) → LooksQuiet names (look_judged terms index head made moment closed)
-    judged_quiet index head (Refused fault) moment closed is = refuses_quiet fault (is_head head.method) closed
-    judged_quiet index head (Accepted message) moment closed is = (is, refl)
-    judged_quiet index head (Connects address) moment closed is = tt
+    judged_quiet : (index : ℕ) (head : ReadRequest) (made : Judged) (moment : ℕ) (used : Used) (closed : Bool) → names (id_in terms index) → LooksQuiet names (look_judged terms index head made moment used closed)
+    judged_quiet index head (Refused fault) moment used closed is = refuses_quiet fault (is_head head.method) used closed
+    judged_quiet index head (Accepted message) moment used closed is = (is, refl)
+    judged_quiet index head (Connects address) moment used closed is = tt
 
-    head_quiet : (index : ℕ) (item : Item ReadRequest) (moment : ℕ) (closed : Bool) → names (id_in terms index) → LooksQuiet names (look_head terms index item moment closed)
-    head_quiet index missing moment closed is = tt
-    head_quiet index (part head body) moment closed is = judged_quiet index head (judged terms.place head) moment closed is
-    head_quiet index (complete head body trailers used) moment closed is = judged_quiet index head (judged terms.place head) moment closed is
-    head_quiet index (bad_head fault) moment closed is = refuses_quiet fault false closed
-    head_quiet index (bad_body fault head body) moment closed is = judged_quiet index head (judged terms.place head) moment closed is
+    head_quiet : (index : ℕ) (item : Item ReadRequest) (moment : ℕ) (used : Used) (closed : Bool) → names (id_in terms index) → LooksQuiet names (look_head terms index item moment used closed)
+    head_quiet index missing moment used closed is = tt
+    head_quiet index (part head body) moment used closed is = judged_quiet index head (judged terms.place head) moment used closed is
+    head_quiet index (complete head body trailers size) moment used closed is = judged_quiet index head (judged terms.place head) moment used closed is
+    head_quiet index (bad_head fault) moment used closed is = refuses_quiet fault false used closed
+    head_quiet index (bad_body fault head body) moment used closed is = judged_quiet index head (judged terms.place head) moment used closed is
 
-    body_quiet : (flow : Flow) (item : Item ReadRequest) (moment : ℕ) (closed : Bool) → names flow.id → LooksQuiet names (look_body flow item moment closed)
-    body_quiet flow missing moment closed is = tt
-    body_quiet flow (part head body) moment closed is = tt
-    body_quiet flow (complete head body trailers used) moment closed is = (is, refl)
-    body_quiet flow (bad_head fault) moment closed is = tt
-    body_quiet flow (bad_body fault head body) moment closed is = fault_quiet flow fault moment NoServer closed is
+    body_quiet : (flow : Flow) (item : Item ReadRequest) (moment : ℕ) (used : Used) (closed : Bool) → names flow.id → LooksQuiet names (look_body flow item moment used closed)
+    body_quiet flow missing moment used closed is = tt
+    body_quiet flow (part head body) moment used closed is = tt
+    body_quiet flow (complete head body trailers size) moment used closed is = (is, refl)
+    body_quiet flow (bad_head fault) moment used closed is = tt
+    body_quiet flow (bad_body fault head body) moment used closed is = fault_quiet flow fault moment used closed is
 
     relays_quiet : (flow : Flow) (head : ReadResponse) (moment : ℕ) (used : Used) (closed relays : Bool) → names flow.id → is_relayed head.code ≡ relays →
         LooksQuiet names (look_answer_head flow head moment used closed)
@@ -145,8 +144,8 @@ module _ (names : FlowId → Type 0) where
     returned_quiet flow (bad_body fault head body) moment used closed is = fault_quiet flow fault moment used closed is
 
     finds_quiet : (stage : Stage) (seen : Sight) → IsOf terms names stage → LooksQuiet names (find terms stage seen)
-    finds_quiet (idle at) seen is = head_quiet at.flow (request_in at seen) seen.now seen.closed is
-    finds_quiet (busy at flow (request_body given)) seen is = body_quiet flow (request_in at seen) seen.now seen.closed is
+    finds_quiet (idle at) seen is = head_quiet at.flow (request_in at seen) seen.now (server_parked at.parked seen) seen.closed is
+    finds_quiet (busy at flow (request_body given)) seen is = body_quiet flow (request_in at seen) seen.now (server_parked at.parked seen) seen.closed is
     finds_quiet (busy at flow connection) seen is = tt
     finds_quiet (busy at flow (response_head side how)) seen is =
         answer_quiet flow (answers_in flow.request side seen).final seen.now (server_in side seen) seen.closed is
@@ -159,8 +158,8 @@ module _ (names : FlowId → Type 0) where
     finds_quiet over seen is = tt
 
     leaving_quiet : (stage : Stage) (seen : Sight) → IsOf terms names stage → AllQuiet names (leaving stage seen)
-    leaving_quiet (idle at) seen is = tt
-    leaving_quiet (busy at flow (request_body given)) seen is = early_quiet flow closed_message seen.now NoServer true is
+    leaving_quiet (idle at) seen is = server_quiet (server_parked at.parked seen)
+    leaving_quiet (busy at flow (request_body given)) seen is = early_quiet flow closed_message seen.now (server_parked at.parked seen) true is
     leaving_quiet (busy at flow connection) seen is = tt
     leaving_quiet (busy at flow (response_head side how)) seen is = early_quiet flow closed_message seen.now (server_in side seen) true is
     leaving_quiet (busy at flow (response_body side how)) seen is = early_quiet (without_response flow) closed_message seen.now (server_in side seen) true is
@@ -191,18 +190,18 @@ module _ (names : FlowId → Type 0) where
       killed_led : (flow : Flow) (moment : ℕ) (used : Used) (closed : Bool) → names flow.id → Led (killed flow moment used closed)
       killed_led flow moment used closed is = over_led _ (early_quiet flow killed_message moment used closed is)
 
-      taken_head_led : (at : At) (flow : Flow) (expected : Bool) (taken : Taken Request) (moment : ℕ) (closed : Bool) → SameFlow flow_now dials at → 4 < count → names flow.id →
-          Led (turn_taken_head at flow expected taken moment closed)
-      taken_head_led at flow expected (GoesOn message) moment closed at_flow more is = record { quiet = expectation_quiet names expected; is_of = is; ends_none = expectation_quiet no_flow expected; behind = (at_flow, more) }
-      taken_head_led at flow expected (Responds response) moment closed at_flow more is = record { quiet = expectation_quiet names expected; is_of = is; ends_none = expectation_quiet no_flow expected; behind = (at_flow, more) }
-      taken_head_led at flow expected Kills moment closed at_flow more is = killed_led flow moment NoServer closed is
+      taken_head_led : (at : At) (flow : Flow) (expected : Bool) (taken : Taken Request) (moment : ℕ) (seen : Sight) → SameFlow flow_now dials at → 4 < count → names flow.id →
+          Led (turn_taken_head at flow expected taken moment seen)
+      taken_head_led at flow expected (GoesOn message) moment seen at_flow more is = record { quiet = expectation_quiet names expected; is_of = is; ends_none = expectation_quiet no_flow expected; behind = (at_flow, more) }
+      taken_head_led at flow expected (Responds response) moment seen at_flow more is = record { quiet = expectation_quiet names expected; is_of = is; ends_none = expectation_quiet no_flow expected; behind = (at_flow, more) }
+      taken_head_led at flow expected Kills moment seen at_flow more is = killed_led flow moment (server_parked at.parked seen) seen.closed is
 
       judged_led : (at : At) (head : ReadRequest) (made : Judged) (seen : Sight) (answer : Timed Reply) → SameFlow flow_now dials at → 4 < count → names (id_in terms at.flow) →
           Led (turn_judged terms at head made seen answer)
       judged_led at head (Refused fault) seen answer at_flow more is = over_led [] tt
       judged_led at head (Connects address) seen answer at_flow more is = over_led [] tt
       judged_led at head (Accepted message) seen answer at_flow more is =
-          taken_head_led at (flow_of terms at.flow message seen.now) (expects head) (taken_at_request_head message answer.value) answer.moment seen.closed at_flow more is
+          taken_head_led at (flow_of terms at.flow message seen.now) (expects head) (taken_at_request_head message answer.value) answer.moment seen at_flow more is
 
       head_led : (at : At) (item : Item ReadRequest) (seen : Sight) (answer : Timed Reply) → SameFlow flow_now dials at → 4 < count → names (id_in terms at.flow) →
           Led (turn_head terms at item seen answer)
@@ -212,19 +211,18 @@ module _ (names : FlowId → Type 0) where
       head_led at (bad_head fault) seen answer at_flow more is = over_led [] tt
       head_led at (bad_body fault head body) seen answer at_flow more is = judged_led at head (judged terms.place head) seen answer at_flow more is
 
-      goes_on_led : (home : Bool) (spare : Option Unused) (place : Place) (at : At) (flow : Flow) → SameFlow flow_now dials at → 3 < count → names flow.id →
-          Led (goes_on_by (spare_for home spare) place at flow)
-      goes_on_led true None place at flow at_flow more is = record { quiet = tt; is_of = is; ends_none = tt; behind = (at_flow, more) }
-      goes_on_led true (Some unused) place at flow at_flow more is =
+      goes_on_led : (side : Option ServerSide) (place : Place) (at : At) (flow : Flow) → SameFlow flow_now dials at → 3 < count → names flow.id →
+          Led (goes_on_by side place at flow)
+      goes_on_led None place at flow at_flow more is = record { quiet = tt; is_of = is; ends_none = tt; behind = (at_flow, more) }
+      goes_on_led (Some side) place at flow at_flow more is =
           let few = at_flow.1 in record { quiet = (tt, tt); is_of = is; ends_none = (tt, tt); behind = ((at_flow.0, omega arith), omega arith) }
-      goes_on_led false spare place at flow at_flow more is = record { quiet = tt; is_of = is; ends_none = tt; behind = (at_flow, more) }
 
-      taken_body_led : (place : Place) (at : At) (flow : Flow) (spare : Option Unused) (taken : Taken Request) (moment : ℕ) (closed : Bool) →
-          SameFlow flow_now dials at → 3 < count → names flow.id → Led (turn_taken_body place at flow spare taken moment closed)
-      taken_body_led place at flow spare (GoesOn message) moment closed at_flow more is =
-          goes_on_led (goes_home place message) spare place at (record flow { request = message }) at_flow more is
-      taken_body_led place at flow spare (Responds response) moment closed at_flow more is = record { quiet = tt; is_of = is; ends_none = tt; behind = (at_flow, omega arith) }
-      taken_body_led place at flow spare Kills moment closed at_flow more is = killed_led flow moment NoServer closed is
+      taken_body_led : (place : Place) (at : At) (flow : Flow) (taken : Taken Request) (moment : ℕ) (seen : Sight) →
+          SameFlow flow_now dials at → 3 < count → names flow.id → Led (turn_taken_body place at flow taken moment seen)
+      taken_body_led place at flow (GoesOn message) moment seen at_flow more is =
+          goes_on_led (parked_for place message at.parked) place at (record flow { request = message }) at_flow more is
+      taken_body_led place at flow (Responds response) moment seen at_flow more is = record { quiet = tt; is_of = is; ends_none = tt; behind = (at_flow, omega arith) }
+      taken_body_led place at flow Kills moment seen at_flow more is = killed_led flow moment (server_parked at.parked seen) seen.closed is
 
       body_led : (place : Place) (at : At) (flow : Flow) (item : Item ReadRequest) (seen : Sight) (answer : Timed Reply) → SameFlow flow_now dials at → 3 < count → names flow.id →
           Led (turn_body place at flow item seen answer)
@@ -232,7 +230,7 @@ module _ (names : FlowId → Type 0) where
       body_led place at flow (part head body) seen answer at_flow more is = over_led [] tt
       body_led place at flow (complete head body trailers used) seen answer at_flow more is =
           let asked_flow : Flow = with_body flow body.content trailers seen.now in
-          taken_body_led place (used_more at used) asked_flow seen.spare (taken_at_request_body asked_flow.request answer.value) answer.moment seen.closed at_flow more is
+          taken_body_led place (used_more at used) asked_flow (taken_at_request_body asked_flow.request answer.value) answer.moment seen at_flow more is
       body_led place at flow (bad_head fault) seen answer at_flow more is = over_led [] tt
       body_led place at flow (bad_body fault head body) seen answer at_flow more is = over_led [] tt
 
@@ -275,17 +273,17 @@ module _ (names : FlowId → Type 0) where
           let less = few refl in record { quiet = quiet; is_of = tt; ends_none = tt; behind = ((ap (λ n. n + 1) at_flow, dialled), omega arith) }
       finish_led at owed false few quiet at_flow = over_led owed quiet
 
-      finished_led : (at : At) (flow : Flow) (message : Response) (used : Used) (closed : Bool) → SameFlow flow_now dials at → names flow.id →
-          Led (finish at flow message used closed)
-      finished_led at flow message used closed at_flow is =
+      finished_led : (at : At) (flow : Flow) (message : Response) (used parked : Used) (closed : Bool) → SameFlow flow_now dials at → names flow.id →
+          Led (finish at flow message used parked closed)
+      finished_led at flow message used parked closed at_flow is =
           let stays : Bool = connection_goes_on at.flow flow.request message in
-          finish_led at (finished flow message used ++ shut_unless stays closed) stays
+          finish_led at (finished flow message used ++ shut_unless stays parked closed) stays
           (λ on. ltb-true (at.flow + 1) 1000000 (last_true _ (nat_lt (at.flow + 1) 1000000) on))
-          (all_quiet names (finished flow message used) (shut_unless stays closed) (finished_quiet flow message used is) (unless_quiet stays closed)) at_flow
+          (all_quiet names (finished flow message used) (shut_unless stays parked closed) (finished_quiet flow message used is) (unless_quiet stays parked closed)) at_flow
 
       taken_returned_led : (at : At) (flow : Flow) (taken : Taken Response) (moment : ℕ) (used : Used) (closed : Bool) → SameFlow flow_now dials at → names flow.id →
           Led (turn_taken_returned at flow taken moment used closed)
-      taken_returned_led at flow (GoesOn message) moment used closed at_flow is = finished_led at flow message used closed at_flow is
+      taken_returned_led at flow (GoesOn message) moment used closed at_flow is = finished_led at flow message NoServer used closed at_flow is
       taken_returned_led at flow (Responds response) moment used closed at_flow is = killed_led flow moment used closed is
       taken_returned_led at flow Kills moment used closed at_flow is = killed_led flow moment used closed is
 
@@ -303,7 +301,7 @@ module _ (names : FlowId → Type 0) where
       finish_by_led : (switches : Bool) (at : At) (flow : Flow) (message : Response) (side : ServerSide) (used : Used) (closed : Bool) → SameFlow flow_now dials at → 0 < count → names flow.id →
           Led (finish_by switches at flow message side used closed)
       finish_by_led true at flow message side used closed at_flow more is = record { quiet = (tt, tt); is_of = is; ends_none = (tt, tt); behind = (at_flow, more) }
-      finish_by_led false at flow message side used closed at_flow more is = finished_led at flow message used closed at_flow is
+      finish_by_led false at flow message side used closed at_flow more is = finished_led (unparked at) flow message used NoServer closed at_flow is
 
       taken_whole_led : (at : At) (flow : Flow) (side : ServerSide) (taken : Taken Response) (moment : ℕ) (used : Used) (closed : Bool) → SameFlow flow_now dials at → 0 < count → names flow.id →
           Led (turn_taken_whole at flow side taken moment used closed)
@@ -324,11 +322,11 @@ module _ (names : FlowId → Type 0) where
       returned_led at flow side interim (bad_head fault) seen answer at_flow more is = over_led [] tt
       returned_led at flow side interim (bad_body fault head body) seen answer at_flow more is = over_led [] tt
 
-      given_led : (at : At) (flow : Flow) (taken : Taken Response) (moment : ℕ) (closed : Bool) → SameFlow flow_now dials at → 1 < count → names flow.id →
-          Led (turn_taken_given at flow taken moment closed)
-      given_led at flow (GoesOn message) moment closed at_flow more is = record { quiet = tt; is_of = is; ends_none = tt; behind = (at_flow, more) }
-      given_led at flow (Responds response) moment closed at_flow more is = killed_led (without_response flow) moment NoServer closed is
-      given_led at flow Kills moment closed at_flow more is = killed_led (without_response flow) moment NoServer closed is
+      given_led : (at : At) (flow : Flow) (taken : Taken Response) (moment : ℕ) (parked : Used) (closed : Bool) → SameFlow flow_now dials at → 1 < count → names flow.id →
+          Led (turn_taken_given at flow taken moment parked closed)
+      given_led at flow (GoesOn message) moment parked closed at_flow more is = record { quiet = tt; is_of = is; ends_none = tt; behind = (at_flow, more) }
+      given_led at flow (Responds response) moment parked closed at_flow more is = killed_led (without_response flow) moment parked closed is
+      given_led at flow Kills moment parked closed at_flow more is = killed_led (without_response flow) moment parked closed is
 
 -- a stage at which something may be asked
 abbrev pub IsGoing : Stage → Type 0
@@ -352,10 +350,10 @@ turn_led terms names (busy at flow (upgraded side)) seen answer goes is = over_l
 turn_led terms names (busy at flow given_head) seen answer goes is =
     let asked_flow : Flow = with_start flow seen.now in
     response_led names terms at.flow at.dials 2 asked_flow.response (λ message. taken_at_response_head message answer.value)
-    (λ taken. turn_taken_given at asked_flow taken answer.moment seen.closed)
-    (λ taken. given_led names terms at.flow at.dials 2 at asked_flow taken answer.moment seen.closed (refl, omega arith) (omega arith) is)
+    (λ taken. turn_taken_given at asked_flow taken answer.moment (server_parked at.parked seen) seen.closed)
+    (λ taken. given_led names terms at.flow at.dials 2 at asked_flow taken answer.moment (server_parked at.parked seen) seen.closed (refl, omega arith) (omega arith) is)
 turn_led terms names (busy at flow given_body) seen answer goes is =
-    whole_answer_led names terms at.flow at.dials 1 at (with_end flow seen.now) answer NoServer seen.closed (refl, omega arith) is
+    whole_answer_led names terms at.flow at.dials 1 at (with_end flow seen.now) answer (server_parked at.parked seen) seen.closed (refl, omega arith) is
 turn_led terms names (next at) seen answer goes is = absurd goes
 turn_led terms names over seen answer goes is = over_led names terms 0 0 0 [] tt
 
@@ -376,6 +374,19 @@ turn_quiet terms over seen answer = tt
 -- nor does an end that is found
 pub finds_quiet_end : (terms : Terms) (stage : Stage) (seen : Sight) → LooksQuiet any_flow (look terms stage seen)
 finds_quiet_end terms stage seen = looks_quiet any_flow terms stage seen (is_any terms stage)
+
+-- nor does what is owed behind an ask
+pub behind_quiet : (names : FlowId → Type 0) (stage : Stage) (seen : Sight) → AllQuiet names (behind stage seen)
+behind_quiet names (idle at) seen = tt
+behind_quiet names (busy at flow (request_body given)) seen = tt
+behind_quiet names (busy at flow connection) seen = server_quiet names (server_parked at.parked seen)
+behind_quiet names (busy at flow (response_head side how)) seen = tt
+behind_quiet names (busy at flow (response_body side how)) seen = tt
+behind_quiet names (busy at flow (upgraded side)) seen = tt
+behind_quiet names (busy at flow given_head) seen = tt
+behind_quiet names (busy at flow given_body) seen = tt
+behind_quiet names (next at) seen = tt
+behind_quiet names over seen = tt
 
 -- passing stays with the flow
 pass_of_by : (terms : Terms) (names : FlowId → Type 0) (at : At) (flow : Flow) (given : Option Response) (item : Item ReadRequest) (now : ℕ) → names flow.id →

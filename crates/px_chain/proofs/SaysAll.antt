@@ -19,7 +19,7 @@ use Rattle.px_read.proofs.WholeLemmas.{final-behind}
 use Rattle.px_message.specs.Target.{target_form}
 use Rattle.px_message.specs.declared.address.Address.{Address}
 use Rattle.px_exchange.specs.Finds.{is_relayed}
-use Rattle.px_exchange.specs.Places.{goes_home}
+use Rattle.px_exchange.specs.Places.{is_same_address, server_for}
 use Rattle.px_exchange.specs.Requests.{expects, goal_at, is_head, is_http11, judged, request_of}
 use Rattle.px_exchange.specs.Texts.{interim_command, meets_expectation, sends_on}
 use Rattle.px_exchange.specs.declared.asked.Judged.{Judged}
@@ -27,12 +27,12 @@ use Rattle.px_exchange.specs.declared.asked.Judged.TheVariants.{Refused, Accepte
 use Rattle.px_exchange.specs.declared.place.Place.{Place}
 use Rattle.px_exchange.specs.declared.place.Place.TheVariants as places
 use Rattle.px_exchange.specs.declared.terms.Terms.{Terms}
-use Rattle.px_chain.specs.ClosedForm.{GoesOn, Point, Served, behind_request, connected_at, ended_at, fault_said, first_flows, next_point, request_items, said, said_answers, said_behind, said_by, said_connected, said_dialled, said_final, said_from, said_item, said_judged, said_of_flows, said_on, said_relayed, said_returned, said_served, side_for, whole_request}
-use Rattle.px_chain.specs.Sights.{Spare}
-use Rattle.px_chain.specs.Stages.{At, idle}
+use Rattle.px_chain.specs.ClosedForm.{GoesOn, Point, Served, behind_request, connected_at, ended_at, fault_said, first_flows, next_point, request_items, said, said_answers, said_behind, said_by, said_connected, said_dialled, said_final, said_from, said_item, said_judged, said_of_flows, said_on, said_relayed, said_returned, said_served, whole_request, without_parked}
+use Rattle.px_chain.specs.Chain.{new_side, parked_for, side_if}
+use Rattle.px_chain.specs.Stages.{At, Parked, ServerSide, idle}
 use Rattle.px_chain.specs.Streams.{bytes_of, is_closed}
 use Rattle.px_chain.specs.Walks.{Walk, answered, due_from, heard, point_at}
-use Rattle.px_chain.specs.WhatWasRead.{Here, IsOwn, Message, SayWhatWasRead, a_final_response, an_interim_response, answers_read, behind_by, final_read, goes_home_by, here_of, interim_known, messages_at, messages_behind, messages_from, messages_of, messages_once, messages_read, served_by}
+use Rattle.px_chain.specs.WhatWasRead.{Here, IsOwn, Message, SayWhatWasRead, a_final_response, an_interim_response, answers_read, behind_by, final_read, here_of, interim_known, messages_at, messages_behind, messages_from, messages_of, messages_once, messages_read, parked_by, served_by}
 use Rattle.px_chain.proofs.ClosedWalk.{said_begins}
 use Rattle.px_chain.proofs.PartsRead.{IsInterimRead, IsRead, interim_read, list_read}
 use Rattle.px_chain.proofs.SaysRequests.{accepted, says_made}
@@ -124,10 +124,15 @@ module _ (place : Place) where
 -- ---- the closed form
 
 -- a request goes where it went without its body
-home_whole : (place : Place) (request : Request) (body : Body) (trailers : List (List ℕ × List ℕ)) → goes_home place (whole_request request body trailers) ≡ goes_home place request
-home_whole places.Regular request body trailers = refl
-home_whole (places.Upstream proxy) request body trailers = refl
-home_whole (places.Fixed address side inside) request body trailers = refl
+server_whole : (place : Place) (request : Request) (body : Body) (trailers : List (List ℕ × List ℕ)) → server_for place (whole_request request body trailers) ≡ server_for place request
+server_whole places.Regular request body trailers = refl
+server_whole (places.Upstream proxy) request body trailers = refl
+server_whole (places.Fixed address side inside) request body trailers = refl
+
+parked_whole : (place : Place) (request : Request) (body : Body) (trailers : List (List ℕ × List ℕ)) (parked : Option Parked) →
+    parked_for place (whole_request request body trailers) parked ≡ parked_for place request parked
+parked_whole place request body trailers None = refl
+parked_whole place request body trailers (Some parked) = ap (λ a. side_if (is_same_address parked.address a) parked.side) (server_whole place request body trailers)
 
 -- of so many of them each was read
 first_read : (flows : ℕ) (items : List (Item RequestHead)) → All IsRead items → All IsRead (take flows items)
@@ -162,37 +167,38 @@ module _ (terms : Terms) (events : List (Timed Event)) where
           (messages_at events served head body trailers (λ ended. messages (here_of (next_point point ended))))
       served_say point served = inr (
         (refl, says_made terms.place bytes head body trailers used whole address path no_connect goal),
-        answers_say terms.place asked (is_closed (Server served.server) (drop served.opened events)) (bytes_of (Server served.server) (drop served.opened events))
+        answers_say terms.place asked (is_closed (Server served.side.server) (drop served.opened events))
+            (drop served.side.used (bytes_of (Server served.side.server) (drop served.opened events)))
             (said_on events point served further asked)
             (messages_behind (ended_at events served (is_head head.method)) (λ ended. messages (here_of (next_point point ended))))
             (λ response. behind_say _ point (ended_at events served (is_head head.method)) further messages on),
       )
 
-      dialled_say : (point : Point) (come : ℕ) (dials : List (Option Fault)) → Say (said_dialled terms events (behind_request point used) asked come dials further)
-          (messages_at events (served_by (here_of point) come None) head body trailers (λ ended. messages (behind_by (here_of point) used ended None)))
+      dialled_say : (point : Point) (come : ℕ) (dials : List (Option Fault)) → Say (said_dialled terms events (without_parked (behind_request point used)) asked come dials further)
+          (messages_at events (served_by (here_of point) come None) head body trailers (λ ended. messages (behind_by (here_of point) used come ended None)))
       dialled_say point come [] = tt
       dialled_say point come (Some fault ∷ dials) =
           own_say terms.place (fault_said fault (is_head head.method))
-          (messages_at events (served_by (here_of point) come None) head body trailers (λ ended. messages (behind_by (here_of point) used ended None)))
+          (messages_at events (served_by (here_of point) come None) head body trailers (λ ended. messages (behind_by (here_of point) used come ended None)))
           (fault_own fault (is_head head.method))
       dialled_say point come (None ∷ dials) =
-          served_say (record (behind_request point used) { server = point.server + 1; dials = dials }) (record { server = point.server; opened = come; went = come })
+          served_say (record (behind_request point used) { server = point.server + 1; dials = dials; parked = None; opened = come })
+          (record { side = new_side point.server; opened = come; went = come })
 
-      by_say : (point : Point) (come : ℕ) (side : Option Spare) → Say (said_by terms events (behind_request point used) asked come side further)
-          (messages_at events (served_by (here_of point) come side) head body trailers (λ ended. messages (behind_by (here_of point) used ended side)))
+      by_say : (point : Point) (come : ℕ) (side : Option ServerSide) → Say (said_by terms events (behind_request point used) asked come side further)
+          (messages_at events (served_by (here_of point) come side) head body trailers (λ ended. messages (behind_by (here_of point) used come ended side)))
       by_say point come None = inl (tt, dialled_say point come point.dials)
-      by_say point come (Some spare) =
-          served_say (record (behind_request point used) { spare = None }) (record { server = spare.server; opened = spare.opened; went = come })
+      by_say point come (Some side) =
+          served_say (without_parked (behind_request point used)) (record { side = side; opened = point.opened; went = come })
 
-      connected_say : (point : Point) (come : Option ℕ) → goes_home_by terms.place (judged terms.place head) ≡ goes_home terms.place asked
+      connected_say : (point : Point) (come : Option ℕ) → parked_by terms.place (judged terms.place head) point.parked ≡ parked_for terms.place asked point.parked
           → Say (said_connected terms events (behind_request point used) asked come further)
           (messages_once terms.place events (here_of point) head body trailers used come messages)
-      connected_say point None home = tt
-      connected_say point (Some come) home =
-          let P : Bool → Type 0 = λ b. Say (said_connected terms events (behind_request point used) asked (Some come) further)
-          (messages_at events (served_by (here_of point) come (side_for b point.spare)) head body trailers
-          (λ ended. messages (behind_by (here_of point) used ended (side_for b point.spare)))) in
-          subst P (sym home) (by_say point come (side_for (goes_home terms.place asked) point.spare))
+      connected_say point None same = tt
+      connected_say point (Some come) same =
+          let P : Option ServerSide → Type 0 = λ side. Say (said_connected terms events (behind_request point used) asked (Some come) further)
+          (messages_at events (served_by (here_of point) come side) head body trailers (λ ended. messages (behind_by (here_of point) used come ended side))) in
+          subst P (sym same) (by_say point come (parked_for terms.place asked point.parked))
 
     whole_say : (point : Point) (come : Option ℕ) (request : Request) → judged terms.place head ≡ Accepted request
         → Say (said_connected terms events (behind_request point used) (whole_request request body trailers) come further)
@@ -201,11 +207,12 @@ module _ (terms : Terms) (events : List (Timed Event)) where
         let made = accepted terms.place head request is in
         let P : Request → Type 0 = λ r. Say (said_connected terms events (behind_request point used) (whole_request r body trailers) come further)
         (messages_once terms.place events (here_of point) head body trailers used come messages) in
-        let home : goes_home_by terms.place (judged terms.place head) ≡ goes_home terms.place request = ap (goes_home_by terms.place) is in
+        let there : parked_by terms.place (judged terms.place head) point.parked ≡ parked_for terms.place request point.parked =
+        ap (λ j. parked_by terms.place j point.parked) is in
         let first : Request = request_of made.address head made.path made.no_connect in
         subst P made.is
         (connected_say made.address made.path made.no_connect made.goal point come
-        (home ∙ (ap (goes_home terms.place) (sym made.is) ∙ sym (home_whole terms.place first body trailers))))
+        (there ∙ (ap (λ r. parked_for terms.place r point.parked) (sym made.is) ∙ sym (parked_whole terms.place first body trailers point.parked))))
 
     judged_say : (point : Point) (made : Judged) → judged terms.place head ≡ made
         → Say (said_judged terms events point head made (complete head body trailers used) further)

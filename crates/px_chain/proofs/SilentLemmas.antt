@@ -1,5 +1,5 @@
--- What a conversation sends goes to servers that are connected: those that were dialled before its stage, of which the side in use and
--- the spare one are two. And before the first move nobody is sent anything.
+-- What a conversation sends goes to servers that are connected: those that were dialled before its stage, of which the side that is open
+-- is one. And before the first move nobody is sent anything.
 use Rattle.std.proofs.Common.{◌≡◌, ℕ, ◌+◌, ◌≤◌, ◌<◌, Bool, true, false, cond, List, [], ◌∷◌, ◌++◌, drop, Option, Some, None, refl, ap, ◌∙◌, arith}
 use Rattle.std.specs.Prelude.{⊤, ◌==◌, map}
 use Rattle.std.proofs.lemmas.Bool.{eqb-true}
@@ -32,18 +32,19 @@ use Rattle.px_exchange.specs.declared.taken.Taken.{Taken}
 use Rattle.px_exchange.specs.declared.taken.Taken.TheVariants.{GoesOn, Responds, Kills}
 use Rattle.px_exchange.specs.declared.terms.Terms.{Terms}
 use Rattle.px_exchange.specs.Dials.{connected_owes, dial_owes}
-use Rattle.px_exchange.specs.Endings.{shut_server, shut_client, shut_unless, without_response, killed_message, closed_message, ends_early, ends_by_fault, refuses, finished, connection_goes_on}
+use Rattle.px_exchange.specs.Endings.{shut_all, shut_server, shut_client, shut_unless, without_response, killed_message, closed_message, ends_early, ends_by_fault, refuses, finished, connection_goes_on}
 use Rattle.px_exchange.specs.Finds.{or_leaves, look_head, look_judged, look_body, look_answer, look_answer_head, look_returned, is_relayed}
 use Rattle.px_exchange.specs.Flows.{response_of, with_answer, with_body, with_end, with_returned, with_start}
-use Rattle.px_exchange.specs.Places.{goes_home}
+use Rattle.px_exchange.specs.Places.{is_same_address, server_for}
 use Rattle.px_exchange.specs.Replies.{taken_at_request_body, taken_at_request_head, taken_at_response_body, taken_at_response_head}
 use Rattle.px_exchange.specs.Requests.{is_head, expects, flow_of, judged}
 use Rattle.px_exchange.specs.Texts.{meets_expectation, interim_command, interim_commands}
-use Rattle.px_chain.specs.Chain.{IsOnward, begin, begin_with, behind_flow, dial_leads, find, finish, finish_by, goes_on_by, http_chain, is_alone, is_sequence, killed, leaving, look, pass, pass_body, sequence, side_behind, so_far, spare_for, turn, turn_answer, turn_answer_head, turn_body, turn_head, turn_judged, turn_response, turn_returned, turn_taken_answer, turn_taken_body, turn_taken_given, turn_taken_head, turn_taken_returned, turn_taken_whole, turn_whole_answer, used_more}
-use Rattle.px_chain.specs.Silent.{NoAnswer, SpareBelow, connects, connections}
-use Rattle.px_chain.specs.Sights.{Sight, Spare, Standing, Unused, answers_in, request_in, server_in, sight_over, took_spare, unless_taken, unused_over}
-use Rattle.px_chain.specs.Stages.{At, ServerSide, Stage, busy, connection, given_body, given_head, idle, next, over, place_of, request_body, response_body, response_head, side_in, upgraded}
+use Rattle.px_chain.specs.Chain.{IsOnward, begin, behind, behind_flow, dial_leads, find, finish, finish_by, goes_on_by, http_chain, is_alone, is_sequence, killed, leaving, look, parked_for, pass, pass_body, sequence, side_behind, side_if, so_far, turn, turn_answer, turn_answer_head, turn_body, turn_head, turn_judged, turn_response, turn_returned, turn_taken_answer, turn_taken_body, turn_taken_given, turn_taken_head, turn_taken_returned, turn_taken_whole, turn_whole_answer, used_more}
+use Rattle.px_chain.specs.Silent.{NoAnswer, ParkedBelow, connects, connections}
+use Rattle.px_chain.specs.Sights.{Sight, Standing, answers_in, request_in, server_in, server_parked, sight_over}
+use Rattle.px_chain.specs.Stages.{At, Parked, ServerSide, Stage, busy, connection, given_body, given_head, idle, next, over, place_of, request_body, response_body, response_head, side_in, side_of, side_parked, unparked, upgraded}
 use Rattle.px_chain.proofs.CountedLemmas.{Counts, CountsServers, IsSilent, counted_from, counted_silent, silent_both}
+use Rattle.px_chain.proofs.SightLaws.{side_onward, side_passed}
 
 -- how many servers were dialled before the stage's flow dials
 abbrev pub dialled : Stage → ℕ
@@ -54,27 +55,33 @@ abbrev pub SideBelow : Option ServerSide → ℕ → Type 0
 SideBelow None dials = ⊤
 SideBelow (Some side) dials = side.server < dials
 
-abbrev pub UnusedBelow : Option Unused → ℕ → Type 0
-UnusedBelow None dials = ⊤
-UnusedBelow (Some unused) dials = unused.server < dials
-
--- At the stage the server in use and the spare one are among those that were dialled; at the end it counts for nothing.
-abbrev pub ServersBelow : Option Spare → Stage → Type 0
-ServersBelow spare (idle at) = SpareBelow spare at.dials
-ServersBelow spare (busy at flow doing) = SpareBelow spare at.dials × SideBelow (side_in doing) at.dials
-ServersBelow spare (next at) = SpareBelow spare at.dials
-ServersBelow spare over = ⊤
+-- At the stage the server of the side that is open is among those that were dialled; at the end none is open.
+abbrev pub ServersBelow : Stage → Type 0
+ServersBelow stage = SideBelow (side_of stage) (dialled stage)
 
 -- So is it at a place.
 abbrev pub AreBelow : Standing → Type 0
-AreBelow place = ServersBelow place.spare place.stage
+AreBelow place = ServersBelow place.stage
 
--- so many servers were dialled before the stage at least, and at most so many, with the one in use; at the end that counts for nothing
-abbrev pub IsBetween : ℕ → ℕ → Stage → Type 0
-IsBetween least most (idle at) = (least ≤ at.dials) × (at.dials ≤ most)
-IsBetween least most (busy at flow doing) = ((least ≤ at.dials) × (at.dials ≤ most)) × SideBelow (side_in doing) at.dials
-IsBetween least most (next at) = (least ≤ at.dials) × (at.dials ≤ most)
-IsBetween least most over = ⊤
+-- the same side is parked as before, or none
+pub data IsParkedFrom (was later : Option Parked) : Type 0 where
+  same_parked : later ≡ was → IsParkedFrom was later
+  none_parked : later ≡ None → IsParkedFrom was later
+
+-- the side that is parked at a stage, if it uses none
+abbrev pub parked_at : Stage → Option Parked
+parked_at stage = (place_of stage).parked
+
+-- so many servers were dialled at least, and at most so many, and the side is parked that was, or none
+abbrev pub IsFew : Option Parked → ℕ → ℕ → At → Type 0
+IsFew was least most at = (least ≤ at.dials) × (at.dials ≤ most) × IsParkedFrom was at.parked
+
+-- so is it at the stage, with the server whose side is open; at the end that counts for nothing
+abbrev pub IsBetween : Option Parked → ℕ → ℕ → Stage → Type 0
+IsBetween was least most (idle at) = IsFew was least most at × SideBelow (side_parked at.parked) at.dials
+IsBetween was least most (busy at flow doing) = IsFew was least most at × SideBelow (side_in at doing) at.dials
+IsBetween was least most (next at) = IsFew was least most at × SideBelow (side_parked at.parked) at.dials
+IsBetween was least most over = ⊤
 
 -- the server is none that a reply can send to at this stage
 abbrev pub IsBeyond : ℕ → Reply → Stage → Type 0
@@ -94,6 +101,20 @@ beyond_by server answer (busy at flow given_body) before = tt
 beyond_by server answer (next at) before = tt
 beyond_by server answer over before = tt
 
+-- a parked side among those that were dialled, and so the one that a request goes to
+pub parked_below : (parked : Option Parked) (dials : ℕ) → ParkedBelow parked dials → SideBelow (side_parked parked) dials
+parked_below None dials below = tt
+parked_below (Some parked) dials below = below
+
+side_if_below : (to_it : Bool) (side : ServerSide) (dials : ℕ) → side.server < dials → SideBelow (side_if to_it side) dials
+side_if_below true side dials below = below
+side_if_below false side dials below = tt
+
+pub for_below : (place : Place) (request : Request) (parked : Option Parked) (dials : ℕ) → SideBelow (side_parked parked) dials →
+    SideBelow (parked_for place request parked) dials
+for_below place request None dials below = tt
+for_below place request (Some parked) dials below = side_if_below (is_same_address parked.address (server_for place request)) parked.side dials below
+
 module _ (server : ℕ) where
   -- a close has no bytes
   close_silent : (side : Side) (same : Bool) → bytes_in (cond same (close side ∷ []) [] ++ []) ≡ []
@@ -111,18 +132,21 @@ module _ (server : ℕ) where
   server_silent (ByServer number true) = refl
   server_silent (ByServer number false) = close_silent (Server number) (number == server)
 
+  all_silent : (used : Used) (closed : Bool) → IsSilent server (shut_all used closed)
+  all_silent used closed = silent_both server (shut_server used) (shut_client closed) (server_silent used) (client_silent closed)
+
   pub early_silent : (flow : Flow) (message : List ℕ) (moment : ℕ) (used : Used) (closed : Bool) → IsSilent server (ends_early flow message moment used closed)
-  early_silent flow message moment used closed = silent_both server (shut_server used) (shut_client closed) (server_silent used) (client_silent closed)
+  early_silent flow message moment used closed = all_silent used closed
 
   pub fault_silent : (flow : Flow) (fault : Fault) (moment : ℕ) (used : Used) (closed : Bool) → IsSilent server (ends_by_fault flow fault moment used closed)
-  fault_silent flow fault moment used closed = silent_both server (shut_server used) (shut_client closed) (server_silent used) (client_silent closed)
+  fault_silent flow fault moment used closed = all_silent used closed
 
-  refuses_silent : (fault : Fault) (asked_head closed : Bool) → IsSilent server (refuses fault asked_head closed)
-  refuses_silent fault asked_head closed = client_silent closed
+  refuses_silent : (fault : Fault) (asked_head : Bool) (used : Used) (closed : Bool) → IsSilent server (refuses fault asked_head used closed)
+  refuses_silent fault asked_head used closed = all_silent used closed
 
-  unless_silent : (stays closed : Bool) → IsSilent server (shut_unless stays closed)
-  unless_silent true closed = refl
-  unless_silent false closed = client_silent closed
+  unless_silent : (stays : Bool) (used : Used) (closed : Bool) → IsSilent server (shut_unless stays used closed)
+  unless_silent true used closed = refl
+  unless_silent false used closed = all_silent used closed
 
   finished_silent : (flow : Flow) (response : Response) (used : Used) → IsSilent server (finished flow response used)
   finished_silent flow response used = server_silent used
@@ -149,27 +173,41 @@ module _ (server : ℕ) where
   so_far_silent (next at) seen = refl
   so_far_silent over seen = refl
 
+  -- ---- behind an ask
+
+  pub behind_silent : (stage : Stage) (seen : Sight) → IsSilent server (behind stage seen)
+  behind_silent (idle at) seen = refl
+  behind_silent (busy at flow (request_body given)) seen = refl
+  behind_silent (busy at flow connection) seen = server_silent (server_parked at.parked seen)
+  behind_silent (busy at flow (response_head side how)) seen = refl
+  behind_silent (busy at flow (response_body side how)) seen = refl
+  behind_silent (busy at flow (upgraded side)) seen = refl
+  behind_silent (busy at flow given_head) seen = refl
+  behind_silent (busy at flow given_body) seen = refl
+  behind_silent (next at) seen = refl
+  behind_silent over seen = refl
+
   -- ---- what is found
 
   module _ (terms : Terms) where
-    judged_silent : (index : ℕ) (head : ReadRequest) (made : Judged) (moment : ℕ) (closed : Bool) → IsSilent server (found (look_judged terms index head made moment closed))
-    judged_silent index head (Refused fault) moment closed = refuses_silent fault (is_head head.method) closed
-    judged_silent index head (Accepted message) moment closed = refl
-    judged_silent index head (Connects address) moment closed = refl
+    judged_silent : (index : ℕ) (head : ReadRequest) (made : Judged) (moment : ℕ) (used : Used) (closed : Bool) → IsSilent server (found (look_judged terms index head made moment used closed))
+    judged_silent index head (Refused fault) moment used closed = refuses_silent fault (is_head head.method) used closed
+    judged_silent index head (Accepted message) moment used closed = refl
+    judged_silent index head (Connects address) moment used closed = refl
 
-    head_silent : (index : ℕ) (item : Item ReadRequest) (moment : ℕ) (closed : Bool) → IsSilent server (found (look_head terms index item moment closed))
-    head_silent index missing moment closed = refl
-    head_silent index (part head body) moment closed = judged_silent index head (judged terms.place head) moment closed
-    head_silent index (complete head body trailers used) moment closed = judged_silent index head (judged terms.place head) moment closed
-    head_silent index (bad_head fault) moment closed = refuses_silent fault false closed
-    head_silent index (bad_body fault head body) moment closed = judged_silent index head (judged terms.place head) moment closed
+    head_silent : (index : ℕ) (item : Item ReadRequest) (moment : ℕ) (used : Used) (closed : Bool) → IsSilent server (found (look_head terms index item moment used closed))
+    head_silent index missing moment used closed = refl
+    head_silent index (part head body) moment used closed = judged_silent index head (judged terms.place head) moment used closed
+    head_silent index (complete head body trailers size) moment used closed = judged_silent index head (judged terms.place head) moment used closed
+    head_silent index (bad_head fault) moment used closed = refuses_silent fault false used closed
+    head_silent index (bad_body fault head body) moment used closed = judged_silent index head (judged terms.place head) moment used closed
 
-    body_silent : (flow : Flow) (item : Item ReadRequest) (moment : ℕ) (closed : Bool) → IsSilent server (found (look_body flow item moment closed))
-    body_silent flow missing moment closed = refl
-    body_silent flow (part head body) moment closed = refl
-    body_silent flow (complete head body trailers used) moment closed = refl
-    body_silent flow (bad_head fault) moment closed = refl
-    body_silent flow (bad_body fault head body) moment closed = fault_silent flow fault moment NoServer closed
+    body_silent : (flow : Flow) (item : Item ReadRequest) (moment : ℕ) (used : Used) (closed : Bool) → IsSilent server (found (look_body flow item moment used closed))
+    body_silent flow missing moment used closed = refl
+    body_silent flow (part head body) moment used closed = refl
+    body_silent flow (complete head body trailers size) moment used closed = refl
+    body_silent flow (bad_head fault) moment used closed = refl
+    body_silent flow (bad_body fault head body) moment used closed = fault_silent flow fault moment used closed
 
     relays_silent : (flow : Flow) (head : ReadResponse) (moment : ℕ) (used : Used) (closed relays : Bool) → is_relayed head.code ≡ relays →
         IsSilent server (found (look_answer_head flow head moment used closed))
@@ -191,8 +229,8 @@ module _ (server : ℕ) where
     returned_silent flow (bad_body fault head body) moment used closed = fault_silent flow fault moment used closed
 
     finds_silent : (stage : Stage) (seen : Sight) → IsSilent server (found (find terms stage seen))
-    finds_silent (idle at) seen = head_silent at.flow (request_in at seen) seen.now seen.closed
-    finds_silent (busy at flow (request_body given)) seen = body_silent flow (request_in at seen) seen.now seen.closed
+    finds_silent (idle at) seen = head_silent at.flow (request_in at seen) seen.now (server_parked at.parked seen) seen.closed
+    finds_silent (busy at flow (request_body given)) seen = body_silent flow (request_in at seen) seen.now (server_parked at.parked seen) seen.closed
     finds_silent (busy at flow connection) seen = refl
     finds_silent (busy at flow (response_head side how)) seen =
         answer_silent flow (answers_in flow.request side seen).final seen.now (server_in side seen) seen.closed
@@ -205,8 +243,8 @@ module _ (server : ℕ) where
     finds_silent over seen = refl
 
     leaving_silent : (stage : Stage) (seen : Sight) → IsSilent server (leaving stage seen)
-    leaving_silent (idle at) seen = refl
-    leaving_silent (busy at flow (request_body given)) seen = early_silent flow closed_message seen.now NoServer true
+    leaving_silent (idle at) seen = server_silent (server_parked at.parked seen)
+    leaving_silent (busy at flow (request_body given)) seen = early_silent flow closed_message seen.now (server_parked at.parked seen) true
     leaving_silent (busy at flow connection) seen = refl
     leaving_silent (busy at flow (response_head side how)) seen = early_silent flow closed_message seen.now (server_in side seen) true
     leaving_silent (busy at flow (response_body side how)) seen = early_silent (without_response flow) closed_message seen.now (server_in side seen) true
@@ -228,40 +266,48 @@ module _ (server : ℕ) where
     -- ---- replies
 
     -- What a reply brings sends nothing to the server, and leads to where so many servers were dialled.
-    abbrev Leads : ℕ → ℕ → Turn Stage Command → Type 0
-    Leads least most turned = IsSilent server turned.owed × IsBetween least most turned.stage
+    abbrev Leads : Option Parked → ℕ → ℕ → Turn Stage Command → Type 0
+    Leads was least most turned = IsSilent server turned.owed × IsBetween was least most turned.stage
 
-    module _ (least most : ℕ) where
+    module _ (was : Option Parked) (least most : ℕ) where
       abbrev Few : At → Type 0
-      Few at = (least ≤ at.dials) × (at.dials ≤ most)
+      Few at = IsFew was least most at
 
-      over_leads : (owed : List Command) → IsSilent server owed → Leads least most (record { owed = owed; stage = over })
+      -- so is it where none is parked any more
+      without_it : (at : At) → Few at → Few (unparked at)
+      without_it at few = (few.0, few.1, none_parked refl)
+
+      -- and the one that is parked is among them
+      abbrev Stays : At → Type 0
+      Stays at = Few at × SideBelow (side_parked at.parked) at.dials
+
+      over_leads : (owed : List Command) → IsSilent server owed → Leads was least most (record { owed = owed; stage = over })
       over_leads owed silent = (silent, tt)
 
-      killed_leads : (flow : Flow) (moment : ℕ) (used : Used) (closed : Bool) → Leads least most (killed flow moment used closed)
+      killed_leads : (flow : Flow) (moment : ℕ) (used : Used) (closed : Bool) → Leads was least most (killed flow moment used closed)
       killed_leads flow moment used closed = over_leads (ends_early flow killed_message moment used closed) (early_silent flow killed_message moment used closed)
 
       expectation_silent : (expected : Bool) → IsSilent server (meets_expectation expected)
       expectation_silent true = refl
       expectation_silent false = refl
 
-      taken_head_leads : (at : At) (flow : Flow) (expected : Bool) (taken : Taken Request) (moment : ℕ) (closed : Bool) → Few at → Leads least most (turn_taken_head at flow expected taken moment closed)
-      taken_head_leads at flow expected (GoesOn message) moment closed few = (expectation_silent expected, (few, tt))
-      taken_head_leads at flow expected (Responds response) moment closed few = (expectation_silent expected, (few, tt))
-      taken_head_leads at flow expected Kills moment closed few = killed_leads flow moment NoServer closed
+      taken_head_leads : (at : At) (flow : Flow) (expected : Bool) (taken : Taken Request) (moment : ℕ) (seen : Sight) → Stays at → Leads was least most (turn_taken_head at flow expected taken moment seen)
+      taken_head_leads at flow expected (GoesOn message) moment seen stays = (expectation_silent expected, stays)
+      taken_head_leads at flow expected (Responds response) moment seen stays = (expectation_silent expected, stays)
+      taken_head_leads at flow expected Kills moment seen stays = killed_leads flow moment (server_parked at.parked seen) seen.closed
 
-      judged_leads : (at : At) (head : ReadRequest) (made : Judged) (seen : Sight) (answer : Timed Reply) → Few at → Leads least most (turn_judged terms at head made seen answer)
-      judged_leads at head (Refused fault) seen answer few = over_leads [] refl
-      judged_leads at head (Connects address) seen answer few = over_leads [] refl
-      judged_leads at head (Accepted message) seen answer few =
-          taken_head_leads at (flow_of terms at.flow message seen.now) (expects head) (taken_at_request_head message answer.value) answer.moment seen.closed few
+      judged_leads : (at : At) (head : ReadRequest) (made : Judged) (seen : Sight) (answer : Timed Reply) → Stays at → Leads was least most (turn_judged terms at head made seen answer)
+      judged_leads at head (Refused fault) seen answer stays = over_leads [] refl
+      judged_leads at head (Connects address) seen answer stays = over_leads [] refl
+      judged_leads at head (Accepted message) seen answer stays =
+          taken_head_leads at (flow_of terms at.flow message seen.now) (expects head) (taken_at_request_head message answer.value) answer.moment seen stays
 
-      head_leads : (at : At) (item : Item ReadRequest) (seen : Sight) (answer : Timed Reply) → Few at → Leads least most (turn_head terms at item seen answer)
-      head_leads at missing seen answer few = over_leads [] refl
-      head_leads at (part head body) seen answer few = judged_leads at head (judged terms.place head) seen answer few
-      head_leads at (complete head body trailers used) seen answer few = judged_leads at head (judged terms.place head) seen answer few
-      head_leads at (bad_head fault) seen answer few = over_leads [] refl
-      head_leads at (bad_body fault head body) seen answer few = judged_leads at head (judged terms.place head) seen answer few
+      head_leads : (at : At) (item : Item ReadRequest) (seen : Sight) (answer : Timed Reply) → Stays at → Leads was least most (turn_head terms at item seen answer)
+      head_leads at missing seen answer stays = over_leads [] refl
+      head_leads at (part head body) seen answer stays = judged_leads at head (judged terms.place head) seen answer stays
+      head_leads at (complete head body trailers used) seen answer stays = judged_leads at head (judged terms.place head) seen answer stays
+      head_leads at (bad_head fault) seen answer stays = over_leads [] refl
+      head_leads at (bad_body fault head body) seen answer stays = judged_leads at head (judged terms.place head) seen answer stays
 
       -- this server is another one
       other_server : (number : ℕ) → number + 1 ≤ server → (other : Bool) → (number == server) ≡ other → other ≡ false
@@ -272,87 +318,86 @@ module _ (server : ℕ) where
       connected_silent place flow number before =
           let other : (number == server) ≡ false = other_server number before (number == server) refl in rw other refl
 
-      goes_on_leads : (home : Bool) (spare : Option Unused) (place : Place) (at : At) (flow : Flow) → Few at → at.dials ≤ server → UnusedBelow spare at.dials →
-          Leads least most (goes_on_by (spare_for home spare) place at flow)
-      goes_on_leads true None place at flow few before below = (refl, (few, tt))
-      goes_on_leads true (Some unused) place at flow few before below = (connected_silent place flow unused.server (omega arith), (few, below))
-      goes_on_leads false spare place at flow few before below = (refl, (few, tt))
+      goes_on_leads : (side : Option ServerSide) (place : Place) (at : At) (flow : Flow) → Stays at → at.dials ≤ server → SideBelow side at.dials →
+          Leads was least most (goes_on_by side place at flow)
+      goes_on_leads None place at flow stays before below = (refl, stays)
+      goes_on_leads (Some side) place at flow stays before below = (connected_silent place flow side.server (omega arith), (without_it at stays.0, below))
 
-      taken_body_leads : (place : Place) (at : At) (flow : Flow) (spare : Option Unused) (taken : Taken Request) (moment : ℕ) (closed : Bool) → Few at → at.dials ≤ server → UnusedBelow spare at.dials →
-          Leads least most (turn_taken_body place at flow spare taken moment closed)
-      taken_body_leads place at flow spare (GoesOn message) moment closed few before below =
-          goes_on_leads (goes_home place message) spare place at (record flow { request = message }) few before below
-      taken_body_leads place at flow spare (Responds response) moment closed few before below = (refl, (few, tt))
-      taken_body_leads place at flow spare Kills moment closed few before below = killed_leads flow moment NoServer closed
+      taken_body_leads : (place : Place) (at : At) (flow : Flow) (taken : Taken Request) (moment : ℕ) (seen : Sight) → Stays at → at.dials ≤ server →
+          Leads was least most (turn_taken_body place at flow taken moment seen)
+      taken_body_leads place at flow (GoesOn message) moment seen stays before =
+          goes_on_leads (parked_for place message at.parked) place at (record flow { request = message }) stays before (for_below place message at.parked at.dials stays.1)
+      taken_body_leads place at flow (Responds response) moment seen stays before = (refl, stays)
+      taken_body_leads place at flow Kills moment seen stays before = killed_leads flow moment (server_parked at.parked seen) seen.closed
 
-      body_leads : (place : Place) (at : At) (flow : Flow) (item : Item ReadRequest) (seen : Sight) (answer : Timed Reply) → Few at → at.dials ≤ server → UnusedBelow seen.spare at.dials →
-          Leads least most (turn_body place at flow item seen answer)
-      body_leads place at flow missing seen answer few before below = over_leads [] refl
-      body_leads place at flow (part head body) seen answer few before below = over_leads [] refl
-      body_leads place at flow (complete head body trailers used) seen answer few before below =
+      body_leads : (place : Place) (at : At) (flow : Flow) (item : Item ReadRequest) (seen : Sight) (answer : Timed Reply) → Stays at → at.dials ≤ server →
+          Leads was least most (turn_body place at flow item seen answer)
+      body_leads place at flow missing seen answer stays before = over_leads [] refl
+      body_leads place at flow (part head body) seen answer stays before = over_leads [] refl
+      body_leads place at flow (complete head body trailers used) seen answer stays before =
           let asked_flow : Flow = with_body flow body.content trailers seen.now in
-          taken_body_leads place (used_more at used) asked_flow seen.spare (taken_at_request_body asked_flow.request answer.value) answer.moment seen.closed few before below
-      body_leads place at flow (bad_head fault) seen answer few before below = over_leads [] refl
-      body_leads place at flow (bad_body fault head body) seen answer few before below = over_leads [] refl
+          taken_body_leads place (used_more at used) asked_flow (taken_at_request_body asked_flow.request answer.value) answer.moment seen stays before
+      body_leads place at flow (bad_head fault) seen answer stays before = over_leads [] refl
+      body_leads place at flow (bad_body fault head body) seen answer stays before = over_leads [] refl
 
       taken_answer_leads : (at : At) (flow : Flow) (side : ServerSide) (taken : Taken Response) (moment : ℕ) (used : Used) (closed : Bool) → Few at → side.server < at.dials →
-          Leads least most (turn_taken_answer at flow side taken moment used closed)
+          Leads was least most (turn_taken_answer at flow side taken moment used closed)
       taken_answer_leads at flow side (GoesOn message) moment used closed few below = (refl, (few, below))
       taken_answer_leads at flow side (Responds response) moment used closed few below = killed_leads (without_response flow) moment used closed
       taken_answer_leads at flow side Kills moment used closed few below = killed_leads (without_response flow) moment used closed
 
       answer_head_leads : (at : At) (flow : Flow) (side : ServerSide) (head : ReadResponse) (seen : Sight) (answer : Timed Reply) → Few at → side.server < at.dials →
-          Leads least most (turn_answer_head at flow side head seen answer)
+          Leads was least most (turn_answer_head at flow side head seen answer)
       answer_head_leads at flow side head seen answer few below =
           taken_answer_leads at (with_answer flow (response_of head) seen.now) side (taken_at_response_head (response_of head) answer.value) answer.moment (server_in side seen) seen.closed few below
 
       answer_leads : (at : At) (flow : Flow) (side : ServerSide) (item : Item ReadResponse) (seen : Sight) (answer : Timed Reply) → Few at → side.server < at.dials →
-          Leads least most (turn_answer at flow side item seen answer)
+          Leads was least most (turn_answer at flow side item seen answer)
       answer_leads at flow side missing seen answer few below = over_leads [] refl
       answer_leads at flow side (part head body) seen answer few below = answer_head_leads at flow side head seen answer few below
       answer_leads at flow side (complete head body trailers size) seen answer few below = answer_head_leads at flow side head seen answer few below
       answer_leads at flow side (bad_head fault) seen answer few below = over_leads [] refl
       answer_leads at flow side (bad_body fault head body) seen answer few below = answer_head_leads at flow side head seen answer few below
 
-      behind_leads : (at : At) (owed : List Command) (stays : Bool) → IsSilent server owed → Few at → Leads least most (record { owed = owed; stage = behind_flow stays at })
-      behind_leads at owed true silent few = (silent, few)
-      behind_leads at owed false silent few = over_leads owed silent
+      behind_leads : (at : At) (owed : List Command) (goes_on : Bool) → IsSilent server owed → Stays at → Leads was least most (record { owed = owed; stage = behind_flow goes_on at })
+      behind_leads at owed true silent stays = (silent, stays)
+      behind_leads at owed false silent stays = over_leads owed silent
 
-      finish_leads : (at : At) (flow : Flow) (message : Response) (used : Used) (closed : Bool) → Few at → Leads least most (finish at flow message used closed)
-      finish_leads at flow message used closed few =
-          let stays : Bool = connection_goes_on at.flow flow.request message in
-          behind_leads at (finished flow message used ++ shut_unless stays closed) stays
-          (silent_both server (finished flow message used) (shut_unless stays closed) (finished_silent flow message used) (unless_silent stays closed)) few
+      finish_leads : (at : At) (flow : Flow) (message : Response) (used parked : Used) (closed : Bool) → Stays at → Leads was least most (finish at flow message used parked closed)
+      finish_leads at flow message used parked closed stays =
+          let goes_on : Bool = connection_goes_on at.flow flow.request message in
+          behind_leads at (finished flow message used ++ shut_unless goes_on parked closed) goes_on
+          (silent_both server (finished flow message used) (shut_unless goes_on parked closed) (finished_silent flow message used) (unless_silent goes_on parked closed)) stays
 
-      taken_returned_leads : (at : At) (flow : Flow) (taken : Taken Response) (moment : ℕ) (used : Used) (closed : Bool) → Few at →
-          Leads least most (turn_taken_returned at flow taken moment used closed)
-      taken_returned_leads at flow (GoesOn message) moment used closed few = finish_leads at flow message used closed few
-      taken_returned_leads at flow (Responds response) moment used closed few = killed_leads flow moment used closed
-      taken_returned_leads at flow Kills moment used closed few = killed_leads flow moment used closed
+      taken_returned_leads : (at : At) (flow : Flow) (taken : Taken Response) (moment : ℕ) (parked : Used) (closed : Bool) → Stays at →
+          Leads was least most (turn_taken_returned at flow taken moment parked closed)
+      taken_returned_leads at flow (GoesOn message) moment parked closed stays = finish_leads at flow message NoServer parked closed stays
+      taken_returned_leads at flow (Responds response) moment parked closed stays = killed_leads flow moment parked closed
+      taken_returned_leads at flow Kills moment parked closed stays = killed_leads flow moment parked closed
 
-      response_leads : (o : Option Response) (takes : Response → Taken Response) (goes : Taken Response → Turn Stage Command) → ((taken : Taken Response) → Leads least most (goes taken)) →
-          Leads least most (turn_response o takes goes)
+      response_leads : (o : Option Response) (takes : Response → Taken Response) (goes : Taken Response → Turn Stage Command) → ((taken : Taken Response) → Leads was least most (goes taken)) →
+          Leads was least most (turn_response o takes goes)
       response_leads None takes goes leads = over_leads [] refl
       response_leads (Some message) takes goes leads = leads (takes message)
 
-      whole_answer_leads : (at : At) (flow : Flow) (answer : Timed Reply) (used : Used) (closed : Bool) → Few at → Leads least most (turn_whole_answer at flow answer used closed)
-      whole_answer_leads at flow answer used closed few =
+      whole_answer_leads : (at : At) (flow : Flow) (answer : Timed Reply) (used : Used) (closed : Bool) → Stays at → Leads was least most (turn_whole_answer at flow answer used closed)
+      whole_answer_leads at flow answer used closed stays =
           response_leads flow.response (λ message. taken_at_response_body message answer.value) (λ taken. turn_taken_returned at flow taken answer.moment used closed)
-          (λ taken. taken_returned_leads at flow taken answer.moment used closed few)
+          (λ taken. taken_returned_leads at flow taken answer.moment used closed stays)
 
       finish_by_leads : (switches : Bool) (at : At) (flow : Flow) (message : Response) (side : ServerSide) (used : Used) (closed : Bool) → Few at → side.server < at.dials →
-          Leads least most (finish_by switches at flow message side used closed)
+          Leads was least most (finish_by switches at flow message side used closed)
       finish_by_leads true at flow message side used closed few below = (refl, (few, below))
-      finish_by_leads false at flow message side used closed few below = finish_leads at flow message used closed few
+      finish_by_leads false at flow message side used closed few below = finish_leads (unparked at) flow message used NoServer closed (without_it at few, tt)
 
       taken_whole_leads : (at : At) (flow : Flow) (side : ServerSide) (taken : Taken Response) (moment : ℕ) (used : Used) (closed : Bool) → Few at → side.server < at.dials →
-          Leads least most (turn_taken_whole at flow side taken moment used closed)
+          Leads was least most (turn_taken_whole at flow side taken moment used closed)
       taken_whole_leads at flow side (GoesOn message) moment used closed few below = finish_by_leads (message.status == 101) at flow message side used closed few below
       taken_whole_leads at flow side (Responds response) moment used closed few below = killed_leads flow moment used closed
       taken_whole_leads at flow side Kills moment used closed few below = killed_leads flow moment used closed
 
       returned_leads : (at : At) (flow : Flow) (side : ServerSide) (interim : ℕ) (item : Item ReadResponse) (seen : Sight) (answer : Timed Reply) → Few at → side.server < at.dials →
-          Leads least most (turn_returned at flow side interim item seen answer)
+          Leads was least most (turn_returned at flow side interim item seen answer)
       returned_leads at flow side interim missing seen answer few below = over_leads [] refl
       returned_leads at flow side interim (part head body) seen answer few below = over_leads [] refl
       returned_leads at flow side interim (complete head body trailers size) seen answer few below =
@@ -364,44 +409,47 @@ module _ (server : ℕ) where
       returned_leads at flow side interim (bad_head fault) seen answer few below = over_leads [] refl
       returned_leads at flow side interim (bad_body fault head body) seen answer few below = over_leads [] refl
 
-      given_leads : (at : At) (flow : Flow) (taken : Taken Response) (moment : ℕ) (closed : Bool) → Few at → Leads least most (turn_taken_given at flow taken moment closed)
-      given_leads at flow (GoesOn message) moment closed few = (refl, (few, tt))
-      given_leads at flow (Responds response) moment closed few = killed_leads (without_response flow) moment NoServer closed
-      given_leads at flow Kills moment closed few = killed_leads (without_response flow) moment NoServer closed
+      given_leads : (at : At) (flow : Flow) (taken : Taken Response) (moment : ℕ) (parked : Used) (closed : Bool) → Stays at →
+          Leads was least most (turn_taken_given at flow taken moment parked closed)
+      given_leads at flow (GoesOn message) moment parked closed stays = (refl, stays)
+      given_leads at flow (Responds response) moment parked closed stays = killed_leads (without_response flow) moment parked closed
+      given_leads at flow Kills moment parked closed stays = killed_leads (without_response flow) moment parked closed
 
       connected_leads : (at : At) (flow : Flow) (answer : Reply) (moment : ℕ) (closed : Bool) → at.dials + connects answer ≤ server → least ≤ at.dials → at.dials + connects answer ≤ most →
-          Leads least most (record { owed = dial_owes terms.place flow at.dials answer moment closed; stage = dial_leads terms.place at flow answer })
+          Leads was least most (record { owed = dial_owes terms.place flow at.dials answer moment closed; stage = dial_leads terms.place at flow answer })
       connected_leads at flow reply.Dialled moment closed before few many =
-          (connected_silent terms.place flow at.dials before, ((omega arith, many), omega arith))
+          (connected_silent terms.place flow at.dials before, ((omega arith, many, none_parked refl), omega arith))
       connected_leads at flow (reply.Refused fault) moment closed before few many = over_leads (ends_by_fault flow fault moment NoServer closed) (fault_silent flow fault moment NoServer closed)
       connected_leads at flow (reply.Go other stream) moment closed before few many = over_leads [] refl
       connected_leads at flow (reply.Respond given) moment closed before few many = over_leads [] refl
       connected_leads at flow reply.Kill moment closed before few many = over_leads [] refl
       connected_leads at flow reply.Discard moment closed before few many = over_leads [] refl
 
-    pub turn_leads : (stage : Stage) (spare : Option Spare) (seen : Sight) (answer : Timed Reply) → ServersBelow spare stage →
-        ((dials : ℕ) → SpareBelow spare dials → UnusedBelow seen.spare dials) → IsBeyond server answer.value stage → Leads (dialled stage) (dialled stage + connects answer.value) (turn terms stage seen answer)
-    turn_leads (idle at) spare seen answer below sees before =
-        head_leads at.dials (at.dials + connects answer.value) at (request_in at seen) seen answer (omega arith, omega arith)
-    turn_leads (busy at flow (request_body given)) spare seen answer below sees before =
-        body_leads at.dials (at.dials + connects answer.value) terms.place at flow (request_in at seen) seen answer (omega arith, omega arith) before (sees at.dials below.0)
-    turn_leads (busy at flow connection) spare seen answer below sees before =
-        connected_leads at.dials (at.dials + connects answer.value) at flow answer.value answer.moment seen.closed before (omega arith) (omega arith)
-    turn_leads (busy at flow (response_head side how)) spare seen answer below sees before =
-        answer_leads at.dials (at.dials + connects answer.value) at flow side (answers_in flow.request side seen).final seen answer (omega arith, omega arith) below.1
-    turn_leads (busy at flow (response_body side how)) spare seen answer below sees before =
-        returned_leads at.dials (at.dials + connects answer.value) at flow side (answers_in flow.request side seen).used (answers_in flow.request side seen).final seen answer
-        (omega arith, omega arith) below.1
-    turn_leads (busy at flow (upgraded side)) spare seen answer below sees before = over_leads at.dials (at.dials + connects answer.value) [] refl
-    turn_leads (busy at flow given_head) spare seen answer below sees before =
+    pub turn_leads : (stage : Stage) (seen : Sight) (answer : Timed Reply) → ServersBelow stage → IsBeyond server answer.value stage →
+        Leads (parked_at stage) (dialled stage) (dialled stage + connects answer.value) (turn terms stage seen answer)
+    turn_leads (idle at) seen answer below before =
+        head_leads at.parked at.dials (at.dials + connects answer.value) at (request_in at seen) seen answer ((omega arith, omega arith, same_parked refl), below)
+    turn_leads (busy at flow (request_body given)) seen answer below before =
+        body_leads at.parked at.dials (at.dials + connects answer.value) terms.place at flow (request_in at seen) seen answer ((omega arith, omega arith, same_parked refl), below) before
+    turn_leads (busy at flow connection) seen answer below before =
+        connected_leads at.parked at.dials (at.dials + connects answer.value) at flow answer.value answer.moment seen.closed before (omega arith) (omega arith)
+    turn_leads (busy at flow (response_head side how)) seen answer below before =
+        answer_leads at.parked at.dials (at.dials + connects answer.value) at flow side (answers_in flow.request side seen).final seen answer (omega arith, omega arith, same_parked refl) below
+    turn_leads (busy at flow (response_body side how)) seen answer below before =
+        returned_leads at.parked at.dials (at.dials + connects answer.value) at flow side (answers_in flow.request side seen).used (answers_in flow.request side seen).final seen answer
+        (omega arith, omega arith, same_parked refl) below
+    turn_leads (busy at flow (upgraded side)) seen answer below before = over_leads at.parked at.dials (at.dials + connects answer.value) [] refl
+    turn_leads (busy at flow given_head) seen answer below before =
         let asked_flow : Flow = with_start flow seen.now in
-        response_leads at.dials (at.dials + connects answer.value) asked_flow.response (λ message. taken_at_response_head message answer.value)
-        (λ taken. turn_taken_given at asked_flow taken answer.moment seen.closed)
-        (λ taken. given_leads at.dials (at.dials + connects answer.value) at asked_flow taken answer.moment seen.closed (omega arith, omega arith))
-    turn_leads (busy at flow given_body) spare seen answer below sees before =
-        whole_answer_leads at.dials (at.dials + connects answer.value) at (with_end flow seen.now) answer NoServer seen.closed (omega arith, omega arith)
-    turn_leads (next at) spare seen answer below sees before = (refl, (omega arith, omega arith))
-    turn_leads over spare seen answer below sees before = over_leads 0 (0 + connects answer.value) [] refl
+        response_leads at.parked at.dials (at.dials + connects answer.value) asked_flow.response (λ message. taken_at_response_head message answer.value)
+        (λ taken. turn_taken_given at asked_flow taken answer.moment (server_parked at.parked seen) seen.closed)
+        (λ taken. given_leads at.parked at.dials (at.dials + connects answer.value) at asked_flow taken answer.moment (server_parked at.parked seen) seen.closed
+        ((omega arith, omega arith, same_parked refl), below))
+    turn_leads (busy at flow given_body) seen answer below before =
+        whole_answer_leads at.parked at.dials (at.dials + connects answer.value) at (with_end flow seen.now) answer (server_parked at.parked seen) seen.closed
+        ((omega arith, omega arith, same_parked refl), below)
+    turn_leads (next at) seen answer below before = (refl, ((omega arith, omega arith, same_parked refl), below))
+    turn_leads over seen answer below before = over_leads None 0 (0 + connects answer.value) [] refl
 
 -- ---- passing, and the next flow
 
@@ -438,71 +486,25 @@ onward_same onward (is_sequence is) stage = ap (λ f. dialled (f stage)) is ∙ 
 -- ---- the counts of the chain
 
 -- where it passes, the servers stay below
-below_by : (spare : Option Spare) (at : At) (flow : Flow) (given : Option Response) (item : Item ReadRequest) (now : ℕ) → SpareBelow spare at.dials →
-    ServersBelow spare (pass_body at flow given item now)
-below_by spare at flow None item now below = (below, tt)
-below_by spare at flow (Some response) missing now below = (below, tt)
-below_by spare at flow (Some response) (part head body) now below = (below, tt)
-below_by spare at flow (Some response) (complete head body trailers used) now below = (below, tt)
-below_by spare at flow (Some response) (bad_head fault) now below = (below, tt)
-below_by spare at flow (Some response) (bad_body fault head body) now below = (below, tt)
+below_passed : (stage : Stage) (seen : Sight) → ServersBelow stage → ServersBelow (pass stage seen)
+below_passed stage seen below = rw (side_passed stage seen, passes_same stage seen) below
 
-below_passed : (spare : Option Spare) (stage : Stage) (seen : Sight) → ServersBelow spare stage → ServersBelow spare (pass stage seen)
-below_passed spare (idle at) seen below = below
-below_passed spare (busy at flow (request_body given)) seen below = below_by spare at flow given (request_in at seen) seen.now below.0
-below_passed spare (busy at flow connection) seen below = below
-below_passed spare (busy at flow (response_head side how)) seen below = below
-below_passed spare (busy at flow (response_body side how)) seen below = below
-below_passed spare (busy at flow (upgraded side)) seen below = below
-below_passed spare (busy at flow given_head) seen below = below
-below_passed spare (busy at flow given_body) seen below = below
-below_passed spare (next at) seen below = below
-below_passed spare over seen below = below
-
-spare_further : (spare : Option Spare) (least dials : ℕ) → SpareBelow spare least → least ≤ dials → SpareBelow spare dials
-spare_further None least dials below more = tt
-spare_further (Some spare) least dials below more = omega arith
-
-spare_untaken : (taken : Bool) (spare : Option Spare) (dials : ℕ) → SpareBelow spare dials → SpareBelow (unless_taken taken spare) dials
-spare_untaken true spare dials below = tt
-spare_untaken false spare dials below = below
-
--- the spare side as it is seen
-pub unused_below : (spare : Option Spare) (prefix : List (Timed Event)) (dials : ℕ) → SpareBelow spare dials → UnusedBelow (unused_over spare prefix) dials
-unused_below None prefix dials below = tt
-unused_below (Some spare) prefix dials below = below
+-- and where the next flow begins
+below_onward : (onward : Stage → Stage) → IsOnward onward → (stage : Stage) → ServersBelow stage → ServersBelow (onward stage)
+below_onward onward goes stage below = rw (side_onward onward goes stage, onward_same onward goes stage) below
 
 -- and behind a reply
-below_led : (spare : Option Spare) (least most : ℕ) (stage : Stage) → IsBetween least most stage → ((dials : ℕ) → least ≤ dials → SpareBelow spare dials) → ServersBelow spare stage
-below_led spare least most (idle at) between carries = carries at.dials between.0
-below_led spare least most (busy at flow doing) between carries = (carries at.dials between.0.0, between.1)
-below_led spare least most (next at) between carries = carries at.dials between.0
-below_led spare least most over between carries = tt
+below_between : (was : Option Parked) (least most : ℕ) (stage : Stage) → IsBetween was least most stage → ServersBelow stage
+below_between was least most (idle at) between = between.1
+below_between was least most (busy at flow doing) between = between.1
+below_between was least most (next at) between = between.1
+below_between was least most over between = tt
 
-below_turned : (terms : Terms) (spare : Option Spare) (taken : Bool) (most : ℕ) (from : Stage) (seen : Sight) (answer : Timed Reply) → ServersBelow spare from →
-    IsBetween (dialled from) most (turn terms from seen answer).stage → ServersBelow (unless_taken taken spare) (turn terms from seen answer).stage
-below_turned terms spare taken most (idle at) seen answer below between =
-    below_led (unless_taken taken spare) at.dials most _ between (λ dials more. spare_untaken taken spare dials (spare_further spare at.dials dials below more))
-below_turned terms spare taken most (busy at flow doing) seen answer below between =
-    below_led (unless_taken taken spare) at.dials most _ between (λ dials more. spare_untaken taken spare dials (spare_further spare at.dials dials below.0 more))
-below_turned terms spare taken most (next at) seen answer below between = spare_untaken taken spare at.dials below
-below_turned terms spare taken most over seen answer below between = tt
-
-below_sequence : (spare : Option Spare) (stage : Stage) → ServersBelow spare stage → ServersBelow spare (sequence stage)
-below_sequence spare (idle at) below = below
-below_sequence spare (busy at flow doing) below = below
-below_sequence spare (next at) below = below
-below_sequence spare over below = below
-
-below_onward : (onward : Stage → Stage) → IsOnward onward → (spare : Option Spare) (stage : Stage) → ServersBelow spare stage → ServersBelow spare (onward stage)
-below_onward onward (is_alone is) spare stage below = rw is below
-below_onward onward (is_sequence is) spare stage below = rw is (below_sequence spare stage below)
-
-few_between : (least most : ℕ) (stage : Stage) → IsBetween least most stage → dialled stage ≤ most
-few_between least most (idle at) between = between.1
-few_between least most (busy at flow doing) between = between.0.1
-few_between least most (next at) between = between.1
-few_between least most over between = omega arith
+few_between : (was : Option Parked) (least most : ℕ) (stage : Stage) → IsBetween was least most stage → dialled stage ≤ most
+few_between was least most (idle at) between = between.0.1
+few_between was least most (busy at flow doing) between = between.0.1
+few_between was least most (next at) between = between.0.1
+few_between was least most over between = omega arith
 
 -- the count of a place
 abbrev pub dialled_at : Standing → ℕ
@@ -513,7 +515,7 @@ passes_counted : (place : Standing) (seen : Sight) → AreBelow place →
 passes_counted place seen below = record {
   silent = λ server more. refl;
   few = (let same = passes_same place.stage seen in omega arith);
-  stays = below_passed place.spare place.stage seen below;
+  stays = below_passed place.stage seen below;
 }
 
 pub turns_counted : (onward : Stage → Stage) → IsOnward onward → (terms : Terms) (place : Standing) (prefix : List (Timed Event)) (answer : Timed Reply) → AreBelow place →
@@ -521,43 +523,47 @@ pub turns_counted : (onward : Stage → Stage) → IsOnward onward → (terms : 
 turns_counted onward goes terms place prefix answer below =
     let seen : Sight = sight_over place prefix in
     let from : Stage = place.stage in
-    let sees : (dials : ℕ) → SpareBelow place.spare dials → UnusedBelow seen.spare dials = (λ dials is. unused_below place.spare prefix dials is) in
-    let led = turn_leads (dialled from + connects answer.value) terms from place.spare seen answer below sees (beyond_by (dialled from + connects answer.value) answer.value from (omega arith)) in
+    let led = turn_leads (dialled from + connects answer.value) terms from seen answer below (beyond_by (dialled from + connects answer.value) answer.value from (omega arith)) in
     let turned : Stage = (turn terms from seen answer).stage in
-    let taken : Bool = took_spare from (onward turned) in
     let same = onward_same onward goes turned in
-    let fewer = few_between (dialled from) (dialled from + connects answer.value) turned led.1 in
+    let fewer = few_between (parked_at from) (dialled from) (dialled from + connects answer.value) turned led.1 in
     record {
-      silent = λ server more. (turn_leads server terms from place.spare seen answer below sees (beyond_by server answer.value from more)).0;
+      silent = λ server more. (turn_leads server terms from seen answer below (beyond_by server answer.value from more)).0;
       few = omega arith;
-      stays = below_onward onward goes (unless_taken taken place.spare) turned (below_turned terms place.spare taken (dialled from + connects answer.value) from seen answer below led.1);
+      stays = below_onward onward goes turned (below_between (parked_at from) (dialled from) (dialled from + connects answer.value) turned led.1);
     }
 
--- A conversation of HTTP, or one flow, sends to servers that were dialled and connected before, the one in use and the spare one among them.
+-- A conversation of HTTP, or one flow, sends to servers that were dialled and connected before, the one whose side is open among them.
 pub http_counts : (onward : Stage → Stage) → IsOnward onward → (terms : Terms) → CountsServers (http_chain onward terms) dialled_at AreBelow
 http_counts onward goes terms = record {
   passes = λ place prefix below. passes_counted place (sight_over place prefix) below;
   looks = λ place prefix below server more. looks_silent server terms place.stage (sight_over place prefix);
   waits = λ place prefix below server more. so_far_silent server place.stage (sight_over place prefix);
+  behind = λ place prefix below server more. behind_silent server place.stage (sight_over place prefix);
   turns = λ place prefix ask answer below asked. turns_counted onward goes terms place prefix answer below;
 }
 
--- One that begins with a spare side among so many servers sends nothing to a server that the answers do not reach.
-pub silent_with : (onward : Stage → Stage) → IsOnward onward → (terms : Terms) (at : At) (spare : Option Spare) → SpareBelow spare at.dials →
-    (server : ℕ) (moves : List Move) → at.dials + connections moves ≤ server → IsSilent server (due_by (http_chain onward terms) (begin_with spare (idle at)) moves)
-silent_with onward goes terms at spare below server moves few =
-    counted_from (http_chain onward terms) dialled_at AreBelow (http_counts onward goes terms) server (begin_with spare (idle at)) moves below few
+-- One that begins with a parked side among so many servers sends nothing to a server that the answers do not reach.
+pub silent_with : (onward : Stage → Stage) → IsOnward onward → (terms : Terms) (at : At) → ParkedBelow at.parked at.dials →
+    (server : ℕ) (moves : List Move) → at.dials + connections moves ≤ server → IsSilent server (due_by (http_chain onward terms) (begin (idle at)) moves)
+silent_with onward goes terms at below server moves few =
+    counted_from (http_chain onward terms) dialled_at AreBelow (http_counts onward goes terms) server (begin (idle at)) moves (parked_below at.parked at.dials below) few
+
+none_below : (at : At) → at.parked ≡ None → ParkedBelow at.parked at.dials
+none_below at none = rw none tt
 
 -- A conversation, or one flow, that begins with no server sends nothing to a server whose dial was not answered with its
 -- connection.
-pub silent_from : (onward : Stage → Stage) → IsOnward onward → (terms : Terms) (at : At) → at.dials ≡ 0 → (server : ℕ) (moves : List Move) → NoAnswer server moves →
-    IsSilent server (due_by (http_chain onward terms) (begin (idle at)) moves)
-silent_from onward goes terms at first server moves none =
-    counted_silent (http_chain onward terms) dialled_at AreBelow (http_counts onward goes terms) server (begin (idle at)) moves tt first none
+pub silent_from : (onward : Stage → Stage) → IsOnward onward → (terms : Terms) (at : At) → at.parked ≡ None → at.dials ≡ 0 → (server : ℕ) (moves : List Move) →
+    NoAnswer server moves → IsSilent server (due_by (http_chain onward terms) (begin (idle at)) moves)
+silent_from onward goes terms at alone first server moves none =
+    counted_silent (http_chain onward terms) dialled_at AreBelow (http_counts onward goes terms) server (begin (idle at)) moves
+    (parked_below at.parked at.dials (none_below at alone)) first none
 
 -- Where no move was made nothing is due.
 pub nothing_yet : (onward : Stage → Stage) (terms : Terms) (at : At) → at.used ≡ 0 → due_by (http_chain onward terms) (begin (idle at)) [] ≡ []
 nothing_yet onward terms at none =
     let empty : request_item [] ≡ missing = refl in
-    ap (λ n. found (or_leaves false [] (look_head terms at.flow (request_item (drop n [])) 0 false))) none
-    ∙ ap (λ i. found (or_leaves false [] (look_head terms at.flow i 0 false))) empty
+    let used : Used = server_parked at.parked (sight_over (begin (idle at)) []) in
+    ap (λ n. found (or_leaves false (shut_server used) (look_head terms at.flow (request_item (drop n [])) 0 used false))) none
+    ∙ ap (λ i. found (or_leaves false (shut_server used) (look_head terms at.flow i 0 used false))) empty

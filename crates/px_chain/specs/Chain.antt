@@ -27,15 +27,15 @@ use Rattle.px_exchange.specs.declared.terms.Terms.{Terms}
 use Rattle.px_exchange.specs.declared.place.Place.{Place}
 use Rattle.px_exchange.specs.declared.place.Place.TheVariants as places
 use Rattle.px_exchange.specs.Dials.{connected_owes, dial_owes}
-use Rattle.px_exchange.specs.Endings.{without_response, killed_message, closed_message, ends_early, connection_goes_on, finished, shut_unless}
+use Rattle.px_exchange.specs.Endings.{without_response, killed_message, closed_message, ends_early, connection_goes_on, finished, shut_server, shut_unless}
 use Rattle.px_exchange.specs.Finds.{or_leaves, look_head, look_body, look_answer, look_returned}
 use Rattle.px_exchange.specs.Flows.{ask_of, with_body, response_of, with_answer, with_end, with_returned, with_start}
-use Rattle.px_exchange.specs.Places.{dialled_for, goes_home, server_for}
+use Rattle.px_exchange.specs.Places.{dialled_for, is_same_address, server_for}
 use Rattle.px_exchange.specs.Replies.{taken_at_request_head, taken_at_request_body, taken_at_response_head, taken_at_response_body}
 use Rattle.px_exchange.specs.Requests.{expects, flow_of, judged}
 use Rattle.px_exchange.specs.Texts.{interim_commands, meets_expectation, returned_text}
-use Rattle.px_chain.specs.Sights.{Sight, Spare, Standing, Unused, answers_in, request_in, server_in, sight_over, took_spare, unless_taken}
-use Rattle.px_chain.specs.Stages.{At, Doing, ServerSide, Stage, all_sent, busy, connection, given_body, given_head, idle, next, over, request_body, response_body, response_head, upgraded}
+use Rattle.px_chain.specs.Sights.{Sight, Standing, answers_in, dials_at, request_in, server_in, server_parked, sight_over}
+use Rattle.px_chain.specs.Stages.{At, Doing, Parked, ServerSide, Stage, all_sent, busy, connection, given_body, given_head, idle, next, over, request_body, response_body, response_head, unparked, upgraded}
 use Rattle.px_chain.specs.Streams.{from_here}
 
 -- ---- idle: a request's head
@@ -48,19 +48,19 @@ killed flow moment used closed = record { owed = ends_early flow killed_message 
 abbrev pub stops : Turn Stage Command
 stops = record { owed = []; stage = over }
 
-abbrev pub turn_taken_head : At → Flow → Bool → Taken Request → ℕ → Bool → Turn Stage Command
-turn_taken_head at flow expected (GoesOn request) moment closed =
+abbrev pub turn_taken_head : At → Flow → Bool → Taken Request → ℕ → Sight → Turn Stage Command
+turn_taken_head at flow expected (GoesOn request) moment seen =
     record { owed = meets_expectation expected; stage = busy at (record flow { request = request }) (request_body None) }
-turn_taken_head at flow expected (Responds response) moment closed =
+turn_taken_head at flow expected (Responds response) moment seen =
     record { owed = meets_expectation expected; stage = busy at flow (request_body (Some response)) }
-turn_taken_head at flow expected Kills moment closed = killed flow moment NoServer closed
+turn_taken_head at flow expected Kills moment seen = killed flow moment (server_parked at.parked seen) seen.closed
 
 abbrev pub turn_judged : Terms → At → ReadRequest → Judged → Sight → Timed Reply → Turn Stage Command
 turn_judged terms at head (Refused fault) seen answer = stops
 turn_judged terms at head (Connects address) seen answer = stops
 turn_judged terms at head (Accepted request) seen answer =
     turn_taken_head at (flow_of terms at.flow request seen.now) (expects head)
-    (taken_at_request_head request answer.value) answer.moment seen.closed
+    (taken_at_request_head request answer.value) answer.moment seen
 
 abbrev pub turn_head : Terms → At → Item ReadRequest → Sight → Timed Reply → Turn Stage Command
 turn_head terms at (part head body) seen answer = turn_judged terms at head (judged terms.place head) seen answer
@@ -90,30 +90,34 @@ new_side server = record { server = server; used = 0 }
 abbrev pub reached : Place → Flow → Flow
 reached place flow = record flow { server = Some (server_for place flow.request) }
 
--- the spare side, where this request goes there
-abbrev pub spare_for : Bool → Option Unused → Option Unused
-spare_for true spare = spare
-spare_for false spare = None
+-- the parked side, where this request goes to its address
+abbrev pub side_if : Bool → ServerSide → Option ServerSide
+side_if true side = Some side
+side_if false side = None
 
--- A request that goes on goes to the spare side, or its server is dialled.
-abbrev pub goes_on_by : Option Unused → Place → At → Flow → Turn Stage Command
+abbrev pub parked_for : Place → Request → Option Parked → Option ServerSide
+parked_for place request None = None
+parked_for place request (Some parked) = side_if (is_same_address parked.address (server_for place request)) parked.side
+
+-- A request that goes on goes to the parked side, or its server is dialled.
+abbrev pub goes_on_by : Option ServerSide → Place → At → Flow → Turn Stage Command
 goes_on_by None place at flow = record { owed = []; stage = busy at flow connection }
-goes_on_by (Some unused) place at flow = record {
-  owed = connected_owes place flow unused.server;
-  stage = busy at (reached place flow) (response_head (new_side unused.server) all_sent);
+goes_on_by (Some side) place at flow = record {
+  owed = connected_owes place flow side.server;
+  stage = busy (unparked at) (reached place flow) (response_head side all_sent);
 }
 
-abbrev pub turn_taken_body : Place → At → Flow → Option Unused → Taken Request → ℕ → Bool → Turn Stage Command
-turn_taken_body place at flow spare (GoesOn request) moment closed =
-    goes_on_by (spare_for (goes_home place request) spare) place at (record flow { request = request })
-turn_taken_body place at flow spare (Responds response) moment closed =
+abbrev pub turn_taken_body : Place → At → Flow → Taken Request → ℕ → Sight → Turn Stage Command
+turn_taken_body place at flow (GoesOn request) moment seen =
+    goes_on_by (parked_for place request at.parked) place at (record flow { request = request })
+turn_taken_body place at flow (Responds response) moment seen =
     record { owed = []; stage = busy at (record flow { response = Some response }) given_head }
-turn_taken_body place at flow spare Kills moment closed = killed flow moment NoServer closed
+turn_taken_body place at flow Kills moment seen = killed flow moment (server_parked at.parked seen) seen.closed
 
 -- the request is whole, and the flow has it
 abbrev pub turn_whole : Place → At → Flow → Sight → Timed Reply → Turn Stage Command
 turn_whole place at flow seen answer =
-    turn_taken_body place at flow seen.spare (taken_at_request_body flow.request answer.value) answer.moment seen.closed
+    turn_taken_body place at flow (taken_at_request_body flow.request answer.value) answer.moment seen
 
 abbrev pub turn_body : Place → At → Flow → Item ReadRequest → Sight → Timed Reply → Turn Stage Command
 turn_body place at flow (complete head body trailers used) seen answer =
@@ -124,7 +128,7 @@ turn_body place at flow _ seen answer = stops
 
 abbrev pub dial_leads : Place → At → Flow → Reply → Stage
 dial_leads place at flow reply.Dialled =
-    busy (record at { dials = at.dials + 1 }) (reached place flow) (response_head (new_side at.dials) all_sent)
+    busy (record at { dials = at.dials + 1; parked = None }) (reached place flow) (response_head (new_side at.dials) all_sent)
 dial_leads place at flow _ = over
 
 abbrev pub turn_dial : Place → At → Flow → Timed Reply → Bool → Turn Stage Command
@@ -156,14 +160,15 @@ abbrev pub behind_flow : Bool → At → Stage
 behind_flow true at = next (record at { flow = at.flow + 1 })
 behind_flow false at = over
 
-abbrev pub finish : At → Flow → Response → Used → Bool → Turn Stage Command
-finish at flow response used closed =
+-- it is finished: its own server's side is closed, and a parked one where the conversation ends
+abbrev pub finish : At → Flow → Response → Used → Used → Bool → Turn Stage Command
+finish at flow response served parked closed =
     let stays = connection_goes_on at.flow flow.request response in
-    record { owed = finished flow response used ++ shut_unless stays closed; stage = behind_flow stays at }
+    record { owed = finished flow response served ++ shut_unless stays parked closed; stage = behind_flow stays at }
 
 abbrev pub turn_taken_returned : At → Flow → Taken Response → ℕ → Used → Bool → Turn Stage Command
-turn_taken_returned at flow (GoesOn response) moment used closed = finish at flow response used closed
-turn_taken_returned at flow _ moment used closed = killed flow moment used closed
+turn_taken_returned at flow (GoesOn response) moment parked closed = finish at flow response NoServer parked closed
+turn_taken_returned at flow _ moment parked closed = killed flow moment parked closed
 
 -- a flow whose response is there
 abbrev pub turn_response : Option Response → (Response → Taken Response) → (Taken Response → Turn Stage Command) → Turn Stage Command
@@ -171,9 +176,9 @@ turn_response None takes goes = stops
 turn_response (Some response) takes goes = goes (takes response)
 
 abbrev pub turn_whole_answer : At → Flow → Timed Reply → Used → Bool → Turn Stage Command
-turn_whole_answer at flow answer used closed = turn_response flow.response
+turn_whole_answer at flow answer parked closed = turn_response flow.response
     (λ response. taken_at_response_body response answer.value)
-    (λ taken. turn_taken_returned at flow taken answer.moment used closed)
+    (λ taken. turn_taken_returned at flow taken answer.moment parked closed)
 
 -- A response of code 101 is sent, and ends HTTP: what follows on both sides is of another protocol (RFC 9110 section 15.2.2).
 abbrev pub upgrade : At → Flow → Response → ServerSide → Turn Stage Command
@@ -184,7 +189,7 @@ upgrade at flow response side = record {
 
 abbrev pub finish_by : Bool → At → Flow → Response → ServerSide → Used → Bool → Turn Stage Command
 finish_by true at flow response side used closed = upgrade at flow response side
-finish_by false at flow response side used closed = finish at flow response used closed
+finish_by false at flow response side used closed = finish (unparked at) flow response used NoServer closed
 
 abbrev pub turn_taken_whole : At → Flow → ServerSide → Taken Response → ℕ → Used → Bool → Turn Stage Command
 turn_taken_whole at flow side (GoesOn response) moment used closed =
@@ -207,15 +212,15 @@ turn_returned at flow side interim _ seen answer = stops
 
 -- ---- a response that was given in place of the server's
 
-abbrev pub turn_taken_given : At → Flow → Taken Response → ℕ → Bool → Turn Stage Command
-turn_taken_given at flow (GoesOn response) moment closed =
+abbrev pub turn_taken_given : At → Flow → Taken Response → ℕ → Used → Bool → Turn Stage Command
+turn_taken_given at flow (GoesOn response) moment parked closed =
     record { owed = []; stage = busy at (record flow { response = Some response }) given_body }
-turn_taken_given at flow _ moment closed = killed (without_response flow) moment NoServer closed
+turn_taken_given at flow _ moment parked closed = killed (without_response flow) moment parked closed
 
-abbrev pub turn_given_head : At → Flow → Timed Reply → Bool → Turn Stage Command
-turn_given_head at flow answer closed = turn_response flow.response
+abbrev pub turn_given_head : At → Flow → Timed Reply → Used → Bool → Turn Stage Command
+turn_given_head at flow answer parked closed = turn_response flow.response
     (λ response. taken_at_response_head response answer.value)
-    (λ taken. turn_taken_given at flow taken answer.moment closed)
+    (λ taken. turn_taken_given at flow taken answer.moment parked closed)
 
 -- ---- what a stage goes on to without a reply
 
@@ -230,7 +235,7 @@ pass stage seen = stage
 -- ---- what it finds, but for the client's close
 
 abbrev pub finds : Place → At → Flow → Doing → Sight → Look Command
-finds place at flow (request_body given) seen = look_body flow (request_in at seen) seen.now seen.closed
+finds place at flow (request_body given) seen = look_body flow (request_in at seen) seen.now (server_parked at.parked seen) seen.closed
 finds place at flow connection seen = Asks (commands.Dial at.dials (dialled_for place flow.request) None)
 finds place at flow (response_head side sent) seen =
     look_answer flow (answers_in flow.request side seen).final seen.now (server_in side seen) seen.closed
@@ -241,20 +246,21 @@ finds place at flow given_head seen = Asks (ask_of (with_start flow seen.now) Re
 finds place at flow given_body seen = Asks (ask_of (with_end flow seen.now) ResponseBody)
 
 abbrev pub find : Terms → Stage → Sight → Look Command
-find terms (idle at) seen = look_head terms at.flow (request_in at seen) seen.now seen.closed
+find terms (idle at) seen = look_head terms at.flow (request_in at seen) seen.now (server_parked at.parked seen) seen.closed
 find terms (busy at flow doing) seen = finds terms.place at flow doing seen
 find terms _ seen = Ends []
 
 -- ---- what is owed where the client leaves
 
-abbrev pub leaves : Flow → Doing → Sight → List Command
-leaves flow (request_body given) seen = ends_early flow closed_message seen.now NoServer true
-leaves flow (response_head side sent) seen = ends_early flow closed_message seen.now (server_in side seen) true
-leaves flow (response_body side sent) seen = ends_early (without_response flow) closed_message seen.now (server_in side seen) true
-leaves flow _ seen = []
+abbrev pub leaves : At → Flow → Doing → Sight → List Command
+leaves at flow (request_body given) seen = ends_early flow closed_message seen.now (server_parked at.parked seen) true
+leaves at flow (response_head side sent) seen = ends_early flow closed_message seen.now (server_in side seen) true
+leaves at flow (response_body side sent) seen = ends_early (without_response flow) closed_message seen.now (server_in side seen) true
+leaves at flow _ seen = []
 
 abbrev pub leaving : Stage → Sight → List Command
-leaving (busy at flow doing) seen = leaves flow doing seen
+leaving (idle at) seen = shut_server (server_parked at.parked seen)
+leaving (busy at flow doing) seen = leaves at flow doing seen
 leaving _ seen = []
 
 abbrev pub look : Terms → Stage → Sight → Look Command
@@ -270,6 +276,16 @@ abbrev pub so_far : Stage → Sight → List Command
 so_far (busy at flow doing) seen = waits flow doing seen
 so_far _ seen = []
 
+-- ---- what it owes behind its ask: a dial closes the parked side, which no flow takes any more
+
+abbrev pub parts : At → Doing → Sight → List Command
+parts at connection seen = shut_server (server_parked at.parked seen)
+parts at _ seen = []
+
+abbrev pub behind : Stage → Sight → List Command
+behind (busy at flow doing) seen = parts at doing seen
+behind _ seen = []
+
 -- ---- what a reply brings
 
 abbrev pub turns : Place → At → Flow → Doing → Sight → Timed Reply → Turn Stage Command
@@ -279,8 +295,8 @@ turns place at flow (response_head side sent) seen answer = turn_answer at flow 
 turns place at flow (response_body side sent) seen answer =
     let answers = answers_in flow.request side seen in turn_returned at flow side answers.used answers.final seen answer
 turns place at flow (upgraded side) seen answer = stops
-turns place at flow given_head seen answer = turn_given_head at (with_start flow seen.now) answer seen.closed
-turns place at flow given_body seen answer = turn_whole_answer at (with_end flow seen.now) answer NoServer seen.closed
+turns place at flow given_head seen answer = turn_given_head at (with_start flow seen.now) answer (server_parked at.parked seen) seen.closed
+turns place at flow given_body seen answer = turn_whole_answer at (with_end flow seen.now) answer (server_parked at.parked seen) seen.closed
 
 abbrev pub turn : Terms → Stage → Sight → Timed Reply → Turn Stage Command
 turn terms (idle at) seen answer = turn_head terms at (request_in at seen) seen answer
@@ -312,42 +328,27 @@ connect_in place _ = None
 
 -- ---- the chain
 
--- a side that is connected before a conversation begins, in a place that has one
-abbrev pub spare_of : Place → Option Spare
-spare_of (places.Fixed address (Some server) inside) = Some (record { server = server; opened = 0 })
-spare_of place = None
+-- the side that is connected before a conversation begins, in a place that has one
+abbrev pub parked_of : Place → Option Parked
+parked_of (places.Fixed address (Some server) inside) = Some (record { side = new_side server; address = address })
+parked_of place = None
 
 -- where a conversation stands at first
-abbrev pub begin_with : Option Spare → Stage → Standing
-begin_with spare stage = record { stage = stage; since = record { events = 0; moment = 0 }; opened = 0; spare = spare }
-
 abbrev pub begin : Stage → Standing
-begin stage = begin_with None stage
-
--- how many events had come when the dial of a spare side was answered
-abbrev pub opened_spare : Bool → Option Spare → ℕ → ℕ
-opened_spare true (Some spare) opened = spare.opened
-opened_spare taken spare opened = opened
+begin stage = record { stage = stage; since = record { events = 0; moment = 0 }; opened = 0 }
 
 -- how many events had come when the dial of its server was answered: they are counted where a connection is awaited
-abbrev pub opens : Doing → ℕ → ℕ → ℕ
-opens connection opened come = come
-opens _ opened come = opened
-
-abbrev pub opened_by : Stage → ℕ → ℕ → ℕ
-opened_by (busy at flow doing) opened come = opens doing opened come
-opened_by _ opened come = opened
+abbrev pub opened_by : Bool → ℕ → ℕ → ℕ
+opened_by true opened come = come
+opened_by false opened come = opened
 
 -- A stage that was come to from another over a prefix, by a reply at this moment: it stands from here on.
 abbrev pub stands : Standing → ℕ → List (Timed Event) → Stage → Standing
-stands from moment prefix stage =
-    let taken = took_spare from.stage stage in
-    record {
-      stage = stage;
-      since = from_here moment prefix;
-      opened = opened_spare taken from.spare (opened_by from.stage from.opened (length prefix));
-      spare = unless_taken taken from.spare;
-    }
+stands from moment prefix stage = record {
+  stage = stage;
+  since = from_here moment prefix;
+  opened = opened_by (dials_at from.stage) from.opened (length prefix);
+}
 
 -- the chain of one flow, or of flows in sequence
 abbrev pub http_chain : (Stage → Stage) → Terms → Chain Standing Event Reply Command
@@ -355,6 +356,7 @@ http_chain onward terms = record {
   pass = λ place prefix. record { owed = []; stage = record place { stage = pass place.stage (sight_over place prefix) } };
   look = λ place prefix. look terms place.stage (sight_over place prefix);
   so_far = λ place prefix. so_far place.stage (sight_over place prefix);
+  behind = λ place prefix. behind place.stage (sight_over place prefix);
   turn = λ place prefix answer.
       let turned = turn terms place.stage (sight_over place prefix) answer in
       record { owed = turned.owed; stage = stands place answer.moment prefix (onward turned.stage) };

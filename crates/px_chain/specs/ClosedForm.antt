@@ -1,7 +1,7 @@
 -- What goes on is sent on: what is due for flows whose replies all go on, said over whole lists and without stages, from any place where
 -- a request is awaited. The requests of the client's stream stand one behind the other; each is sent to a server of its own, once the
 -- response before it is whole, and the client gets what came of each. A server that is connected already and that no flow has used (the
--- spare side) gets the first request that goes there. Nothing stands behind a fault, a CONNECT, a response that switches protocols, or
+-- parked side) gets the first request, where that goes there. Nothing stands behind a fault, a CONNECT, a response that switches protocols, or
 -- one behind which the connection does not go on.
 use Rattle.std.specs.Prelude.{◌≡◌, ℕ, zero, suc, ◌+◌, ◌==◌, Bool, true, false, ◌&&◌, not, List, [], ◌∷◌, ◌++◌, drop, take, length, ⊤, Option, Some, None, option_to_list}
 use Rattle.std.specs.List.{flat_map}
@@ -27,13 +27,14 @@ use Rattle.px_read.specs.declared.head.ResponseHead.{ResponseHead}
 use Rattle.px_exchange.specs.Endings.{connection_goes_on}
 use Rattle.px_exchange.specs.Finds.{is_relayed}
 use Rattle.px_exchange.specs.Flows.{response_of}
-use Rattle.px_exchange.specs.Places.{dialled_for, form_at, goes_home}
+use Rattle.px_exchange.specs.Places.{dialled_for, form_at}
 use Rattle.px_exchange.specs.Requests.{expects, is_head, judged}
 use Rattle.px_exchange.specs.Texts.{interim_commands, meets_expectation, onward_text, returned_text}
 use Rattle.px_exchange.specs.declared.asked.Judged.{Judged}
 use Rattle.px_exchange.specs.declared.asked.Judged.TheVariants.{Refused, Accepted, Connects}
 use Rattle.px_exchange.specs.declared.terms.Terms.{Terms}
-use Rattle.px_chain.specs.Sights.{Spare}
+use Rattle.px_chain.specs.Chain.{new_side, parked_for}
+use Rattle.px_chain.specs.Stages.{Parked, ServerSide}
 use Rattle.px_chain.specs.Streams.{bytes_of, is_closed}
 
 -- ---- replies that go on
@@ -121,8 +122,9 @@ pub record Point : Type 0 where
   pub events : ℕ
   -- the answers of the dials from here on
   pub dials : List (Option Fault)
-  -- the side of a server that is connected and that no flow has used
-  pub spare : Option Spare
+  -- the side of a server that is connected and that no flow uses, which is heard in the events behind so many
+  pub parked : Option Parked
+  pub opened : ℕ
 
 -- a request that is whole has used its bytes
 abbrev pub behind_request : Point → ℕ → Point
@@ -132,10 +134,10 @@ behind_request point used = record point { bytes = point.bytes + used }
 abbrev pub next_point : Point → ℕ → Point
 next_point point ended = record point { flow = point.flow + 1; events = ended }
 
--- the server that a request went to: its number, and how many events had come when it was connected, behind which it is heard, and when
--- the request went there
+-- the server's side that a request went to, how many events had come when it was connected, behind which it is heard, and when the
+-- request went there
 pub record Served : Type 0 where
-  pub server : ℕ
+  pub side : ServerSide
   pub opened : ℕ
   pub went : ℕ
 
@@ -151,18 +153,18 @@ request_is_whole events bytes so_many = is_whole (request_item (drop bytes (byte
 abbrev pub connected_at : List (Timed Event) → Point → Option ℕ
 connected_at events point = least (request_is_whole events point.bytes) point.events (length events + 1)
 
--- the responses of a server, which is heard in the events behind so many
-abbrev pub answers_at : List (Timed Event) → ℕ → ℕ → Bool → Answers
-answers_at events server opened asked_head =
-    answer_list asked_head (is_closed (Server server) (drop opened events)) (bytes_of (Server server) (drop opened events))
+-- the responses of a server, which is heard in the events behind so many, behind the bytes that were used before
+abbrev pub answers_at : List (Timed Event) → ServerSide → ℕ → Bool → Answers
+answers_at events side opened asked_head =
+    answer_list asked_head (is_closed (Server side.server) (drop opened events)) (drop side.used (bytes_of (Server side.server) (drop opened events)))
 
 -- its final response is whole in the first so many events
-abbrev pub response_is_whole : List (Timed Event) → ℕ → ℕ → Bool → ℕ → Bool
-response_is_whole events server opened asked_head so_many = is_whole (answers_at (take so_many events) server opened asked_head).final
+abbrev pub response_is_whole : List (Timed Event) → ServerSide → ℕ → Bool → ℕ → Bool
+response_is_whole events side opened asked_head so_many = is_whole (answers_at (take so_many events) side opened asked_head).final
 
 -- the fewest over which it is, behind those over which the request went there
 abbrev pub ended_at : List (Timed Event) → Served → Bool → Option ℕ
-ended_at events served asked_head = least (response_is_whole events served.server served.opened asked_head) served.went (length events + 1)
+ended_at events served asked_head = least (response_is_whole events served.side served.opened asked_head) served.went (length events + 1)
 
 -- ---- what is said of a response
 
@@ -222,34 +224,33 @@ said_on events point served further request response =
 -- it is sent on, and its response comes back
 abbrev pub said_served : Terms → List (Timed Event) → Point → Served → (Point → List Command) → Request → List Command
 said_served terms events point served further request =
-    commands.Send (Server served.server) (onward_text (form_at terms.place) request)
-    ∷ said_answers request (answers_at events served.server served.opened (is_head request.method)) (said_on events point served further request)
+    commands.Send (Server served.side.server) (onward_text (form_at terms.place) request)
+    ∷ said_answers request (answers_at events served.side served.opened (is_head request.method)) (said_on events point served further request)
 
 -- By the answer of its dial it goes to the new server, which is heard from then on; or the dial is refused.
 abbrev pub said_dialled : Terms → List (Timed Event) → Point → Request → ℕ → List (Option Fault) → (Point → List Command) → List Command
 said_dialled terms events point request come [] further = []
 said_dialled terms events point request come (Some fault ∷ dials) further = fault_said fault (is_head request.method)
 said_dialled terms events point request come (None ∷ dials) further =
-    said_served terms events (record point { server = point.server + 1; dials = dials })
-    (record { server = point.server; opened = come; went = come }) further request
+    said_served terms events (record point { server = point.server + 1; dials = dials; opened = come })
+    (record { side = new_side point.server; opened = come; went = come }) further request
 
--- the spare side is for a request that goes where it is connected to
-abbrev pub side_for : Bool → Option Spare → Option Spare
-side_for true spare = spare
-side_for false spare = None
+-- the parked side is taken, or closed behind a dial
+abbrev pub without_parked : Point → Point
+without_parked point = record point { parked = None }
 
--- It goes there without a dial; or its server is dialled, or the proxy through which that is reached.
-abbrev pub said_by : Terms → List (Timed Event) → Point → Request → ℕ → Option Spare → (Point → List Command) → List Command
+-- It goes to the parked side without a dial; or its server is dialled, or the proxy through which that is reached.
+abbrev pub said_by : Terms → List (Timed Event) → Point → Request → ℕ → Option ServerSide → (Point → List Command) → List Command
 said_by terms events point request come None further =
-    commands.Dial point.server (dialled_for terms.place request) None ∷ said_dialled terms events point request come point.dials further
-said_by terms events point request come (Some spare) further =
-    said_served terms events (record point { spare = None }) (record { server = spare.server; opened = spare.opened; went = come }) further request
+    commands.Dial point.server (dialled_for terms.place request) None ∷ said_dialled terms events (without_parked point) request come point.dials further
+said_by terms events point request come (Some side) further =
+    said_served terms events (without_parked point) (record { side = side; opened = point.opened; went = come }) further request
 
 -- once it is whole
 abbrev pub said_connected : Terms → List (Timed Event) → Point → Request → Option ℕ → (Point → List Command) → List Command
 said_connected terms events point request None further = []
 said_connected terms events point request (Some come) further =
-    said_by terms events point request come (side_for (goes_home terms.place request) point.spare) further
+    said_by terms events point request come (parked_for terms.place request point.parked) further
 
 abbrev pub said_whole : Terms → List (Timed Event) → Point → Request → Item RequestHead → (Point → List Command) → List Command
 said_whole terms events point request (complete head body trailers used) further =

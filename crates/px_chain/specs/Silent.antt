@@ -5,7 +5,7 @@ use Rattle.std.specs.Prelude.{◌≤◌, ◌<◌, ◌+◌, ℕ, List, [], ◌∷
 use Rattle.px_event.specs.declared.reply.Reply.{Reply}
 use Rattle.px_event.specs.declared.reply.Reply.TheVariants as replies
 use Rattle.px_event.specs.Layer.{Move, Took, Replied}
-use Rattle.px_chain.specs.Sights.{Spare}
+use Rattle.px_chain.specs.Stages.{Parked}
 
 -- the answer of a dial with its connection, as a number
 abbrev pub connects : Reply → ℕ
@@ -22,7 +22,7 @@ connections (Replied moment reply ∷ moves) = connects reply + connections move
 abbrev pub NoAnswer : ℕ → List Move → Type 0
 NoAnswer server moves = connections moves ≤ server
 
--- the server of a spare side is among the first so many
-abbrev pub SpareBelow : Option Spare → ℕ → Type 0
-SpareBelow None dials = ⊤
-SpareBelow (Some spare) dials = spare.server < dials
+-- the server of a parked side is among the first so many
+abbrev pub ParkedBelow : Option Parked → ℕ → Type 0
+ParkedBelow None dials = ⊤
+ParkedBelow (Some parked) dials = parked.side.server < dials

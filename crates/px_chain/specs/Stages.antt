@@ -1,12 +1,18 @@
 -- The stages of a conversation of HTTP: where its present flow stands. A stage counts no events and keeps no moment.
 use Rattle.std.specs.Prelude.{ℕ, Option, Some, None}
+use Rattle.px_message.specs.declared.address.Address.{Address}
 use Rattle.px_message.specs.declared.flow.Flow.{Flow}
 use Rattle.px_message.specs.declared.response.Response.{Response}
 
--- a server's side: its number, and how many of its bytes the flows before have used
+-- a server's side: its number, and how many of its bytes were used before
 pub record ServerSide : Type 0 where
   pub server : ℕ
   pub used : ℕ
+
+-- a side that is connected, to this address, and that no flow uses
+pub record Parked : Type 0 where
+  pub side : ServerSide
+  pub address : Address
 
 -- where in its conversation a flow stands
 pub record At : Type 0 where
@@ -16,6 +22,8 @@ pub record At : Type 0 where
   pub dials : ℕ
   -- how many of the client's bytes the flows before have used
   pub used : ℕ
+  -- the side that waits for a flow, while none uses one
+  pub parked : Option Parked
 
 -- how the request stands while its response is awaited
 pub data Sent : Type 0 where
@@ -49,7 +57,7 @@ pub data Stage : Type 0 where
 
 -- where its flow stands; at the end that counts for nothing
 abbrev pub ended_at : At
-ended_at = record { flow = 0; dials = 0; used = 0 }
+ended_at = record { flow = 0; dials = 0; used = 0; parked = None }
 
 abbrev pub place_of : Stage → At
 place_of (idle at) = at
@@ -57,13 +65,24 @@ place_of (busy at flow doing) = at
 place_of (next at) = at
 place_of over = ended_at
 
--- the server's side that is used
-abbrev pub side_in : Doing → Option ServerSide
-side_in (response_head side sent) = Some side
-side_in (response_body side sent) = Some side
-side_in (upgraded side) = Some side
-side_in _ = None
+-- ---- the one server's side that is open, if one is: the flow's own, or one that is parked
+
+abbrev pub side_parked : Option Parked → Option ServerSide
+side_parked None = None
+side_parked (Some parked) = Some parked.side
+
+abbrev pub side_in : At → Doing → Option ServerSide
+side_in at (response_head side sent) = Some side
+side_in at (response_body side sent) = Some side
+side_in at (upgraded side) = Some side
+side_in at _ = side_parked at.parked
 
 abbrev pub side_of : Stage → Option ServerSide
-side_of (busy at flow doing) = side_in doing
-side_of _ = None
+side_of (idle at) = side_parked at.parked
+side_of (busy at flow doing) = side_in at doing
+side_of (next at) = side_parked at.parked
+side_of over = None
+
+-- a flow uses a side, or closes the one that was parked: none is left to wait
+abbrev pub unparked : At → At
+unparked at = record at { parked = None }

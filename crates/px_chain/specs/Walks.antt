@@ -46,7 +46,8 @@ point_at at here = record {
   bytes = at.used;
   events = length here.prefix;
   dials = dial_answers (answered here);
-  spare = here.place.spare;
+  parked = at.parked;
+  opened = here.place.opened;
 }
 
 -- ---- where a walk comes by
@@ -72,7 +73,8 @@ abbrev pub due_by_reply : Terms → Walk → Command → Stamped Reply → List 
 due_by_reply terms here ask reply =
     let there = reached_from terms here in
     there.before ++ ((http_chain sequence terms).so_far there.stage there.prefix
-    ++ ask ∷ ((http_chain sequence terms).turn there.stage there.prefix (at_its_step reply)).owed)
+    ++ ask ∷ ((http_chain sequence terms).behind there.stage there.prefix
+    ++ ((http_chain sequence terms).turn there.stage there.prefix (at_its_step reply)).owed))
 
 -- One reply on.
 pub record IsOneReplyOn (terms : Terms) (here next : Walk) (due : List Command) : Type 0 where

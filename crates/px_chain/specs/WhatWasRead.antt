@@ -26,15 +26,15 @@ use Rattle.px_write.specs.Error.{error_text}
 use Rattle.px_write.specs.ReadBack.{one_chunk}
 use Rattle.px_write.specs.TargetPath.{path_said}
 use Rattle.px_write.specs.Text.{body_text, fields_text, interim_text, request_line, version_text}
-use Rattle.px_exchange.specs.Places.{goes_home}
 use Rattle.px_exchange.specs.Requests.{is_head, judged}
 use Rattle.px_exchange.specs.Texts.{continue_text}
 use Rattle.px_exchange.specs.declared.asked.Judged.{Judged}
 use Rattle.px_exchange.specs.declared.asked.Judged.TheVariants.{Accepted}
 use Rattle.px_exchange.specs.declared.place.Place.{Place}
 use Rattle.px_exchange.specs.declared.place.Place.TheVariants as places
-use Rattle.px_chain.specs.ClosedForm.{Point, Served, answers_at, ended_at, request_is_whole, request_items, side_for}
-use Rattle.px_chain.specs.Sights.{Spare}
+use Rattle.px_chain.specs.Chain.{new_side, parked_for}
+use Rattle.px_chain.specs.ClosedForm.{Point, Served, answers_at, ended_at, request_is_whole, request_items}
+use Rattle.px_chain.specs.Stages.{Parked, ServerSide}
 use Rattle.px_chain.specs.Streams.{bytes_of}
 
 -- ---- what a text says
@@ -113,30 +113,32 @@ abbrev pub answers_read : Version → Bool → Answers → List Message
 answers_read version asked_head answers = map an_interim_response (interim_known version answers.interim) ++ final_read asked_head answers.final
 
 -- where a request stands: the number of the next server that is dialled, how many of the client's bytes are in front of it, how many
--- events had come when the response before it was whole, and the spare side, of a server that is connected and that no flow has used
+-- events had come when the response before it was whole, and the parked side, which is heard in the events behind so many
 pub record Here : Type 0 where
   pub server : ℕ
   pub bytes : ℕ
   pub events : ℕ
-  pub spare : Option Spare
+  pub parked : Option Parked
+  pub opened : ℕ
 
-abbrev pub goes_home_by : Place → Judged → Bool
-goes_home_by place (Accepted request) = goes_home place request
-goes_home_by place _ = false
+abbrev pub parked_by : Place → Judged → Option Parked → Option ServerSide
+parked_by place (Accepted request) parked = parked_for place request parked
+parked_by place _ parked = None
 
--- the spare side, where the request of this head goes there
-abbrev pub side_of_head : Place → RequestHead → Option Spare → Option Spare
-side_of_head place head spare = side_for (goes_home_by place (judged place head)) spare
+-- the parked side, where the request of this head goes there
+abbrev pub parked_for_head : Place → RequestHead → Option Parked → Option ServerSide
+parked_for_head place head parked = parked_by place (judged place head) parked
 
--- the server that the request goes to once so many events have come: that of the spare side, or the next one
-abbrev pub served_by : Here → ℕ → Option Spare → Served
-served_by here come None = record { server = here.server; opened = come; went = come }
-served_by here come (Some spare) = record { server = spare.server; opened = spare.opened; went = come }
+-- the server's side that the request goes to once so many events have come: the parked one, or that of the next server
+abbrev pub served_by : Here → ℕ → Option ServerSide → Served
+served_by here come None = record { side = new_side here.server; opened = come; went = come }
+served_by here come (Some side) = record { side = side; opened = here.opened; went = come }
 
--- and where the next request stands, behind so many bytes, once its response is whole
-abbrev pub behind_by : Here → ℕ → ℕ → Option Spare → Here
-behind_by here used ended None = record { server = here.server + 1; bytes = here.bytes + used; events = ended; spare = here.spare }
-behind_by here used ended (Some spare) = record { server = here.server; bytes = here.bytes + used; events = ended; spare = None }
+-- and where the next request stands, behind so many bytes, once its response is whole: nothing is parked any more
+abbrev pub behind_by : Here → ℕ → ℕ → ℕ → Option ServerSide → Here
+behind_by here used come ended None = record { server = here.server + 1; bytes = here.bytes + used; events = ended; parked = None; opened = come }
+behind_by here used come ended (Some side) =
+    record { server = here.server; bytes = here.bytes + used; events = ended; parked = None; opened = here.opened }
 
 abbrev pub messages_behind : Option ℕ → (ℕ → List Message) → List Message
 messages_behind None further = []
@@ -146,16 +148,16 @@ messages_behind (Some ended) further = further ended
 abbrev pub messages_at : List (Timed Event) → Served → RequestHead → Body → List (List ℕ × List ℕ) → (ℕ → List Message) → List Message
 messages_at events served head body trailers further =
     let asked_head = is_head head.method in
-    a_request served.server head body trailers
-    ∷ (answers_read head.version asked_head (answers_at events served.server served.opened asked_head)
+    a_request served.side.server head body trailers
+    ∷ (answers_read head.version asked_head (answers_at events served.side served.opened asked_head)
     ++ messages_behind (ended_at events served asked_head) further)
 
 -- it goes there behind the fewest events over which it is whole
 abbrev pub messages_once : Place → List (Timed Event) → Here → RequestHead → Body → List (List ℕ × List ℕ) → ℕ → Option ℕ → (Here → List Message) → List Message
 messages_once place events here head body trailers used None further = []
 messages_once place events here head body trailers used (Some come) further =
-    let side = side_of_head place head here.spare in
-    messages_at events (served_by here come side) head body trailers (λ ended. further (behind_by here used ended side))
+    let side = parked_for_head place head here.parked in
+    messages_at events (served_by here come side) head body trailers (λ ended. further (behind_by here used come ended side))
 
 abbrev pub messages_of : Place → List (Timed Event) → Here → Item RequestHead → (Here → List Message) → List Message
 messages_of place events here (complete head body trailers used) further =
@@ -168,7 +170,7 @@ messages_from place events here (item ∷ items) = messages_of place events here
 
 -- where a request stands, without its number and the answers of dials
 abbrev pub here_of : Point → Here
-here_of point = record { server = point.server; bytes = point.bytes; events = point.events; spare = point.spare }
+here_of point = record { server = point.server; bytes = point.bytes; events = point.events; parked = point.parked; opened = point.opened }
 
 -- All that was read from this point on, in order: each of so many requests of the client's stream, and what its server answered.
 abbrev pub messages_read : Place → List (Timed Event) → Point → ℕ → List Message

@@ -13,13 +13,13 @@ ghost use Rattle.px_event.specs.Stands.{due_by};
 ghost use Rattle.px_event.specs.View.{View, bytes_in, line, seen_of};
 ghost use Rattle.px_event.specs.declared.reply.Reply.{Reply as Answer};
 ghost use Rattle.px_event.specs.declared.side.Side.TheVariants.{Server as TheServer};
-ghost use Rattle.px_exchange.specs.EndOrder.{EndsInOrder, FoundInOrder};
+ghost use Rattle.px_exchange.specs.EndOrder.{EndsInOrder, FoundInOrder, OnlyCloses};
 ghost use Rattle.px_exchange.specs.declared.terms.Terms.{Terms as Made};
-ghost use Rattle.px_chain.specs.Chain.{Connect, IsOnward, begin, begin_with, connect_in, find, http_chain, look, sequence, turn};
+ghost use Rattle.px_chain.specs.Chain.{Connect, IsOnward, begin, behind, connect_in, find, http_chain, look, sequence, turn};
 ghost use Rattle.px_chain.specs.ClosedForm.{GoesOn, first_flows, said, said_of_flows};
 ghost use Rattle.px_chain.specs.Sent.{IsSentOnce};
-ghost use Rattle.px_chain.specs.Sights.{Sight, Spare, Standing, request_in};
-ghost use Rattle.px_chain.specs.Silent.{NoAnswer, SpareBelow, connections};
+ghost use Rattle.px_chain.specs.Sights.{Sight, Standing, request_in};
+ghost use Rattle.px_chain.specs.Silent.{NoAnswer, ParkedBelow, connections};
 ghost use Rattle.px_chain.specs.Stages.{At, Stage, idle};
 ghost use Rattle.px_chain.specs.Streams.{client_closed};
 ghost use Rattle.px_chain.specs.Walks.{ComesBy, FlowBegins, Walk, answered, by_moves, due_from, heard, point_at};
@@ -36,22 +36,22 @@ pub fn waiting_grows()
 {}
 
 /// A server is sent nothing before its dial was answered with the connection, and nothing is due before the first move. A conversation
-/// that begins with a spare side, among so many servers that were connected before, sends nothing to a server that the answers do not reach.
+/// that begins with a parked side, among so many servers that were connected before, sends nothing to a server that the answers do not reach.
 pub fn servers_hear_nothing_early()
-    ensures silent { (onward : Stage → Stage) (made : Made) (at : At) (server : ℕ) (moves : List Move) → IsOnward onward → at.dials ≡ 0 → NoAnswer server moves →
+    ensures silent { (onward : Stage → Stage) (made : Made) (at : At) (server : ℕ) (moves : List Move) → IsOnward onward → at.parked ≡ None → at.dials ≡ 0 → NoAnswer server moves →
         bytes_in (seen_of (line (TheServer server)) (due_by (http_chain onward made) (begin (idle at)) moves)) ≡ [] }
-    ensures spare { (onward : Stage → Stage) (made : Made) (at : At) (side : Option Spare) (server : ℕ) (moves : List Move) → IsOnward onward → SpareBelow side at.dials →
+    ensures parked { (onward : Stage → Stage) (made : Made) (at : At) (server : ℕ) (moves : List Move) → IsOnward onward → ParkedBelow at.parked at.dials →
         at.dials + connections moves ≤ server →
-        bytes_in (seen_of (line (TheServer server)) (due_by (http_chain onward made) (begin_with side (idle at)) moves)) ≡ [] }
+        bytes_in (seen_of (line (TheServer server)) (due_by (http_chain onward made) (begin (idle at)) moves)) ≡ [] }
     ensures before_all { (onward : Stage → Stage) (made : Made) (at : At) → at.used ≡ 0 → due_by (http_chain onward made) (begin (idle at)) [] ≡ [] }
 {}
 
-/// Each server is sent the text of one request at most. One that was connected before the conversation began is that of its spare side,
+/// Each server is sent the text of one request at most. One that was connected before the conversation began is that of its parked side,
 /// and the request is one that goes there.
 pub fn a_server_is_sent_one_request()
-    ensures { (onward : Stage → Stage) (made : Made) (at : At) (side : Option Spare) (server : ℕ) (moves : List Move) → IsOnward onward → SpareBelow side at.dials →
-        IsSentOnce made.place side at.dials server
-        (bytes_in (seen_of (line (TheServer server)) (due_by (http_chain onward made) (begin_with side (idle at)) moves))) }
+    ensures { (onward : Stage → Stage) (made : Made) (at : At) (server : ℕ) (moves : List Move) → IsOnward onward → ParkedBelow at.parked at.dials →
+        IsSentOnce made.place at.parked at.dials server
+        (bytes_in (seen_of (line (TheServer server)) (due_by (http_chain onward made) (begin (idle at)) moves))) }
 {}
 
 /// Where a request is awaited, the end is found with nothing owed exactly where a CONNECT stands that asks for a tunnel here, and then it is
@@ -63,16 +63,18 @@ pub fn tunnels_end_http()
         find made (idle at) seen ≡ Ends [] }
 {}
 
-/// What a reply brings, and what is owed at an end, is bytes, then the end of at most one flow, then closes, in this order.
+/// What a reply brings, and what is owed at an end, is bytes, then the end of at most one flow, then closes, in this order. What is owed
+/// behind an ask, before its reply, is closes alone.
 pub fn bytes_come_before_ends()
     ensures replies { (made : Made) (stage : Stage) (seen : Sight) (answer : Timed Answer) → EndsInOrder (turn made stage seen answer).owed }
     ensures ends { (made : Made) (stage : Stage) (seen : Sight) → FoundInOrder (look made stage seen) }
+    ensures asks { (stage : Stage) (seen : Sight) → OnlyCloses (behind stage seen) }
 {}
 
 /// Where every reply to the first so many flows from a place on goes on with the flow as it was asked, and their dials are answered by the connection or refused:
 /// the texts that are sent for them and their dials, in order, begin those of the closed form, which are said of the client's stream, one request behind the other,
 /// and of what each server sent. Where no question of them waits, and the client has not closed, they are all of them. The place is any one of any walk where a
-/// request is awaited, whatever the flows before were answered, and with a spare side or none; and what is replied behind those flows makes no difference. So each
+/// request is awaited, whatever the flows before were answered, and with a parked side or none; and what is replied behind those flows makes no difference. So each
 /// flow is sent on by itself (`flows` is 1), and a conversation whose flows all go on as a whole (where `flows` is large).
 pub fn what_goes_on_is_sent_on()
     ensures begins { (made : Made) (here : Walk) (at : At) (flows : ℕ) → here.place.stage ≡ idle at →

@@ -14,11 +14,11 @@
 //! At a place whose servers are reached through another proxy the connection that is asked for is the proxy's (`dialled_for`). What that is asked then,
 //! before the reply comes here, is of the crate above too: here the server is connected by its reply, wherever it was dialled.
 //!
-//! A conversation may begin with a spare side: a server that is connected, and that no flow has used (`spare_of`). The first request that
-//! goes there is sent to it in the turn that answers its body's hook, and no connection is asked for; each later one is dialled for.
+//! One server's side is open at most: the flow's own, or one that is parked, which no flow uses. A conversation may begin with a parked
+//! side (`parked_of`). The first request, where it goes to its address, is sent to it in the turn that answers its body's hook, and no
+//! connection is asked for; a dial closes it (`behind`).
 //!
-//! A stage looks at the joined bytes of the client, of the server's side that it uses and of the spare one, at their closes and at the
-//! moment, and at nothing else: that is its sight (`specs/Sights.antt`). What it finds, where it goes on without a reply, and what a
+//! A stage looks at the joined bytes of the client and of that side, at their closes and at the moment, and at nothing else: that is its sight (`specs/Sights.antt`). What it finds, where it goes on without a reply, and what a
 //! reply brings are functions of the stage and its sight (`specs/Chain.antt`), in the steps of `px_exchange`. A client that closes ends
 //! the flow where nothing else is found by then.
 //!

@@ -4,7 +4,7 @@ use Rattle.std.proofs.Common.{◌≡◌, ℕ, List, [], ◌∷◌, ◌++◌, ref
 use Rattle.px_event.specs.declared.command.Command.{Command}
 use Rattle.px_event.specs.declared.event.Event.{Event}
 use Rattle.px_event.specs.declared.reply.Reply.{Reply}
-use Rattle.px_event.specs.Chain.{Stamp, Stamped, Timed, worked_off, at_its_step, never, Chain, Look, NotYet, Asks, Ends, Reached, reach, reach_by, Stop, stop_at, walk, walk_by, found, owed_at}
+use Rattle.px_event.specs.Chain.{Stamp, Stamped, Timed, worked_off, at_its_step, never, Chain, Look, NotYet, Asks, Ends, Reached, reach, reach_by, Stop, stop_at, walk, walk_by, found, found_with, owed_at}
 use Rattle.px_event.specs.Layer.{Move}
 use Rattle.px_event.specs.Stands.{events_in, replies_in, due_by}
 use Rattle.px_core.specs.Conversation.{IsNamed, AllNamed}
@@ -14,6 +14,7 @@ pub record OwesNamed {S E R : Type 0} (conv : ℕ) (chain : Chain S E R Command)
   pub pass : (stage : S) (prefix : List (Timed E)) → AllNamed conv (chain.pass stage prefix).owed
   pub look : (stage : S) (prefix : List (Timed E)) → AllNamed conv (found (chain.look stage prefix))
   pub so_far : (stage : S) (prefix : List (Timed E)) → AllNamed conv (chain.so_far stage prefix)
+  pub behind : (stage : S) (prefix : List (Timed E)) → AllNamed conv (chain.behind stage prefix)
   pub turn : (stage : S) (prefix : List (Timed E)) (reply : Timed R) → AllNamed conv (chain.turn stage prefix reply).owed
 
 -- Each part at the stages of this kind does, and no part leads to another stage.
@@ -21,6 +22,7 @@ pub record StaysNamed {S E R : Type 0} (conv : ℕ) (chain : Chain S E R Command
   pub pass : (stage : S) (prefix : List (Timed E)) → kind stage → AllNamed conv (chain.pass stage prefix).owed × kind (chain.pass stage prefix).stage
   pub look : (stage : S) (prefix : List (Timed E)) → kind stage → AllNamed conv (found (chain.look stage prefix))
   pub so_far : (stage : S) (prefix : List (Timed E)) → kind stage → AllNamed conv (chain.so_far stage prefix)
+  pub behind : (stage : S) (prefix : List (Timed E)) → kind stage → AllNamed conv (chain.behind stage prefix)
   pub turn : (stage : S) (prefix : List (Timed E)) (reply : Timed R) → kind stage → AllNamed conv (chain.turn stage prefix reply).owed × kind (chain.turn stage prefix reply).stage
 
 named_append : (conv : ℕ) (xs ys : List Command) → AllNamed conv xs → AllNamed conv ys → AllNamed conv (xs ++ ys)
@@ -45,8 +47,15 @@ module _ {S E R : Type 0} (conv : ℕ) (chain : Chain S E R Command) (kind : S �
       reach_by_named (chain.look (chain.pass s f).stage f) _ _
       (reach_named last (before ++ (chain.pass s f).owed) (chain.pass s f).stage (f ++ worked_off last e ∷ []) es here on.1) (here, on.1)
 
+  found_named : (behind : List Command) (l : Look Command) → AllNamed conv behind → AllNamed conv (found l) → AllNamed conv (found_with behind l)
+  found_named behind NotYet all here = tt
+  found_named behind (Asks ask) all here = (here.0, all)
+  found_named behind (Ends owed) all here = here
+
   there_named : (w : Stop S E R Command) → AllNamed conv w.before → kind w.stage → AllNamed conv (owed_at chain w)
-  there_named w all is = named_append conv w.before _ all (named_append conv (chain.so_far w.stage w.prefix) _ (named.so_far w.stage w.prefix is) (named.look w.stage w.prefix is))
+  there_named w all is =
+      named_append conv w.before _ all (named_append conv (chain.so_far w.stage w.prefix) _ (named.so_far w.stage w.prefix is)
+      (found_named (chain.behind w.stage w.prefix) (chain.look w.stage w.prefix) (named.behind w.stage w.prefix is) (named.look w.stage w.prefix is)))
 
   asked_named : (l : Look Command) (ask : Command) → l ≡ Asks ask → AllNamed conv (found l) → IsNamed conv ask
   asked_named l ask is all = let Q : Look Command → Type 0 = λ k. AllNamed conv (found k) in let one : AllNamed conv (found (Asks ask)) = subst Q is all in one.0
@@ -65,12 +74,15 @@ module _ {S E R : Type 0} (conv : ℕ) (chain : Chain S E R Command) (kind : S �
       let here = reach chain last before s f es in
       let on = chain.turn here.stage here.prefix (at_its_step r) in
       let so_far = chain.so_far here.stage here.prefix in
+      let behind = chain.behind here.stage here.prefix in
       let at_here = reach_named last before s f es all is in
       let turned = named.turn here.stage here.prefix (at_its_step r) at_here.1 in
       walk_by_named (chain.look here.stage here.prefix) _ _
-      (λ ask asks. walk_named rs r.stamp (here.before ++ (so_far ++ ask ∷ on.owed)) on.stage here.prefix here.rest
-      (named_append conv here.before _ at_here.0 (named_append conv so_far (ask ∷ on.owed) (named.so_far here.stage here.prefix at_here.1)
-      (asked_named (chain.look here.stage here.prefix) ask asks (named.look here.stage here.prefix at_here.1), turned.0))) turned.1)
+      (λ ask asks. walk_named rs r.stamp (here.before ++ (so_far ++ ask ∷ (behind ++ on.owed))) on.stage here.prefix here.rest
+      (named_append conv here.before _ at_here.0 (named_append conv so_far (ask ∷ (behind ++ on.owed)) (named.so_far here.stage here.prefix at_here.1) (
+        asked_named (chain.look here.stage here.prefix) ask asks (named.look here.stage here.prefix at_here.1),
+        named_append conv behind on.owed (named.behind here.stage here.prefix at_here.1) turned.0,
+      ))) turned.1)
       (there_named (stop_at last here (r ∷ rs)) at_here.0 at_here.1)
 
 -- what is due from a stage of the kind names the conversation
@@ -86,6 +98,7 @@ all_named {S} conv chain start named moves =
       pass = λ stage prefix is. (named.pass stage prefix, tt);
       look = λ stage prefix is. named.look stage prefix;
       so_far = λ stage prefix is. named.so_far stage prefix;
+      behind = λ stage prefix is. named.behind stage prefix;
       turn = λ stage prefix reply is. (named.turn stage prefix reply, tt);
     } in
     stays_named conv chain kind start stays tt moves

@@ -3,7 +3,7 @@ use Rattle.std.proofs.Common.{◌≡◌, ◌⊎◌, inl, inr, ℕ, Bool, true, L
 use Rattle.px_event.specs.declared.ask.Ask.TheVariants as asks
 use Rattle.px_event.specs.declared.command.Command.{Command}
 use Rattle.px_event.specs.declared.command.Command.TheVariants as commands
-use Rattle.px_event.specs.Chain.{Stamp, Stamped, Timed, worked_off, at_its_step, Chain, Look, NotYet, Asks, Ends, Reached, reach, reach_by, Stop, walk, walk_by, found, owed_at, never, due}
+use Rattle.px_event.specs.Chain.{Stamp, Stamped, Timed, worked_off, at_its_step, Chain, Look, NotYet, Asks, Ends, Reached, reach, reach_by, Stop, walk, walk_by, found_at, owed_at, never, due}
 use Rattle.px_core.specs.Ordered.{AsksNoneOf, EndsOneOf, AsksBeforeEnds, LeavesBehind, LeavesFlows}
 
 none_append : (index : ℕ) (xs ys : List Command) → AsksNoneOf index xs → AsksNoneOf index ys → AsksNoneOf index (xs ++ ys)
@@ -69,7 +69,7 @@ module _ {S E R : Type 0} (chain : Chain S E R Command) (is_stage : S → Bool) 
       reach_by_past (chain.look (chain.pass s f).stage f) _ _
       (reach_past last (before ++ (chain.pass s f).owed) (chain.pass s f).stage (f ++ worked_off last e ∷ []) es here) here
 
-  stop_past : (before : List Command) (s : S) (f : List (Timed E)) → IsPast before s → AsksBeforeEnds (before ++ (chain.so_far s f ++ found (chain.look s f)))
+  stop_past : (before : List Command) (s : S) (f : List (Timed E)) → IsPast before s → AsksBeforeEnds (before ++ (chain.so_far s f ++ found_at chain s f))
   stop_past before s f at =
       let l = leaves.stops s f at.leads in ordered_append before _ at.ordered l.ordered (λ index e. l.asks_none index (at.ends index e))
 
@@ -88,9 +88,10 @@ module _ {S E R : Type 0} (chain : Chain S E R Command) (is_stage : S → Bool) 
       let here = reach chain last before s f es in
       let there = reach_past last before s f es at in
       let turn = chain.turn here.stage here.prefix (at_its_step r) in
+      let owed : Command → List Command = λ ask. chain.so_far here.stage here.prefix ++ ask ∷ (chain.behind here.stage here.prefix ++ turn.owed) in
       walk_by_past (chain.look here.stage here.prefix) _ _
-      (λ ask is. walk_past rs r.stamp (here.before ++ (chain.so_far here.stage here.prefix ++ ask ∷ turn.owed)) turn.stage here.prefix here.rest
-      (on here.before (chain.so_far here.stage here.prefix ++ ask ∷ turn.owed) here.stage turn.stage there (leaves.turns here.stage here.prefix ask there.leads is (at_its_step r))))
+      (λ ask is. walk_past rs r.stamp (here.before ++ owed ask) turn.stage here.prefix here.rest
+      (on here.before (owed ask) here.stage turn.stage there (leaves.turns here.stage here.prefix ask there.leads is (at_its_step r))))
       (stop_past here.before here.stage here.prefix there)
 
   -- What is due has no ask of a flow behind its end.

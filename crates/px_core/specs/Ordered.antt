@@ -3,7 +3,7 @@ use Rattle.std.specs.Prelude.{◌≡◌, ◌≢◌, ◌⊎◌, ℕ, Bool, true, 
 use Rattle.px_event.specs.declared.ask.Ask.TheVariants as asks
 use Rattle.px_event.specs.declared.command.Command.{Command}
 use Rattle.px_event.specs.declared.command.Command.TheVariants as commands
-use Rattle.px_event.specs.Chain.{Timed, Chain, Asks, found}
+use Rattle.px_event.specs.Chain.{Timed, Chain, Asks, found_at}
 use Rattle.px_event.specs.Trace.{Trace}
 use Rattle.px_event.specs.View.{Atom, asked, course, done, seen_in}
 
@@ -61,5 +61,5 @@ pub record LeavesFlows {S E R : Type 0} (chain : Chain S E R Command) (is_stage 
   pub passes : (s : S) (prefix : List (Timed E)) → is_stage s ≡ true →
       LeavesBehind is_stage past s (chain.pass s prefix).owed (chain.pass s prefix).stage
   pub turns : (s : S) (prefix : List (Timed E)) (ask : Command) → is_stage s ≡ true → chain.look s prefix ≡ Asks ask → (reply : Timed R) →
-      LeavesBehind is_stage past s (chain.so_far s prefix ++ ask ∷ (chain.turn s prefix reply).owed) (chain.turn s prefix reply).stage
-  pub stops : (s : S) (prefix : List (Timed E)) → is_stage s ≡ true → LeavesNone past s (chain.so_far s prefix ++ found (chain.look s prefix))
+      LeavesBehind is_stage past s (chain.so_far s prefix ++ ask ∷ (chain.behind s prefix ++ (chain.turn s prefix reply).owed)) (chain.turn s prefix reply).stage
+  pub stops : (s : S) (prefix : List (Timed E)) → is_stage s ≡ true → LeavesNone past s (chain.so_far s prefix ++ found_at chain s prefix)

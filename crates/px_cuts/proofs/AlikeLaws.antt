@@ -14,7 +14,7 @@ use Rattle.px_event.specs.Laws.{IsFound, IsSettled}
 use Rattle.px_read.specs.Items.{Item, missing, part, complete, bad_head, bad_body}
 use Rattle.px_read.specs.declared.head.RequestHead.{RequestHead as ReadRequest}
 use Rattle.px_exchange.specs.declared.terms.Terms.{Terms}
-use Rattle.px_chain.specs.Chain.{http_chain, look, pass, pass_body, sequence, so_far, stands, turn, IsOnward, is_alone, is_sequence}
+use Rattle.px_chain.specs.Chain.{behind, http_chain, look, pass, pass_body, sequence, so_far, stands, turn, IsOnward, is_alone, is_sequence}
 use Rattle.px_chain.specs.Sights.{Sight, Standing, request_in, sight_behind, sight_over, sight_with}
 use Rattle.px_chain.specs.Stages.{At, Stage, busy, connection, given_body, given_head, idle, next, over, request_body, response_body, response_head, side_of, upgraded}
 use Rattle.px_chain.specs.Streams.{client_closed, now_over}
@@ -25,7 +25,7 @@ use Rattle.px_cuts.specs.Alike.{PlacesAlike, HeardEarly}
 use Rattle.px_cuts.specs.Cuts.{AlikeSeen, IsDialled, MayBeHeard, MayWaitFor, retimed}
 use Rattle.px_cuts.specs.Shown.{hears, look_over, moment_at, passed_over, retimed_stage, shown_over, shown_sight}
 use Rattle.px_cuts.proofs.PlaceLaws.{behind_retimed, hears_behind, may_more, may_passed, may_turned, moment_alike, moment_passed, onward_leads, passed_leads, shown_more, side_retimed}
-use Rattle.px_cuts.proofs.ShownLaws.{look_shown, pass_shown, retimed_look, retimed_reply, retimed_turn, so_far_shown, turn_shown}
+use Rattle.px_cuts.proofs.ShownLaws.{behind_shown, look_shown, pass_shown, retimed_look, retimed_reply, retimed_turn, so_far_shown, turn_shown}
 use Rattle.px_cuts.proofs.StayLaws.{finds_alike, FindsAlike, pass_stays, ReadersStay}
 
 -- two changed at once
@@ -129,6 +129,8 @@ module _ (see : ℕ → ℕ) where
           ∙ (both (look terms) (retimed_stage see s.stage) (retimed_stage see t.stage) (shown s f) (shown t g) place.stages place.sights ∙ sym (look_shown see terms t.stage (sight_over t g))));
       so_far = so_far_shown see s.stage (sight_over s f)
           ∙ (both so_far (retimed_stage see s.stage) (retimed_stage see t.stage) (shown s f) (shown t g) place.stages place.sights ∙ sym (so_far_shown see t.stage (sight_over t g)));
+      behind = behind_shown see s.stage (sight_over s f)
+          ∙ (both behind (retimed_stage see s.stage) (retimed_stage see t.stage) (shown s f) (shown t g) place.stages place.sights ∙ sym (behind_shown see t.stage (sight_over t g)));
     }
 
     -- two replies, the same and at the same moment, seen so
@@ -246,7 +248,7 @@ module _ (see : ℕ → ℕ) where
                 (side_passed s.stage v) (passed_shows s f) ∙ (place.hears ∙ sym (passed_shows t g));
             open_client = place.open_client;
             comes = moment_passed see s.stage v (later last event.stamp).moment ∙ (place.comes ∙ sym (moment_passed see s.stage v (now_over s.since f)));
-            heard = λ again. heard_on place.side s.stage (pass s.stage v) (passed_leads None s.stage v).dialled (place.heard is);
+            heard = λ again. heard_on place.side s.stage (pass s.stage v) (passed_leads s.stage v).dialled (place.heard is);
             may = may_passed s f place.may;
             other_may = may_passed t g place.other_may;
           }
@@ -270,6 +272,8 @@ module _ (see : ℕ → ℕ) where
                 ∙ (sym same.look ∙ (both (look terms) stage (retimed_stage see t.stage) more (shown t g) place.stages (heard_so last s f t g place) ∙ sym (look_shown see terms t.stage (sight_over t g)))));
             so_far = so_far_shown see s.stage (sight_over s f)
                 ∙ (sym same.so_far ∙ (both so_far stage (retimed_stage see t.stage) more (shown t g) place.stages (heard_so last s f t g place) ∙ sym (so_far_shown see t.stage (sight_over t g))));
+            behind = behind_shown see s.stage (sight_over s f)
+                ∙ (sym same.behind ∙ (both behind stage (retimed_stage see t.stage) more (shown t g) place.stages (heard_so last s f t g place) ∙ sym (behind_shown see t.stage (sight_over t g))));
           }
 
       early_turns : (last : Stamp) (s : Standing) (f : List (Timed Event)) (t : Standing) (g : List (Timed Event)) → HeardEarly see terms event last s f t g → IsSettled chain s f →
@@ -293,7 +297,7 @@ module _ (see : ℕ → ℕ) where
           let s' : Stage = led s f answer in
           let t' : Stage = led t g answer in
           let stages : retimed_stage see s' ≡ retimed_stage see t' = led_alike s f t g answer answer turned in
-          let from : IsSideFrom s.stage (sight_over s f).spare (side_of s') = onward_from onward goes terms s.stage (sight_over s f) answer in
+          let from : IsSideFrom s.stage (side_of s') = onward_from onward goes terms s.stage (sight_over s f) answer in
           record {
             owed = ap (λ x. x.owed) turned;
             stage = record {

@@ -9,7 +9,7 @@ use Rattle.px_event.specs.declared.reply.Reply.{Reply}
 use Rattle.px_event.specs.declared.side.Side.{Side}
 use Rattle.px_event.specs.declared.side.Side.TheVariants.{Client, Server}
 use Rattle.px_event.specs.Alike.{FoundAlike}
-use Rattle.px_event.specs.Chain.{Asks, at_its_step, Chain, due, Ends, found, Look, never, NotYet, owed_at, reach, reach_by, Reached, Stamp, Stamped, Stop, Timed, walk, walk_by, worked_off}
+use Rattle.px_event.specs.Chain.{Asks, at_its_step, Chain, due, Ends, found_with, Look, never, NotYet, owed_at, reach, reach_by, Reached, Stamp, Stamped, Stop, Timed, walk, walk_by, worked_off}
 use Rattle.px_event.specs.Trace.{is_same_side}
 use Rattle.px_exchange.specs.declared.terms.Terms.{Terms}
 use Rattle.px_cuts.specs.Alike.{is_like, PlacesAlike}
@@ -18,21 +18,22 @@ use Rattle.px_chain.specs.Chain.{http_chain, IsOnward}
 use Rattle.px_chain.specs.Sights.{Standing}
 use Rattle.px_cuts.specs.Cuts.{EqualButForMoments, joined_onto, joined_pieces, MayStand, no_moment, piece_at, retimed, SameStreams, values_of}
 use Rattle.px_chain.specs.Stages.{Stage}
-use Rattle.px_cuts.specs.Shown.{look_over, passed_over, so_far_over}
+use Rattle.px_cuts.specs.Shown.{behind_over, look_over, passed_over, so_far_over}
 use Rattle.px_cuts.proofs.CutLemmas.{halves_owe}
 
 -- ---- walks at other moments
 
-found_owed : (l m : Look Command) → FoundAlike EqualButForMoments l m → EqualButForMoments (found l) (found m)
-found_owed NotYet NotYet alike = refl
-found_owed NotYet (Asks b) alike = absurd alike
-found_owed NotYet (Ends b) alike = absurd alike
-found_owed (Asks a) NotYet alike = absurd alike
-found_owed (Asks a) (Asks b) alike = alike
-found_owed (Asks a) (Ends b) alike = absurd alike
-found_owed (Ends a) NotYet alike = absurd alike
-found_owed (Ends a) (Asks b) alike = absurd alike
-found_owed (Ends a) (Ends b) alike = alike
+found_owed : (behind behind' : List Command) (l m : Look Command) → EqualButForMoments behind behind' → FoundAlike EqualButForMoments l m →
+    EqualButForMoments (found_with behind l) (found_with behind' m)
+found_owed behind behind' NotYet NotYet behinds alike = refl
+found_owed behind behind' NotYet (Asks b) behinds alike = absurd alike
+found_owed behind behind' NotYet (Ends b) behinds alike = absurd alike
+found_owed behind behind' (Asks a) NotYet behinds alike = absurd alike
+found_owed behind behind' (Asks a) (Asks b) behinds alike = (is_like no_moment).joins (a ∷ []) (b ∷ []) behind behind' alike behinds
+found_owed behind behind' (Asks a) (Ends b) behinds alike = absurd alike
+found_owed behind behind' (Ends a) NotYet behinds alike = absurd alike
+found_owed behind behind' (Ends a) (Asks b) behinds alike = absurd alike
+found_owed behind behind' (Ends a) (Ends b) behinds alike = alike
 
 -- what is found in both places, and what is made of it
 data BothFind (l m : Look Command) : Type 0 where
@@ -111,13 +112,14 @@ module _ (onward : Stage → Stage) (goes : IsOnward onward) (terms : Terms) whe
 
   -- all that is owed where a search stopped
   abbrev owed_there : Reached Standing Event Command → List Command
-  owed_there here = here.before ++ (so_far_over here.stage here.prefix ++ found (look_over terms here.stage here.prefix))
+  owed_there here = here.before ++ (so_far_over here.stage here.prefix ++ found_with (behind_over here.stage here.prefix) (look_over terms here.stage here.prefix))
 
   owed_alike_there : (here there : Reached Standing Event Command) → ReachedAlike here there → EqualButForMoments (owed_there here) (owed_there there)
   owed_alike_there here there at =
       let owes = owes_alike no_moment onward goes terms here.stage here.prefix there.stage there.prefix at.place in
       joins here.before there.before _ _ at.before
-      (joins (so_far_over here.stage here.prefix) (so_far_over there.stage there.prefix) _ _ owes.so_far (found_owed (look_over terms here.stage here.prefix) (look_over terms there.stage there.prefix) owes.look))
+      (joins (so_far_over here.stage here.prefix) (so_far_over there.stage there.prefix) _ _ owes.so_far
+      (found_owed (behind_over here.stage here.prefix) (behind_over there.stage there.prefix) (look_over terms here.stage here.prefix) (look_over terms there.stage there.prefix) owes.behind owes.look))
 
   walk_by_alike : (l m : Look Command) (on other : Command → Stop Standing Event Reply Command) (stop stop' : Stop Standing Event Reply Command) → BothFind l m →
       ((ask ask' : Command) → l ≡ Asks ask → EqualButForMoments (ask ∷ []) (ask' ∷ []) → EqualButForMoments (owed_at chain (on ask)) (owed_at chain (other ask'))) →
@@ -154,7 +156,8 @@ module _ (onward : Stage → Stage) (goes : IsOnward onward) (terms : Terms) whe
       (λ ask ask' is alike.
       let turned = turn_alike no_moment onward goes terms here.stage here.prefix there.stage there.prefix at.place (at_its_step r) (at_its_step q) (record { value = one; moment = refl }) in
       walk_alike rs qs r.stamp q.stamp _ _ (chain.turn here.stage here.prefix (at_its_step r)).stage here.prefix (chain.turn there.stage there.prefix (at_its_step q)).stage there.prefix here.rest there.rest others
-      (joins here.before there.before _ _ at.before (joins (so_far_over here.stage here.prefix) (so_far_over there.stage there.prefix) _ _ owes.so_far (joins (ask ∷ []) (ask' ∷ []) _ _ alike turned.owed)))
+      (joins here.before there.before _ _ at.before (joins (so_far_over here.stage here.prefix) (so_far_over there.stage there.prefix) _ _ owes.so_far
+      (joins (ask ∷ []) (ask' ∷ []) _ _ alike (joins (behind_over here.stage here.prefix) (behind_over there.stage there.prefix) _ _ owes.behind turned.owed))))
       turned.stage at.rest)
       (owed_alike_there here there at)
 

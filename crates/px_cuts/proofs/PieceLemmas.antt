@@ -1,5 +1,5 @@
 -- A piece that is cut in two, and two pieces the other way round.
-use Rattle.std.proofs.Common.{◌≡◌, ℕ, ◌<◌, ◌≤◌, ◌==◌, Bool, true, false, List, [], ◌∷◌, ◌++◌, drop, map, Option, Some, None, refl, ap, sym, ◌∙◌, subst, arith, nat_lt, append_assoc}
+use Rattle.std.proofs.Common.{◌≡◌, ℕ, ◌<◌, ◌≤◌, ◌==◌, Bool, true, false, List, [], ◌∷◌, ◌++◌, map, Option, Some, None, refl, ap, sym, ◌∙◌, subst, arith, nat_lt, append_assoc}
 use Rattle.std.specs.Prelude.{◌||◌, if◌then◌else◌}
 use Rattle.std.proofs.lemmas.Bool.{eq-eqb, eqb-true, ltb-false, ltb-true}
 use Rattle.std.proofs.lemmas.List.{append-nil}
@@ -19,25 +19,19 @@ use Rattle.px_event.specs.Trace.{is_same_side}
 use Rattle.px_exchange.specs.declared.terms.Terms.{Terms}
 use Rattle.px_cuts.specs.Alike.{HeardEarly}
 use Rattle.px_cuts.proofs.AlikeLaws.{is_found_seen}
-use Rattle.px_chain.specs.Chain.{look, new_side, pass}
-use Rattle.px_chain.specs.Sights.{Sight, Spare, Standing, Unused, server_with, shut_with, sight_over, sight_with, unused_over, unused_with}
-use Rattle.px_cuts.specs.Cuts.{AlikeSeen, as_it_is, DialledBefore, IsDialled, IsNoEarlier, MayBeHeard, MayStand, MayWaitFor, no_moment, piece_at, retimed, retimed_error, retimed_flow, retimed_option, SpareDialled}
-use Rattle.px_chain.specs.Stages.{At, ServerSide, Stage, busy, idle, next, over, place_of, side_of}
+use Rattle.px_chain.specs.Chain.{look, pass}
+use Rattle.px_chain.specs.Sights.{Sight, Standing, server_with, shut_with, sight_over, sight_with}
+use Rattle.px_cuts.specs.Cuts.{AlikeSeen, as_it_is, DialledBefore, IsDialled, IsNoEarlier, MayBeHeard, MayStand, MayWaitFor, no_moment, piece_at, retimed, retimed_error, retimed_flow, retimed_option}
+use Rattle.px_chain.specs.Stages.{ServerSide, Stage, busy, idle, next, over, place_of, side_of}
 use Rattle.px_chain.proofs.ChainLaws.{open_still}
 use Rattle.px_chain.proofs.FrontLaws.{closed_more}
 use Rattle.px_chain.proofs.SightLaws.{sight_passed}
 use Rattle.px_cuts.specs.Shown.{hears, look_over, moment_at, passed_over, retimed_stage, shown_over, shown_sight}
 use Rattle.px_cuts.proofs.PlaceLaws.{make_eq, may_more, moment_alike, moment_passed, shown_more}
 use Rattle.px_cuts.proofs.ShownLaws.{look_shown, pass_shown, retimed_look}
-use Rattle.px_chain.specs.Silent.{SpareBelow}
-use Rattle.px_chain.specs.Streams.{bytes_of, client_closed, is_closed}
+use Rattle.px_chain.specs.Streams.{client_closed}
 
 -- ---- bytes in two pieces
-
-unused_eq : (server : ℕ) (bytes bytes' : List ℕ) (shut shut' : Bool) → bytes ≡ bytes' → shut ≡ shut' →
-    Some (let unused : Unused = record { server = server; bytes = bytes; shut = shut } in unused)
-    ≡ Some (let unused : Unused = record { server = server; bytes = bytes'; shut = shut' } in unused)
-unused_eq server bytes bytes' shut shut' a b = rw (a, b) refl
 
 joined : (own : Bool) (before bytes more : List ℕ) →
     (before ++ (if own then bytes else [])) ++ (if own then more else []) ≡ before ++ (if own then bytes ++ more else [])
@@ -60,18 +54,12 @@ shut_joined : (l : Option ServerSide) (shut : Bool) (side other : Side) (bytes m
 shut_joined None shut side other bytes more whole = refl
 shut_joined (Some own) shut side other bytes more whole = twice_open shut
 
-unused_joined : (spare : Option Unused) (side : Side) (bytes more : List ℕ) →
-    unused_with (unused_with spare (events.Piece side bytes)) (events.Piece side more) ≡ unused_with spare (events.Piece side (bytes ++ more))
-unused_joined None side bytes more = refl
-unused_joined (Some unused) side bytes more =
-    unused_eq unused.server _ _ _ _ (server_joined (Some (new_side unused.server)) unused.shut unused.bytes side bytes more) (twice_open unused.shut)
-
 -- what is seen behind both pieces is what is seen behind the whole
 cut_shown : (own : Option ServerSide) (v : Sight) (side : Side) (bytes more : List ℕ) (now other : ℕ) → now ≡ other →
     hears own (sight_with own v (events.Piece side bytes) now) (events.Piece side more) ≡ sight_with own v (events.Piece side (bytes ++ more)) other
 cut_shown own v side bytes more now other same =
-    make_eq _ _ _ _ _ _ _ _ _ _ now other (joined (is_same_side side Client) v.client bytes more) (twice_open v.closed)
-    (server_joined own v.shut v.server side bytes more) (shut_joined own v.shut side side bytes more (bytes ++ more)) (unused_joined v.spare side bytes more) same
+    make_eq _ _ _ _ _ _ _ _ now other (joined (is_same_side side Client) v.client bytes more) (twice_open v.closed)
+    (server_joined own v.shut v.server side bytes more) (shut_joined own v.shut side side bytes more (bytes ++ more)) same
 
 -- ---- pieces of two sides
 
@@ -109,17 +97,11 @@ shut_either : (l : Option ServerSide) (shut : Bool) (side other : Side) (bytes m
 shut_either None shut side other bytes more = refl
 shut_either (Some own) shut side other bytes more = refl
 
-unused_either : (spare : Option Unused) (side other : Side) (bytes more : List ℕ) → is_same_side side other ≡ false →
-    unused_with (unused_with spare (events.Piece other more)) (events.Piece side bytes) ≡ unused_with (unused_with spare (events.Piece side bytes)) (events.Piece other more)
-unused_either None side other bytes more two = refl
-unused_either (Some unused) side other bytes more two =
-    unused_eq unused.server _ _ _ _ (server_either (Some (new_side unused.server)) unused.shut unused.bytes side other bytes more two) refl
-
 swap_shown : (own : Option ServerSide) (v : Sight) (side other : Side) (bytes more : List ℕ) (a b now : ℕ) → is_same_side side other ≡ false → a ≡ now →
     hears own (sight_with own v (events.Piece other more) a) (events.Piece side bytes) ≡ sight_with own (sight_with own v (events.Piece side bytes) b) (events.Piece other more) now
 swap_shown own v side other bytes more a b now two same =
-    make_eq _ _ _ _ _ _ _ _ _ _ a now (either_way (is_same_side side Client) (is_same_side other Client) v.client bytes more (apart side other Client two)) refl
-    (server_either own v.shut v.server side other bytes more two) (shut_either own v.shut side other bytes more) (unused_either v.spare side other bytes more two) same
+    make_eq _ _ _ _ _ _ _ _ a now (either_way (is_same_side side Client) (is_same_side other Client) v.client bytes more (apart side other Client two)) refl
+    (server_either own v.shut v.server side other bytes more two) (shut_either own v.shut side other bytes more) same
 
 -- ---- where nothing was found, and one event more was worked off
 
@@ -143,39 +125,23 @@ stays_open : (closed : Bool) → (closed || false) ≡ closed
 stays_open true = refl
 stays_open false = refl
 
-server_unheard : (l : Option ServerSide) (at : At) (shut : Bool) (heard : List ℕ) (server : ℕ) (bytes : List ℕ) → DialledBefore l at → at.dials ≤ server →
+server_unheard : (l : Option ServerSide) (dials : ℕ) (shut : Bool) (heard : List ℕ) (server : ℕ) (bytes : List ℕ) → DialledBefore l dials → dials ≤ server →
     server_with l shut heard (events.Piece (Server server) bytes) ≡ heard
-server_unheard None at shut heard server bytes before late = refl
-server_unheard (Some own) at true heard server bytes before late = refl
-server_unheard (Some own) at false heard server bytes before late =
-    let was : own.server < at.dials = before in
+server_unheard None dials shut heard server bytes before late = refl
+server_unheard (Some own) dials true heard server bytes before late = refl
+server_unheard (Some own) dials false heard server bytes before late =
+    let was : own.server < dials = before in
     ap (λ l. heard ++ l) (other_piece server own.server bytes (server == own.server) (omega arith) refl) ∙ append-nil heard
 
 shut_unheard : (l : Option ServerSide) (shut : Bool) (server : ℕ) (bytes : List ℕ) → shut_with l shut (events.Piece (Server server) bytes) ≡ shut
 shut_unheard None shut server bytes = refl
 shut_unheard (Some own) shut server bytes = stays_open shut
 
-spare_unheard : (spare : Option Spare) (prefix : List (Timed Event)) (at : At) (server : ℕ) (bytes : List ℕ) → SpareBelow spare at.dials → at.dials ≤ server →
-    unused_with (unused_over spare prefix) (events.Piece (Server server) bytes) ≡ unused_over spare prefix
-spare_unheard None prefix at server bytes before late = refl
-spare_unheard (Some spare) prefix at server bytes before late =
-    let own : ServerSide = new_side spare.server in
-    unused_eq spare.server _ _ _ _
-    (server_unheard (Some own) at (is_closed (Server spare.server) (drop spare.opened prefix)) (bytes_of (Server spare.server) (drop spare.opened prefix)) server bytes before late) (stays_open _)
-
 -- the sight is the same with it, but for the moment
-unheard_by : (own : Option ServerSide) (at : At) (v : Sight) (server : ℕ) (bytes : List ℕ) → DialledBefore own at → at.dials ≤ server →
-    unused_with v.spare (events.Piece (Server server) bytes) ≡ v.spare → sight_with own v (events.Piece (Server server) bytes) v.now ≡ v
-unheard_by own at v server bytes before late spare =
-    make_eq _ _ _ _ _ _ _ _ _ _ v.now v.now (append-nil v.client) (stays_open v.closed) (server_unheard own at v.shut v.server server bytes before late) (shut_unheard own v.shut server bytes) spare refl
-
--- where nothing is found yet, the spare side's server is one of those that were dialled
-spare_below : (spare : Option Spare) (terms : Terms) (s : Stage) (seen : Sight) → look terms s seen ≡ NotYet → SpareDialled spare s → SpareBelow spare (place_of s).dials
-spare_below None terms s seen is may = tt
-spare_below (Some spare) terms (idle at) seen is may = may
-spare_below (Some spare) terms (busy at flow doing) seen is may = may
-spare_below (Some spare) terms (next at) seen is may = may
-spare_below (Some spare) terms over seen is may = let P : Look Command → Type 0 = IsFound in absurd (subst P is tt)
+unheard_by : (own : Option ServerSide) (dials : ℕ) (v : Sight) (server : ℕ) (bytes : List ℕ) → DialledBefore own dials → dials ≤ server →
+    sight_with own v (events.Piece (Server server) bytes) v.now ≡ v
+unheard_by own dials v server bytes before late =
+    make_eq _ _ _ _ _ _ _ _ v.now v.now (append-nil v.client) (stays_open v.closed) (server_unheard own dials v.shut v.server server bytes before late) (shut_unheard own v.shut server bytes) refl
 
 module _ (terms : Terms) (s : Standing) (prefix : List (Timed Event)) (e : Timed Event) (may : MayStand s prefix) (is : look_over terms s prefix ≡ NotYet) (settled : passed_over s prefix ≡ s) where
   abbrev longer : List (Timed Event)
@@ -188,8 +154,7 @@ module _ (terms : Terms) (s : Standing) (prefix : List (Timed Event)) (e : Timed
       shown_more no_moment s prefix e may (open_still terms s.stage (sight_over s prefix) is)
       ∙ (ap (λ x. sight_with (side_of s.stage) v x (moment_at no_moment s.stage e.moment)) piece
       ∙ (ap (λ n. sight_with (side_of s.stage) v (events.Piece (Server server) bytes) n) (moment_alike no_moment s.stage s.stage e.moment (sight_over s prefix).now refl refl)
-      ∙ unheard_by (side_of s.stage) (place_of s.stage) v server bytes may.dialled late
-      (spare_unheard s.spare prefix (place_of s.stage) server bytes (spare_below s.spare terms s.stage (sight_over s prefix) is may.spare) late)))
+      ∙ unheard_by (side_of s.stage) (place_of s.stage).dials v server bytes may.dialled late))
 
   -- what is found where it passed, but for moments
   found_passed : (f : List (Timed Event)) → retimed_look no_moment (look_over terms (passed_over s f) f)

@@ -26,18 +26,17 @@ use Rattle.px_exchange.specs.declared.taken.Taken.{Taken}
 use Rattle.px_exchange.specs.declared.taken.Taken.TheVariants.{GoesOn, Responds, Kills}
 use Rattle.px_exchange.specs.declared.place.Place.{Place}
 use Rattle.px_exchange.specs.declared.terms.Terms.{Terms}
-use Rattle.px_chain.specs.Chain.{behind_flow, dial_leads, finish, finish_by, goes_on_by, killed, look, pass, pass_body, side_behind, so_far, spare_for, turn, turn_answer, turn_answer_head, turn_body, turn_given_head, turn_head, turn_judged, turn_read_whole, turn_response, turn_returned, turn_taken_answer, turn_taken_body, turn_taken_given, turn_taken_head, turn_taken_returned, turn_taken_whole, turn_whole_answer, used_more}
+use Rattle.px_chain.specs.Chain.{behind, behind_flow, dial_leads, finish, finish_by, goes_on_by, killed, look, parked_for, pass, pass_body, side_behind, so_far, turn, turn_answer, turn_answer_head, turn_body, turn_given_head, turn_head, turn_judged, turn_read_whole, turn_response, turn_returned, turn_taken_answer, turn_taken_body, turn_taken_given, turn_taken_head, turn_taken_returned, turn_taken_whole, turn_whole_answer, used_more}
 use Rattle.px_exchange.specs.Flows.{ask_of, response_of, with_answer, with_body, with_end, with_returned, with_start}
 use Rattle.px_exchange.specs.Dials.{dial_owes}
 use Rattle.px_exchange.specs.Finds.{is_relayed, look_answer, look_answer_head, look_body, look_head, look_judged, look_returned, or_leaves}
 use Rattle.px_cuts.specs.Cuts.{retimed, retimed_flow}
 use Rattle.px_exchange.specs.Endings.{closed_message, connection_goes_on, ends_by_fault, ends_early, finished, refuses, shut_all, shut_client, shut_server, shut_unless, with_error, without_response}
-use Rattle.px_exchange.specs.Places.{goes_home}
 use Rattle.px_exchange.specs.Replies.{taken_at_request_body, taken_at_request_head, taken_at_response_head}
 use Rattle.px_exchange.specs.Requests.{expects, flow_of, is_head, is_http11, judged}
 use Rattle.px_cuts.specs.Shown.{retimed_sight, retimed_stage, shown_sight}
-use Rattle.px_chain.specs.Stages.{At, ServerSide, Stage, busy, connection, given_body, given_head, idle, next, over, request_body, response_body, response_head, upgraded}
-use Rattle.px_chain.specs.Sights.{Sight, Unused, answers_in, request_in, server_in}
+use Rattle.px_chain.specs.Stages.{At, Parked, ServerSide, Stage, busy, connection, given_body, given_head, idle, next, over, request_body, response_body, response_head, unparked, upgraded}
+use Rattle.px_chain.specs.Sights.{Sight, answers_in, request_in, server_in, server_parked}
 use Rattle.px_exchange.specs.Texts.{interim_command}
 
 -- a look, a turn and a reply, their moments seen so
@@ -87,33 +86,37 @@ module _ (see : ℕ → ℕ) where
       ap (λ l. commands.Send Client (error_text fault (is_head flow.request.method)) ∷ l)
       (ends_early_seen (without_response flow) (fault_message fault) moment used closed)
 
-  refuses_seen : (fault : Fault) (asked_head closed : Bool) → map (retimed see) (refuses fault asked_head closed) ≡ refuses fault asked_head closed
-  refuses_seen fault asked_head true = refl
-  refuses_seen fault asked_head false = refl
+  refuses_seen : (fault : Fault) (asked_head : Bool) (used : Used) (closed : Bool) → map (retimed see) (refuses fault asked_head used closed) ≡ refuses fault asked_head used closed
+  refuses_seen fault asked_head used closed = ap (λ l. commands.Send Client (error_text fault asked_head) ∷ l) (shut_all_seen used closed)
+
+  -- a parked side is told by no moment
+  parked_seen : (parked : Option Parked) (seen : Sight) → server_parked parked seen ≡ server_parked parked (retimed_sight see seen)
+  parked_seen None seen = refl
+  parked_seen (Some parked) seen = refl
 
   -- ---- what is found
 
-  look_judged_seen : (terms : Terms) (index : ℕ) (head : ReadRequest) (j : Judged) (moment : ℕ) (closed : Bool) →
-      retimed_look see (look_judged terms index head j moment closed) ≡ look_judged terms index head j (see moment) closed
-  look_judged_seen terms index head (Refused fault) moment closed = ap (λ l. Ends l) (refuses_seen fault (is_head head.method) closed)
-  look_judged_seen terms index head (Accepted request) moment closed = refl
-  look_judged_seen terms index head (Connects address) moment closed = refl
+  look_judged_seen : (terms : Terms) (index : ℕ) (head : ReadRequest) (j : Judged) (moment : ℕ) (used : Used) (closed : Bool) →
+      retimed_look see (look_judged terms index head j moment used closed) ≡ look_judged terms index head j (see moment) used closed
+  look_judged_seen terms index head (Refused fault) moment used closed = ap (λ l. Ends l) (refuses_seen fault (is_head head.method) used closed)
+  look_judged_seen terms index head (Accepted request) moment used closed = refl
+  look_judged_seen terms index head (Connects address) moment used closed = refl
 
-  look_head_seen : (terms : Terms) (index : ℕ) (item : Item ReadRequest) (moment : ℕ) (closed : Bool) →
-      retimed_look see (look_head terms index item moment closed) ≡ look_head terms index item (see moment) closed
-  look_head_seen terms index missing moment closed = refl
-  look_head_seen terms index (part head body) moment closed = look_judged_seen terms index head (judged terms.place head) moment closed
-  look_head_seen terms index (complete head body trailers used) moment closed = look_judged_seen terms index head (judged terms.place head) moment closed
-  look_head_seen terms index (bad_head fault) moment closed = ap (λ l. Ends l) (refuses_seen fault false closed)
-  look_head_seen terms index (bad_body fault head body) moment closed = look_judged_seen terms index head (judged terms.place head) moment closed
+  look_head_seen : (terms : Terms) (index : ℕ) (item : Item ReadRequest) (moment : ℕ) (used : Used) (closed : Bool) →
+      retimed_look see (look_head terms index item moment used closed) ≡ look_head terms index item (see moment) used closed
+  look_head_seen terms index missing moment used closed = refl
+  look_head_seen terms index (part head body) moment used closed = look_judged_seen terms index head (judged terms.place head) moment used closed
+  look_head_seen terms index (complete head body trailers size) moment used closed = look_judged_seen terms index head (judged terms.place head) moment used closed
+  look_head_seen terms index (bad_head fault) moment used closed = ap (λ l. Ends l) (refuses_seen fault false used closed)
+  look_head_seen terms index (bad_body fault head body) moment used closed = look_judged_seen terms index head (judged terms.place head) moment used closed
 
-  look_body_seen : (flow : Flow) (item : Item ReadRequest) (moment : ℕ) (closed : Bool) →
-      retimed_look see (look_body flow item moment closed) ≡ look_body (retimed_flow see flow) item (see moment) closed
-  look_body_seen flow missing moment closed = refl
-  look_body_seen flow (part head body) moment closed = refl
-  look_body_seen flow (complete head body trailers used) moment closed = refl
-  look_body_seen flow (bad_head fault) moment closed = refl
-  look_body_seen flow (bad_body fault head body) moment closed = ap (λ l. Ends l) (ends_by_fault_seen flow fault moment NoServer closed)
+  look_body_seen : (flow : Flow) (item : Item ReadRequest) (moment : ℕ) (used : Used) (closed : Bool) →
+      retimed_look see (look_body flow item moment used closed) ≡ look_body (retimed_flow see flow) item (see moment) used closed
+  look_body_seen flow missing moment used closed = refl
+  look_body_seen flow (part head body) moment used closed = refl
+  look_body_seen flow (complete head body trailers size) moment used closed = refl
+  look_body_seen flow (bad_head fault) moment used closed = refl
+  look_body_seen flow (bad_body fault head body) moment used closed = ap (λ l. Ends l) (ends_by_fault_seen flow fault moment used closed)
 
   answer_head_by : (refused : Bool) (flow : Flow) (head : ReadResponse) (moment : ℕ) (used : Used) (closed : Bool) →
       retimed_look see (if refused then Ends (ends_by_fault flow BadResponse moment used closed) else Asks (ask_of (with_answer flow (response_of head) moment) ResponseHead))
@@ -156,10 +159,17 @@ module _ (see : ℕ → ℕ) where
   pub look_shown : (terms : Terms) (stage : Stage) (seen : Sight) →
       retimed_look see (look terms stage seen) ≡ look terms (retimed_stage see stage) (shown_sight see stage seen)
   look_shown terms (idle at) seen =
-      looked seen.closed [] [] _ _ refl (look_head_seen terms at.flow (request_in at seen) seen.now seen.closed)
+      let used : Used = server_parked at.parked seen in
+      looked seen.closed _ _ _ _ (shut_server_seen used ∙ ap (λ u. shut_server u) (parked_seen at.parked seen))
+      (look_head_seen terms at.flow (request_in at seen) seen.now used seen.closed
+      ∙ ap (λ u. look_head terms at.flow (request_in at seen) (see seen.now) u seen.closed) (parked_seen at.parked seen))
   look_shown terms (busy at flow (request_body given)) seen =
-      looked seen.closed _ _ _ _ (ends_early_seen flow closed_message seen.now NoServer true)
-      (look_body_seen flow (request_in at seen) seen.now seen.closed)
+      let used : Used = server_parked at.parked seen in
+      looked seen.closed _ _ _ _
+      (ends_early_seen flow closed_message seen.now used true
+      ∙ ap (λ u. ends_early (retimed_flow see flow) closed_message (see seen.now) u true) (parked_seen at.parked seen))
+      (look_body_seen flow (request_in at seen) seen.now used seen.closed
+      ∙ ap (λ u. look_body (retimed_flow see flow) (request_in at seen) (see seen.now) u seen.closed) (parked_seen at.parked seen))
   look_shown terms (busy at flow connection) seen = refl
   look_shown terms (busy at flow (response_head side how)) seen =
       looked seen.closed _ _ _ _ (ends_early_seen flow closed_message seen.now (server_in side seen) true)
@@ -196,6 +206,20 @@ module _ (see : ℕ → ℕ) where
   so_far_shown (next at) seen = refl
   so_far_shown over seen = refl
 
+  -- ---- what is owed behind an ask
+
+  pub behind_shown : (stage : Stage) (seen : Sight) → map (retimed see) (behind stage seen) ≡ behind (retimed_stage see stage) (shown_sight see stage seen)
+  behind_shown (idle at) seen = refl
+  behind_shown (busy at flow (request_body given)) seen = refl
+  behind_shown (busy at flow connection) seen = shut_server_seen (server_parked at.parked seen) ∙ ap (λ u. shut_server u) (parked_seen at.parked seen)
+  behind_shown (busy at flow (response_head side how)) seen = refl
+  behind_shown (busy at flow (response_body side how)) seen = refl
+  behind_shown (busy at flow (upgraded side)) seen = refl
+  behind_shown (busy at flow given_head) seen = refl
+  behind_shown (busy at flow given_body) seen = refl
+  behind_shown (next at) seen = refl
+  behind_shown over seen = refl
+
   -- ---- where it passes
 
   passed_seen : (at : At) (flow : Flow) (given : Option Response) (item : Item ReadRequest) (now : ℕ) →
@@ -225,14 +249,22 @@ module _ (see : ℕ → ℕ) where
       retimed_turn see (killed flow moment used closed) ≡ killed (retimed_flow see flow) (see moment) used closed
   killed_seen flow moment used closed = turning_eq _ _ over over (ends_early_seen flow _ moment used closed) refl
 
-  taken_head_seen : (at : At) (flow : Flow) (expected : Bool) (taken : Taken Request) (moment : ℕ) (closed : Bool) →
-      retimed_turn see (turn_taken_head at flow expected taken moment closed)
-      ≡ turn_taken_head at (retimed_flow see flow) expected taken (see moment) closed
-  taken_head_seen at flow true (GoesOn request) moment closed = refl
-  taken_head_seen at flow false (GoesOn request) moment closed = refl
-  taken_head_seen at flow true (Responds response) moment closed = refl
-  taken_head_seen at flow false (Responds response) moment closed = refl
-  taken_head_seen at flow expected Kills moment closed = killed_seen flow moment NoServer closed
+  -- also where a side is parked
+  killed_parked : (at : At) (flow : Flow) (moment : ℕ) (seen : Sight) →
+      retimed_turn see (killed flow moment (server_parked at.parked seen) seen.closed)
+      ≡ killed (retimed_flow see flow) (see moment) (server_parked at.parked (retimed_sight see seen)) seen.closed
+  killed_parked at flow moment seen =
+      killed_seen flow moment (server_parked at.parked seen) seen.closed
+      ∙ ap (λ u. killed (retimed_flow see flow) (see moment) u seen.closed) (parked_seen at.parked seen)
+
+  taken_head_seen : (at : At) (flow : Flow) (expected : Bool) (taken : Taken Request) (moment : ℕ) (seen : Sight) →
+      retimed_turn see (turn_taken_head at flow expected taken moment seen)
+      ≡ turn_taken_head at (retimed_flow see flow) expected taken (see moment) (retimed_sight see seen)
+  taken_head_seen at flow true (GoesOn request) moment seen = refl
+  taken_head_seen at flow false (GoesOn request) moment seen = refl
+  taken_head_seen at flow true (Responds response) moment seen = refl
+  taken_head_seen at flow false (Responds response) moment seen = refl
+  taken_head_seen at flow expected Kills moment seen = killed_parked at flow moment seen
 
   judged_turn_seen : (terms : Terms) (at : At) (head : ReadRequest) (j : Judged) (seen : Sight) (answer : Timed Reply) →
       retimed_turn see (turn_judged terms at head j seen answer)
@@ -241,7 +273,7 @@ module _ (see : ℕ → ℕ) where
   judged_turn_seen terms at head (Connects address) seen answer = refl
   judged_turn_seen terms at head (Accepted request) seen answer =
       taken_head_seen at (flow_of terms at.flow request seen.now) (expects head)
-      (taken_at_request_head request answer.value) answer.moment seen.closed
+      (taken_at_request_head request answer.value) answer.moment seen
 
   head_turn_seen : (terms : Terms) (at : At) (item : Item ReadRequest) (seen : Sight) (answer : Timed Reply) →
       retimed_turn see (turn_head terms at item seen answer)
@@ -252,15 +284,15 @@ module _ (see : ℕ → ℕ) where
   head_turn_seen terms at (bad_head fault) seen answer = refl
   head_turn_seen terms at (bad_body fault head body) seen answer = judged_turn_seen terms at head (judged terms.place head) seen answer
 
-  goes_on_seen : (to : Place) (at : At) (flow : Flow) (spare : Option Unused) → retimed_turn see (goes_on_by spare to at flow) ≡ goes_on_by spare to at (retimed_flow see flow)
+  goes_on_seen : (to : Place) (at : At) (flow : Flow) (side : Option ServerSide) → retimed_turn see (goes_on_by side to at flow) ≡ goes_on_by side to at (retimed_flow see flow)
   goes_on_seen to at flow None = refl
-  goes_on_seen to at flow (Some unused) = refl
+  goes_on_seen to at flow (Some side) = refl
 
-  taken_body_seen : (to : Place) (at : At) (flow : Flow) (spare : Option Unused) (taken : Taken Request) (moment : ℕ) (closed : Bool) →
-      retimed_turn see (turn_taken_body to at flow spare taken moment closed) ≡ turn_taken_body to at (retimed_flow see flow) spare taken (see moment) closed
-  taken_body_seen to at flow spare (GoesOn request) moment closed = goes_on_seen to at (record flow { request = request }) (spare_for (goes_home to request) spare)
-  taken_body_seen to at flow spare (Responds response) moment closed = refl
-  taken_body_seen to at flow spare Kills moment closed = killed_seen flow moment NoServer closed
+  taken_body_seen : (to : Place) (at : At) (flow : Flow) (taken : Taken Request) (moment : ℕ) (seen : Sight) →
+      retimed_turn see (turn_taken_body to at flow taken moment seen) ≡ turn_taken_body to at (retimed_flow see flow) taken (see moment) (retimed_sight see seen)
+  taken_body_seen to at flow (GoesOn request) moment seen = goes_on_seen to at (record flow { request = request }) (parked_for to request at.parked)
+  taken_body_seen to at flow (Responds response) moment seen = refl
+  taken_body_seen to at flow Kills moment seen = killed_parked at flow moment seen
 
   body_turn_seen : (to : Place) (at : At) (flow : Flow) (item : Item ReadRequest) (seen : Sight) (answer : Timed Reply) →
       retimed_turn see (turn_body to at flow item seen answer)
@@ -269,7 +301,7 @@ module _ (see : ℕ → ℕ) where
   body_turn_seen to at flow (part head body) seen answer = refl
   body_turn_seen to at flow (complete head body trailers used) seen answer =
       let whole : Flow = with_body flow body.content trailers seen.now in
-      taken_body_seen to (used_more at used) whole seen.spare (taken_at_request_body whole.request answer.value) answer.moment seen.closed
+      taken_body_seen to (used_more at used) whole (taken_at_request_body whole.request answer.value) answer.moment seen
   body_turn_seen to at flow (bad_head fault) seen answer = refl
   body_turn_seen to at flow (bad_body fault head body) seen answer = refl
 
@@ -313,9 +345,9 @@ module _ (see : ℕ → ℕ) where
   answer_turn_seen at flow side (bad_head fault) seen answer = refl
   answer_turn_seen at flow side (bad_body fault head body) seen answer = answer_head_turn_seen at flow side head seen answer
 
-  shut_unless_seen : (stays closed : Bool) → map (retimed see) (shut_unless stays closed) ≡ shut_unless stays closed
-  shut_unless_seen true closed = refl
-  shut_unless_seen false closed = shut_client_seen closed
+  shut_unless_seen : (stays : Bool) (parked : Used) (closed : Bool) → map (retimed see) (shut_unless stays parked closed) ≡ shut_unless stays parked closed
+  shut_unless_seen true parked closed = refl
+  shut_unless_seen false parked closed = shut_all_seen parked closed
 
   finished_seen : (flow : Flow) (response : Response) (used : Used) →
       map (retimed see) (finished flow response used) ≡ finished (retimed_flow see flow) response used
@@ -327,29 +359,29 @@ module _ (see : ℕ → ℕ) where
   behind_seen true at = refl
   behind_seen false at = refl
 
-  finish_seen : (at : At) (flow : Flow) (response : Response) (used : Used) (closed : Bool) →
-      retimed_turn see (finish at flow response used closed) ≡ finish at (retimed_flow see flow) response used closed
-  finish_seen at flow response used closed =
+  finish_seen : (at : At) (flow : Flow) (response : Response) (served parked : Used) (closed : Bool) →
+      retimed_turn see (finish at flow response served parked closed) ≡ finish at (retimed_flow see flow) response served parked closed
+  finish_seen at flow response served parked closed =
       let stays = connection_goes_on at.flow flow.request response in
       turning_eq _ _ _ _
-      (map-append (retimed see) (finished flow response used) (shut_unless stays closed)
-      ∙ (ap (λ l. l ++ map (retimed see) (shut_unless stays closed)) (finished_seen flow response used)
-      ∙ ap (λ l. finished (retimed_flow see flow) response used ++ l) (shut_unless_seen stays closed)))
+      (map-append (retimed see) (finished flow response served) (shut_unless stays parked closed)
+      ∙ (ap (λ l. l ++ map (retimed see) (shut_unless stays parked closed)) (finished_seen flow response served)
+      ∙ ap (λ l. finished (retimed_flow see flow) response served ++ l) (shut_unless_seen stays parked closed)))
       (behind_seen stays at)
 
-  taken_returned_seen : (at : At) (flow : Flow) (taken : Taken Response) (moment : ℕ) (used : Used) (closed : Bool) →
-      retimed_turn see (turn_taken_returned at flow taken moment used closed)
-      ≡ turn_taken_returned at (retimed_flow see flow) taken (see moment) used closed
-  taken_returned_seen at flow (GoesOn response) moment used closed = finish_seen at flow response used closed
-  taken_returned_seen at flow (Responds response) moment used closed = killed_seen flow moment used closed
-  taken_returned_seen at flow Kills moment used closed = killed_seen flow moment used closed
+  taken_returned_seen : (at : At) (flow : Flow) (taken : Taken Response) (moment : ℕ) (parked : Used) (closed : Bool) →
+      retimed_turn see (turn_taken_returned at flow taken moment parked closed)
+      ≡ turn_taken_returned at (retimed_flow see flow) taken (see moment) parked closed
+  taken_returned_seen at flow (GoesOn response) moment parked closed = finish_seen at flow response NoServer parked closed
+  taken_returned_seen at flow (Responds response) moment parked closed = killed_seen flow moment parked closed
+  taken_returned_seen at flow Kills moment parked closed = killed_seen flow moment parked closed
 
-  taken_given_seen : (at : At) (flow : Flow) (taken : Taken Response) (moment : ℕ) (closed : Bool) →
-      retimed_turn see (turn_taken_given at flow taken moment closed)
-      ≡ turn_taken_given at (retimed_flow see flow) taken (see moment) closed
-  taken_given_seen at flow (GoesOn response) moment closed = refl
-  taken_given_seen at flow (Responds response) moment closed = killed_seen (without_response flow) moment NoServer closed
-  taken_given_seen at flow Kills moment closed = killed_seen (without_response flow) moment NoServer closed
+  taken_given_seen : (at : At) (flow : Flow) (taken : Taken Response) (moment : ℕ) (parked : Used) (closed : Bool) →
+      retimed_turn see (turn_taken_given at flow taken moment parked closed)
+      ≡ turn_taken_given at (retimed_flow see flow) taken (see moment) parked closed
+  taken_given_seen at flow (GoesOn response) moment parked closed = refl
+  taken_given_seen at flow (Responds response) moment parked closed = killed_seen (without_response flow) moment parked closed
+  taken_given_seen at flow Kills moment parked closed = killed_seen (without_response flow) moment parked closed
 
   response_seen : (there : Option Response) (takes : Response → Taken Response) (goes goes' : Taken Response → Turn Stage Command) →
       ((taken : Taken Response) → retimed_turn see (goes taken) ≡ goes' taken) →
@@ -357,17 +389,17 @@ module _ (see : ℕ → ℕ) where
   response_seen None takes goes goes' each = refl
   response_seen (Some response) takes goes goes' each = each (takes response)
 
-  whole_answer_seen : (at : At) (flow : Flow) (answer : Timed Reply) (used : Used) (closed : Bool) →
-      retimed_turn see (turn_whole_answer at flow answer used closed)
-      ≡ turn_whole_answer at (retimed_flow see flow) (retimed_reply see answer) used closed
-  whole_answer_seen at flow answer used closed =
+  whole_answer_seen : (at : At) (flow : Flow) (answer : Timed Reply) (parked : Used) (closed : Bool) →
+      retimed_turn see (turn_whole_answer at flow answer parked closed)
+      ≡ turn_whole_answer at (retimed_flow see flow) (retimed_reply see answer) parked closed
+  whole_answer_seen at flow answer parked closed =
       response_seen flow.response _ _ _
-      (λ taken. taken_returned_seen at flow taken answer.moment used closed)
+      (λ taken. taken_returned_seen at flow taken answer.moment parked closed)
 
   finish_by_seen : (switches : Bool) (at : At) (flow : Flow) (response : Response) (side : ServerSide) (used : Used) (closed : Bool) →
       retimed_turn see (finish_by switches at flow response side used closed) ≡ finish_by switches at (retimed_flow see flow) response side used closed
   finish_by_seen true at flow response side used closed = refl
-  finish_by_seen false at flow response side used closed = finish_seen at flow response used closed
+  finish_by_seen false at flow response side used closed = finish_seen (unparked at) flow response used NoServer closed
 
   taken_whole_seen : (at : At) (flow : Flow) (side : ServerSide) (taken : Taken Response) (moment : ℕ) (used : Used) (closed : Bool) →
       retimed_turn see (turn_taken_whole at flow side taken moment used closed)
@@ -393,11 +425,11 @@ module _ (see : ℕ → ℕ) where
   returned_turn_seen at flow side interim (bad_head fault) seen answer = refl
   returned_turn_seen at flow side interim (bad_body fault head body) seen answer = refl
 
-  given_turn_seen : (at : At) (flow : Flow) (answer : Timed Reply) (closed : Bool) →
-      retimed_turn see (turn_given_head at flow answer closed) ≡ turn_given_head at (retimed_flow see flow) (retimed_reply see answer) closed
-  given_turn_seen at flow answer closed =
+  given_turn_seen : (at : At) (flow : Flow) (answer : Timed Reply) (parked : Used) (closed : Bool) →
+      retimed_turn see (turn_given_head at flow answer parked closed) ≡ turn_given_head at (retimed_flow see flow) (retimed_reply see answer) parked closed
+  given_turn_seen at flow answer parked closed =
       response_seen flow.response _ _ _
-      (λ taken. taken_given_seen at flow taken answer.moment closed)
+      (λ taken. taken_given_seen at flow taken answer.moment parked closed)
 
   pub turn_shown : (terms : Terms) (stage : Stage) (seen : Sight) (answer : Timed Reply) →
       retimed_turn see (turn terms stage seen answer) ≡ turn terms (retimed_stage see stage) (shown_sight see stage seen) (retimed_reply see answer)
@@ -410,8 +442,11 @@ module _ (see : ℕ → ℕ) where
   turn_shown terms (busy at flow (response_body side how)) seen answer =
       returned_turn_seen at flow side (answers_in flow.request side seen).used (answers_in flow.request side seen).final seen answer
   turn_shown terms (busy at flow (upgraded side)) seen answer = refl
-  turn_shown terms (busy at flow given_head) seen answer = given_turn_seen at (with_start flow seen.now) answer seen.closed
+  turn_shown terms (busy at flow given_head) seen answer =
+      given_turn_seen at (with_start flow seen.now) answer (server_parked at.parked seen) seen.closed
+      ∙ ap (λ u. turn_given_head at (with_start (retimed_flow see flow) (see seen.now)) (retimed_reply see answer) u seen.closed) (parked_seen at.parked seen)
   turn_shown terms (busy at flow given_body) seen answer =
-      whole_answer_seen at (with_end flow seen.now) answer NoServer seen.closed
+      whole_answer_seen at (with_end flow seen.now) answer (server_parked at.parked seen) seen.closed
+      ∙ ap (λ u. turn_whole_answer at (with_end (retimed_flow see flow) (see seen.now)) (retimed_reply see answer) u seen.closed) (parked_seen at.parked seen)
   turn_shown terms (next at) seen answer = refl
   turn_shown terms over seen answer = refl

@@ -1,6 +1,6 @@
 -- What is found stays found with a piece more, by the laws of the readers: an event that waits is heard early.
 use Rattle.std.proofs.Common.{◌≡◌, ℕ, Bool, true, false, List, [], ◌∷◌, ◌++◌, drop, Option, Some, None, refl, ap, sym, ◌∙◌, subst}
-use Rattle.std.specs.Prelude.{zero, suc}
+use Rattle.std.specs.Prelude.{zero, suc, ◌||◌}
 use Rattle.px_message.specs.declared.flow.Flow.{Flow}
 use Rattle.px_message.specs.declared.request.Request.{Request}
 use Rattle.px_message.specs.declared.response.Response.{Response}
@@ -19,23 +19,22 @@ use Rattle.px_read.specs.declared.head.ResponseHead.{ResponseHead as ReadRespons
 use Rattle.px_exchange.specs.declared.asked.Judged.{Judged}
 use Rattle.px_exchange.specs.declared.asked.Judged.TheVariants.{Refused, Accepted, Connects}
 use Rattle.px_exchange.specs.declared.ending.Used.{Used}
-use Rattle.px_exchange.specs.declared.ending.Used.TheVariants.{NoServer, ByServer}
+use Rattle.px_exchange.specs.declared.ending.Used.TheVariants.{ByServer}
 use Rattle.px_exchange.specs.declared.place.Place.{Place}
 use Rattle.px_exchange.specs.declared.taken.Taken.{Taken}
 use Rattle.px_exchange.specs.declared.taken.Taken.TheVariants.{GoesOn, Responds, Kills}
 use Rattle.px_exchange.specs.declared.terms.Terms.{Terms}
 use Rattle.px_exchange.specs.Finds.{look_answer, look_answer_head, look_body, look_head, look_judged, look_returned, or_leaves}
 use Rattle.px_cuts.specs.Shown.{hears}
-use Rattle.px_exchange.specs.Places.{goes_home}
-use Rattle.px_exchange.specs.Requests.{is_head, judged}
-use Rattle.px_chain.specs.Chain.{goes_on_by, look, pass, pass_body, so_far, spare_for, turn, turn_answer, turn_answer_head, turn_body, turn_head, turn_judged, turn_returned, turn_taken_body, used_more}
-use Rattle.px_chain.specs.Sights.{Sight, Unused, unused_with}
-use Rattle.px_chain.specs.Stages.{At, ServerSide, Stage, busy, connection, given_body, given_head, idle, next, over, request_body, response_body, response_head, side_of, upgraded}
+use Rattle.px_exchange.specs.Requests.{expects, flow_of, is_head, judged}
+use Rattle.px_chain.specs.Chain.{behind, killed, look, pass, pass_body, so_far, turn, turn_answer, turn_answer_head, turn_body, turn_given_head, turn_head, turn_judged, turn_returned, turn_taken_body, turn_taken_head, turn_whole_answer, used_more}
+use Rattle.px_chain.specs.Sights.{Sight, server_parked, server_with, shut_with}
+use Rattle.px_chain.specs.Stages.{At, Parked, ServerSide, Stage, busy, connection, given_body, given_head, idle, next, over, request_body, response_body, response_head, side_of, side_parked, upgraded}
 use Rattle.px_event.specs.Sides.{piece_of}
-use Rattle.px_exchange.specs.Flows.{with_body}
-use Rattle.px_exchange.specs.Replies.{taken_at_request_body}
+use Rattle.px_exchange.specs.Flows.{with_body, with_end, with_start}
+use Rattle.px_exchange.specs.Replies.{taken_at_request_body, taken_at_request_head}
 use Rattle.px_exchange.specs.Texts.{interim_commands}
-use Rattle.px_exchange.specs.Endings.{closed_message, ends_early, without_response}
+use Rattle.px_exchange.specs.Endings.{closed_message, ends_early, shut_server, without_response}
 
 -- the laws of the readers: what stands stays, whatever follows
 pub record ReadersStay : Type 0 where
@@ -106,18 +105,18 @@ some_is h head is = cc
 -- ---- heads
 
 module _ (terms : Terms) where
-  head_looked : (index : ℕ) (item : Item ReadRequest) (head : ReadRequest) (now : ℕ) (closed : Bool) → head_in item ≡ Some head →
-      look_head terms index item now closed ≡ look_judged terms index head (judged terms.place head) now closed
-  head_looked index missing head now closed is = none_is head is
-  head_looked index (part h body) head now closed is = ap (λ k. look_judged terms index k (judged terms.place k) now closed) (some_is h head is)
-  head_looked index (complete h body trailers used) head now closed is = ap (λ k. look_judged terms index k (judged terms.place k) now closed) (some_is h head is)
-  head_looked index (bad_head fault) head now closed is = none_is head is
-  head_looked index (bad_body fault h body) head now closed is = ap (λ k. look_judged terms index k (judged terms.place k) now closed) (some_is h head is)
+  head_looked : (index : ℕ) (item : Item ReadRequest) (head : ReadRequest) (now : ℕ) (used : Used) (closed : Bool) → head_in item ≡ Some head →
+      look_head terms index item now used closed ≡ look_judged terms index head (judged terms.place head) now used closed
+  head_looked index missing head now used closed is = none_is head is
+  head_looked index (part h body) head now used closed is = ap (λ k. look_judged terms index k (judged terms.place k) now used closed) (some_is h head is)
+  head_looked index (complete h body trailers size) head now used closed is = ap (λ k. look_judged terms index k (judged terms.place k) now used closed) (some_is h head is)
+  head_looked index (bad_head fault) head now used closed is = none_is head is
+  head_looked index (bad_body fault h body) head now used closed is = ap (λ k. look_judged terms index k (judged terms.place k) now used closed) (some_is h head is)
 
-  look_head_same : (index : ℕ) (item later : Item ReadRequest) (now : ℕ) (closed : Bool) → SameHead item later →
-      look_head terms index later now closed ≡ look_head terms index item now closed
-  look_head_same index item later now closed (same is) = ap (λ i. look_head terms index i now closed) is
-  look_head_same index item later now closed (heads head is at) = head_looked index later head now closed at ∙ sym (head_looked index item head now closed is)
+  look_head_same : (index : ℕ) (item later : Item ReadRequest) (now : ℕ) (used : Used) (closed : Bool) → SameHead item later →
+      look_head terms index later now used closed ≡ look_head terms index item now used closed
+  look_head_same index item later now used closed (same is) = ap (λ i. look_head terms index i now used closed) is
+  look_head_same index item later now used closed (heads head is at) = head_looked index later head now used closed at ∙ sym (head_looked index item head now used closed is)
 
   head_led : (at : At) (item : Item ReadRequest) (head : ReadRequest) (seen : Sight) (answer : Timed Reply) → head_in item ≡ Some head →
       turn_head terms at item seen answer ≡ turn_judged terms at head (judged terms.place head) seen answer
@@ -133,12 +132,12 @@ module _ (terms : Terms) where
   head_turn_same at item later seen answer (heads head is there) = head_led at later head seen answer there ∙ sym (head_led at item head seen answer is)
 
   -- where a head is found, it is found with more behind it
-  head_found : (index : ℕ) (item later : Item ReadRequest) (now : ℕ) (closed : Bool) → Stays item later → IsFound (look_head terms index item now closed) → SameHead item later
-  head_found index missing later now closed stays found = absurd found
-  head_found index (part head body) later now closed stays found = heads head refl (stays.head head refl)
-  head_found index (complete head body trailers used) later now closed stays found = same (stays.decided refl)
-  head_found index (bad_head fault) later now closed stays found = same (stays.decided refl)
-  head_found index (bad_body fault head body) later now closed stays found = same (stays.decided refl)
+  head_found : (index : ℕ) (item later : Item ReadRequest) (now : ℕ) (used : Used) (closed : Bool) → Stays item later → IsFound (look_head terms index item now used closed) → SameHead item later
+  head_found index missing later now used closed stays found = absurd found
+  head_found index (part head body) later now used closed stays found = heads head refl (stays.head head refl)
+  head_found index (complete head body trailers size) later now used closed stays found = same (stays.decided refl)
+  head_found index (bad_head fault) later now used closed stays found = same (stays.decided refl)
+  head_found index (bad_body fault head body) later now used closed stays found = same (stays.decided refl)
 
 answer_looked : (flow : Flow) (item : Item ReadResponse) (head : ReadResponse) (now : ℕ) (used : Used) (closed : Bool) → head_in item ≡ Some head →
     look_answer flow item now used closed ≡ look_answer_head flow head now used closed
@@ -184,12 +183,12 @@ answer_begun flow (bad_body fault head body) now used closed found = refl
 
 -- ---- bodies
 
-body_found : (flow : Flow) (item later : Item ReadRequest) (now : ℕ) (closed : Bool) → Stays item later → IsFound (look_body flow item now closed) → later ≡ item
-body_found flow missing later now closed stays found = absurd found
-body_found flow (part head body) later now closed stays found = absurd found
-body_found flow (complete head body trailers used) later now closed stays found = stays.decided refl
-body_found flow (bad_head fault) later now closed stays found = absurd found
-body_found flow (bad_body fault head body) later now closed stays found = stays.decided refl
+body_found : (flow : Flow) (item later : Item ReadRequest) (now : ℕ) (used : Used) (closed : Bool) → Stays item later → IsFound (look_body flow item now used closed) → later ≡ item
+body_found flow missing later now used closed stays found = absurd found
+body_found flow (part head body) later now used closed stays found = absurd found
+body_found flow (complete head body trailers size) later now used closed stays found = stays.decided refl
+body_found flow (bad_head fault) later now used closed stays found = absurd found
+body_found flow (bad_body fault head body) later now used closed stays found = stays.decided refl
 
 returned_found : (flow : Flow) (item later : Item ReadResponse) (now : ℕ) (used : Used) (closed : Bool) → Stays item later → IsFound (look_returned flow item now used closed) → later ≡ item
 returned_found flow missing later now used closed stays found = absurd found
@@ -216,107 +215,158 @@ or_found leaves (Ends owed) found = tt
 pub record FindsAlike (terms : Terms) (stage : Stage) (v w : Sight) : Type 0 where
   pub look : look terms stage w ≡ look terms stage v
   pub so_far : so_far stage w ≡ so_far stage v
+  pub behind : behind stage w ≡ behind stage v
   pub turn : (answer : Timed Reply) → turn terms stage w answer ≡ turn terms stage v answer
 
-abbrev make : List ℕ → Bool → List ℕ → Bool → Option Unused → ℕ → Sight
-make client closed server shut spare now = record { client = client; closed = closed; server = server; shut = shut; spare = spare; now = now }
+abbrev make : List ℕ → Bool → List ℕ → Bool → ℕ → Sight
+make client closed server shut now = record { client = client; closed = closed; server = server; shut = shut; now = now }
 
 -- ---- a turn reads no bytes of its sight but those of the item
 
--- a request goes to the spare side as it did, whatever was heard of that side
-goes_on_heard : (event : Event) (home : Bool) (spare : Option Unused) (to : Place) (at : At) (flow : Flow) →
-    goes_on_by (spare_for home (unused_with spare event)) to at flow ≡ goes_on_by (spare_for home spare) to at flow
-goes_on_heard event true None to at flow = refl
-goes_on_heard event true (Some unused) to at flow = refl
-goes_on_heard event false spare to at flow = refl
-
-body_heard : (event : Event) (to : Place) (at : At) (flow : Flow) (spare : Option Unused) (taken : Taken Request) (moment : ℕ) (closed : Bool) →
-    turn_taken_body to at flow (unused_with spare event) taken moment closed ≡ turn_taken_body to at flow spare taken moment closed
-body_heard event to at flow spare (GoesOn request) moment closed = goes_on_heard event (goes_home to request) spare to at (record flow { request = request })
-body_heard event to at flow spare (Responds response) moment closed = refl
-body_heard event to at flow spare Kills moment closed = refl
-
-module _ (client client' : List ℕ) (closed : Bool) (server server' : List ℕ) (shut : Bool) (spare : Option Unused) (event : Event) (now : ℕ) (answer : Timed Reply) where
+-- nor does it of the parked side: it has the number of its server, and whether that closed
+module _ (client client' : List ℕ) (closed : Bool) (server server' : List ℕ) (shut shut' : Bool) (now : ℕ) (at : At) where
   abbrev one : Sight
-  one = make client closed server shut (unused_with spare event) now
+  one = make client closed server shut now
 
   abbrev other : Sight
-  other = make client' closed server' shut spare now
+  other = make client' closed server' shut' now
 
-  judged_reads : (terms : Terms) (at : At) (head : ReadRequest) (j : Judged) → turn_judged terms at head j one answer ≡ turn_judged terms at head j other answer
-  judged_reads terms at head (Refused fault) = refl
-  judged_reads terms at head (Connects address) = refl
-  judged_reads terms at head (Accepted request) = refl
+  module _ (parked : server_parked at.parked one ≡ server_parked at.parked other) where
+    head_taken_reads : (flow : Flow) (expected : Bool) (taken : Taken Request) (moment : ℕ) → turn_taken_head at flow expected taken moment one ≡ turn_taken_head at flow expected taken moment other
+    head_taken_reads flow expected (GoesOn request) moment = refl
+    head_taken_reads flow expected (Responds response) moment = refl
+    head_taken_reads flow expected Kills moment = ap (λ u. killed flow moment u closed) parked
 
-  head_reads : (terms : Terms) (at : At) (item : Item ReadRequest) → turn_head terms at item one answer ≡ turn_head terms at item other answer
-  head_reads terms at missing = refl
-  head_reads terms at (part head body) = judged_reads terms at head (judged terms.place head)
-  head_reads terms at (complete head body trailers used) = judged_reads terms at head (judged terms.place head)
-  head_reads terms at (bad_head fault) = refl
-  head_reads terms at (bad_body fault head body) = judged_reads terms at head (judged terms.place head)
+    module _ (answer : Timed Reply) where
+      judged_reads : (terms : Terms) (head : ReadRequest) (j : Judged) → turn_judged terms at head j one answer ≡ turn_judged terms at head j other answer
+      judged_reads terms head (Refused fault) = refl
+      judged_reads terms head (Connects address) = refl
+      judged_reads terms head (Accepted request) =
+          head_taken_reads (flow_of terms at.flow request now) (expects head) (taken_at_request_head request answer.value) answer.moment
 
-  body_reads : (to : Place) (at : At) (flow : Flow) (item : Item ReadRequest) → turn_body to at flow item one answer ≡ turn_body to at flow item other answer
-  body_reads to at flow missing = refl
-  body_reads to at flow (part head body) = refl
-  body_reads to at flow (complete head body trailers used) =
-      let whole : Flow = with_body flow body.content trailers now in
-      body_heard event to (used_more at used) whole spare (taken_at_request_body whole.request answer.value) answer.moment closed
-  body_reads to at flow (bad_head fault) = refl
-  body_reads to at flow (bad_body fault head body) = refl
+      head_reads : (terms : Terms) (item : Item ReadRequest) → turn_head terms at item one answer ≡ turn_head terms at item other answer
+      head_reads terms missing = refl
+      head_reads terms (part head body) = judged_reads terms head (judged terms.place head)
+      head_reads terms (complete head body trailers used) = judged_reads terms head (judged terms.place head)
+      head_reads terms (bad_head fault) = refl
+      head_reads terms (bad_body fault head body) = judged_reads terms head (judged terms.place head)
 
-  answer_reads : (at : At) (flow : Flow) (side : ServerSide) (item : Item ReadResponse) → turn_answer at flow side item one answer ≡ turn_answer at flow side item other answer
-  answer_reads at flow side missing = refl
-  answer_reads at flow side (part head body) = refl
-  answer_reads at flow side (complete head body trailers size) = refl
-  answer_reads at flow side (bad_head fault) = refl
-  answer_reads at flow side (bad_body fault head body) = refl
+    body_taken_reads : (to : Place) (used : ℕ) (flow : Flow) (taken : Taken Request) (moment : ℕ) →
+        turn_taken_body to (used_more at used) flow taken moment one ≡ turn_taken_body to (used_more at used) flow taken moment other
+    body_taken_reads to used flow (GoesOn request) moment = refl
+    body_taken_reads to used flow (Responds response) moment = refl
+    body_taken_reads to used flow Kills moment = ap (λ u. killed flow moment u closed) parked
 
-  returned_reads : (at : At) (flow : Flow) (side : ServerSide) (interim : ℕ) (item : Item ReadResponse) →
-      turn_returned at flow side interim item one answer ≡ turn_returned at flow side interim item other answer
-  returned_reads at flow side interim missing = refl
-  returned_reads at flow side interim (part head body) = refl
-  returned_reads at flow side interim (complete head body trailers size) = refl
-  returned_reads at flow side interim (bad_head fault) = refl
-  returned_reads at flow side interim (bad_body fault head body) = refl
+    body_reads : (answer : Timed Reply) (to : Place) (flow : Flow) (item : Item ReadRequest) → turn_body to at flow item one answer ≡ turn_body to at flow item other answer
+    body_reads answer to flow missing = refl
+    body_reads answer to flow (part head body) = refl
+    body_reads answer to flow (complete head body trailers used) =
+        let whole : Flow = with_body flow body.content trailers now in
+        body_taken_reads to used whole (taken_at_request_body whole.request answer.value) answer.moment
+    body_reads answer to flow (bad_head fault) = refl
+    body_reads answer to flow (bad_body fault head body) = refl
+
+module _ (client client' : List ℕ) (closed : Bool) (server server' : List ℕ) (shut : Bool) (now : ℕ) (answer : Timed Reply) (at : At) (flow : Flow) (side : ServerSide) where
+  abbrev longer : Sight
+  longer = make client closed server shut now
+
+  abbrev before : Sight
+  before = make client' closed server' shut now
+
+  answer_reads : (item : Item ReadResponse) → turn_answer at flow side item longer answer ≡ turn_answer at flow side item before answer
+  answer_reads missing = refl
+  answer_reads (part head body) = refl
+  answer_reads (complete head body trailers size) = refl
+  answer_reads (bad_head fault) = refl
+  answer_reads (bad_body fault head body) = refl
+
+  returned_reads : (interim : ℕ) (item : Item ReadResponse) → turn_returned at flow side interim item longer answer ≡ turn_returned at flow side interim item before answer
+  returned_reads interim missing = refl
+  returned_reads interim (part head body) = refl
+  returned_reads interim (complete head body trailers size) = refl
+  returned_reads interim (bad_head fault) = refl
+  returned_reads interim (bad_body fault head body) = refl
 
 -- ---- a piece more
+
+still_open : (shut : Bool) → (shut || false) ≡ shut
+still_open true = refl
+still_open false = refl
 
 module _ (terms : Terms) (readers : ReadersStay) (side : Side) (bytes : List ℕ) where
   abbrev piece : Event
   piece = events.Piece side bytes
 
-  finds_by : (stage : Stage) (client server : List ℕ) (shut : Bool) (spare : Option Unused) (now : ℕ) → IsFound (look terms stage (make client false server shut spare now)) →
-      FindsAlike terms stage (make client false server shut spare now) (hears (side_of stage) (make client false server shut spare now) piece)
-  finds_by (idle at) client server shut spare now found =
-      let longer = client ++ piece_of Client piece in
-      let item = request_item (drop at.used client) in
-      let later = request_item (drop at.used longer) in
-      let stays = request_stays readers at.used client (piece_of Client piece) in
-      let heads = head_found terms at.flow item later now false stays (or_found [] (look_head terms at.flow item now false) found) in
-      record {
-        look = ap (λ l. or_leaves false [] l) (look_head_same terms at.flow item later now false heads);
-        so_far = refl;
-        turn = λ answer. head_turn_same terms at item later (make longer false server shut (unused_with spare piece) now) answer heads ∙ head_reads longer client false server server shut spare piece now answer terms at item;
-      }
-  finds_by (busy at flow (request_body given)) client server shut spare now found =
-      let longer = client ++ piece_of Client piece in
-      let item = request_item (drop at.used client) in
-      let later = request_item (drop at.used longer) in
-      let stays = request_stays readers at.used client (piece_of Client piece) in
-      let whole = body_found flow item later now false stays (or_found (ends_early flow closed_message now NoServer true) (look_body flow item now false) found) in
-      record {
-        look = ap (λ i. or_leaves false (ends_early flow closed_message now NoServer true) (look_body flow i now false)) whole;
-        so_far = refl;
-        turn = λ answer. ap (λ i. turn_body terms.place at flow i (make longer false server shut (unused_with spare piece) now) answer) whole ∙ body_reads longer client false server server shut spare piece now answer terms.place at flow item;
-      }
-  finds_by (busy at flow connection) client server shut spare now found = record { look = refl; so_far = refl; turn = λ answer. refl }
-  finds_by (busy at flow (response_head own how)) client server true spare now found = record {
+  -- a piece closes no parked side
+  parked_by : (parked : Option Parked) (client client' : List ℕ) (server server' : List ℕ) (shut : Bool) (now : ℕ) →
+      server_parked parked (make client false server (shut_with (side_parked parked) shut piece) now) ≡ server_parked parked (make client' false server' shut now)
+  parked_by None client client' server server' shut now = refl
+  parked_by (Some parked) client client' server server' shut now = ap (λ b. ByServer parked.side.server b) (still_open shut)
+
+  module _ (client server : List ℕ) (shut : Bool) (now : ℕ) where
+    abbrev shorter : Sight
+    shorter = make client false server shut now
+
+    -- what is seen with the piece where a side may be parked
+    abbrev with_piece : At → Sight
+    with_piece at = hears (side_parked at.parked) shorter piece
+
+    parked_heard : (at : At) → server_parked at.parked (with_piece at) ≡ server_parked at.parked shorter
+    parked_heard at = parked_by at.parked (client ++ piece_of Client piece) client (server_with (side_parked at.parked) shut server piece) server shut now
+
+    idle_finds : (at : At) → IsFound (look terms (idle at) shorter) → FindsAlike terms (idle at) shorter (with_piece at)
+    idle_finds at found =
+        let longer = client ++ piece_of Client piece in
+        let item = request_item (drop at.used client) in
+        let later = request_item (drop at.used longer) in
+        let used : Used = server_parked at.parked shorter in
+        let stays = request_stays readers at.used client (piece_of Client piece) in
+        let heads = head_found terms at.flow item later now used false stays (or_found (shut_server used) (look_head terms at.flow item now used false) found) in
+        record {
+          look = ap (λ u. or_leaves false (shut_server u) (look_head terms at.flow later now u false)) (parked_heard at)
+              ∙ ap (λ l. or_leaves false (shut_server used) l) (look_head_same terms at.flow item later now used false heads);
+          so_far = refl;
+          behind = refl;
+          turn = λ answer. head_turn_same terms at item later (with_piece at) answer heads
+              ∙ head_reads longer client false (server_with (side_parked at.parked) shut server piece) server (shut_with (side_parked at.parked) shut piece) shut now at (parked_heard at) answer terms item;
+        }
+
+    request_finds : (at : At) (flow : Flow) (given : Option Response) → IsFound (look terms (busy at flow (request_body given)) shorter) →
+        FindsAlike terms (busy at flow (request_body given)) shorter (with_piece at)
+    request_finds at flow given found =
+        let longer = client ++ piece_of Client piece in
+        let item = request_item (drop at.used client) in
+        let later = request_item (drop at.used longer) in
+        let used : Used = server_parked at.parked shorter in
+        let stays = request_stays readers at.used client (piece_of Client piece) in
+        let whole = body_found flow item later now used false stays (or_found (ends_early flow closed_message now used true) (look_body flow item now used false) found) in
+        record {
+          look = ap (λ u. or_leaves false (ends_early flow closed_message now u true) (look_body flow later now u false)) (parked_heard at)
+              ∙ ap (λ i. or_leaves false (ends_early flow closed_message now used true) (look_body flow i now used false)) whole;
+          so_far = refl;
+          behind = refl;
+          turn = λ answer. ap (λ i. turn_body terms.place at flow i (with_piece at) answer) whole
+              ∙ body_reads longer client false (server_with (side_parked at.parked) shut server piece) server (shut_with (side_parked at.parked) shut piece) shut now at (parked_heard at) answer terms.place flow item;
+        }
+
+  finds_by : (stage : Stage) (client server : List ℕ) (shut : Bool) (now : ℕ) → IsFound (look terms stage (make client false server shut now)) →
+      FindsAlike terms stage (make client false server shut now) (hears (side_of stage) (make client false server shut now) piece)
+  finds_by (idle at) client server shut now found = idle_finds client server shut now at found
+  finds_by (busy at flow (request_body given)) client server shut now found = request_finds client server shut now at flow given found
+  finds_by (busy at flow connection) client server shut now found = record {
     look = refl;
     so_far = refl;
-    turn = λ answer.
-        answer_reads (client ++ piece_of Client piece) client false server server true spare piece now answer at flow own (answer_list (is_head flow.request.method) true (drop own.used server)).final;
+    behind = ap (λ u. shut_server u) (parked_heard client server shut now at);
+    turn = λ answer. refl;
   }
-  finds_by (busy at flow (response_head own how)) client server false spare now found =
+  finds_by (busy at flow (response_head own how)) client server true now found = record {
+    look = refl;
+    so_far = refl;
+    behind = refl;
+    turn = λ answer.
+        answer_reads (client ++ piece_of Client piece) client false server server true now answer at flow own (answer_list (is_head flow.request.method) true (drop own.used server)).final;
+  }
+  finds_by (busy at flow (response_head own how)) client server false now found =
       let asked_head = is_head flow.request.method in
       let longer = client ++ piece_of Client piece in
       let more = piece_of (Server own.server) piece in
@@ -328,17 +378,19 @@ module _ (terms : Terms) (readers : ReadersStay) (side : Side) (bytes : List ℕ
       record {
         look = ap (λ l. or_leaves false (ends_early flow closed_message now used true) l) (look_answer_same flow item later now used false heads);
         so_far = ap (λ l. interim_commands flow.request l) (interim_stays readers asked_head own.used server more (answer_begun flow item now used false there));
-        turn = λ answer. answer_turn_same at flow own item later (make longer false (server ++ more) false (unused_with spare piece) now) answer heads
-            ∙ answer_reads longer client false (server ++ more) server false spare piece now answer at flow own item;
+        behind = refl;
+        turn = λ answer. answer_turn_same at flow own item later (make longer false (server ++ more) false now) answer heads
+            ∙ answer_reads longer client false (server ++ more) server false now answer at flow own item;
       }
-  finds_by (busy at flow (response_body own how)) client server true spare now found = record {
+  finds_by (busy at flow (response_body own how)) client server true now found = record {
     look = refl;
     so_far = refl;
+    behind = refl;
     turn = λ answer.
         let answers = answer_list (is_head flow.request.method) true (drop own.used server) in
-        returned_reads (client ++ piece_of Client piece) client false server server true spare piece now answer at flow own answers.used answers.final;
+        returned_reads (client ++ piece_of Client piece) client false server server true now answer at flow own answers.used answers.final;
   }
-  finds_by (busy at flow (response_body own how)) client server false spare now found =
+  finds_by (busy at flow (response_body own how)) client server false now found =
       let asked_head = is_head flow.request.method in
       let longer = client ++ piece_of Client piece in
       let more = piece_of (Server own.server) piece in
@@ -352,63 +404,77 @@ module _ (terms : Terms) (readers : ReadersStay) (side : Side) (bytes : List ℕ
       record {
         look = ap (λ i. or_leaves false (ends_early (without_response flow) closed_message now used true) (look_returned flow i now used false)) whole;
         so_far = refl;
-        turn = λ answer. ap (λ n. turn_returned at flow own n later (make longer false (server ++ more) false (unused_with spare piece) now) answer) before
-            ∙ (ap (λ i. turn_returned at flow own interim i (make longer false (server ++ more) false (unused_with spare piece) now) answer) whole
-            ∙ returned_reads longer client false (server ++ more) server false spare piece now answer at flow own interim item);
+        behind = refl;
+        turn = λ answer. ap (λ n. turn_returned at flow own n later (make longer false (server ++ more) false now) answer) before
+            ∙ (ap (λ i. turn_returned at flow own interim i (make longer false (server ++ more) false now) answer) whole
+            ∙ returned_reads longer client false (server ++ more) server false now answer at flow own interim item);
       }
-  finds_by (busy at flow (upgraded own)) client server shut spare now found = record { look = refl; so_far = refl; turn = λ answer. refl }
-  finds_by (busy at flow given_head) client server shut spare now found = record { look = refl; so_far = refl; turn = λ answer. refl }
-  finds_by (busy at flow given_body) client server shut spare now found = record { look = refl; so_far = refl; turn = λ answer. refl }
-  finds_by (next at) client server shut spare now found = record { look = refl; so_far = refl; turn = λ answer. refl }
-  finds_by over client server shut spare now found = record { look = refl; so_far = refl; turn = λ answer. refl }
+  finds_by (busy at flow (upgraded own)) client server shut now found = record { look = refl; so_far = refl; behind = refl; turn = λ answer. refl }
+  finds_by (busy at flow given_head) client server shut now found = record {
+    look = refl;
+    so_far = refl;
+    behind = refl;
+    turn = λ answer. ap (λ u. turn_given_head at (with_start flow now) answer u false) (parked_heard client server shut now at);
+  }
+  finds_by (busy at flow given_body) client server shut now found = record {
+    look = refl;
+    so_far = refl;
+    behind = refl;
+    turn = λ answer. ap (λ u. turn_whole_answer at (with_end flow now) answer u false) (parked_heard client server shut now at);
+  }
+  finds_by (next at) client server shut now found = record { look = refl; so_far = refl; behind = refl; turn = λ answer. refl }
+  finds_by over client server shut now found = record { look = refl; so_far = refl; behind = refl; turn = λ answer. refl }
 
   -- What is found without a piece is found with it, where the client has not closed.
   pub finds_alike : (stage : Stage) (v : Sight) → v.closed ≡ false → IsFound (look terms stage v) → FindsAlike terms stage v (hears (side_of stage) v piece)
   finds_alike stage v open_client found =
-      let P : Bool → Type 0 = λ b. IsFound (look terms stage (make v.client b v.server v.shut v.spare v.now)) →
-      FindsAlike terms stage (make v.client b v.server v.shut v.spare v.now) (hears (side_of stage) (make v.client b v.server v.shut v.spare v.now) piece) in
-      subst P (sym open_client) (finds_by stage v.client v.server v.shut v.spare v.now) found
+      let P : Bool → Type 0 = λ b. IsFound (look terms stage (make v.client b v.server v.shut v.now)) →
+      FindsAlike terms stage (make v.client b v.server v.shut v.now) (hears (side_of stage) (make v.client b v.server v.shut v.now) piece) in
+      subst P (sym open_client) (finds_by stage v.client v.server v.shut v.now) found
 
   -- ---- and where it passes
 
-  pass_body_stays : (at : At) (flow : Flow) (response : Response) (client : List ℕ) (item later : Item ReadRequest) (server : List ℕ) (shut : Bool) (spare : Option Unused) (now : ℕ) →
+  pass_body_stays : (at : At) (flow : Flow) (response : Response) (client : List ℕ) (item later : Item ReadRequest) (server : List ℕ) (shut : Bool) (now : ℕ) →
       request_item (drop at.used client) ≡ item → Stays item later →
-      IsFound (look terms (pass_body at flow (Some response) item now) (make client false server shut spare now)) →
+      IsFound (look terms (pass_body at flow (Some response) item now) (make client false server shut now)) →
       pass_body at flow (Some response) later now ≡ pass_body at flow (Some response) item now
-  pass_body_stays at flow response client missing later server shut spare now is stays found =
-      let P : Item ReadRequest → Type 0 = λ i. IsFound (or_leaves false (ends_early flow closed_message now NoServer true) (look_body flow i now false)) in
+  pass_body_stays at flow response client missing later server shut now is stays found =
+      let used : Used = server_parked at.parked (make client false server shut now) in
+      let P : Item ReadRequest → Type 0 = λ i. IsFound (or_leaves false (ends_early flow closed_message now used true) (look_body flow i now used false)) in
       absurd (subst P is found)
-  pass_body_stays at flow response client (part head body) later server shut spare now is stays found =
-      let P : Item ReadRequest → Type 0 = λ i. IsFound (or_leaves false (ends_early flow closed_message now NoServer true) (look_body flow i now false)) in
+  pass_body_stays at flow response client (part head body) later server shut now is stays found =
+      let used : Used = server_parked at.parked (make client false server shut now) in
+      let P : Item ReadRequest → Type 0 = λ i. IsFound (or_leaves false (ends_early flow closed_message now used true) (look_body flow i now used false)) in
       absurd (subst P is found)
-  pass_body_stays at flow response client (complete head body trailers used) later server shut spare now is stays found =
+  pass_body_stays at flow response client (complete head body trailers used) later server shut now is stays found =
       ap (λ i. pass_body at flow (Some response) i now) (stays.decided refl)
-  pass_body_stays at flow response client (bad_head fault) later server shut spare now is stays found =
-      let P : Item ReadRequest → Type 0 = λ i. IsFound (or_leaves false (ends_early flow closed_message now NoServer true) (look_body flow i now false)) in
+  pass_body_stays at flow response client (bad_head fault) later server shut now is stays found =
+      let used : Used = server_parked at.parked (make client false server shut now) in
+      let P : Item ReadRequest → Type 0 = λ i. IsFound (or_leaves false (ends_early flow closed_message now used true) (look_body flow i now used false)) in
       absurd (subst P is found)
-  pass_body_stays at flow response client (bad_body fault head body) later server shut spare now is stays found =
+  pass_body_stays at flow response client (bad_body fault head body) later server shut now is stays found =
       ap (λ i. pass_body at flow (Some response) i now) (stays.decided refl)
 
-  pass_stays_by : (stage : Stage) (client server : List ℕ) (shut : Bool) (spare : Option Unused) (now : ℕ) →
-      IsFound (look terms (pass stage (make client false server shut spare now)) (make client false server shut spare now)) →
-      pass stage (hears (side_of stage) (make client false server shut spare now) piece) ≡ pass stage (make client false server shut spare now)
-  pass_stays_by (idle at) client server shut spare now found = refl
-  pass_stays_by (busy at flow (request_body None)) client server shut spare now found = refl
-  pass_stays_by (busy at flow (request_body (Some response))) client server shut spare now found =
-      pass_body_stays at flow response client (request_item (drop at.used client)) (request_item (drop at.used (client ++ piece_of Client piece))) server shut spare now refl
+  pass_stays_by : (stage : Stage) (client server : List ℕ) (shut : Bool) (now : ℕ) →
+      IsFound (look terms (pass stage (make client false server shut now)) (make client false server shut now)) →
+      pass stage (hears (side_of stage) (make client false server shut now) piece) ≡ pass stage (make client false server shut now)
+  pass_stays_by (idle at) client server shut now found = refl
+  pass_stays_by (busy at flow (request_body None)) client server shut now found = refl
+  pass_stays_by (busy at flow (request_body (Some response))) client server shut now found =
+      pass_body_stays at flow response client (request_item (drop at.used client)) (request_item (drop at.used (client ++ piece_of Client piece))) server shut now refl
       (request_stays readers at.used client (piece_of Client piece)) found
-  pass_stays_by (busy at flow connection) client server shut spare now found = refl
-  pass_stays_by (busy at flow (response_head own how)) client server shut spare now found = refl
-  pass_stays_by (busy at flow (response_body own how)) client server shut spare now found = refl
-  pass_stays_by (busy at flow (upgraded own)) client server shut spare now found = refl
-  pass_stays_by (busy at flow given_head) client server shut spare now found = refl
-  pass_stays_by (busy at flow given_body) client server shut spare now found = refl
-  pass_stays_by (next at) client server shut spare now found = refl
-  pass_stays_by over client server shut spare now found = refl
+  pass_stays_by (busy at flow connection) client server shut now found = refl
+  pass_stays_by (busy at flow (response_head own how)) client server shut now found = refl
+  pass_stays_by (busy at flow (response_body own how)) client server shut now found = refl
+  pass_stays_by (busy at flow (upgraded own)) client server shut now found = refl
+  pass_stays_by (busy at flow given_head) client server shut now found = refl
+  pass_stays_by (busy at flow given_body) client server shut now found = refl
+  pass_stays_by (next at) client server shut now found = refl
+  pass_stays_by over client server shut now found = refl
 
   -- Where something is found behind passing, it passes with the piece as without it.
   pub pass_stays : (stage : Stage) (v : Sight) → v.closed ≡ false → IsFound (look terms (pass stage v) v) → pass stage (hears (side_of stage) v piece) ≡ pass stage v
   pass_stays stage v open_client found =
-      let P : Bool → Type 0 = λ b. IsFound (look terms (pass stage (make v.client b v.server v.shut v.spare v.now)) (make v.client b v.server v.shut v.spare v.now)) →
-      pass stage (hears (side_of stage) (make v.client b v.server v.shut v.spare v.now) piece) ≡ pass stage (make v.client b v.server v.shut v.spare v.now) in
-      subst P (sym open_client) (pass_stays_by stage v.client v.server v.shut v.spare v.now) found
+      let P : Bool → Type 0 = λ b. IsFound (look terms (pass stage (make v.client b v.server v.shut v.now)) (make v.client b v.server v.shut v.now)) →
+      pass stage (hears (side_of stage) (make v.client b v.server v.shut v.now) piece) ≡ pass stage (make v.client b v.server v.shut v.now) in
+      subst P (sym open_client) (pass_stays_by stage v.client v.server v.shut v.now) found

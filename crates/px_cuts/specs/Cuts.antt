@@ -11,8 +11,8 @@ use Rattle.px_event.specs.declared.side.Side.{Side}
 use Rattle.px_event.specs.declared.side.Side.TheVariants.{Client, Server}
 use Rattle.px_event.specs.Chain.{later, Stamp, Stamped, Timed}
 use Rattle.px_event.specs.Trace.{is_same_side}
-use Rattle.px_chain.specs.Sights.{IsWithin, Spare, Standing}
-use Rattle.px_chain.specs.Stages.{At, ServerSide, Stage, over, place_of, side_of}
+use Rattle.px_chain.specs.Sights.{IsWithin, Standing}
+use Rattle.px_chain.specs.Stages.{ServerSide, Stage, over, place_of, side_of}
 
 -- ---- the moments inside what is owed, each seen through a function
 
@@ -81,29 +81,24 @@ SameStreams these those = joined_pieces (values_of these) ≡ joined_pieces (val
 
 -- ---- where and when pieces come
 
-abbrev pub DialledBefore : Option ServerSide → At → Type 0
-DialledBefore None at = ⊤
-DialledBefore (Some side) at = side.server < at.dials
+-- the side's server is among the first so many
+abbrev pub DialledBefore : Option ServerSide → ℕ → Type 0
+DialledBefore None dials = ⊤
+DialledBefore (Some side) dials = side.server < dials
 
 -- The server was dialled by this stage. At the end it makes no difference.
 abbrev pub IsDialled : ℕ → Stage → Type 0
 IsDialled server over = ⊤
 IsDialled server stage = server < (place_of stage).dials
 
--- so was that of the spare side
-abbrev pub SpareDialled : Option Spare → Stage → Type 0
-SpareDialled None stage = ⊤
-SpareDialled (Some spare) stage = IsDialled spare.server stage
-
--- A place that may stand over this prefix: it stands since an event of it, and so do its server's side, whose dial is
--- counted, and the spare one. Over no events it is one that counts none, as each at which a conversation begins.
+-- A place that may stand over this prefix: it stands since an event of it, and so does its server's side, whose dial is
+-- counted. Over no events it is one that counts none, as each at which a conversation begins.
 pub record MayStand (place : Standing) (prefix : List (Timed Event)) : Type 0 where
   pub within : IsWithin place prefix
-  pub dialled : DialledBefore (side_of place.stage) (place_of place.stage)
-  pub spare : SpareDialled place.spare place.stage
+  pub dialled : DialledBefore (side_of place.stage) (place_of place.stage).dials
 
 -- The side may have been heard where a conversation stands: it is the client's, or that of a server that was dialled, as
--- that of the spare side was.
+-- that of a parked side was.
 abbrev pub MayBeHeard : Side → Stage → Type 0
 MayBeHeard Client stage = ⊤
 MayBeHeard (Server server) stage = IsDialled server stage

@@ -6,7 +6,7 @@ use Rattle.px_event.specs.declared.event.Event.{Event}
 use Rattle.px_event.specs.Chain.{Look, Timed}
 use Rattle.px_exchange.specs.declared.terms.Terms.{Terms}
 use Rattle.px_cuts.specs.Cuts.{retimed_flow}
-use Rattle.px_chain.specs.Chain.{look, pass, so_far}
+use Rattle.px_chain.specs.Chain.{behind, look, pass, so_far}
 use Rattle.px_chain.specs.Sights.{Sight, Standing, sight_over, sight_with}
 use Rattle.px_chain.specs.Stages.{ServerSide, Stage, busy, idle, next, over}
 
@@ -41,6 +41,9 @@ look_over terms place prefix = look terms place.stage (sight_over place prefix)
 
 abbrev pub so_far_over : Standing → List (Timed Event) → List Command
 so_far_over place prefix = so_far place.stage (sight_over place prefix)
+
+abbrev pub behind_over : Standing → List (Timed Event) → List Command
+behind_over place prefix = behind place.stage (sight_over place prefix)
 
 -- the sight of a place, as it is shown
 abbrev pub shown_over : (ℕ → ℕ) → Standing → List (Timed Event) → Sight

@@ -14,19 +14,17 @@ ghost use Rattle.px_event.specs.Trace.{is_same_side};
 ghost use Rattle.px_event.specs.declared.event.Event.{Event as Heard};
 ghost use Rattle.px_event.specs.declared.reply.Reply.{Reply as Answer};
 ghost use Rattle.px_event.specs.declared.side.Side.{Side as Peer};
-ghost use Rattle.px_chain.specs.Chain.{begin, begin_with, http_chain, IsOnward, spare_of};
+ghost use Rattle.px_chain.specs.Chain.{begin, http_chain, IsOnward};
 ghost use Rattle.px_cuts.specs.Cuts.{as_piece, EqualButForMoments, IsNoEarlier, MayBeHeard, MayStand, SameStreams, piece_at, values_of};
 ghost use Rattle.px_chain.specs.Sights.{Standing};
-ghost use Rattle.px_chain.specs.Silent.{SpareBelow};
+ghost use Rattle.px_chain.specs.Silent.{ParkedBelow};
 ghost use Rattle.px_chain.specs.Stages.{At, Stage, idle};
-ghost use Rattle.px_exchange.specs.declared.place.Place.{Place as Where};
 ghost use Rattle.px_exchange.specs.declared.terms.Terms.{Terms as Made};
 
-/// A conversation may begin, over no events, without a spare side, or with that of its place, whose server was connected before and so
-/// counts among those that were dialled.
+/// A conversation may begin, over no events, without a parked side, or with one whose server was connected before and so counts
+/// among those that were dialled.
 pub fn conversations_may_begin()
-    ensures no_spare { (at : At) → MayStand (begin (idle at)) [] }
-    ensures spare { (place : Where) (at : At) → SpareBelow (spare_of place) at.dials → MayStand (begin_with (spare_of place) (idle at)) [] }
+    ensures { (at : At) → ParkedBelow at.parked at.dials → MayStand (begin (idle at)) [] }
 {}
 
 /// However the network cuts the bytes of a side into pieces, and in whatever steps they come, what is due is the same but
@@ -68,7 +66,7 @@ pub fn joined_pieces_owe_the_same()
 
 /// Neighbouring pieces of two sides the other way round change nothing of what is due, in one step exactly, and in any
 /// steps but for the moments inside flows. Both sides may be heard by then: a side is the client's, or that of a server that
-/// was dialled, as the spare side's was. In a run that is so: a server is heard once it is connected. Before its dial its bytes
+/// was dialled, as a parked side's was. In a run that is so: a server is heard once it is connected. Before its dial its bytes
 /// are not heard at all.
 pub fn swapped_pieces_owe_the_same()
     ensures exactly { (onward : Stage → Stage) (made : Made) (start : Standing) (before after : List (Stamped Heard)) (replies : List (Stamped Answer))

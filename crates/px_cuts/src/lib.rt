@@ -8,9 +8,9 @@
 //!
 //! The reason is one word. What a place shows, a stage over a prefix, is its stage and the joined bytes of its sides
 //! (`specs/Shown.antt`), and all that the chain finds and brings is a function of that: so places that show the same owe the
-//! same (`compared`), and a piece that waits changes nothing that is found without it. The bytes of a spare side, which was connected
-//! before the conversation began, are shown from the first one on, in use or not. So a piece of that side is told the same whether it
-//! came before the request that takes the side or behind it.
+//! same (`compared`), and a piece that waits changes nothing that is found without it. The bytes of a parked side are shown from the
+//! first one on, before a flow uses the side. So a piece of that side is told the same whether it came before the request that takes
+//! the side or behind it, and a dial, which closes that side, forgets it in either case.
 #![tactic(auto)]
 
 mod compared;

@@ -80,9 +80,10 @@ module _ {S E R A V : Type 0} (chain : Chain S E R A) (view : List A → List V)
         let so_far = chain.so_far here.stage here.prefix in
         walk_by_grows (chain.look here.stage here.prefix) _ _ (before ++ owed_over chain s f)
         (λ ask is.
-        let further : List A = here.before ++ (so_far ++ ask ∷ on.owed) in
+        let behind = chain.behind here.stage here.prefix in
+        let further : List A = here.before ++ (so_far ++ ask ∷ (behind ++ on.owed)) in
         let asked : further ≡ owed_there here ++ on.owed =
-        rw is (ap (λ l. here.before ++ l) (sym (append_assoc so_far (ask ∷ []) on.owed)) ∙ sym (append_assoc here.before (so_far ++ ask ∷ []) on.owed)) in
+        rw is (ap (λ l. here.before ++ l) (sym (append_assoc so_far (ask ∷ behind) on.owed)) ∙ sym (append_assoc here.before (so_far ++ ask ∷ behind) on.owed)) in
         begins_trans _ _ _ (reach_grows last before s f es)
         (begins_trans _ _ _ (begins_append (owed_there here) on.owed)
         (begins_trans _ _ _ (begins_self _ _ (sym asked))

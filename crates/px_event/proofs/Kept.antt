@@ -1,13 +1,13 @@
 -- What each step of a walk keeps, of what is owed so far and of the stage, holds where the walk stops.
 use Rattle.std.proofs.Common.{◌≡◌, List, [], ◌∷◌, ◌++◌, refl}
-use Rattle.px_event.specs.Chain.{Stamp, Stamped, Timed, worked_off, at_its_step, never, Chain, Look, NotYet, Asks, Ends, Reached, reach, reach_by, Stop, walk, walk_by, found, owed_at, due}
+use Rattle.px_event.specs.Chain.{Stamp, Stamped, Timed, worked_off, at_its_step, never, Chain, Look, NotYet, Asks, Ends, Reached, reach, reach_by, Stop, walk, walk_by, found_at, owed_at, due}
 
 module _ {S E R A : Type 0} (chain : Chain S E R A) (Kept : List A → S → Type 0) (Holds : List A → Type 0) where
   pub record KeepsSteps : Type 0 where
     pub passes : (before : List A) (stage : S) (prefix : List (Timed E)) → Kept before stage → Kept (before ++ (chain.pass stage prefix).owed) (chain.pass stage prefix).stage
     pub turns : (before : List A) (stage : S) (prefix : List (Timed E)) (ask : A) (answer : Timed R) → Kept before stage → chain.look stage prefix ≡ Asks ask →
-        Kept (before ++ (chain.so_far stage prefix ++ ask ∷ (chain.turn stage prefix answer).owed)) (chain.turn stage prefix answer).stage
-    pub stops : (before : List A) (stage : S) (prefix : List (Timed E)) → Kept before stage → Holds (before ++ (chain.so_far stage prefix ++ found (chain.look stage prefix)))
+        Kept (before ++ (chain.so_far stage prefix ++ ask ∷ (chain.behind stage prefix ++ (chain.turn stage prefix answer).owed))) (chain.turn stage prefix answer).stage
+    pub stops : (before : List A) (stage : S) (prefix : List (Timed E)) → Kept before stage → Holds (before ++ (chain.so_far stage prefix ++ found_at chain stage prefix))
 
   module _ (keeps : KeepsSteps) where
     abbrev Here : Reached S E A → Type 0
@@ -41,7 +41,7 @@ module _ {S E R A : Type 0} (chain : Chain S E R A) (Kept : List A → S → Typ
         let there = reach_kept last before stage prefix events kept in
         let on = chain.turn here.stage here.prefix (at_its_step r) in
         walk_by_kept (chain.look here.stage here.prefix) _ _
-        (λ ask asked. walk_kept replies r.stamp (here.before ++ (chain.so_far here.stage here.prefix ++ ask ∷ on.owed)) on.stage here.prefix here.rest
+        (λ ask asked. walk_kept replies r.stamp (here.before ++ (chain.so_far here.stage here.prefix ++ ask ∷ (chain.behind here.stage here.prefix ++ on.owed))) on.stage here.prefix here.rest
         (keeps.turns here.before here.stage here.prefix ask (at_its_step r) there asked))
         (keeps.stops here.before here.stage here.prefix there)
 

@@ -1,3 +1,4 @@
+pub mod BehindLemmas
 pub mod Growth
 pub mod Kept
 pub mod Likeness

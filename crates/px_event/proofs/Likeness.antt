@@ -1,7 +1,7 @@
 -- Walks from places that look alike owe alike, and so do walks where an event is taken early.
 use Rattle.std.proofs.Common.{◌≡◌, List, [], ◌∷◌, ◌++◌, refl, ap, sym, ◌∙◌, subst, append_assoc}
 use Rattle.std.proofs.lemmas.List.{append-nil}
-use Rattle.px_event.specs.Chain.{Stamp, Stamped, Timed, worked_off, at_its_step, Chain, Look, NotYet, Asks, Ends, Reached, reach, reach_by, Stop, stop_at, walk, walk_by, found, owed_at, never, walk_from, due}
+use Rattle.px_event.specs.Chain.{Stamp, Stamped, Timed, worked_off, at_its_step, Chain, Look, NotYet, Asks, Ends, Reached, reach, reach_by, Stop, stop_at, walk, walk_by, found_with, found_at, owed_at, never, walk_from, due}
 use Rattle.px_event.specs.Laws.{IsSettled, Settles, IsFound}
 use Rattle.px_event.specs.Alike.{IsLikeness, FoundAlike, OwesAlike, Alike, Unhurried, MayCome, goes_on_over, OwesAlikeFrom, front_with, MayBeEarly, StopsAlike}
 use Rattle.px_event.proofs.Reach.{stopped_here, reach_pass, reach_found, reach_settled}
@@ -36,16 +36,16 @@ walk_found chain law rs last before s f es is =
     ∙ reach_found chain last (before ++ (chain.pass s f).owed) (chain.pass s f).stage f es (law.at s f) is)
 
 module _ {S E R A : Type 0} (chain : Chain S E R A) (like : List A → List A → Type 0) (is_like : IsLikeness like) where
-  found_alike : (l m : Look A) → FoundAlike like l m → like (found l) (found m)
-  found_alike NotYet NotYet alike = is_like.itself []
-  found_alike NotYet (Asks b) alike = absurd alike
-  found_alike NotYet (Ends b) alike = absurd alike
-  found_alike (Asks a) NotYet alike = absurd alike
-  found_alike (Asks a) (Asks b) alike = alike
-  found_alike (Asks a) (Ends b) alike = absurd alike
-  found_alike (Ends a) NotYet alike = absurd alike
-  found_alike (Ends a) (Asks b) alike = absurd alike
-  found_alike (Ends a) (Ends b) alike = alike
+  found_alike : (behind behind' : List A) (l m : Look A) → like behind behind' → FoundAlike like l m → like (found_with behind l) (found_with behind' m)
+  found_alike behind behind' NotYet NotYet behinds alike = is_like.itself []
+  found_alike behind behind' NotYet (Asks b) behinds alike = absurd alike
+  found_alike behind behind' NotYet (Ends b) behinds alike = absurd alike
+  found_alike behind behind' (Asks a) NotYet behinds alike = absurd alike
+  found_alike behind behind' (Asks a) (Asks b) behinds alike = is_like.joins (a ∷ []) (b ∷ []) behind behind' alike behinds
+  found_alike behind behind' (Asks a) (Ends b) behinds alike = absurd alike
+  found_alike behind behind' (Ends a) NotYet behinds alike = absurd alike
+  found_alike behind behind' (Ends a) (Asks b) behinds alike = absurd alike
+  found_alike behind behind' (Ends a) (Ends b) behinds alike = alike
 
   is_found_alike : (l m : Look A) → FoundAlike like l m → IsFound l → IsFound m
   is_found_alike NotYet m alike is = absurd is
@@ -58,19 +58,22 @@ module _ {S E R A : Type 0} (chain : Chain S E R A) (like : List A → List A �
 
   -- all that is owed where a search stopped
   abbrev owed_there : Reached S E A → List A
-  owed_there here = here.before ++ (chain.so_far here.stage here.prefix ++ found (chain.look here.stage here.prefix))
+  owed_there here = here.before ++ (chain.so_far here.stage here.prefix ++ found_at chain here.stage here.prefix)
 
   owed_alike : (before other : List A) (s : S) (f : List (Timed E)) (t : S) (g : List (Timed E)) → like before other → OwesAlike chain like s f t g →
-      like (before ++ (chain.so_far s f ++ found (chain.look s f))) (other ++ (chain.so_far t g ++ found (chain.look t g)))
+      like (before ++ (chain.so_far s f ++ found_at chain s f)) (other ++ (chain.so_far t g ++ found_at chain t g))
   owed_alike before other s f t g befores owes =
       is_like.joins before other _ _ befores
-      (is_like.joins (chain.so_far s f) (chain.so_far t g) _ _ owes.so_far (found_alike (chain.look s f) (chain.look t g) owes.look))
+      (is_like.joins (chain.so_far s f) (chain.so_far t g) _ _ owes.so_far
+      (found_alike (chain.behind s f) (chain.behind t g) (chain.look s f) (chain.look t g) owes.behind owes.look))
 
   -- what is owed up to a reply and by it
-  answered_alike : (before other so_far so_far' : List A) (ask ask' : A) (owed owed' : List A) → like before other → like so_far so_far' →
-      like (ask ∷ []) (ask' ∷ []) → like owed owed' → like (before ++ (so_far ++ ask ∷ owed)) (other ++ (so_far' ++ ask' ∷ owed'))
-  answered_alike before other so_far so_far' ask ask' owed owed' a b c d =
-      is_like.joins before other _ _ a (is_like.joins so_far so_far' _ _ b (is_like.joins (ask ∷ []) (ask' ∷ []) owed owed' c d))
+  answered_alike : (before other so_far so_far' : List A) (ask ask' : A) (behind behind' owed owed' : List A) → like before other → like so_far so_far' →
+      like (ask ∷ []) (ask' ∷ []) → like behind behind' → like owed owed' →
+      like (before ++ (so_far ++ ask ∷ (behind ++ owed))) (other ++ (so_far' ++ ask' ∷ (behind' ++ owed')))
+  answered_alike before other so_far so_far' ask ask' behind behind' owed owed' a b c d e =
+      is_like.joins before other _ _ a (is_like.joins so_far so_far' _ _ b
+      (is_like.joins (ask ∷ []) (ask' ∷ []) (behind ++ owed) (behind' ++ owed') c (is_like.joins behind behind' owed owed' d e)))
 
   -- one way of both walks, by what was found
   walk_by_alike : (l m : Look A) (onward other : A → Stop S E R A) (stop stop' : Stop S E R A) → FoundAlike like l m →
@@ -167,7 +170,7 @@ module _ {S E R A : Type 0} (chain : Chain S E R A) (like : List A → List A �
         let asks = asks_alike (chain.look here.stage here.prefix) (chain.look there.stage there.prefix) ask ask' owes.look is is' in
         rw at.rest
         (same_stops rs r.stamp _ _ (chain.turn here.stage here.prefix (at_its_step r)).stage here.prefix (chain.turn there.stage there.prefix (at_its_step r)).stage there.prefix there.rest
-        (answered_alike here.before there.before _ _ ask ask' _ _ at.before owes.so_far asks turned.owed) turned.stage))
+        (answered_alike here.before there.before _ _ ask ask' _ _ _ _ at.before owes.so_far asks owes.behind turned.owed) turned.stage))
         (stop_alike last here there (r ∷ rs) at)
 
     -- Walks from places that look alike owe alike.
@@ -197,9 +200,9 @@ module _ {S E R A : Type 0} (chain : Chain S E R A) (like : List A → List A �
           (same_owed rs last _ _ _ prefix _ g es joined off.stage)
 
       -- what both places owe, and that something is found with the event too
-      found_with : (last : Stamp) (s : S) (f : List (Timed E)) (t : S) (g : List (Timed E)) → early last s f t g →
+      owes_both : (last : Stamp) (s : S) (f : List (Timed E)) (t : S) (g : List (Timed E)) → early last s f t g →
           IsFound (chain.look (chain.pass s f).stage f) → OwesAlike chain like (chain.pass s f).stage f (chain.pass t g).stage g
-      found_with last s f t g place is =
+      owes_both last s f t g place is =
           unhurried.owes last (chain.pass s f).stage f (chain.pass t g).stage g (unhurried.passes last s f t g place is).stage (law.at s f) (law.at t g) is
 
       -- something was found without it: both walks begin there
@@ -208,7 +211,7 @@ module _ {S E R A : Type 0} (chain : Chain S E R A) (like : List A → List A �
           like (owed_at chain (walk_on chain rs last (stopped_here chain before s f (event ∷ es)))) (owed_at chain (walk_on chain rs last (stopped_here chain other t g es))) →
           like (owed_at chain (walk chain rs last before s f (event ∷ es))) (owed_at chain (walk chain rs last other t g es))
       early_at rs last before other s f t g es place is at =
-          let with = is_found_alike (chain.look (chain.pass s f).stage f) (chain.look (chain.pass t g).stage g) (found_with last s f t g place is).look is in
+          let with = is_found_alike (chain.look (chain.pass s f).stage f) (chain.look (chain.pass t g).stage g) (owes_both last s f t g place is).look is in
           rw (walk_found chain law rs last before s f (event ∷ es) is, walk_found chain law rs last other t g es with) at
 
       early_by : (l : Look A) (rs : List (Stamped R)) (last : Stamp) (before other : List A) (s : S) (f : List (Timed E)) (t : S) (g : List (Timed E)) (es : List (Stamped E)) →
@@ -235,7 +238,7 @@ module _ {S E R A : Type 0} (chain : Chain S E R A) (like : List A → List A �
           let on' = chain.pass t g in
           early_by (chain.look on.stage f) [] last before other s f t g es befores place refl
           (λ is. owed_alike (before ++ on.owed) (other ++ on'.owed) on.stage f on'.stage g
-          (is_like.joins before other _ _ befores (unhurried.passes last s f t g place is).owed) (found_with last s f t g place is))
+          (is_like.joins before other _ _ befores (unhurried.passes last s f t g place is).owed) (owes_both last s f t g place is))
       early_owed (r ∷ rs) last before other s f t g es may befores place =
           let on = chain.pass s f in
           let on' = chain.pass t g in
@@ -244,13 +247,13 @@ module _ {S E R A : Type 0} (chain : Chain S E R A) (like : List A → List A �
           early_by l (r ∷ rs) last before other s f t g es befores place refl
           (λ is.
           let passed = unhurried.passes last s f t g place is in
-          let owes = found_with last s f t g place is in
+          let owes = owes_both last s f t g place is in
           let joined = is_like.joins before other _ _ befores passed.owed in
           walk_by_alike l l' _ _ _ _ owes.look
           (λ ask ask' asks asks'.
           let turned = unhurried.turns last on.stage f on'.stage g passed.stage (law.at s f) (law.at t g) ask asks r may.0 in
           early_owed rs r.stamp _ _ (chain.turn on.stage f (at_its_step r)).stage f (chain.turn on'.stage g (at_its_step r)).stage g es may.1
-          (answered_alike (before ++ on.owed) (other ++ on'.owed) _ _ ask ask' _ _ joined owes.so_far (asks_alike l l' ask ask' owes.look asks asks') turned.owed)
+          (answered_alike (before ++ on.owed) (other ++ on'.owed) _ _ ask ask' _ _ _ _ joined owes.so_far (asks_alike l l' ask ask' owes.look asks asks') owes.behind turned.owed)
           turned.stage)
           (owed_alike (before ++ on.owed) (other ++ on'.owed) on.stage f on'.stage g joined owes))
 

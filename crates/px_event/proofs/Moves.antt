@@ -72,7 +72,7 @@ rest_below chain step (r ∷ rs) last before s f es all =
     let on = chain.turn at.stage at.prefix (at_its_step r) in
     let rest = reach_rest chain step last before s f es all in
     rest_by step (chain.look at.stage at.prefix) _ _
-    (λ ask. rest_below chain step rs r.stamp (at.before ++ (chain.so_far at.stage at.prefix ++ ask ∷ on.owed)) on.stage at.prefix at.rest rest)
+    (λ ask. rest_below chain step rs r.stamp (at.before ++ (chain.so_far at.stage at.prefix ++ ask ∷ (chain.behind at.stage at.prefix ++ on.owed))) on.stage at.prefix at.rest rest)
     rest
 
 last_by : {S E R A : Type 0} (step : ℕ) (l : Look A) (onward : A → Stop S E R A) (stop : Stop S E R A) →
@@ -89,7 +89,7 @@ last_below chain step (r ∷ rs) last before s f es below (here, all) =
     let at = reach chain last before s f es in
     let on = chain.turn at.stage at.prefix (at_its_step r) in
     last_by step (chain.look at.stage at.prefix) _ _
-    (λ ask. last_below chain step rs r.stamp (at.before ++ (chain.so_far at.stage at.prefix ++ ask ∷ on.owed)) on.stage at.prefix at.rest here all)
+    (λ ask. last_below chain step rs r.stamp (at.before ++ (chain.so_far at.stage at.prefix ++ ask ∷ (chain.behind at.stage at.prefix ++ on.owed))) on.stage at.prefix at.rest here all)
     below
 
 -- an event behind the last reply is worked off in its own step

@@ -109,7 +109,7 @@ module _ {M S : Type 0} (chain : Chain S Event Reply Command) (law : Settles cha
       let w = stop_of chain start moves in
       let turn = chain.turn w.stage w.prefix (record { moment = moment; value = reply }) in
       stop_of chain start (moves ++ Replied moment reply ∷ [])
-      ≡ walk chain [] (record { step = 1 + length moves; moment = moment }) (w.before ++ (chain.so_far w.stage w.prefix ++ ask ∷ turn.owed)) turn.stage w.prefix w.rest
+      ≡ walk chain [] (record { step = 1 + length moves; moment = moment }) (w.before ++ (chain.so_far w.stage w.prefix ++ ask ∷ (chain.behind w.stage w.prefix ++ turn.owed))) turn.stage w.prefix w.rest
   next_reply moves moment reply ask is =
       after_reply moves moment reply ∙ reply_goes_on chain law (replies_in 1 moves) never [] start [] (events_in 1 moves) ask
       (record { stamp = record { step = 1 + length moves; moment = moment }; value = reply }) is
@@ -157,16 +157,17 @@ module _ {M S : Type 0} (chain : Chain S Event Reply Command) (law : Settles cha
       let r : Stamped Reply = record { stamp = record { step = 1 + length moves; moment = moment }; value = reply } in
       let turn = chain.turn w.stage w.prefix (record { moment = moment; value = reply }) in
       let so_far = chain.so_far w.stage w.prefix in
+      let behind_it = chain.behind w.stage w.prefix in
       let over = owed_over chain turn.stage w.prefix in
       let ask = resumes.ask in
       let stop = after_reply moves moment reply
       ∙ one_reply chain law (replies_in 1 moves) never [] start [] (events_in 1 moves) ask r (stands.seen ask resumes.asked) resumes.asked in
-      let asked : owed_at chain w ≡ w.before ++ (so_far ++ ask ∷ []) = rw resumes.asked refl in
-      let regroup : w.before ++ ((so_far ++ ask ∷ []) ++ (turn.owed ++ over)) ≡ (w.before ++ (so_far ++ ask ∷ turn.owed)) ++ over = simp append_assoc in
+      let asked : owed_at chain w ≡ w.before ++ (so_far ++ ask ∷ behind_it) = rw resumes.asked refl in
+      let regroup : w.before ++ ((so_far ++ ask ∷ behind_it) ++ (turn.owed ++ over)) ≡ (w.before ++ (so_far ++ ask ∷ (behind_it ++ turn.owed))) ++ over = simp append_assoc in
       placed after (moves ++ Replied moment reply ∷ []) (given ++ more) (reply_on chain w ask r) stop resumes.place refl (λ ask asked. refl)
-      (λ view. gave_more view given more w.before (so_far ++ ask ∷ []) ((so_far ++ ask ∷ []) ++ (turn.owed ++ over))
+      (λ view. gave_more view given more w.before (so_far ++ ask ∷ behind_it) ((so_far ++ ask ∷ behind_it) ++ (turn.owed ++ over))
       (stands.gave view ∙ ap (λ l. seen_of view l) asked)
-      (ap (λ l. seen_of view (so_far ++ ask ∷ []) ++ l) (resumes.gives view) ∙ sym (seen_append view (so_far ++ ask ∷ []) (turn.owed ++ over)))
+      (ap (λ l. seen_of view (so_far ++ ask ∷ behind_it) ++ l) (resumes.gives view) ∙ sym (seen_append view (so_far ++ ask ∷ behind_it) (turn.owed ++ over)))
       ∙ ap (λ l. seen_of view l) (regroup ∙ sym (owed_reply_on chain w ask r)))
 
 -- The chain, its start and the places hang on how the layer was made.

@@ -1,7 +1,7 @@
 -- One event or one reply more, where a walk stopped: what a machine that follows the walk has to do.
 use Rattle.std.proofs.Common.{◌≡◌, List, [], ◌∷◌, ◌++◌, refl, ap, sym, ◌∙◌, subst, append_assoc}
 use Rattle.std.proofs.lemmas.List.{append-nil}
-use Rattle.px_event.specs.Chain.{Stamp, Stamped, Timed, worked_off, at_its_step, Chain, Look, NotYet, Asks, Ends, Stop, stop_at, walk, walk_by, found, owed_at}
+use Rattle.px_event.specs.Chain.{Stamp, Stamped, Timed, worked_off, at_its_step, Chain, Look, NotYet, Asks, Ends, Stop, stop_at, walk, walk_by, owed_at}
 use Rattle.px_event.specs.Laws.{IsSettled, Settles, IsFound, owed_over, with_events, with_replies}
 use Rattle.px_event.proofs.Reach.{reach_found}
 use Rattle.px_event.proofs.Walk.{more_events, more_replies, stopped}
@@ -18,7 +18,7 @@ abbrev pub reply_on : {S E R A : Type 0} → Chain S E R A → Stop S E R A → 
 reply_on chain w ask r =
     let turn = chain.turn w.stage w.prefix (at_its_step r) in
     let on = chain.pass turn.stage w.prefix in
-    record { last = r.stamp; before = (w.before ++ (chain.so_far w.stage w.prefix ++ ask ∷ turn.owed)) ++ on.owed; stage = on.stage; prefix = w.prefix; rest = []; unused = [] }
+    record { last = r.stamp; before = (w.before ++ (chain.so_far w.stage w.prefix ++ ask ∷ (chain.behind w.stage w.prefix ++ turn.owed))) ++ on.owed; stage = on.stage; prefix = w.prefix; rest = []; unused = [] }
 
 resumed_event : {S E R A : Type 0} (chain : Chain S E R A) (w : Stop S E R A) (e : Stamped E) →
     IsSettled chain w.stage w.prefix → w.rest ≡ [] → w.unused ≡ [] → chain.look w.stage w.prefix ≡ NotYet →
@@ -40,7 +40,7 @@ behind w xs = record { last = w.last; before = w.before; stage = w.stage; prefix
 
 behind_by : {S E R A : Type 0} (chain : Chain S E R A) (r : Stamped R) (rs : List (Stamped R)) (last : Stamp) (before : List A) (s : S) (f : List (Timed E)) (rest : List (Stamped E)) →
     (l : Look A) → chain.look s f ≡ l → IsFound l → ((ask : A) → l ≡ Asks ask → r ∷ rs ≡ []) →
-    walk_by l (λ ask. walk chain rs r.stamp (before ++ (chain.so_far s f ++ ask ∷ (chain.turn s f (at_its_step r)).owed)) (chain.turn s f (at_its_step r)).stage f rest)
+    walk_by l (λ ask. walk chain rs r.stamp (before ++ (chain.so_far s f ++ ask ∷ (chain.behind s f ++ (chain.turn s f (at_its_step r)).owed))) (chain.turn s f (at_its_step r)).stage f rest)
     (record { last = last; before = before; stage = s; prefix = f; rest = rest; unused = r ∷ rs })
     ≡ record { last = last; before = before; stage = s; prefix = f; rest = rest; unused = r ∷ rs }
 behind_by chain r rs last before s f rest NotYet is found none = absurd found
@@ -83,7 +83,7 @@ behind_end {A = A} chain law rs qs last before s f es xs owed is =
 resumed_reply : {S E R A : Type 0} (chain : Chain S E R A) (w : Stop S E R A) (ask : A) (r : Stamped R) →
     IsSettled chain w.stage w.prefix → w.unused ≡ [] → chain.look w.stage w.prefix ≡ Asks ask →
     let turn = chain.turn w.stage w.prefix (at_its_step r) in
-    with_replies chain w (r ∷ []) ≡ walk chain [] r.stamp (w.before ++ (chain.so_far w.stage w.prefix ++ ask ∷ turn.owed)) turn.stage w.prefix w.rest
+    with_replies chain w (r ∷ []) ≡ walk chain [] r.stamp (w.before ++ (chain.so_far w.stage w.prefix ++ ask ∷ (chain.behind w.stage w.prefix ++ turn.owed))) turn.stage w.prefix w.rest
 resumed_reply chain w ask r settled unused is =
     let P : Look _ → Type 0 = IsFound in
     rw (unused, reach_found chain w.last w.before w.stage w.prefix w.rest settled (subst P (sym is) tt), is) refl
@@ -93,7 +93,7 @@ pub reply_goes_on : {S E R A : Type 0} (chain : Chain S E R A) → Settles chain
     let w = walk chain rs last before s f es in
     let turn = chain.turn w.stage w.prefix (at_its_step r) in
     chain.look w.stage w.prefix ≡ Asks ask →
-    walk chain (rs ++ r ∷ []) last before s f es ≡ walk chain [] r.stamp (w.before ++ (chain.so_far w.stage w.prefix ++ ask ∷ turn.owed)) turn.stage w.prefix w.rest
+    walk chain (rs ++ r ∷ []) last before s f es ≡ walk chain [] r.stamp (w.before ++ (chain.so_far w.stage w.prefix ++ ask ∷ (chain.behind w.stage w.prefix ++ turn.owed))) turn.stage w.prefix w.rest
 reply_goes_on chain law rs last before s f es ask r is =
     let w = walk chain rs last before s f es in
     let at = stopped chain law rs last before s f es in
@@ -107,7 +107,7 @@ one_reply {S} {E} {R} {A} chain law rs last before s f es ask r rest is =
     let w = walk chain rs last before s f es in
     let turn = chain.turn w.stage w.prefix (at_its_step r) in
     reply_goes_on chain law rs last before s f es ask r is
-    ∙ ap (λ (ys : List (Stamped E)). walk chain [] r.stamp (w.before ++ (chain.so_far w.stage w.prefix ++ ask ∷ turn.owed)) turn.stage w.prefix ys) rest
+    ∙ ap (λ (ys : List (Stamped E)). walk chain [] r.stamp (w.before ++ (chain.so_far w.stage w.prefix ++ ask ∷ (chain.behind w.stage w.prefix ++ turn.owed))) turn.stage w.prefix ys) rest
 
 -- what is owed one event on
 pub owed_event_on : {S E R A : Type 0} (chain : Chain S E R A) (w : Stop S E R A) (e : Stamped E) →
@@ -117,5 +117,5 @@ owed_event_on chain w e = append_assoc w.before _ _
 pub owed_reply_on : {S E R A : Type 0} (chain : Chain S E R A) (w : Stop S E R A) (ask : A) (r : Stamped R) →
     let turn = chain.turn w.stage w.prefix (at_its_step r) in
     owed_at chain (reply_on chain w ask r)
-    ≡ (w.before ++ (chain.so_far w.stage w.prefix ++ ask ∷ turn.owed)) ++ owed_over chain turn.stage w.prefix
-owed_reply_on chain w ask r = append_assoc (w.before ++ (chain.so_far w.stage w.prefix ++ ask ∷ (chain.turn w.stage w.prefix (at_its_step r)).owed)) _ _
+    ≡ (w.before ++ (chain.so_far w.stage w.prefix ++ ask ∷ (chain.behind w.stage w.prefix ++ turn.owed))) ++ owed_over chain turn.stage w.prefix
+owed_reply_on chain w ask r = append_assoc (w.before ++ (chain.so_far w.stage w.prefix ++ ask ∷ (chain.behind w.stage w.prefix ++ (chain.turn w.stage w.prefix (at_its_step r)).owed))) _ _

@@ -10,7 +10,7 @@ walk_on chain [] last here = stop_at last here []
 walk_on chain (r ∷ rs) last here =
     let on = chain.turn here.stage here.prefix (at_its_step r) in
     walk_by (chain.look here.stage here.prefix)
-    (λ ask. walk chain rs r.stamp (here.before ++ (chain.so_far here.stage here.prefix ++ ask ∷ on.owed)) on.stage here.prefix here.rest)
+    (λ ask. walk chain rs r.stamp (here.before ++ (chain.so_far here.stage here.prefix ++ ask ∷ (chain.behind here.stage here.prefix ++ on.owed))) on.stage here.prefix here.rest)
     (stop_at last here (r ∷ rs))
 
 pub walk_is : {S E R A : Type 0} (chain : Chain S E R A) (rs : List (Stamped R)) (last : Stamp) (before : List A) (s : S) (f : List (Timed E)) (es : List (Stamped E)) →
@@ -40,7 +40,7 @@ walk_more_asks : {S E R A : Type 0} (chain : Chain S E R A) (ask : A) (r : Stamp
     IsSettled chain here.stage here.prefix → chain.look here.stage here.prefix ≡ Asks ask →
     let on = chain.turn here.stage here.prefix (at_its_step r) in
     walk chain (r ∷ rs) last here.before here.stage here.prefix (here.rest ++ xs)
-    ≡ walk chain rs r.stamp (here.before ++ (chain.so_far here.stage here.prefix ++ ask ∷ on.owed)) on.stage here.prefix (here.rest ++ xs)
+    ≡ walk chain rs r.stamp (here.before ++ (chain.so_far here.stage here.prefix ++ ask ∷ (chain.behind here.stage here.prefix ++ on.owed))) on.stage here.prefix (here.rest ++ xs)
 walk_more_asks chain ask r rs last here xs settled is =
     let P : Look _ → Type 0 = IsFound in
     let same = reach_found chain last here.before here.stage here.prefix (here.rest ++ xs) settled (subst P (sym is) tt) in
@@ -64,7 +64,7 @@ more_events chain law (r ∷ rs) last before s f es xs =
     let whole = walk_more chain law (r ∷ rs) last before s f es xs in
     more_by chain xs (chain.look here.stage here.prefix) _ _ _
     (λ ask is. whole ∙ (walk_more_asks chain ask r rs last here xs settled is
-    ∙ more_events chain law rs r.stamp (here.before ++ (chain.so_far here.stage here.prefix ++ ask ∷ on.owed)) on.stage here.prefix here.rest xs))
+    ∙ more_events chain law rs r.stamp (here.before ++ (chain.so_far here.stage here.prefix ++ ask ∷ (chain.behind here.stage here.prefix ++ on.owed))) on.stage here.prefix here.rest xs))
     whole
 
 replies_by : {S E R A : Type 0} (chain : Chain S E R A) (qs : List (Stamped R)) (l : Look A) (onward' onward : A → Stop S E R A) (whole stop' stop : Stop S E R A) →
@@ -83,7 +83,7 @@ more_replies chain law (r ∷ rs) qs last before s f es =
     let here = reach chain last before s f es in
     let on = chain.turn here.stage here.prefix (at_its_step r) in
     replies_by chain qs (chain.look here.stage here.prefix) _ _ _ _ _ refl
-    (λ ask. more_replies chain law rs qs r.stamp (here.before ++ (chain.so_far here.stage here.prefix ++ ask ∷ on.owed)) on.stage here.prefix here.rest)
+    (λ ask. more_replies chain law rs qs r.stamp (here.before ++ (chain.so_far here.stage here.prefix ++ ask ∷ (chain.behind here.stage here.prefix ++ on.owed))) on.stage here.prefix here.rest)
     (sym (walk_again chain law (r ∷ rs ++ qs) last before s f es))
 
 stopped_by : {S E R A : Type 0} (chain : Chain S E R A) (values : List E) (l : Look A) (onward : A → Stop S E R A) (stop : Stop S E R A) →
@@ -107,9 +107,9 @@ stopped {S} {E} {R} {A} chain law (r ∷ rs) last before s f es =
     let here = reach chain last before s f es in
     let on = chain.turn here.stage here.prefix (at_its_step r) in
     let whole = reach_values chain last before s f es in
-    let P : List E → Type 0 = λ values. (ask : A) → Stopped chain values (walk chain rs r.stamp (here.before ++ (chain.so_far here.stage here.prefix ++ ask ∷ on.owed)) on.stage here.prefix here.rest) in
+    let P : List E → Type 0 = λ values. (ask : A) → Stopped chain values (walk chain rs r.stamp (here.before ++ (chain.so_far here.stage here.prefix ++ ask ∷ (chain.behind here.stage here.prefix ++ on.owed))) on.stage here.prefix here.rest) in
     stopped_by chain _ (chain.look here.stage here.prefix) _ _ refl
-    (subst P whole (λ ask. stopped chain law rs r.stamp (here.before ++ (chain.so_far here.stage here.prefix ++ ask ∷ on.owed)) on.stage here.prefix here.rest))
+    (subst P whole (λ ask. stopped chain law rs r.stamp (here.before ++ (chain.so_far here.stage here.prefix ++ ask ∷ (chain.behind here.stage here.prefix ++ on.owed))) on.stage here.prefix here.rest))
     (λ no_ask. record {
       settled = reach_settled chain law last before s f es;
       not_yet = reach_all chain last before s f es;

@@ -21,6 +21,7 @@ FoundAlike like _ _ = ⊥
 pub record OwesAlike {S E R A : Type 0} (chain : Chain S E R A) (like : List A → List A → Type 0) (s : S) (f : List (Timed E)) (t : S) (g : List (Timed E)) : Type 0 where
   pub look : FoundAlike like (chain.look s f) (chain.look t g)
   pub so_far : like (chain.so_far s f) (chain.so_far t g)
+  pub behind : like (chain.behind s f) (chain.behind t g)
 
 -- turns that owe alike, and lead to stages that are so related
 pub record TurnsAlike {S A : Type 0} (like : List A → List A → Type 0) (leads : S → S → Type 0) (turn other : Turn S A) : Type 0 where

@@ -53,6 +53,8 @@ pub record Chain (S E R A : Type 0) : Type 0 where
   pub look : S → List (Timed E) → Look A
   -- what it owes while it waits
   pub so_far : S → List (Timed E) → List A
+  -- what it owes behind its ask, before the reply to it
+  pub behind : S → List (Timed E) → List A
   -- what a reply to its ask brings
   pub turn : S → List (Timed E) → Timed R → Turn S A
 
@@ -99,25 +101,34 @@ walk_by NotYet onward stop = stop
 walk_by (Asks ask) onward stop = onward ask
 walk_by (Ends owed) onward stop = stop
 
--- Each ask takes the next reply, at the shortest prefix over which it is found.
+-- Each ask takes the next reply, at the shortest prefix over which it is found. What is owed behind the ask comes before what
+-- the reply brings.
 abbrev pub walk : {S E R A : Type 0} → Chain S E R A → List (Stamped R) → Stamp → List A → S → List (Timed E) → List (Stamped E) → Stop S E R A
 walk chain [] last before s prefix es = stop_at last (reach chain last before s prefix es) []
 walk chain (r ∷ rs) last before s prefix es =
     let here = reach chain last before s prefix es in
     let on = chain.turn here.stage here.prefix (at_its_step r) in
     walk_by (chain.look here.stage here.prefix)
-    (λ ask. walk chain rs r.stamp (here.before ++ (chain.so_far here.stage here.prefix ++ ask ∷ on.owed)) on.stage here.prefix here.rest)
+    (λ ask. walk chain rs r.stamp (here.before ++ (chain.so_far here.stage here.prefix ++ ask ∷ (chain.behind here.stage here.prefix ++ on.owed))) on.stage here.prefix here.rest)
     (stop_at last here (r ∷ rs))
 
--- what is owed where something is found
+-- what is owed where something is found: an ask with what is owed behind it, or the end
+abbrev pub found_with : {A : Type 0} → List A → Look A → List A
+found_with behind NotYet = []
+found_with behind (Asks ask) = ask ∷ behind
+found_with behind (Ends owed) = owed
+
+-- what is owed by what is found alone
 abbrev pub found : {A : Type 0} → Look A → List A
-found NotYet = []
-found (Asks ask) = ask ∷ []
-found (Ends owed) = owed
+found look = found_with [] look
+
+-- what is owed where a stage finds something over a prefix
+abbrev pub found_at : {S E R A : Type 0} → Chain S E R A → S → List (Timed E) → List A
+found_at chain stage prefix = found_with (chain.behind stage prefix) (chain.look stage prefix)
 
 -- all that is owed at the place where the walk stopped
 abbrev pub owed_at : {S E R A : Type 0} → Chain S E R A → Stop S E R A → List A
-owed_at chain stop = stop.before ++ (chain.so_far stop.stage stop.prefix ++ found (chain.look stop.stage stop.prefix))
+owed_at chain stop = stop.before ++ (chain.so_far stop.stage stop.prefix ++ found_at chain stop.stage stop.prefix)
 
 -- before the first step
 abbrev pub never : Stamp

@@ -1,7 +1,7 @@
 -- The laws of a chain: what a chain has to keep so that the walk can be resumed, and what is owed only grows.
 use Rattle.std.specs.Prelude.{◌≡◌, List, [], ◌∷◌, ◌++◌, map}
 use Rattle.px_text.specs.Prefix.{IsPrefixOf}
-use Rattle.px_event.specs.Chain.{Stamped, Timed, Chain, Look, NotYet, Asks, Ends, Stop, walk, found}
+use Rattle.px_event.specs.Chain.{Stamped, Timed, Chain, Look, NotYet, Asks, Ends, Stop, walk, found_at}
 
 -- a stage that does not pass at this prefix
 pub record IsSettled {S E R A : Type 0} (chain : Chain S E R A) (stage : S) (prefix : List (Timed E)) : Type 0 where
@@ -14,7 +14,7 @@ pub record Settles {S E R A : Type 0} (chain : Chain S E R A) : Type 0 where
 
 -- all that a stage owes at a prefix, beside what is owed from before
 abbrev pub owed_here : {S E R A : Type 0} → Chain S E R A → S → List (Timed E) → List A
-owed_here chain stage prefix = chain.so_far stage prefix ++ found (chain.look stage prefix)
+owed_here chain stage prefix = chain.so_far stage prefix ++ found_at chain stage prefix
 
 -- the same, passing included
 abbrev pub owed_over : {S E R A : Type 0} → Chain S E R A → S → List (Timed E) → List A

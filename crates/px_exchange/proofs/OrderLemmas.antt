@@ -62,15 +62,16 @@ early_ends flow message moment used closed = all_close used closed
 pub fault_ends : (flow : Flow) (fault : Fault) (moment : ℕ) (used : Used) (closed : Bool) → EndsInOrder (ends_by_fault flow fault moment used closed)
 fault_ends flow fault moment used closed = all_close used closed
 
-pub refuses_ends : (fault : Fault) (asked_head closed : Bool) → EndsInOrder (refuses fault asked_head closed)
-refuses_ends fault asked_head closed = closes_end (shut_client closed) (client_closes closed)
+pub refuses_ends : (fault : Fault) (asked_head : Bool) (parked : Used) (closed : Bool) → EndsInOrder (refuses fault asked_head parked closed)
+refuses_ends fault asked_head parked closed = closes_end (shut_all parked closed) (all_close parked closed)
 
-pub unless_closes : (stays closed : Bool) → OnlyCloses (shut_unless stays closed)
-unless_closes true closed = tt
-unless_closes false closed = client_closes closed
+pub unless_closes : (stays : Bool) (parked : Used) (closed : Bool) → OnlyCloses (shut_unless stays parked closed)
+unless_closes true parked closed = tt
+unless_closes false parked closed = all_close parked closed
 
-pub finished_ends : (flow : Flow) (response : Response) (used : Used) (stays closed : Bool) → EndsInOrder (finished flow response used ++ shut_unless stays closed)
-finished_ends flow response used stays closed = closes_both (shut_server used) (shut_unless stays closed) (server_closes used) (unless_closes stays closed)
+pub finished_ends : (flow : Flow) (response : Response) (used parked : Used) (stays closed : Bool) → EndsInOrder (finished flow response used ++ shut_unless stays parked closed)
+finished_ends flow response used parked stays closed =
+    closes_both (shut_server used) (shut_unless stays parked closed) (server_closes used) (unless_closes stays parked closed)
 
 -- ---- what a dial's answer brings, and what lets a body come
 
@@ -88,24 +89,24 @@ expectation_ends false = tt
 
 -- ---- what is found
 
-pub judged_ends : (terms : Terms) (index : ℕ) (head : ReadRequest) (made : Judged) (moment : ℕ) (closed : Bool) → FoundInOrder (look_judged terms index head made moment closed)
-judged_ends terms index head (Refused fault) moment closed = refuses_ends fault (is_head head.method) closed
-judged_ends terms index head (Accepted message) moment closed = tt
-judged_ends terms index head (Connects address) moment closed = tt
+pub judged_ends : (terms : Terms) (index : ℕ) (head : ReadRequest) (made : Judged) (moment : ℕ) (parked : Used) (closed : Bool) → FoundInOrder (look_judged terms index head made moment parked closed)
+judged_ends terms index head (Refused fault) moment parked closed = refuses_ends fault (is_head head.method) parked closed
+judged_ends terms index head (Accepted message) moment parked closed = tt
+judged_ends terms index head (Connects address) moment parked closed = tt
 
-pub head_ends : (terms : Terms) (index : ℕ) (item : Item ReadRequest) (moment : ℕ) (closed : Bool) → FoundInOrder (look_head terms index item moment closed)
-head_ends terms index missing moment closed = tt
-head_ends terms index (part head body) moment closed = judged_ends terms index head (judged terms.place head) moment closed
-head_ends terms index (complete head body trailers used) moment closed = judged_ends terms index head (judged terms.place head) moment closed
-head_ends terms index (bad_head fault) moment closed = refuses_ends fault false closed
-head_ends terms index (bad_body fault head body) moment closed = judged_ends terms index head (judged terms.place head) moment closed
+pub head_ends : (terms : Terms) (index : ℕ) (item : Item ReadRequest) (moment : ℕ) (parked : Used) (closed : Bool) → FoundInOrder (look_head terms index item moment parked closed)
+head_ends terms index missing moment parked closed = tt
+head_ends terms index (part head body) moment parked closed = judged_ends terms index head (judged terms.place head) moment parked closed
+head_ends terms index (complete head body trailers size) moment parked closed = judged_ends terms index head (judged terms.place head) moment parked closed
+head_ends terms index (bad_head fault) moment parked closed = refuses_ends fault false parked closed
+head_ends terms index (bad_body fault head body) moment parked closed = judged_ends terms index head (judged terms.place head) moment parked closed
 
-pub body_ends : (flow : Flow) (item : Item ReadRequest) (moment : ℕ) (closed : Bool) → FoundInOrder (look_body flow item moment closed)
-body_ends flow missing moment closed = tt
-body_ends flow (part head body) moment closed = tt
-body_ends flow (complete head body trailers used) moment closed = tt
-body_ends flow (bad_head fault) moment closed = tt
-body_ends flow (bad_body fault head body) moment closed = fault_ends flow fault moment NoServer closed
+pub body_ends : (flow : Flow) (item : Item ReadRequest) (moment : ℕ) (parked : Used) (closed : Bool) → FoundInOrder (look_body flow item moment parked closed)
+body_ends flow missing moment parked closed = tt
+body_ends flow (part head body) moment parked closed = tt
+body_ends flow (complete head body trailers size) moment parked closed = tt
+body_ends flow (bad_head fault) moment parked closed = tt
+body_ends flow (bad_body fault head body) moment parked closed = fault_ends flow fault moment parked closed
 
 pub relays_ends : (flow : Flow) (head : ReadResponse) (moment : ℕ) (used : Used) (closed relays : Bool) → is_relayed head.code ≡ relays → FoundInOrder (look_answer_head flow head moment used closed)
 relays_ends flow head moment used closed true at = rw at tt

@@ -63,8 +63,8 @@ ends_by_fault flow fault moment used closed =
     ∷ ends_early (without_response flow) (fault_message fault) moment used closed
 
 -- the end by a head that makes no flow
-abbrev pub refuses : Fault → Bool → Bool → List Command
-refuses fault asked_head closed = commands.Send Client (error_text fault asked_head) ∷ shut_client closed
+abbrev pub refuses : Fault → Bool → Used → Bool → List Command
+refuses fault asked_head used closed = commands.Send Client (error_text fault asked_head) ∷ shut_all used closed
 
 -- ---- whether the client's connection goes on (RFC 9112 section 9.3)
 
@@ -101,7 +101,7 @@ finished flow response used =
     commands.Send Client (returned_text flow.request response)
     ∷ commands.Done (record flow { response = Some response }) ∷ shut_server used
 
--- the client's close, unless its connection goes on
-abbrev pub shut_unless : Bool → Bool → List Command
-shut_unless true closed = []
-shut_unless false closed = shut_client closed
+-- the closes of a parked side and of the client, unless the client's connection goes on
+abbrev pub shut_unless : Bool → Used → Bool → List Command
+shut_unless true used closed = []
+shut_unless false used closed = shut_all used closed

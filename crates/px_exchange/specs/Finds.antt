@@ -13,7 +13,6 @@ use Rattle.px_read.specs.declared.head.ResponseHead.{ResponseHead as ReadRespons
 use Rattle.px_exchange.specs.declared.asked.Judged.{Judged}
 use Rattle.px_exchange.specs.declared.asked.Judged.TheVariants.{Refused, Accepted, Connects}
 use Rattle.px_exchange.specs.declared.ending.Used.{Used}
-use Rattle.px_exchange.specs.declared.ending.Used.TheVariants.{NoServer}
 use Rattle.px_exchange.specs.declared.terms.Terms.{Terms}
 use Rattle.px_exchange.specs.Endings.{ends_by_fault, refuses}
 use Rattle.px_exchange.specs.Requests.{is_head, flow_of, judged}
@@ -26,23 +25,23 @@ or_leaves closed leaving found = found
 
 -- what a head gives that stands at the front
 -- behind a CONNECT nothing is read as HTTP: the end, and nothing is owed there
-abbrev pub look_judged : Terms → ℕ → ReadRequest → Judged → ℕ → Bool → Look Command
-look_judged terms index head (Refused fault) moment closed = Ends (refuses fault (is_head head.method) closed)
-look_judged terms index head (Accepted request) moment closed = Asks (ask_of (flow_of terms index request moment) RequestHead)
-look_judged terms index head (Connects address) moment closed = Ends []
+abbrev pub look_judged : Terms → ℕ → ReadRequest → Judged → ℕ → Used → Bool → Look Command
+look_judged terms index head (Refused fault) moment used closed = Ends (refuses fault (is_head head.method) used closed)
+look_judged terms index head (Accepted request) moment used closed = Asks (ask_of (flow_of terms index request moment) RequestHead)
+look_judged terms index head (Connects address) moment used closed = Ends []
 
-abbrev pub look_head : Terms → ℕ → Item ReadRequest → ℕ → Bool → Look Command
-look_head terms index missing moment closed = NotYet
-look_head terms index (part head body) moment closed = look_judged terms index head (judged terms.place head) moment closed
-look_head terms index (complete head body trailers used) moment closed =
-    look_judged terms index head (judged terms.place head) moment closed
-look_head terms index (bad_head fault) moment closed = Ends (refuses fault false closed)
-look_head terms index (bad_body fault head body) moment closed = look_judged terms index head (judged terms.place head) moment closed
+abbrev pub look_head : Terms → ℕ → Item ReadRequest → ℕ → Used → Bool → Look Command
+look_head terms index missing moment used closed = NotYet
+look_head terms index (part head body) moment used closed = look_judged terms index head (judged terms.place head) moment used closed
+look_head terms index (complete head body trailers size) moment used closed =
+    look_judged terms index head (judged terms.place head) moment used closed
+look_head terms index (bad_head fault) moment used closed = Ends (refuses fault false used closed)
+look_head terms index (bad_body fault head body) moment used closed = look_judged terms index head (judged terms.place head) moment used closed
 
-abbrev pub look_body : Flow → Item ReadRequest → ℕ → Bool → Look Command
-look_body flow (complete head body trailers used) moment closed = Asks (ask_of (with_body flow body.content trailers moment) RequestBody)
-look_body flow (bad_body fault head body) moment closed = Ends (ends_by_fault flow fault moment NoServer closed)
-look_body flow _ moment closed = NotYet
+abbrev pub look_body : Flow → Item ReadRequest → ℕ → Used → Bool → Look Command
+look_body flow (complete head body trailers size) moment used closed = Asks (ask_of (with_body flow body.content trailers moment) RequestBody)
+look_body flow (bad_body fault head body) moment used closed = Ends (ends_by_fault flow fault moment used closed)
+look_body flow _ moment used closed = NotYet
 
 -- a final response has a final status, or the one that switches protocols
 abbrev pub is_relayed : ℕ → Bool

@@ -1,5 +1,5 @@
 -- Where the requests of a conversation go.
-use Rattle.std.specs.Prelude.{ℕ, Bool, false, ◌==◌, ◌&&◌, bytes_eq, Option, Some, None}
+use Rattle.std.specs.Prelude.{ℕ, Bool, ◌==◌, ◌&&◌, bytes_eq, Option, Some, None}
 use Rattle.px_message.specs.declared.address.Address.{Address}
 use Rattle.px_message.specs.declared.request.Request.{Request}
 use Rattle.px_write.specs.declared.form.Form.{Form}
@@ -35,14 +35,9 @@ dialled_for places.Regular request = address_of request
 dialled_for (places.Upstream proxy) request = proxy
 dialled_for (places.Fixed address side inside) request = dialled_by inside request
 
--- a request goes to this address
-abbrev pub goes_to : Address → Request → Bool
-goes_to address request = bytes_eq address.host request.host && address.port == request.port
-
--- whether a request goes where the conversation's own side is connected to
-abbrev pub goes_home : Place → Request → Bool
-goes_home (places.Fixed address side inside) request = goes_to address request
-goes_home place request = false
+-- the same host, byte by byte, and the same port
+abbrev pub is_same_address : Address → Address → Bool
+is_same_address a b = bytes_eq a.host b.host && a.port == b.port
 
 -- the form in which its target is sent: a proxy gets the whole URL (RFC 9112 section 3.2.2)
 abbrev pub form_at : Place → Form

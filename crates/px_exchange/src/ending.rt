@@ -3,7 +3,7 @@ ghost use Rattle.std.specs.Prelude.{◌≡◌, ◌++◌, OnOk, IfOk};
 ghost use Rattle.px_message.specs.Length.{stands as has_field, transfer_encoding};
 ghost use Rattle.px_message.specs.Settle.{settled_response};
 ghost use Rattle.px_write.specs.Error.{error_text as fault_text};
-ghost use Rattle.px_exchange.specs.Endings.{connection_goes_on, ends_by_fault, ends_early, finished, persists, refuses, runs_to_close, shut_client, shut_server, shut_unless};
+ghost use Rattle.px_exchange.specs.Endings.{connection_goes_on, ends_by_fault, ends_early, finished, persists, refuses, runs_to_close, shut_all, shut_client, shut_server, shut_unless};
 ghost use Rattle.px_exchange.specs.Requests.{is_head as asks_head};
 
 use crate::asked::is_head;
@@ -55,6 +55,14 @@ fn shut_client(closed: bool, out: &mut Vec<Command>) -> Result<(), NoMemory>
     close(Side::Client, out)
 }
 
+// Closes all sides of a conversation: its server's, then its client's.
+fn shut_all(used: Used, closed: bool, out: &mut Vec<Command>) -> Result<(), NoMemory>
+    ensures { OnOk result (out.new.items ≡ out.old.items ++ shut_all used closed) }
+{
+    shut_server(used, out)?;
+    shut_client(closed, out)
+}
+
 fn fault_text(alloc: Global, fault: Fault, asked_head: bool) -> Result<Bytes, NoMemory>
     ensures { IfOk result (λ text. text ≡ fault_text fault asked_head) }
 {
@@ -63,17 +71,25 @@ fn fault_text(alloc: Global, fault: Fault, asked_head: bool) -> Result<Bytes, No
     Bytes::new(text)
 }
 
-/// Ends the conversation by a head that makes no flow.
+/// Ends the conversation by a head that makes no flow: its text, and the closes of the side that is parked, if one is, and of the client.
 pub fn refuse(
     now: Now,
     fault: Fault,
     asked_head: bool,
+    parked: Used,
     out: &mut Vec<Command>,
 ) -> Result<(), NoMemory>
-    ensures { OnOk result (out.new.items ≡ out.old.items ++ refuses fault asked_head now.client_closed) }
+    ensures { OnOk result (out.new.items ≡ out.old.items ++ refuses fault asked_head parked now.client_closed) }
 {
     send(Side::Client, fault_text(now.alloc, fault, asked_head)?, out)?;
-    shut_client(now.client_closed, out)
+    shut_all(parked, now.client_closed, out)
+}
+
+/// Closes the side that is parked, if one is: behind a dial, where no flow takes it any more, or at the conversation's end.
+pub fn part(parked: Used, out: &mut Vec<Command>) -> Result<(), NoMemory>
+    ensures { OnOk result (out.new.items ≡ out.old.items ++ shut_server parked) }
+{
+    shut_server(parked, out)
 }
 
 /// Ends the flow early with this error, and its conversation; nothing is said to the client.
@@ -87,8 +103,7 @@ pub fn end_early(
     ensures { OnOk result (out.new.items ≡ out.old.items ++ ends_early flow message.now now.moment used now.client_closed) }
 {
     done(with_error(now, flow, message)?.into_inner(), out)?;
-    shut_server(used, out)?;
-    shut_client(now.client_closed, out)
+    shut_all(used, now.client_closed, out)
 }
 
 /// Ends the flow by a fault, before a byte of the response was sent: its text tells the client.
@@ -179,18 +194,19 @@ fn finish_flow(
     shut_server(used, out)
 }
 
-/// Finishes the flow with this response: its text, the flow, the close of its server's side, and the client's where the
-/// connection ends there. Whether it goes on.
+/// Finishes the flow with this response: its text, the flow, the close of its server's side, and, where the client's connection ends
+/// there, the closes of the side that is parked, if one is, and of the client. Whether it goes on.
 pub fn finish(
     now: Now,
     index: u32,
     flow: Boxed<Flow>,
     response: Shared<Response>,
     used: Used,
+    parked: Used,
     out: &mut Vec<Command>,
 ) -> Result<bool, NoMemory>
     ensures stays { IfOk result (λ stays. stays ≡ connection_goes_on index flow.request response) }
-    ensures gives { OnOk result (out.new.items ≡ out.old.items ++ finished flow response used ++ shut_unless (connection_goes_on index flow.request response) now.client_closed) }
+    ensures gives { OnOk result (out.new.items ≡ out.old.items ++ finished flow response used ++ shut_unless (connection_goes_on index flow.request response) parked now.client_closed) }
 {
     let sent = settled(flow.request.get(), response.get())?;
     let stays = connection_goes_on(index, flow.request.get(), response.get(), &sent);
@@ -198,6 +214,6 @@ pub fn finish(
     if stays {
         return Ok(true);
     }
-    shut_client(now.client_closed, out)?;
+    shut_all(parked, now.client_closed, out)?;
     Ok(false)
 }

@@ -19,15 +19,16 @@ ghost use Rattle.px_exchange.specs.declared.terms.Terms.{Terms as Made};
 pub fn ends_are_in_order()
     ensures early { (flow : Told) (message : List ℕ) (moment : ℕ) (used : Use) (closed : Bool) → EndsInOrder (ends_early flow message moment used closed) }
     ensures fault { (flow : Told) (fault : Wrong) (moment : ℕ) (used : Use) (closed : Bool) → EndsInOrder (ends_by_fault flow fault moment used closed) }
-    ensures refused { (fault : Wrong) (asked_head closed : Bool) → EndsInOrder (refuses fault asked_head closed) }
-    ensures finished { (flow : Told) (response : Answered) (used : Use) (stays closed : Bool) → EndsInOrder (finished flow response used ++ shut_unless stays closed) }
+    ensures refused { (fault : Wrong) (asked_head : Bool) (parked : Use) (closed : Bool) → EndsInOrder (refuses fault asked_head parked closed) }
+    ensures finished { (flow : Told) (response : Answered) (used parked : Use) (stays closed : Bool) →
+        EndsInOrder (finished flow response used ++ shut_unless stays parked closed) }
     ensures dial { (place : At) (flow : Told) (server : ℕ) (answer : Answer) (moment : ℕ) (closed : Bool) → EndsInOrder (dial_owes place flow server answer moment closed) }
 {}
 
 /// So is each end that is found where a message is awaited.
 pub fn finds_are_in_order()
-    ensures head { (terms : Made) (index : ℕ) (item : Item ReadRequest) (moment : ℕ) (closed : Bool) → FoundInOrder (look_head terms index item moment closed) }
-    ensures body { (flow : Told) (item : Item ReadRequest) (moment : ℕ) (closed : Bool) → FoundInOrder (look_body flow item moment closed) }
+    ensures head { (terms : Made) (index : ℕ) (item : Item ReadRequest) (moment : ℕ) (parked : Use) (closed : Bool) → FoundInOrder (look_head terms index item moment parked closed) }
+    ensures body { (flow : Told) (item : Item ReadRequest) (moment : ℕ) (parked : Use) (closed : Bool) → FoundInOrder (look_body flow item moment parked closed) }
     ensures answer { (flow : Told) (item : Item ReadResponse) (moment : ℕ) (used : Use) (closed : Bool) → FoundInOrder (look_answer flow item moment used closed) }
     ensures returned { (flow : Told) (item : Item ReadResponse) (moment : ℕ) (used : Use) (closed : Bool) → FoundInOrder (look_returned flow item moment used closed) }
 {}

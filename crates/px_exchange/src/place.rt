@@ -1,6 +1,6 @@
 //! Where the requests of a conversation go.
 ghost use Rattle.std.specs.Prelude.{◌≡◌};
-ghost use Rattle.px_exchange.specs.Places.{form_at, goes_home, goes_to};
+ghost use Rattle.px_exchange.specs.Places.{form_at, is_same_address, server_for};
 
 use px_message::{Address, Request};
 use px_write::Form;
@@ -35,21 +35,16 @@ impl Place {
         }
     }
 
-    /// Whether a request goes where the conversation's own side is connected to: to the address that all requests go to at
-    /// this place, as its hooks left its host and port.
-    pub fn is_home(&self, request: &Request) -> bool
-        ensures is { result ≡ goes_home self.now request.now }
+    /// Whether a request goes to this address: to its own host and port, as its hooks left them, or where all requests go to a proxy,
+    /// whether that stands there. Hosts are compared byte by byte.
+    pub fn goes_to(&self, address: &Address, request: &Request) -> bool
+        ensures is { result ≡ is_same_address address.now (server_for self.now request.now) }
     {
         match self {
-            Place::Fixed { address, .. } => goes_to(address, request),
-            _ => false,
+            Place::Upstream(proxy) => {
+                address.host.bytes() == proxy.host.bytes() && address.port == proxy.port
+            }
+            _ => address.host.bytes() == request.host.bytes() && address.port == request.port,
         }
     }
-}
-
-// Whether a request goes to this address.
-fn goes_to(address: &Address, request: &Request) -> bool
-    ensures { result ≡ goes_to address.now request.now }
-{
-    address.host.bytes() == request.host.bytes() && address.port == request.port
 }

@@ -1,5 +1,6 @@
 //! How the flows of a conversation are made.
 use crate::Place;
+use crate::ending::Used;
 use px_message::Address;
 use std::alloc::Global;
 
@@ -12,10 +13,12 @@ pub struct Terms {
     pub place: Place,
 }
 
-/// When a call is made, and whether the client has closed by then.
+/// When a call is made, whether the client has closed by then, and the server's side that is parked, if one is: which an end
+/// closes where no flow uses a side of its own.
 #[derive(Clone, Copy, Debug)]
 pub struct Now {
     pub alloc: Global,
     pub moment: u64,
     pub client_closed: bool,
+    pub parked: Used,
 }

@@ -245,7 +245,7 @@ module _ {M S : Type 0} (chain : Chain S Event Reply Command) (law : Settles cha
       let wm = stop moves in
       let r : Timed Reply = record { moment = moment; value = reply } in
       let last : Stamp = record { step = 1 + length calls; moment = moment } in
-      let owed : S → List (Timed Event) → List Command → List Command = λ s f b. b ++ (chain.so_far s f ++ ask ∷ (chain.turn s f r).owed) in
+      let owed : S → List (Timed Event) → List Command → List Command = λ s f b. b ++ (chain.so_far s f ++ ask ∷ (chain.behind s f ++ (chain.turn s f r).owed)) in
       let turn : S = (chain.turn wm.stage wm.prefix r).stage in
       let c = next_reply chain law start is_at calls moment reply ask (same_looks calls moves queue like ∙ asks) in
       let m = next_reply chain law start is_at moves moment reply ask asks in

@@ -8,7 +8,7 @@ use Rattle.px_event.specs.declared.ask.Ask.TheVariants as asks
 use Rattle.px_event.specs.declared.command.Command.{Command}
 use Rattle.px_event.specs.declared.command.Command.TheVariants as commands
 use Rattle.px_event.specs.declared.reply.Reply.{Reply}
-use Rattle.px_event.specs.Chain.{Timed, Look, NotYet, Asks, Ends, found}
+use Rattle.px_event.specs.Chain.{Timed, Look, NotYet, Asks, Ends, found_with}
 use Rattle.px_event.specs.Layer.{Move}
 use Rattle.px_event.specs.Stands.{due_by, events_in, replies_in}
 use Rattle.px_core.specs.Ordered.{AsksNoneOf, EndsOneOf, AsksBeforeEnds, LeavesBehind, LeavesNone, LeavesFlows}
@@ -17,13 +17,13 @@ use Rattle.px_read.specs.Items.{Item, missing, part, complete, bad_head, bad_bod
 use Rattle.px_read.specs.declared.head.RequestHead.{RequestHead as ReadRequest}
 use Rattle.px_message.specs.declared.response.Response.{Response}
 use Rattle.px_exchange.specs.declared.terms.Terms.{Terms}
-use Rattle.px_chain.specs.Chain.{begin, http_chain, look, pass, pass_body, sequence, so_far, turn}
+use Rattle.px_chain.specs.Chain.{begin, behind, http_chain, look, pass, pass_body, sequence, so_far, turn}
 use Rattle.px_chain.specs.Sights.{Sight, Standing, request_in, sight_over}
 use Rattle.px_exchange.specs.Finds.{or_leaves}
 use Rattle.px_chain.specs.Left.{stage_left}
 use Rattle.px_chain.proofs.Quiet.{AllQuiet, EndsNone, IsAskOf, IsBehind, IsOf, LooksQuiet, no_flow}
 use Rattle.px_chain.specs.Stages.{At, Doing, Stage, busy, connection, given_body, given_head, idle, next, over, place_of, request_body, response_body, response_head, upgraded}
-use Rattle.px_chain.proofs.QuietLemmas.{IsGoing, looks_quiet, so_far_quiet, turn_led}
+use Rattle.px_chain.proofs.QuietLemmas.{IsGoing, behind_quiet, looks_quiet, so_far_quiet, turn_led}
 
 -- ---- the tests
 
@@ -194,20 +194,25 @@ module _ (terms : Terms) where
 
   asked_leaves : (stage : Stage) (seen : Sight) (ask : Command) (reply : Timed Reply) → IsGoing stage →
       ((index : ℕ) → is_past stage index ≡ nat_lt index (place_of stage).flow) → IsOf terms (HasIndex (place_of stage).flow) stage → look terms stage seen ≡ Asks ask →
-      Leaves stage (so_far stage seen ++ ask ∷ (turn terms stage seen reply).owed) (sequence (turn terms stage seen reply).stage)
+      Leaves stage (so_far stage seen ++ ask ∷ (behind stage seen ++ (turn terms stage seen reply).owed)) (sequence (turn terms stage seen reply).stage)
   asked_leaves stage seen ask reply goes past is asked =
       let here : ℕ = (place_of stage).flow in
       let owed : List Command = (turn terms stage seen reply).owed in
       let led = turn_led terms (HasIndex here) stage seen reply goes is in
       let on = leads_past here owed terms (place_of stage).dials (stage_left stage) led.quiet (turn terms stage seen reply).stage led.behind led.is_of led.ends_none in
       let said : AllQuiet no_flow (so_far stage seen) = so_far_quiet no_flow stage seen in
+      let shut : AllQuiet no_flow (behind stage seen) = behind_quiet no_flow stage seen in
+      let longer : List Command = behind stage seen ++ owed in
       let P : Look Command → Type 0 = LooksQuiet (HasIndex here) in
       let asks_own : IsAskOf (HasIndex here) ask = subst P asked (looks_quiet (HasIndex here) terms stage seen is) in
       record {
-        ordered = ordered_behind (so_far stage seen) (ask ∷ owed) said (ask_ordered here ask owed asks_own (quiet_ordered (HasIndex here) owed led.quiet));
-        asks_none = λ index before. none_behind index (so_far stage seen) (ask ∷ owed) said
-            (ask_none index here ask owed asks_own (ltb-true index here (sym (past index) ∙ before)) (quiet_none (HasIndex here) index owed led.quiet));
-        ends = λ index ends. on.ends index (ask_ends index here ask owed asks_own (ends_behind index (so_far stage seen) (ask ∷ owed) said ends));
+        ordered = ordered_behind (so_far stage seen) (ask ∷ longer) said
+            (ask_ordered here ask longer asks_own (ordered_behind (behind stage seen) owed shut (quiet_ordered (HasIndex here) owed led.quiet)));
+        asks_none = λ index before. none_behind index (so_far stage seen) (ask ∷ longer) said
+            (ask_none index here ask longer asks_own (ltb-true index here (sym (past index) ∙ before))
+            (none_behind index (behind stage seen) owed shut (quiet_none (HasIndex here) index owed led.quiet)));
+        ends = λ index ends. on.ends index
+            (ends_behind index (behind stage seen) owed shut (ask_ends index here ask longer asks_own (ends_behind index (so_far stage seen) (ask ∷ longer) said ends)));
         keeps = λ index before. on.later index (sym (past index) ∙ before);
         leads = on.counted;
       }
@@ -216,30 +221,32 @@ module _ (terms : Terms) where
   no_ask closed ask is = let e : Ends [] ≡ Asks ask = is in cc
 
   turns : (stage : Stage) (seen : Sight) (ask : Command) → is_counted stage ≡ true → look terms stage seen ≡ Asks ask → (reply : Timed Reply) →
-      Leaves stage (so_far stage seen ++ ask ∷ (turn terms stage seen reply).owed) (sequence (turn terms stage seen reply).stage)
+      Leaves stage (so_far stage seen ++ ask ∷ (behind stage seen ++ (turn terms stage seen reply).owed)) (sequence (turn terms stage seen reply).stage)
   turns (idle at) seen ask is asked reply = asked_leaves (idle at) seen ask reply tt (λ index. refl) refl asked
   turns (busy at flow doing) seen ask is asked reply = asked_leaves (busy at flow doing) seen ask reply tt (λ index. refl) (eqb-true flow.id.index at.flow is) asked
   turns (next at) seen ask is asked reply = absurd (no_ask seen.closed ask asked)
   turns over seen ask is asked reply = absurd (no_ask seen.closed ask asked)
 
   -- where it stops
-  stops_by : (here : ℕ) (l : Look Command) → LooksQuiet (HasIndex here) l → AsksBeforeEnds (found l) × ((index : ℕ) → index < here → AsksNoneOf index (found l))
-  stops_by here NotYet is = (tt, λ index less. tt)
-  stops_by here (Asks ask) is = (ask_ordered here ask [] is tt, λ index less. ask_none index here ask [] is less tt)
-  stops_by here (Ends owed) is = (quiet_ordered (HasIndex here) owed is, λ index less. quiet_none (HasIndex here) index owed is)
+  stops_by : (here : ℕ) (shut : List Command) (l : Look Command) → AllQuiet no_flow shut → LooksQuiet (HasIndex here) l →
+      AsksBeforeEnds (found_with shut l) × ((index : ℕ) → index < here → AsksNoneOf index (found_with shut l))
+  stops_by here shut NotYet quiet is = (tt, λ index less. tt)
+  stops_by here shut (Asks ask) quiet is =
+      (ask_ordered here ask shut is (quiet_ordered no_flow shut quiet), λ index less. ask_none index here ask shut is less (quiet_none no_flow index shut quiet))
+  stops_by here shut (Ends owed) quiet is = (quiet_ordered (HasIndex here) owed is, λ index less. quiet_none (HasIndex here) index owed is)
 
   stops_there : (stage : Stage) (seen : Sight) → ((index : ℕ) → is_past stage index ≡ nat_lt index (place_of stage).flow) →
-      IsOf terms (HasIndex (place_of stage).flow) stage → LeavesNone is_past stage (so_far stage seen ++ found (look terms stage seen))
+      IsOf terms (HasIndex (place_of stage).flow) stage → LeavesNone is_past stage (so_far stage seen ++ found_with (behind stage seen) (look terms stage seen))
   stops_there stage seen past is =
       let here : ℕ = (place_of stage).flow in
-      let both = stops_by here (look terms stage seen) (looks_quiet (HasIndex here) terms stage seen is) in
+      let both = stops_by here (behind stage seen) (look terms stage seen) (behind_quiet no_flow stage seen) (looks_quiet (HasIndex here) terms stage seen is) in
       record {
         ordered = ordered_behind (so_far stage seen) _ (so_far_quiet no_flow stage seen) both.0;
         asks_none = λ index before. none_behind index (so_far stage seen) _ (so_far_quiet no_flow stage seen)
             (both.1 index (ltb-true index here (sym (past index) ∙ before)));
       }
 
-  stops : (stage : Stage) (seen : Sight) → is_counted stage ≡ true → LeavesNone is_past stage (so_far stage seen ++ found (look terms stage seen))
+  stops : (stage : Stage) (seen : Sight) → is_counted stage ≡ true → LeavesNone is_past stage (so_far stage seen ++ found_with (behind stage seen) (look terms stage seen))
   stops (idle at) seen is = stops_there (idle at) seen (λ index. refl) refl
   stops (busy at flow doing) seen is = stops_there (busy at flow doing) seen (λ index. refl) (eqb-true flow.id.index at.flow is)
   stops (next at) seen is = stops_there (next at) seen (λ index. refl) tt

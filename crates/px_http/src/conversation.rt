@@ -7,13 +7,14 @@ ghost use Rattle.px_chain.specs.Chain.{look};
 ghost use Rattle.px_exchange.specs.Places.{terms_of};
 ghost use Rattle.px_stream.specs.Anywhere.{Begins, HearsWaiting, IsNew, Reaches, ResumesAnywhere, Somewhere, TakesAnywhere};
 ghost use Rattle.px_stream.specs.Left.{sequence_left};
-ghost use Rattle.px_stream.specs.Phases.{spare_at};
+ghost use Rattle.px_stream.specs.Phases.{parked_at};
 ghost use Rattle.px_stream.specs.Rests.{LeavesRests, phase_flow, phase_rest};
-ghost use Rattle.px_stream.specs.Sequence.{IsSideBelow, asked_tunnel, is_end, open_spare, outcome_at, outcome_in, upgraded_side};
+ghost use Rattle.px_stream.specs.Sequence.{IsSideBelow, asked_tunnel, is_end, open_parked, outcome_at, outcome_in, upgraded_side};
 ghost use Rattle.px_stream.specs.Stands.{is_last};
-ghost use Rattle.px_stream.specs.Through.{IsDialling, led_to};
+ghost use Rattle.px_stream.specs.Through.{IsDialling, dialled_flow, led_to};
 
 use px_event::{Ask, Command, Event, Layer, Reply, Rests};
+use px_exchange::Boxed;
 use px_exchange::ending::Used;
 use px_message::{Address, Flow, FlowId};
 use px_stream::{Numbers, Outcome, Place, Stream};
@@ -46,7 +47,7 @@ impl HttpConv {
         ensures stands { HttpStands result result [] [] }
         ensures terms { result.stream.terms ≡ terms_of conv client place }
         ensures numbers { result.stream.numbers ≡ record { flow = first_flow; server = next_server } }
-        ensures spare { result.stream.spare ≡ spare_at place }
+        ensures parked { result.stream.parked ≡ parked_at place }
         ensures new { IsNew result.stream }
         ensures free { awaits result ≡ None }
     {
@@ -105,15 +106,15 @@ impl HttpConv {
         self.stream.client_closed()
     }
 
-    /// The number of the side that was connected before and that no flow has used, if there is one and its server has not closed.
-    pub fn spare(&self) -> Option<u32>
-        ensures { result ≡ open_spare self.now.stream.spare }
+    /// The number of the parked side, which is connected and which no flow uses, if there is one and its server has not closed.
+    pub fn parked(&self) -> Option<u32>
+        ensures { result ≡ open_parked self.now.stream.parked }
     {
-        self.stream.spare()
+        self.stream.parked()
     }
 
-    /// Hears what the client sent behind what others read of it, before this conversation was made, and looks once; `closed` is
-    /// whether the client has closed. One that was handed something already may not begin so.
+    /// Hears what the client sent behind what others read of it, before this conversation was made, and what waits of the parked
+    /// side, and looks once; `closed` is whether the client has closed. One that was handed something already may not begin so.
     ///
     /// It is then where the chain of flows in sequence is that begins there, over all events, and gave what is owed there.
     pub fn begin(
@@ -121,14 +122,15 @@ impl HttpConv {
         moment: u64,
         closed: bool,
         rest: &Bytes,
+        waiting: &Bytes,
         out: &mut Vec<Command>,
     ) -> Result<(), NoMemory>
         requires new { IsNew self.old.stream }
-        ensures begins { OnOk result (Begins self.old.stream self.new.stream moment closed rest.now out.old.items out.new.items) }
+        ensures begins { OnOk result (Begins self.old.stream self.new.stream moment closed rest.now waiting.now out.old.items out.new.items) }
         ensures asks { OnOk result (AsksOnly (awaits self.new) out.old.items out.new.items) }
         ensures left { OnOk result (sequence_left self.new.stream ≤ sequence_left self.old.stream) }
     {
-        self.stream.begin(moment, closed, rest, out)
+        self.stream.begin(moment, closed, rest, waiting, out)
     }
 
     /// Takes an event as `take`, wherever in a longer chain it stands that flows in sequence are a part of.
@@ -171,7 +173,7 @@ impl HttpConv {
         self.stream.leads_to()
     }
 
-    /// Hears an event while the dial of a server is awaited: the client's bytes and its close, and those of a spare side. Behind the
+    /// Hears an event while the dial of a server is awaited: the client's bytes and its close, and those of a parked side. Behind the
     /// client's close nothing is heard.
     pub fn hear_waiting(&mut self, event: &Event) -> Result<(), NoMemory>
         requires waits { IsDialling self.old.stream.phase }
@@ -216,6 +218,13 @@ impl HttpConv {
             (seen_at made moves) left.0.client left.0.server left.1) }
     {
         self.stream.into_rests()
+    }
+
+    /// The flow whose server is dialled, where the answer to that is awaited, for whoever ends it in its place; all else is let go of.
+    pub fn into_dialled(self) -> Option<Boxed<Flow>>
+        ensures { result ≡ dialled_flow self.stream.phase }
+    {
+        self.stream.into_dialled()
     }
 }
 

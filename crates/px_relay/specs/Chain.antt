@@ -193,6 +193,7 @@ relay_chain terms seen = record {
   pass = λ stage prefix. pass terms stage (seen prefix);
   look = λ stage prefix. look terms stage;
   so_far = λ stage prefix. [];
+  behind = λ stage prefix. [];
   turn = λ stage prefix answer. turn terms stage (seen prefix) answer.value answer.moment;
 }
 

@@ -118,7 +118,7 @@ module _ (terms : Terms) (recorded : Request) where
   turns over prefix reply = tt
 
   owes_others : OwesOnly IsOther (resend_chain terms recorded)
-  owes_others = record { pass = passes; look = looks; so_far = λ stage prefix. tt; turn = turns }
+  owes_others = record { pass = passes; look = looks; so_far = λ stage prefix. tt; behind = λ stage prefix. tt; turn = turns }
 
 -- no command says anything to a client
 due_others : (proxy : Option Address) (conv : ℕ) (request : Option Request) (moves : List Move) → AreOthers (resend_due proxy conv request moves)

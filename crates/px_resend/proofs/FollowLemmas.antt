@@ -23,7 +23,7 @@ use Rattle.px_exchange.specs.declared.terms.Terms.{Terms}
 use Rattle.px_exchange.specs.Endings.{shut_server}
 use Rattle.px_exchange.specs.Finds.{look_head, or_leaves}
 use Rattle.px_chain.specs.Chain.{look}
-use Rattle.px_chain.specs.Sights.{Sight, Standing, request_in, sight_over}
+use Rattle.px_chain.specs.Sights.{Sight, Standing, request_in, server_parked, sight_over}
 use Rattle.px_chain.specs.Stages.{At, busy, connection, given_body, given_head, idle, next, request_body, response_body, response_head, upgraded}
 use Rattle.px_chain.specs.Stages as flows
 use Rattle.px_chain.proofs.Quiet.{IsAskOf, LooksQuiet, any_flow}
@@ -55,7 +55,8 @@ pub idle_waits : (terms : Terms) (at : At) (seen : Sight) → seen.client ≡ []
 idle_waits terms at seen none unclosed =
     let empty : request_item [] ≡ missing = refl in
     let item : request_in at seen ≡ missing = ap (λ bytes. request_item (drop at.used bytes)) none ∙ (ap (λ bytes. request_item bytes) (drop-nil at.used) ∙ empty) in
-    ap (λ i. or_leaves seen.closed [] (look_head terms at.flow i seen.now seen.closed)) item ∙ waits_by seen.closed [] unclosed
+    let parked : Used = server_parked at.parked seen in
+    ap (λ i. or_leaves seen.closed (shut_server parked) (look_head terms at.flow i seen.now parked seen.closed)) item ∙ waits_by seen.closed (shut_server parked) unclosed
 
 -- the end is found at once
 ends_at_once : (closed : Bool) (l : Look Command) → or_leaves closed [] (Ends []) ≡ l → l ≡ Ends []

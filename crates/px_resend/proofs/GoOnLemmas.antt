@@ -38,9 +38,9 @@ use Rattle.px_stream.specs.declared.stream.Stream.{Stream}
 use Rattle.px_stream.specs.Anywhere.{BeginsThere, IsNew}
 use Rattle.px_stream.specs.GoingOn.{GoesOnWith, MayGoOn, doing_by}
 use Rattle.px_stream.specs.Left.{sequence_by, sequence_left}
-use Rattle.px_stream.specs.Phases.{spare_at}
+use Rattle.px_stream.specs.Phases.{parked_at}
 use Rattle.px_stream.specs.Sequence.{IsSideBelow, is_idle, outcome_in}
-use Rattle.px_stream.specs.Stands.{IsSpare, PhaseAt, awaits}
+use Rattle.px_stream.specs.Stands.{HasParked, PhaseAt, awaits}
 use Rattle.px_resend.specs.declared.child.Child.TheVariants as children
 use Rattle.px_resend.specs.Chain.{first_at, flows_of, going, place_by, terms_by}
 use Rattle.px_resend.specs.Heard.{all_of_servers, to_servers}
@@ -49,6 +49,7 @@ use Rattle.px_resend.specs.Steps.{Adds, Arrives, Follows, FollowsAs, GoesOnAs}
 use Rattle.px_resend.proofs.FollowLemmas.{follows_at}
 use Rattle.px_resend.proofs.GoingLemmas.{owed_there}
 use Rattle.px_resend.proofs.HeardLemmas.{never_closed, no_bytes, servers_alike, servers_asked}
+use Rattle.px_resend.proofs.ParkedLemmas.{has_no_home, none_behind}
 
 -- ---- a stream of this place
 
@@ -57,27 +58,32 @@ pub no_side : (proxy : Option Address) (place : Place) → place ≡ place_by pr
 no_side None place is = let P : Place → Type 0 = λ p. IsSideBelow p 0 in subst P (sym is) tt
 no_side (Some address) place is = let P : Place → Type 0 = λ p. IsSideBelow p 0 in subst P (sym is) tt
 
-none_spare : (proxy : Option Address) → spare_at (place_by proxy) ≡ None
-none_spare None = refl
-none_spare (Some address) = refl
+none_parked : (proxy : Option Address) → parked_at (place_by proxy) ≡ None
+none_parked None = refl
+none_parked (Some address) = refl
 
 -- What a stream is that was made for it.
 pub record IsMadeFor (conv : ℕ) (proxy : Option Address) (state : Stream) : Type 0 where
   pub terms : state.terms ≡ terms_by conv proxy
   pub numbers : state.numbers ≡ record { flow = 0; server = 0 }
-  pub spare : state.spare ≡ None
+  pub parked : state.parked ≡ None
   pub is_new : IsNew state
 
 pub made_for : (conv : ℕ) (proxy : Option Address) (place : Place) (state : Stream) → place ≡ place_by proxy → state.terms ≡ terms_of conv None place →
-    state.numbers ≡ record { flow = 0; server = 0 } → state.spare ≡ spare_at place → IsNew state → IsMadeFor conv proxy state
-made_for conv proxy place state is terms numbers spare is_new =
-    record { terms = terms ∙ ap (terms_of conv None) is; numbers = numbers; spare = spare ∙ (ap spare_at is ∙ none_spare proxy); is_new = is_new }
+    state.numbers ≡ record { flow = 0; server = 0 } → state.parked ≡ parked_at place → IsNew state → IsMadeFor conv proxy state
+made_for conv proxy place state is terms numbers parked is_new =
+    record { terms = terms ∙ ap (terms_of conv None) is; numbers = numbers; parked = parked ∙ (ap parked_at is ∙ none_parked proxy); is_new = is_new }
 
 -- ---- where it goes on
 
 -- the first flow at this moment, over these events
 abbrev place_at : Flow → ℕ → List (Timed Event) → Standing
-place_at flow moment heard = record { stage = busy first_at flow (doing_by flow.response); since = from_here moment heard; opened = 0; spare = None }
+place_at flow moment heard = record { stage = busy first_at flow (doing_by flow.response); since = from_here moment heard; opened = 0 }
+
+-- and no side is parked there
+none_there : (given : Option Response) (place : Place) (flow : Flow) (seen : Sight) → HasParked place (busy first_at flow (doing_by given)) seen None
+none_there None place flow seen = tt
+none_there (Some response) place flow seen = tt
 
 at_first : (bytes : List ℕ) → bytes ≡ [] → drop 0 bytes ≡ []
 at_first bytes is = is
@@ -86,7 +92,9 @@ may_go_on : (conv : ℕ) (proxy : Option Address) (before : Stream) (flow : Flow
     MayGoOn (terms_by conv proxy) 0 before moment flow (place_at flow moment (all_of_servers prefix)) (all_of_servers prefix)
 may_go_on conv proxy before flow moment prefix is =
     let heard : List (Timed Event) = all_of_servers prefix in
-    let P : Option Link → Type 0 = λ s. IsSpare None s in
+    let at : Standing = place_at flow moment heard in
+    let seen : Sight = sight_over at heard in
+    let P : Option Link → Type 0 = λ parked. HasParked (place_by proxy) at.stage seen parked in
     record {
       terms = is.terms;
       at = first_at;
@@ -98,8 +106,8 @@ may_go_on conv proxy before flow moment prefix is =
       used = omega arith;
       come = at_first (bytes_of Client heard) (no_bytes prefix);
       client = never_closed prefix;
-      spare = subst P (sym is.spare) tt;
-      within = record { since = omega arith; opened = omega arith; spare = tt };
+      parked = subst P (sym is.parked) (none_there flow.response (place_by proxy) flow seen);
+      within = record { since = omega arith; opened = omega arith };
       now = sym (now_here moment heard);
     }
 
@@ -145,7 +153,7 @@ module _ (conv : ℕ) (proxy : Option Address) (recorded : Request) (flow : Flow
         there = follows.there;
         gives = λ view.
             servers_alike view given (owed_here chain on heard) (there.gives view)
-            ∙ (ap (seen_of view) (owed_there terms recorded on heard)
+            ∙ (ap (seen_of view) (owed_there terms recorded on heard (none_behind terms 0 boxed.value on heard (has_no_home conv proxy) there.is_there))
             ∙ (sym (append-nil (seen_of view (to_servers (found (chain.look on heard))))) ∙ follows.gives view));
       }
 

@@ -1,5 +1,5 @@
 -- A flow that goes on: what the calls of its stream do, those of the request do, without what is said to a client.
-use Rattle.std.proofs.Common.{◌≡◌, ◌≤◌, ◌<◌, ℕ, List, [], ◌∷◌, ◌++◌, map, refl, ap, sym, ◌∙◌, subst, arith, append_assoc}
+use Rattle.std.proofs.Common.{◌≡◌, ◌≤◌, ◌<◌, ℕ, List, [], ◌∷◌, ◌++◌, map, None, refl, ap, sym, ◌∙◌, subst, arith, append_assoc}
 use Rattle.std.specs.Prelude.{IfOk, Result, Ok, Err}
 use Rattle.std.specs.Global.{Box}
 use Rattle.std.specs.List.{flat_map}
@@ -10,7 +10,7 @@ use Rattle.px_message.specs.declared.version.Version.TheVariants as versions
 use Rattle.px_event.specs.declared.command.Command.{Command}
 use Rattle.px_event.specs.declared.event.Event.{Event}
 use Rattle.px_event.specs.declared.reply.Reply.{Reply}
-use Rattle.px_event.specs.Chain.{Timed, Look, NotYet, Asks, Ends, found}
+use Rattle.px_event.specs.Chain.{Timed, Look, NotYet, Asks, Ends, found, found_with}
 use Rattle.px_event.specs.Laws.{owed_here, owed_over}
 use Rattle.px_event.specs.Layer.{AsksOnly, asks_in}
 use Rattle.px_event.specs.View.{View, seen_of}
@@ -27,7 +27,7 @@ use Rattle.px_stream.specs.declared.stream.Stream.{Stream}
 use Rattle.px_stream.specs.Anywhere.{ResumesAnywhere, Somewhere, TakesAnywhere}
 use Rattle.px_stream.specs.Left.{sequence_left}
 use Rattle.px_stream.specs.Sequence.{IsInSequence}
-use Rattle.px_stream.specs.Stands.{awaits}
+use Rattle.px_stream.specs.Stands.{awaits, home_of}
 use Rattle.px_resend.specs.declared.child.Child.{Child}
 use Rattle.px_resend.specs.declared.child.Child.TheVariants as children
 use Rattle.px_resend.specs.Chain.{Stage, asks_head, asks_whole, flows_of, goes_on, over, resend_chain, waiting}
@@ -38,6 +38,7 @@ use Rattle.px_resend.specs.Stands.{IsChild, IsSomewhere, Keeps, KeepsBy}
 use Rattle.px_resend.specs.Steps.{Adds, Follows, ResumesChild, TakesChild}
 use Rattle.px_resend.proofs.FollowLemmas.{follows_asks, follows_at, follows_left}
 use Rattle.px_resend.proofs.HeardLemmas.{all_longer, servers_alike, servers_append, servers_asked}
+use Rattle.px_resend.proofs.ParkedLemmas.{none_behind}
 
 -- ---- where a flow is kept
 
@@ -113,14 +114,17 @@ waits_none (busy at flow given_body) seen = refl
 waits_none (next at) seen = refl
 waits_none flows.over seen = refl
 
--- what a place owes to servers is what is found there
-pub owed_there : (terms : Terms) (recorded : Request) (place : Standing) (prefix : List (Timed Event)) →
+-- what a place owes to servers is what is found there, where nothing is owed behind an ask
+pub owed_there : (terms : Terms) (recorded : Request) (place : Standing) (prefix : List (Timed Event)) → (flows_of terms recorded).behind place prefix ≡ [] →
     to_servers (owed_here (flows_of terms recorded) place prefix) ≡ to_servers (found ((flows_of terms recorded).look place prefix))
-owed_there terms recorded place prefix =
-    servers_append (so_far place.stage (sight_over place prefix)) (found ((flows_of terms recorded).look place prefix))
-    ∙ ap (λ l. l ++ to_servers (found ((flows_of terms recorded).look place prefix))) (waits_none place.stage (sight_over place prefix))
+owed_there terms recorded place prefix none =
+    let waits : List Command = so_far place.stage (sight_over place prefix) in
+    let here : Look Command = (flows_of terms recorded).look place prefix in
+    ap (λ behind. to_servers (waits ++ found_with behind here)) none
+    ∙ (servers_append waits (found here)
+    ∙ ap (λ l. l ++ to_servers (found here)) (waits_none place.stage (sight_over place prefix)))
 
-module _ (terms : Terms) (recorded : Request) (boxed : Box Stream) (after : Box Stream) (child : Child) (given second : List Command) (follows : Follows after child second) where
+module _ (terms : Terms) (recorded : Request) (no_home : home_of terms.place ≡ None) (boxed : Box Stream) (after : Box Stream) (child : Child) (given second : List Command) (follows : Follows after child second) where
   -- ---- an event
 
   -- what the two gave, one behind the other
@@ -149,11 +153,12 @@ module _ (terms : Terms) (recorded : Request) (boxed : Box Stream) (after : Box 
       let more : List (Timed Event) = all_of_servers (prefix ++ e ∷ []) in
       let P : List (Timed Event) → Type 0 = λ p. IsInSequence terms 0 after.value (chain.pass place p).stage p in
       let on : Standing = (chain.pass place more).stage in
-      let next_there = follows_at terms recorded after child second on (prefix ++ e ∷ []) (subst P same at) follows in
+      let there : IsInSequence terms 0 after.value on more = subst P same at in
+      let next_there = follows_at terms recorded after child second on (prefix ++ e ∷ []) there follows in
       onward (found_same terms recorded boxed place prefix is_child ∙ is) next_there.there
       (λ view. gave_both view (chain.so_far place (all_of_servers prefix)) (owed_here chain on more) (found (chain.look on more))
       (found ((resend_chain terms recorded).look (goes_on on) (prefix ++ e ∷ []))) (waits_none place.stage (sight_over place (all_of_servers prefix)))
-      (owed_there terms recorded on more) (gives view ∙ ap (λ p. seen_of view (owed_over chain place p)) same) (next_there.gives view))
+      (owed_there terms recorded on more (none_behind terms 0 after.value on more no_home there)) (gives view ∙ ap (λ p. seen_of view (owed_over chain place p)) same) (next_there.gives view))
 
   takes_there : (moment : ℕ) (event : Event) (place : Standing) (prefix : List (Timed Event)) → IsChild terms recorded (children.GoesOn boxed) (goes_on place) prefix →
       Takes (http_chain sequence terms) (IsInSequence terms 0) after.value moment (of_servers event) given place (all_of_servers prefix) →
@@ -190,7 +195,7 @@ module _ (terms : Terms) (recorded : Request) (boxed : Box Stream) (after : Box 
       let next_there = follows_at terms recorded after child second on prefix resumes.place follows in
       let all : List Command = turned.owed ++ owed_here chain on heard in
       let said : to_servers all ≡ to_servers turned.owed ++ to_servers (found (chain.look on heard)) =
-      servers_append turned.owed (owed_here chain on heard) ∙ ap (λ l. to_servers turned.owed ++ l) (owed_there terms recorded on heard) in
+      servers_append turned.owed (owed_here chain on heard) ∙ ap (λ l. to_servers turned.owed ++ l) (owed_there terms recorded on heard (none_behind terms 0 after.value on heard no_home resumes.place)) in
       record {
         ask = resumes.ask;
         asked = found_same terms recorded boxed place prefix is_child ∙ resumes.asked;
@@ -220,7 +225,7 @@ module _ (terms : Terms) (recorded : Request) (boxed : Box Stream) (after : Box 
 pub went : (out between longer given second : List Command) → between ≡ out ++ to_servers given → longer ≡ between ++ second → longer ≡ out ++ (to_servers given ++ second)
 went out between longer given second passed grown = grown ∙ (ap (λ l. l ++ second) passed ∙ append_assoc out (to_servers given) second)
 
-module _ (terms : Terms) (recorded : Request) (boxed after : Box Stream) (start given out between longer : List Command) (empty : start ≡ []) (passed : between ≡ out ++ to_servers given) where
+module _ (terms : Terms) (recorded : Request) (no_home : home_of terms.place ≡ None) (boxed after : Box Stream) (start given out between longer : List Command) (empty : start ≡ []) (passed : between ≡ out ++ to_servers given) where
   pub takes_all : {E : Type 0} (result : Result Child E) (moment : ℕ) (event heard : Event) (had : Stream) → heard ≡ of_servers event → had ≡ boxed.value →
       TakesAnywhere had after.value moment heard start given → IfOk result (λ next. Adds (Follows after next) between longer) →
       IfOk result (λ next. Adds (TakesChild terms recorded (children.GoesOn boxed) next moment event) out longer)
@@ -234,7 +239,7 @@ module _ (terms : Terms) (recorded : Request) (boxed after : Box Stream) (start 
       record {
         more = to_servers given ++ adds.more;
         grown = went out between longer given adds.more passed adds.grown;
-        holds = going_takes terms recorded boxed after child given adds.more adds.holds moment event (subst L (sym there.grown) there.takes);
+        holds = going_takes terms recorded no_home boxed after child given adds.more adds.holds moment event (subst L (sym there.grown) there.takes);
       }
   takes_all (Err error) moment event heard had is same takes adds = tt
 
@@ -250,7 +255,7 @@ module _ (terms : Terms) (recorded : Request) (boxed after : Box Stream) (start 
       record {
         more = to_servers given ++ adds.more;
         grown = went out between longer given adds.more passed adds.grown;
-        holds = going_resumes terms recorded boxed after child given adds.more adds.holds moment reply (subst L (sym there.grown) there.resumes);
+        holds = going_resumes terms recorded no_home boxed after child given adds.more adds.holds moment reply (subst L (sym there.grown) there.resumes);
       }
   resumes_all (Err error) moment reply had same resumes adds = tt
 

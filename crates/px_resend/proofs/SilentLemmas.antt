@@ -28,7 +28,7 @@ use Rattle.px_chain.specs.Stages as flows
 use Rattle.px_chain.proofs.CountedLemmas.{Counts, CountsServers, IsSilent, counted_silent}
 use Rattle.px_chain.proofs.SilentLemmas.{AreBelow, SideBelow, dialled_at, http_counts, turns_counted}
 use Rattle.px_stream.specs.GoingOn.{doing_by}
-use Rattle.px_resend.specs.Chain.{Stage, asks_head, asks_whole, flows_of, goes_on, look_by, over, pass, resend_chain, terms_by, to_servers_in, turn_head, turn_whole, waiting}
+use Rattle.px_resend.specs.Chain.{Stage, asks_head, asks_whole, first_at, flows_of, goes_on, look_by, over, pass, resend_chain, terms_by, to_servers_in, turn_head, turn_whole, waiting}
 use Rattle.px_resend.specs.Due.{resend_due}
 use Rattle.px_resend.specs.Heard.{all_of_servers}
 use Rattle.px_resend.proofs.OwedLemmas.{server_line}
@@ -74,7 +74,7 @@ module _ (server : ℕ) where
 
 -- ---- the chain
 
-side_below : (given : Option Response) → SideBelow (side_in (doing_by given)) 0
+side_below : (given : Option Response) → SideBelow (side_in first_at (doing_by given)) 0
 side_below None = tt
 side_below (Some response) = tt
 
@@ -84,12 +84,12 @@ module _ (most : ℕ) where
 
   head_counts : (recorded : Request) (flow : Flow) (prefix : List (Timed Event)) (moment : ℕ) (taken : Taken Request) → Counts dials_at AllBelow most (turn_head recorded flow prefix moment taken)
   head_counts recorded flow prefix moment (GoesOn request) = leads_to_few _ (omega arith) tt
-  head_counts recorded flow prefix moment (Responds response) = leads_to_few _ (omega arith) (tt, tt)
+  head_counts recorded flow prefix moment (Responds response) = leads_to_few _ (omega arith) tt
   head_counts recorded flow prefix moment Kills = record { silent = λ server beyond. refl; few = omega arith; stays = tt }
 
   whole_counts : (flow : Flow) (prefix : List (Timed Event)) (moment : ℕ) (taken : Taken Request) → Counts dials_at AllBelow most (turn_whole flow prefix moment taken)
-  whole_counts flow prefix moment (GoesOn request) = leads_to_few _ (omega arith) (tt, side_below flow.response)
-  whole_counts flow prefix moment (Responds response) = leads_to_few _ (omega arith) (tt, tt)
+  whole_counts flow prefix moment (GoesOn request) = leads_to_few _ (omega arith) (side_below flow.response)
+  whole_counts flow prefix moment (Responds response) = leads_to_few _ (omega arith) tt
   whole_counts flow prefix moment Kills = record { silent = λ server beyond. refl; few = omega arith; stays = tt }
 
 module _ (terms : Terms) (recorded : Request) where
@@ -131,6 +131,7 @@ module _ (terms : Terms) (recorded : Request) where
     passes = passes;
     looks = looks;
     waits = λ stage prefix below server few. refl;
+    behind = λ stage prefix below server few. refl;
     turns = λ stage prefix ask answer below asked. turns stage prefix answer below;
   }
 

@@ -77,11 +77,11 @@ whole_flow request flow = with_body flow request.body request.trailers flow.time
 
 -- it is the first flow, nothing was dialled, and no byte of a client used
 abbrev pub first_at : At
-first_at = record { flow = 0; dials = 0; used = 0 }
+first_at = record { flow = 0; dials = 0; used = 0; parked = None }
 
 -- the flow goes on at this moment
 abbrev pub going : Flow → ℕ → List (Timed Event) → Stage
-going flow moment prefix = goes_on (record { stage = busy first_at flow (doing_by flow.response); since = from_here moment prefix; opened = 0; spare = None })
+going flow moment prefix = goes_on (record { stage = busy first_at flow (doing_by flow.response); since = from_here moment prefix; opened = 0 })
 
 abbrev pub leads_to : Stage → Turn Stage Command
 leads_to stage = record { owed = []; stage = stage }
@@ -145,6 +145,10 @@ module _ (terms : Terms) (recorded : Request) where
   abbrev pub so_far : Stage → List (Timed Event) → List Command
   so_far stage prefix = []
 
+  -- nothing is parked
+  abbrev pub behind : Stage → List (Timed Event) → List Command
+  behind stage prefix = []
+
   abbrev pub turn_going : Turn Standing Command → Turn Stage Command
   turn_going on = record { owed = to_servers on.owed; stage = goes_on on.stage }
 
@@ -155,4 +159,4 @@ module _ (terms : Terms) (recorded : Request) where
   turn stage prefix answer = leads_to stage
 
   abbrev pub resend_chain : Chain Stage Event Reply Command
-  resend_chain = record { pass = pass; look = look; so_far = so_far; turn = turn }
+  resend_chain = record { pass = pass; look = look; so_far = so_far; behind = behind; turn = turn }

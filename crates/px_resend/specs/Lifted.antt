@@ -20,6 +20,10 @@ abbrev pub so_far_by : {S E R A : Type 0} → Chain S E R A → Option S → Lis
 so_far_by chain None prefix = []
 so_far_by chain (Some own) prefix = chain.so_far own prefix
 
+abbrev pub behind_by : {S E R A : Type 0} → Chain S E R A → Option S → List (Timed E) → List A
+behind_by chain None prefix = []
+behind_by chain (Some own) prefix = chain.behind own prefix
+
 abbrev pub turn_by : {S U E R A : Type 0} → (S → U) → Chain S E R A → Option S → U → List (Timed E) → Timed R → Turn U A
 turn_by into chain None stage prefix answer = stays stage
 turn_by into chain (Some own) stage prefix answer = turn_into into (chain.turn own prefix answer)
@@ -30,5 +34,6 @@ lifted into back chain = record {
   pass = λ stage prefix. pass_by into chain (back stage) stage prefix;
   look = λ stage prefix. look_by chain (back stage) prefix;
   so_far = λ stage prefix. so_far_by chain (back stage) prefix;
+  behind = λ stage prefix. behind_by chain (back stage) prefix;
   turn = λ stage prefix answer. turn_by into chain (back stage) stage prefix answer;
 }

@@ -4,13 +4,13 @@ use Rattle.px_text.specs.Prefix.{IsPrefixOf}
 use Rattle.px_event.specs.declared.command.Command.{Command}
 use Rattle.px_event.specs.declared.event.Event.{Event}
 use Rattle.px_event.specs.declared.reply.Reply.{Reply}
-use Rattle.px_event.specs.Chain.{Stamp, Stamped, Timed, worked_off, at_its_step, Chain, Look, NotYet, Asks, Ends, Turn, Reached, reach, reach_by, Stop, stop_at, walk, walk_by, found, owed_at, never, due}
+use Rattle.px_event.specs.Chain.{Stamp, Stamped, Timed, worked_off, at_its_step, Chain, Look, NotYet, Asks, Ends, Turn, Reached, reach, reach_by, Stop, stop_at, walk, walk_by, found_with, owed_at, never, due}
 use Rattle.px_event.specs.Laws.{IsSettled, Settles, SoFarGrows, owed_here, owed_over}
 use Rattle.px_event.specs.Layer.{Move}
 use Rattle.px_event.specs.Stands.{StandsAt, due_by, events_in, replies_in, stop_of}
 use Rattle.px_event.specs.View.{seen_of}
 use Rattle.px_event.proofs.Walk.{walk_on, walk_is}
-use Rattle.px_resend.specs.Lifted.{lifted, look_by, pass_by, so_far_by, turn_by, turn_into}
+use Rattle.px_resend.specs.Lifted.{behind_by, lifted, look_by, pass_by, so_far_by, turn_by, turn_into}
 
 -- where a search and a walk stopped, with the stage that its own is
 abbrev reached_into : {S U E A : Type 0} → (S → U) → Reached S E A → Reached U E A
@@ -30,6 +30,9 @@ module _ {S U E R A : Type 0} (into : S → U) (back : U → Option S) (kept : (
 
   so_far_into : (s : S) (f : List (Timed E)) → (lifted into back chain).so_far (into s) f ≡ chain.so_far s f
   so_far_into s f = ap (λ o. so_far_by chain o f) (kept s)
+
+  behind_into : (s : S) (f : List (Timed E)) → (lifted into back chain).behind (into s) f ≡ chain.behind s f
+  behind_into s f = ap (λ o. behind_by chain o f) (kept s)
 
   turn_is_into : (s : S) (f : List (Timed E)) (answer : Timed R) → (lifted into back chain).turn (into s) f answer ≡ turn_into into (chain.turn s f answer)
   turn_is_into s f answer = ap (λ o. turn_by into chain o (into s) f answer) (kept s)
@@ -67,8 +70,9 @@ module _ {S U E R A : Type 0} (into : S → U) (back : U → Option S) (kept : (
   walk_by_into l (Ends owed) onward own_onward stop own_stop is a b = ap (λ k. walk_by k onward stop) is ∙ b
 
   -- the walk behind a reply
-  abbrev replied : List (Stamped R) → Stamp → Reached S E A → A → List A → Turn U A → Stop U E R A
-  replied rs last here ask so_far on = walk (lifted into back chain) rs last (here.before ++ (so_far ++ ask ∷ on.owed)) on.stage here.prefix here.rest
+  abbrev replied : List (Stamped R) → Stamp → Reached S E A → A → List A → List A → Turn U A → Stop U E R A
+  replied rs last here ask so_far behind on =
+      walk (lifted into back chain) rs last (here.before ++ (so_far ++ ask ∷ (behind ++ on.owed))) on.stage here.prefix here.rest
 
   walk_into : (rs : List (Stamped R)) (last : Stamp) (before : List A) (s : S) (f : List (Timed E)) (es : List (Stamped E)) →
       walk (lifted into back chain) rs last before (into s) f es ≡ stop_into into (walk chain rs last before s f es)
@@ -77,22 +81,26 @@ module _ {S U E R A : Type 0} (into : S → U) (back : U → Option S) (kept : (
       let here = reach chain last before s f es in
       let on = chain.turn here.stage here.prefix (at_its_step r) in
       let so_far = chain.so_far here.stage here.prefix in
+      let behind = chain.behind here.stage here.prefix in
+      let lifted_on = (lifted into back chain).turn (into here.stage) here.prefix (at_its_step r) in
+      let lifted_behind = (lifted into back chain).behind (into here.stage) here.prefix in
       walk_is (lifted into back chain) (r ∷ rs) last before (into s) f es
       ∙ ap (walk_on (lifted into back chain) (r ∷ rs) last) (reach_into last before s f es)
-      ∙ walk_by_into _ (chain.look here.stage here.prefix) _ (λ ask. walk chain rs r.stamp (here.before ++ (so_far ++ ask ∷ on.owed)) on.stage here.prefix here.rest)
+      ∙ walk_by_into _ (chain.look here.stage here.prefix) _ (λ ask. walk chain rs r.stamp (here.before ++ (so_far ++ ask ∷ (behind ++ on.owed))) on.stage here.prefix here.rest)
       _ (stop_at last here (r ∷ rs)) (look_into here.stage here.prefix)
-      (λ ask. ap (λ owed. replied rs r.stamp here ask owed ((lifted into back chain).turn (into here.stage) here.prefix (at_its_step r))) (so_far_into here.stage here.prefix)
-      ∙ ap (replied rs r.stamp here ask so_far) (turn_is_into here.stage here.prefix (at_its_step r))
-      ∙ walk_into rs r.stamp (here.before ++ (so_far ++ ask ∷ on.owed)) on.stage here.prefix here.rest)
+      (λ ask. ap (λ owed. replied rs r.stamp here ask owed lifted_behind lifted_on) (so_far_into here.stage here.prefix)
+      ∙ ap (λ owed. replied rs r.stamp here ask so_far owed lifted_on) (behind_into here.stage here.prefix)
+      ∙ ap (replied rs r.stamp here ask so_far behind) (turn_is_into here.stage here.prefix (at_its_step r))
+      ∙ walk_into rs r.stamp (here.before ++ (so_far ++ ask ∷ (behind ++ on.owed))) on.stage here.prefix here.rest)
       refl
 
   -- ---- what is owed
 
   owed_here_into : (s : S) (f : List (Timed E)) → owed_here (lifted into back chain) (into s) f ≡ owed_here chain s f
-  owed_here_into s f = ap (λ o. so_far_by chain o f ++ found (look_by chain o f)) (kept s)
+  owed_here_into s f = ap (λ o. so_far_by chain o f ++ found_with (behind_by chain o f) (look_by chain o f)) (kept s)
 
   pub owed_into : (w : Stop S E R A) → owed_at (lifted into back chain) (stop_into into w) ≡ owed_at chain w
-  owed_into w = ap (λ o. w.before ++ (so_far_by chain o w.prefix ++ found (look_by chain o w.prefix))) (kept w.stage)
+  owed_into w = ap (λ o. w.before ++ (so_far_by chain o w.prefix ++ found_with (behind_by chain o w.prefix) (look_by chain o w.prefix))) (kept w.stage)
 
   pub due_into : (start : S) (events : List (Stamped E)) (replies : List (Stamped R)) → due (lifted into back chain) (into start) events replies ≡ due chain start events replies
   due_into start events replies =

@@ -110,7 +110,7 @@ module _ (terms : Terms) (recorded : Request) where
   turned over prefix answer is = (tt, tt)
 
   resend_stays : StaysNamed terms.conv (resend_chain terms recorded) IsIts
-  resend_stays = record { pass = passed; look = looked; so_far = λ stage prefix is. tt; turn = turned }
+  resend_stays = record { pass = passed; look = looked; so_far = λ stage prefix is. tt; behind = λ stage prefix is. tt; turn = turned }
 
   pub resend_names : (moves : List Move) → AllNamed terms.conv (due_by (resend_chain terms recorded) waiting moves)
   resend_names moves = stays_named terms.conv (resend_chain terms recorded) IsIts waiting resend_stays tt moves

@@ -256,6 +256,7 @@ impl Resend {
             alloc: self.alloc,
             moment,
             client_closed: true,
+            parked: Used::NoServer,
         };
         end_early(now, flow, b"killed", Used::NoServer, out)?;
         Ok(Child::Over)

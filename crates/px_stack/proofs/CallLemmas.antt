@@ -30,12 +30,12 @@ keeps_relay : (conv : ℕ) (client : Visitor) (kept : Relay) (stage : Stage) (pr
     IsKeptRelay kept stage prefix
 keeps_relay conv client kept (http place standing) prefix is = absurd (let no : children.Raw kept ≡ children.Http is.flows = is.is in cc)
 keeps_relay conv client kept (connecting tunnel) prefix is = absurd (let no : children.Raw kept ≡ children.Connecting is.kept is.closed = is.is in cc)
-keeps_relay conv client kept (reaching goal side since) prefix is = absurd (let no : children.Raw kept ≡ children.Reaching is.kept = is.is in cc)
-keeps_relay conv client kept (undecided tunnel spare since) prefix is = absurd (let no : children.Raw kept ≡ children.Undecided is.kept is.server = is.is in cc)
+keeps_relay conv client kept (reaching goal link since) prefix is = absurd (let no : children.Raw kept ≡ children.Reaching is.kept = is.is in cc)
+keeps_relay conv client kept (undecided tunnel link since) prefix is = absurd (let no : children.Raw kept ≡ children.Undecided is.kept is.server = is.is in cc)
 keeps_relay conv client kept (raw ends) prefix is =
     let P : Relay → Type 0 = λ r. IsRelay ends prefix r in
     record { ends = ends; is = refl; relay = subst P (sym (same_relay kept is.kept is.is)) is.relay }
-keeps_relay conv client kept (socket ends flow frames) prefix is = absurd (let no : children.Raw kept ≡ children.Socket is.kept = is.is in cc)
+keeps_relay conv client kept (socket ends flow frames) prefix is = absurd (let no : children.Raw kept ≡ children.Socket is.layer = is.is in cc)
 keeps_relay conv client kept over prefix is = absurd is
 
 keeps_by : (l : Look Command) (conv : ℕ) (client : Visitor) (kept : Relay) (stage : Stage) (prefix : List (Timed Event)) →
@@ -66,7 +66,7 @@ raw_takes conv client kept child moment event more takes stage prefix is =
     let P : Stage → Type 0 = λ s. IsChild conv client (children.Raw kept) s prefix → Takes (stack_chain conv client) (IsChild conv client) child moment event more s prefix in
     subst P (sym there.is)
     (λ here. takes conv client moment there.ends prefix
-    (not_yet conv client kept there.ends prefix (client_closed prefix || is_shut there.ends prefix) _ here) there.relay) is
+    (not_yet conv client kept there.ends prefix (client_closed prefix || is_shut there.ends.link prefix) _ here) there.relay) is
 
 -- ---- the end
 
@@ -74,10 +74,10 @@ raw_takes conv client kept child moment event more takes stage prefix is =
 keeps_over : (conv : ℕ) (client : Visitor) (stage : Stage) (prefix : List (Timed Event)) → Keeps conv client children.Over stage prefix → ⊥
 keeps_over conv client (http place standing) prefix is = let no : children.Over ≡ children.Http is.flows = is.is in cc
 keeps_over conv client (connecting tunnel) prefix is = let no : children.Over ≡ children.Connecting is.kept is.closed = is.is in cc
-keeps_over conv client (reaching goal side since) prefix is = let no : children.Over ≡ children.Reaching is.kept = is.is in cc
-keeps_over conv client (undecided tunnel spare since) prefix is = let no : children.Over ≡ children.Undecided is.kept is.server = is.is in cc
+keeps_over conv client (reaching goal link since) prefix is = let no : children.Over ≡ children.Reaching is.kept = is.is in cc
+keeps_over conv client (undecided tunnel link since) prefix is = let no : children.Over ≡ children.Undecided is.kept is.server = is.is in cc
 keeps_over conv client (raw ends) prefix is = let no : children.Over ≡ children.Raw is.kept = is.is in cc
-keeps_over conv client (socket ends flow frames) prefix is = let no : children.Over ≡ children.Socket is.kept = is.is in cc
+keeps_over conv client (socket ends flow frames) prefix is = let no : children.Over ≡ children.Socket is.layer = is.is in cc
 keeps_over conv client over prefix is = is
 
 ends_there : (l : Look Command) (conv : ℕ) (client : Visitor) (stage : Stage) (prefix : List (Timed Event)) → KeepsBy l conv client children.Over stage prefix →

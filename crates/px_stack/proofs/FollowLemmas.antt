@@ -1,6 +1,6 @@
 -- What follows HTTP is where the chain is, and gives what it owes beside what HTTP did.
-use Rattle.std.proofs.Common.{◌≡◌, inl, inr, ℕ, ◌+◌, ◌<◌, ◌≤◌, Bool, true, false, List, [], ◌∷◌, ◌++◌, Option, Some, None, refl, ap, sym, ◌∙◌, ap₂, subst, append_assoc, arith, option_to_list}
-use Rattle.std.specs.Prelude.{◌⊎◌, Result, Ok, Err, IfOk, OnOk, unwrap_or}
+use Rattle.std.proofs.Common.{◌≡◌, inl, inr, ℕ, ◌+◌, ◌<◌, ◌≤◌, Bool, true, false, List, [], ◌∷◌, ◌++◌, Option, Some, None, refl, ap, sym, ◌∙◌, ap₂, subst, arith, option_to_list}
+use Rattle.std.specs.Prelude.{◌⊎◌, Result, Ok, Err, IfOk, unwrap_or}
 use Rattle.std.specs.Global.{Box}
 use Rattle.std.proofs.lemmas.Grind.{flat_map-append}
 use Rattle.std.proofs.lemmas.List.{append-nil}
@@ -10,11 +10,10 @@ use Rattle.px_event.specs.declared.command.Command.{Command}
 use Rattle.px_event.specs.declared.command.Command.TheVariants as commands
 use Rattle.px_event.specs.declared.event.Event.{Event}
 use Rattle.px_event.specs.declared.event.Rests.{Rests}
-use Rattle.px_event.specs.Chain.{Timed, Look, NotYet, Asks, Ends, Turn, found}
+use Rattle.px_event.specs.Chain.{Timed, Look, NotYet, Asks, Ends, Turn, found_with}
 use Rattle.px_event.specs.Laws.{owed_here}
 use Rattle.px_event.specs.Layer.{AsksOnly, asks_in}
 use Rattle.px_event.specs.View.{View, seen_of}
-use Rattle.px_event.proofs.Seen.{seen_append}
 use Rattle.px_read.specs.Reader.{State}
 use Rattle.px_exchange.specs.declared.ending.Used.TheVariants.{ByServer}
 use Rattle.px_exchange.specs.declared.outcome.Outcome.{Outcome}
@@ -23,32 +22,31 @@ use Rattle.px_exchange.specs.declared.place.Place.{Place}
 use Rattle.px_exchange.specs.declared.place.Place.TheVariants as places
 use Rattle.px_exchange.specs.declared.terms.Terms.{Terms}
 use Rattle.px_exchange.specs.Places.{terms_of}
-use Rattle.px_chain.specs.Chain.{Connect, connect_in, look, sequence, so_far, used_more}
-use Rattle.px_chain.specs.Sights.{Sight, Spare, Standing, Unused, request_in, sight_over, unused_over}
+use Rattle.px_chain.specs.Chain.{Connect, behind, connect_in, look, sequence, so_far, used_more}
+use Rattle.px_chain.specs.Sights.{Sight, Standing, request_in, sight_over}
 use Rattle.px_chain.specs.Stages.{At, ServerSide, busy, connection, given_body, given_head, idle, next, request_body, response_body, response_head, upgraded}
 use Rattle.px_chain.specs.Stages as stages
 use Rattle.px_chain.specs.Streams.{Since, client_closed, now_over}
 use Rattle.px_http.specs.declared.conversation.HttpConv.{HttpConv}
-use Rattle.px_stream.specs.declared.link.Link.{Link}
+use Rattle.px_stream.specs.declared.link.Link.{Link as KeptLink}
 use Rattle.px_stream.specs.declared.phase.Phase.{Phase}
 use Rattle.px_stream.specs.declared.phase.Phase.TheVariants as phase
 use Rattle.px_stream.specs.declared.phase.Wanted.{Wanted}
 use Rattle.px_stream.specs.declared.phase.Wanted.TheVariants as ready
-use Rattle.px_stream.specs.Anywhere.{OpensInTime}
 use Rattle.px_stream.specs.Left.{sequence_left}
 use Rattle.px_stream.specs.Rests.{phase_flow, phase_rest}
-use Rattle.px_stream.specs.Sequence.{IsCounted, asked_tunnel, open_spare, outcome_in, unless_closed, upgraded_side}
-use Rattle.px_stream.specs.Stands.{IsConnecting as IsTunnelAsked, IsLast, IsLastAt, IsSpare, IsUpgraded, PhaseAt, awaited_in, is_last}
+use Rattle.px_stream.specs.Sequence.{IsCounted, asked_tunnel, outcome_in, upgraded_side}
+use Rattle.px_stream.specs.Stands.{IsConnecting as IsTunnelAsked, IsLast, IsLastAt, IsUpgraded, PhaseAt, awaited_in, is_last}
 use Rattle.px_stream.specs.StateLaws.{ends_where_it_ends}
 use Rattle.px_stack.specs.declared.child.Child.{Child}
 use Rattle.px_stack.specs.declared.child.Child.TheVariants as children
 use Rattle.px_stack.specs.declared.child.Opening.{Opening}
 use Rattle.px_stack.specs.declared.closing.Sides.{Sides}
-use Rattle.px_stack.specs.Chain.{begun, flows_at, hands_by, hands_over, or_stays, proxy_at, shut_unused, stack_chain, tunnel_for, upgrades as upgraded_to, with_closes}
-use Rattle.px_stack.specs.Kept.{awaited_by, connecting_left, left_by, most_asked, shut_open, tunnel_left}
+use Rattle.px_stack.specs.Chain.{begun, flows_at, hands_by, hands_over, or_stays, proxy_at, stack_chain, tunnel_for, upgrades as upgraded_to}
+use Rattle.px_stack.specs.Kept.{awaited_by, connecting_left, left_by, most_asked, tunnel_left}
 use Rattle.px_stack.specs.Laws.{hands, never_connects}
 use Rattle.px_stack.specs.Stages.{Ends as TunnelEnds, Stage, Tunnel, Visitor, connecting, http}
-use Rattle.px_stack.specs.Stands.{IsChild, IsInFlows, KeepsBy, ahead_at, open_unused, unless_shut}
+use Rattle.px_stack.specs.Stands.{InTime, IsChild, IsInFlows, KeepsBy, ahead_at}
 use Rattle.px_stack.specs.Sockets.{is_websocket}
 use Rattle.px_stack.specs.Steps.{Adds, Arrives, AsksBehind, Follows, FollowsAt, GoesOnAs, MayRelay}
 use Rattle.px_stack.proofs.RelayLemmas.{given_twice}
@@ -124,26 +122,6 @@ ends_by NotYet terms requests found standing stage seen (owed, is) at = absurd (
 ends_by (Asks ask) terms requests found standing stage seen (owed, is) at = absurd (let no : Asks ask ≡ Ends owed = is in cc)
 ends_by (Ends owed) terms requests found standing stage seen is (last, same, at) = ends_as terms standing stage seen requests found last same at
 
--- ---- the spare side
-
-shut_same : (unused : Option Unused) → shut_open (open_unused unused) ≡ shut_unused unused
-shut_same None = refl
-shut_same (Some unused) = by unused.shut
-  where
-    by : (shut : Bool) → shut_open (unless_shut unused shut) ≡ shut_unused (Some (record unused { shut = shut }))
-    by true = refl
-    by false = refl
-
-spare_same : (unused : Option Unused) (kept : Option Link) → IsSpare unused kept → open_spare kept ≡ open_unused unused
-spare_same None None is = refl
-spare_same None (Some kept) is = absurd is
-spare_same (Some unused) None is = absurd is
-spare_same (Some unused) (Some kept) is = ap (unless_closed kept) is.closed ∙ by unused.shut
-  where
-    by : (shut : Bool) → unless_closed kept shut ≡ unless_shut unused shut
-    by true = refl
-    by false = ap Some is.server
-
 -- ---- by the stage that follows
 
 module _ (conv : ℕ) (client : Visitor) (place : Place) (flows : HttpConv) (standing : Standing) (prefix : List (Timed Event)) where
@@ -185,61 +163,34 @@ module _ (conv : ℕ) (client : Visitor) (place : Place) (flows : HttpConv) (sta
     no_end : (is_last flows.stream.phase ≡ true → ⊥) → (owed : List Command) → looked ≡ Ends owed → ⊥
     no_end open_still owed is = open_still ((ends_where_it_ends sequence terms).there flows.stream standing prefix owed at.is_at is)
 
-    keeps_by : OpensInTime standing.spare prefix → (boxed : Box HttpConv) → boxed.value ≡ flows → (l : Look Command) → ((owed : List Command) → l ≡ Ends owed → ⊥) → (unused : Option Unused) →
-        KeepsBy (with_closes conv client unused l) conv client (children.Http boxed) (http place standing) prefix
-    keeps_by in_time boxed same NotYet goes unused =
+    keeps_by : InTime standing prefix → (boxed : Box HttpConv) → boxed.value ≡ flows → (l : Look Command) → ((owed : List Command) → l ≡ Ends owed → ⊥) →
+        KeepsBy l conv client (children.Http boxed) (http place standing) prefix
+    keeps_by in_time boxed same NotYet goes =
         let P : HttpConv → Type 0 = λ f. IsInFlows conv client place f standing prefix in record { flows = boxed; is = refl; there = subst P (sym same) at; in_time = in_time }
-    keeps_by in_time boxed same (Asks ask) goes unused =
+    keeps_by in_time boxed same (Asks ask) goes =
         let P : HttpConv → Type 0 = λ f. IsInFlows conv client place f standing prefix in record { flows = boxed; is = refl; there = subst P (sym same) at; in_time = in_time }
-    keeps_by in_time boxed same (Ends owed) goes unused = absurd (goes owed refl)
+    keeps_by in_time boxed same (Ends owed) goes = absurd (goes owed refl)
 
-    found_same : (l : Look Command) → ((owed : List Command) → l ≡ Ends owed → ⊥) → (unused : Option Unused) → found (with_closes conv client unused l) ≡ found l
-    found_same NotYet goes unused = refl
-    found_same (Asks ask) goes unused = refl
-    found_same (Ends owed) goes unused = absurd (goes owed refl)
-
-    pub goes_on : OpensInTime standing.spare prefix → (boxed : Box HttpConv) → boxed.value ≡ flows → outcome_in flows.stream.phase ≡ outcomes.Going →
+    pub goes_on : InTime standing prefix → (boxed : Box HttpConv) → boxed.value ≡ flows → outcome_in flows.stream.phase ≡ outcomes.Going →
         FollowsAt conv client flows (children.Http boxed) [] place standing prefix
     goes_on in_time boxed same is =
         let open_still : is_last flows.stream.phase ≡ true → ⊥ = going_on flows.stream.phase is in
-        let goes = no_end open_still in
-        let unused : Option Unused = unused_over standing.spare prefix in
         let P : HttpConv → Type 0 = λ f. sequence_left f.stream + tunnel_left f.stream.terms.place ≤ sequence_left flows.stream + tunnel_left flows.stream.terms.place in
         let Q : Terms → Type 0 = λ t. sequence_left boxed.value.stream + tunnel_left boxed.value.stream.terms.place ≤ sequence_left flows.stream + tunnel_left t.place in
         as_follows (children.Http boxed) [] None (none_follows open_still (hands_over place standing prefix) refl) (record {
-          there = keeps_by in_time boxed same looked goes unused;
-          gives = λ view. append-nil _ ∙ ap (λ l. seen_of view (so_far standing.stage seen ++ l)) (sym (found_same looked goes unused));
+          there = keeps_by in_time boxed same looked (no_end open_still);
+          gives = λ view. append-nil _;
           left = subst Q at.is_at.is_in.terms (subst P (sym same) (omega arith));
         })
 
-    -- at an end a spare side is closed
-    ends_there : (owed : List Command) (unused : Option Unused) (l : Look Command) → l ≡ Ends owed →
-        KeepsBy (with_closes conv client unused l) conv client children.Over (http place standing) prefix
-    ends_there owed unused NotYet is = absurd (let no : NotYet ≡ Ends owed = is in cc)
-    ends_there owed unused (Asks ask) is = absurd (let no : Asks ask ≡ Ends owed = is in cc)
-    ends_there owed unused (Ends other) is = refl
+    ends_there : (owed : List Command) (l : Look Command) → l ≡ Ends owed → KeepsBy l conv client children.Over (http place standing) prefix
+    ends_there owed NotYet is = absurd (let no : NotYet ≡ Ends owed = is in cc)
+    ends_there owed (Asks ask) is = absurd (let no : Asks ask ≡ Ends owed = is in cc)
+    ends_there owed (Ends other) is = refl
 
-    found_more : (owed : List Command) (unused : Option Unused) (l : Look Command) → l ≡ Ends owed → found (with_closes conv client unused l) ≡ found l ++ shut_unused unused
-    found_more owed unused NotYet is = absurd (let no : NotYet ≡ Ends owed = is in cc)
-    found_more owed unused (Asks ask) is = absurd (let no : Asks ask ≡ Ends owed = is in cc)
-    found_more owed unused (Ends other) is = refl
-
-    is_over : hands_over place standing prefix ≡ None → (owed : List Command) × (looked ≡ Ends owed) →
-        FollowsAt conv client flows children.Over (shut_open (open_spare flows.stream.spare)) place standing prefix
+    is_over : hands_over place standing prefix ≡ None → (owed : List Command) × (looked ≡ Ends owed) → FollowsAt conv client flows children.Over [] place standing prefix
     is_over stays (owed, is) =
-        let unused : Option Unused = unused_over standing.spare prefix in
-        let so_far_there : List Command = so_far standing.stage seen in
-        let closes : shut_open (open_spare flows.stream.spare) ≡ shut_unused unused =
-        ap shut_open (spare_same unused flows.stream.spare at.is_at.is_in.spare) ∙ shut_same unused in
-        as_follows children.Over (shut_open (open_spare flows.stream.spare)) None stays (record {
-          there = ends_there owed unused looked is;
-          gives = λ view.
-              ap (λ l. seen_of view (so_far_there ++ found looked) ++ seen_of view l) closes
-              ∙ (sym (seen_append view (so_far_there ++ found looked) (shut_unused unused))
-              ∙ ap (seen_of view) (append_assoc so_far_there (found looked) (shut_unused unused)
-              ∙ ap (λ l. so_far_there ++ l) (sym (found_more owed unused looked is))));
-          left = omega arith;
-        })
+        as_follows children.Over [] None stays (record { there = ends_there owed looked is; gives = λ view. append-nil _; left = omega arith })
 
     -- where the end is found, and how
     found_end : is_last flows.stream.phase ≡ true → EndsAs place standing standing.stage seen flows.stream.requests flows.stream.phase
@@ -258,7 +209,7 @@ module _ (conv : ℕ) (client : Visitor) (place : Place) (flows : HttpConv) (sta
 
     -- it has ended
     pub ends : is_last flows.stream.phase ≡ true → (outcome_in flows.stream.phase ≡ outcomes.Connects → ⊥) → (outcome_in flows.stream.phase ≡ outcomes.Upgraded → ⊥) →
-        FollowsAt conv client flows children.Over (shut_open (open_spare flows.stream.spare)) place standing prefix
+        FollowsAt conv client flows children.Over [] place standing prefix
     ends last apart other =
         is_over (end_by last (found_end last) apart other) ((ends_where_it_ends sequence terms).ends flows.stream standing prefix at.is_at last)
 
@@ -281,9 +232,9 @@ leaves_room (places.Upstream proxy) at seen connects is = record { none_ahead = 
 
 module _ (conv : ℕ) (client : Visitor) (place : Place) (flows : HttpConv) where
   -- over plain parts of a standing
-  module _ (at : At) (since : Since) (opened : ℕ) (spare : Option Spare) (prefix : List (Timed Event)) where
+  module _ (at : At) (since : Since) (opened : ℕ) (prefix : List (Timed Event)) where
     abbrev here : Standing
-    here = record { stage = idle at; since = since; opened = opened; spare = spare }
+    here = record { stage = idle at; since = since; opened = opened }
 
     abbrev sight : Sight
     sight = sight_over here prefix
@@ -327,7 +278,7 @@ module _ (conv : ℕ) (client : Visitor) (place : Place) (flows : HttpConv) wher
             client = client_is ∙ placed.client;
           };
           gives = λ view.
-              ap (λ l. seen_of view (so_far (idle at) sight ++ found l) ++ seen_of view (dials_for kept)) over.ends
+              ap (λ l. seen_of view (so_far (idle at) sight ++ found_with (behind (idle at) sight) l) ++ seen_of view (dials_for kept)) over.ends
               ∙ (ap (λ n. seen_of view (commands.Dial n (unwrap_or kept.proxy kept.address) None ∷ [])) same_server
               ∙ (ap (λ p. seen_of view (commands.Dial at.dials (unwrap_or p kept.address) None ∷ [])) proxy
               ∙ ap (λ a. seen_of view (commands.Dial at.dials (unwrap_or (proxy_at place) a) None ∷ [])) same_address));
@@ -335,9 +286,9 @@ module _ (conv : ℕ) (client : Visitor) (place : Place) (flows : HttpConv) wher
         })
 
   -- whatever the standing
-  module _ (kept : Opening) (closed : Bool) (since : Since) (opened : ℕ) (spare : Option Spare) (prefix : List (Timed Event)) where
+  module _ (kept : Opening) (closed : Bool) (since : Since) (opened : ℕ) (prefix : List (Timed Event)) where
     abbrev standing_at : stages.Stage → Standing
-    standing_at stage = record { stage = stage; since = since; opened = opened; spare = spare }
+    standing_at stage = record { stage = stage; since = since; opened = opened }
 
     abbrev Dials : stages.Stage → Type 0
     Dials stage = FollowsAt conv client flows (children.Connecting kept closed) (dials_for kept) place (standing_at stage) prefix
@@ -350,7 +301,7 @@ module _ (conv : ℕ) (client : Visitor) (place : Place) (flows : HttpConv) wher
         let P : stages.Stage → Type 0 = λ s. IsInFlows conv client place flows (standing_at s) prefix →
         connect_in place (request_in at (sight_over (standing_at s) prefix)) ≡ Some connects →
         IsTunnelAsked at (sight_over (standing_at s) prefix) flows.stream.requests connects last → Dials s in
-        subst P (sym is) (λ flows_there whole_there asked_there. connect_follows at since opened spare prefix flows_there connects whole_there last same asked_there kept closed numbers address proxy rest client_is)
+        subst P (sym is) (λ flows_there whole_there asked_there. connect_follows at since opened prefix flows_there connects whole_there last same asked_there kept closed numbers address proxy rest client_is)
         in_flows whole asked
     connect_by stage in_flows outcome (by_upgrade at flow side is last same asked) numbers address proxy rest client_is =
         absurd (let no : outcomes.Upgraded ≡ outcomes.Connects = sym (ap outcome_in same ∙ ap (λ r. outcome_in (phase.Ready r)) asked.phase) ∙ outcome in cc)
@@ -374,7 +325,7 @@ pub connects : (flows : HttpConv) (kept : Opening) (closed : Bool) → outcome_i
     kept.rest ≡ flows.stream.requests.rest → closed ≡ flows.stream.client_closed → (key : List ℕ) (moment : ℕ) → Follows key moment flows (children.Connecting kept closed) (dials_for kept)
 connects flows kept closed is numbers address proxy rest client_is key moment conv client place standing prefix keyed now at in_time =
     let last : is_last flows.stream.phase ≡ true = last_when flows.stream.phase (apart flows.stream.phase outcomes.Connects outcomes.Going is connects_not) in
-    connect_by conv client place flows kept closed standing.since standing.opened standing.spare prefix standing.stage at is
+    connect_by conv client place flows kept closed standing.since standing.opened prefix standing.stage at is
     (found_end conv client place flows standing prefix at last) numbers address (proxy ∙ ap (λ t. proxy_at t.place) at.is_at.is_in.terms) rest client_is
 
 -- ---- another protocol
@@ -392,26 +343,26 @@ socket_room places.Regular = omega arith
 socket_room (places.Upstream proxy) = omega arith
 
 module _ (conv : ℕ) (client : Visitor) (place : Place) (flows : HttpConv) where
-  module _ (at : At) (flow : Flow) (side : ServerSide) (since : Since) (opened : ℕ) (spare : Option Spare) (prefix : List (Timed Event)) where
+  module _ (at : At) (flow : Flow) (side : ServerSide) (since : Since) (opened : ℕ) (prefix : List (Timed Event)) where
     abbrev there_at : Standing
-    there_at = record { stage = busy at flow (upgraded side); since = since; opened = opened; spare = spare }
+    there_at = record { stage = busy at flow (upgraded side); since = since; opened = opened }
 
     abbrev ends_of : TunnelEnds
-    ends_of = record { used = at.used; side = side; opened = opened; flow = Some flow; spare = spare }
+    ends_of = record { used = at.used; link = record { side = side; opened = opened }; flow = Some flow }
 
     abbrev stage_of : Stage
     stage_of = upgraded_to (is_websocket flow (client_closed prefix)) flow (now_over since prefix) ends_of
 
     upgrade_follows : IsInFlows conv client place flows there_at prefix → (last : Wanted) → flows.stream.phase ≡ phase.Ready last →
         IsUpgraded at (sight_over there_at prefix) flows.stream.requests flow side last →
-        (moment : ℕ) (sides : Sides) (rests : Rests) (given : Flow) (open_side : Option ℕ) (child : Child) (more : List Command) → moment ≡ now_over since prefix →
+        (moment : ℕ) (sides : Sides) (rests : Rests) (given : Flow) (child : Child) (more : List Command) → moment ≡ now_over since prefix →
         upgraded_side flows.stream.phase ≡ Some (ByServer sides.server sides.shut) → sides.closed ≡ flows.stream.client_closed →
         rests.client ≡ flows.stream.requests.rest → rests.server ≡ phase_rest flows.stream.phase → Some given ≡ phase_flow flows.stream.phase →
-        open_side ≡ open_spare flows.stream.spare → left_by child ≤ most_asked → GoesOnAs client.key moment sides rests given open_side child more →
+        left_by child ≤ most_asked → GoesOnAs client.key moment sides rests given child more →
         FollowsAt conv client flows child more place there_at prefix
-    upgrade_follows in_flows last same asked moment sides rests given open_side child more now sides_are closed_is client_rest server_rest given_is spare_is few_left goes =
+    upgrade_follows in_flows last same asked moment sides rests given child more now sides_are closed_is client_rest server_rest given_is few_left goes =
         let seen_there : Sight = sight_over there_at prefix in
-        let kept : Link = asked.kept in
+        let kept : KeptLink = asked.kept in
         let phase_is : flows.stream.phase ≡ phase.Ready (ready.Upgraded flow kept) = same ∙ ap phase.Ready asked.phase in
         let placed = in_flows.is_at.is_in.place in
         let to : hands_over place there_at prefix ≡ Some stage_of = refl in
@@ -421,18 +372,16 @@ module _ (conv : ℕ) (client : Visitor) (place : Place) (flows : HttpConv) wher
         let shut_is : sides.shut ≡ kept.closed = cc in
         let flows_are : Some given ≡ Some flow = given_is ∙ ap phase_flow phase_is in
         let flow_is : given ≡ flow = cc in
-        let may : MayRelay ends_of prefix sides rests (Some given) open_side = record {
+        let may : MayRelay ends_of prefix sides rests (Some given) = record {
           server = server_is ∙ asked.server;
           shut = shut_is ∙ asked.closed;
           closed = closed_is ∙ placed.client;
           up = client_rest ∙ asked.keeps.rest;
           down = server_rest ∙ (ap phase_rest phase_is ∙ asked.rest);
           same_flow = flows_are;
-          same_spare = spare_is ∙ spare_same (unused_over spare prefix) flows.stream.spare in_flows.is_at.is_in.spare;
           used = placed.used;
           side_used = asked.within;
           opened = in_flows.is_at.within.opened;
-          within = in_flows.is_at.within.spare;
         } in
         let Q : Flow → Type 0 = λ f. Arrives conv client child more (upgraded_to (is_websocket f (client_closed prefix)) f moment ends_of) prefix in
         let R : ℕ → Type 0 = λ n. Arrives conv client child more (upgraded_to (is_websocket flow (client_closed prefix)) flow n ends_of) prefix in
@@ -442,45 +391,45 @@ module _ (conv : ℕ) (client : Visitor) (place : Place) (flows : HttpConv) wher
         let room = socket_room place in
         as_follows conv client place flows there_at prefix child more (Some stage_of) to (record {
           there = subst P passes arrives.there;
-          gives = λ view. ap (λ l. seen_of view (found l) ++ seen_of view more) over.ends
+          gives = λ view. ap (λ l. seen_of view (found_with [] l) ++ seen_of view more) over.ends
               ∙ (arrives.gives view ∙ ap (λ t. seen_of view (t.owed ++ owed_here (stack_chain conv client) t.stage prefix)) passes);
           left = omega arith;
         })
 
-  module _ (moment : ℕ) (sides : Sides) (rests : Rests) (given : Flow) (open_side : Option ℕ) (child : Child) (more : List Command)
-      (since : Since) (opened : ℕ) (spare : Option Spare) (prefix : List (Timed Event)) (now : moment ≡ now_over since prefix) where
+  module _ (moment : ℕ) (sides : Sides) (rests : Rests) (given : Flow) (child : Child) (more : List Command)
+      (since : Since) (opened : ℕ) (prefix : List (Timed Event)) (now : moment ≡ now_over since prefix) where
     abbrev stands_at : stages.Stage → Standing
-    stands_at stage = record { stage = stage; since = since; opened = opened; spare = spare }
+    stands_at stage = record { stage = stage; since = since; opened = opened }
 
     upgrade_by : (stage : stages.Stage) → IsInFlows conv client place flows (stands_at stage) prefix → outcome_in flows.stream.phase ≡ outcomes.Upgraded →
         EndsAs place (stands_at stage) stage (sight_over (stands_at stage) prefix) flows.stream.requests flows.stream.phase →
         upgraded_side flows.stream.phase ≡ Some (ByServer sides.server sides.shut) → sides.closed ≡ flows.stream.client_closed →
         rests.client ≡ flows.stream.requests.rest → rests.server ≡ phase_rest flows.stream.phase → Some given ≡ phase_flow flows.stream.phase →
-        open_side ≡ open_spare flows.stream.spare → left_by child ≤ most_asked → GoesOnAs client.key moment sides rests given open_side child more →
+        left_by child ≤ most_asked → GoesOnAs client.key moment sides rests given child more →
         FollowsAt conv client flows child more place (stands_at stage) prefix
-    upgrade_by stage in_flows outcome (by_connect at tunnel is whole last same asked) a b c d e f g goes =
+    upgrade_by stage in_flows outcome (by_connect at tunnel is whole last same asked) a b c d e f goes =
         absurd (let no : outcomes.Connects ≡ outcomes.Upgraded = sym (ap outcome_in same ∙ ap (λ r. outcome_in (phase.Ready r)) asked.phase) ∙ outcome in cc)
-    upgrade_by stage in_flows outcome (by_upgrade at flow side is last same asked) a b c d e f g goes =
+    upgrade_by stage in_flows outcome (by_upgrade at flow side is last same asked) a b c d e f goes =
         let P : stages.Stage → Type 0 = λ s. IsInFlows conv client place flows (stands_at s) prefix →
         IsUpgraded at (sight_over (stands_at s) prefix) flows.stream.requests flow side last → FollowsAt conv client flows child more place (stands_at s) prefix in
-        subst P (sym is) (λ flows_there asked_there. upgrade_follows at flow side since opened spare prefix flows_there last same asked_there moment sides rests given open_side child more now a b c d e f g goes)
+        subst P (sym is) (λ flows_there asked_there. upgrade_follows at flow side since opened prefix flows_there last same asked_there moment sides rests given child more now a b c d e f goes)
         in_flows asked
-    upgrade_by stage in_flows outcome (by_end stays last same is) a b c d e f g goes =
+    upgrade_by stage in_flows outcome (by_end stays last same is) a b c d e f goes =
         absurd (let no : outcomes.Over ≡ outcomes.Upgraded = sym (ap outcome_in same ∙ is) ∙ outcome in cc)
-    upgrade_by stage in_flows outcome (by_next stays last same is) a b c d e f g goes =
+    upgrade_by stage in_flows outcome (by_next stays last same is) a b c d e f goes =
         absurd (let no : outcomes.Next ≡ outcomes.Upgraded = sym (ap outcome_in same ∙ is) ∙ outcome in cc)
 
 -- A response of code 101 was sent: what follows on both sides is a WebSocket, or is not read.
-pub upgrades : (key : List ℕ) (moment : ℕ) (flows : HttpConv) (sides : Sides) (rests : Rests) (given : Flow) (open_side : Option ℕ) (child : Child) (more : List Command) →
+pub upgrades : (key : List ℕ) (moment : ℕ) (flows : HttpConv) (sides : Sides) (rests : Rests) (given : Flow) (child : Child) (more : List Command) →
     outcome_in flows.stream.phase ≡ outcomes.Upgraded → upgraded_side flows.stream.phase ≡ Some (ByServer sides.server sides.shut) → sides.closed ≡ flows.stream.client_closed →
     rests.client ≡ flows.stream.requests.rest → rests.server ≡ phase_rest flows.stream.phase → Some given ≡ phase_flow flows.stream.phase →
-    open_side ≡ open_spare flows.stream.spare → left_by child ≤ most_asked → GoesOnAs key moment sides rests given open_side child more →
+    left_by child ≤ most_asked → GoesOnAs key moment sides rests given child more →
     Follows key moment flows child more
-upgrades key moment flows sides rests given open_side child more is a b c d e f g goes conv client place standing prefix keyed now at in_time =
+upgrades key moment flows sides rests given child more is a b c d e f goes conv client place standing prefix keyed now at in_time =
     let last : is_last flows.stream.phase ≡ true = last_when flows.stream.phase (apart flows.stream.phase outcomes.Upgraded outcomes.Going is upgraded_not) in
-    let P : List ℕ → Type 0 = λ k. GoesOnAs k moment sides rests given open_side child more in
-    upgrade_by conv client place flows moment sides rests given open_side child more standing.since standing.opened standing.spare prefix now standing.stage at is
-    (found_end conv client place flows standing prefix at last) a b c d e f g (subst P (sym keyed) goes)
+    let P : List ℕ → Type 0 = λ k. GoesOnAs k moment sides rests given child more in
+    upgrade_by conv client place flows moment sides rests given child more standing.since standing.opened prefix now standing.stage at is
+    (found_end conv client place flows standing prefix at last) a b c d e f (subst P (sym keyed) goes)
 
 -- its flow is there
 pub upgraded_flow : (found : Phase) → outcome_in found ≡ outcomes.Upgraded → phase_flow found ≡ None → ⊥
@@ -520,10 +469,6 @@ with_one_key key moment flows out longer (Err error) adds = tt
 -- ---- the end
 
 -- a result with two facts, where it is Ok
-pub both_ok : {A B : Type 0} (result : Result A B) (P Q : A → Type 0) (R : Type 0) → IfOk result P → OnOk result R → ((a : A) → P a → R → Q a) → IfOk result Q
-both_ok (Ok a) P Q R one two leads = leads a one two
-both_ok (Err b) P Q R one two leads = one
-
 pub two_ok : {A B : Type 0} (result : Result A B) (P Q R : A → Type 0) → IfOk result P → IfOk result Q → ((a : A) → P a → Q a → R a) → IfOk result R
 two_ok (Ok a) P Q R one two leads = leads a one two
 two_ok (Err b) P Q R one two leads = one
@@ -534,10 +479,21 @@ ended found outcome is (inl here) other a b there = a (sym there ∙ (sym is ∙
 ended found outcome is (inr here) other a b there = b (sym there ∙ (sym is ∙ here))
 
 pub ends_with : (flows : HttpConv) (outcome : Outcome) → outcome ≡ outcome_in flows.stream.phase → (outcome ≡ outcomes.Next) ⊎ (outcome ≡ outcomes.Over) →
-    (key : List ℕ) (moment : ℕ) → Follows key moment flows children.Over (shut_open (open_spare flows.stream.spare))
+    (key : List ℕ) (moment : ℕ) → Follows key moment flows children.Over []
 ends_with flows outcome is which key moment conv client place standing prefix keyed now at in_time =
     let apart_from = ended flows.stream.phase outcome is which in
     ends conv client place flows standing prefix at
     (last_when flows.stream.phase (apart_from outcomes.Going (λ e. let no : outcomes.Going ≡ outcomes.Next = e in cc) (λ e. let no : outcomes.Going ≡ outcomes.Over = e in cc)))
     (apart_from outcomes.Connects (λ e. let no : outcomes.Connects ≡ outcomes.Next = e in cc) (λ e. let no : outcomes.Connects ≡ outcomes.Over = e in cc))
     (apart_from outcomes.Upgraded (λ e. let no : outcomes.Upgraded ≡ outcomes.Next = e in cc) (λ e. let no : outcomes.Upgraded ≡ outcomes.Over = e in cc))
+
+-- and HTTP asked nothing there
+none_waits : (found : Phase) (outcome : Outcome) → outcome ≡ outcome_in found → (outcome ≡ outcomes.Next) ⊎ (outcome ≡ outcomes.Over) → awaited_in found ≡ None
+none_waits (phase.Asked awaits) outcome is which =
+    absurd (ended (phase.Asked awaits) outcome is which outcomes.Going (λ e. let no : outcomes.Going ≡ outcomes.Next = e in cc) (λ e. let no : outcomes.Going ≡ outcomes.Over = e in cc) refl)
+none_waits (phase.Ready last) outcome is which = refl
+
+pub ends_asks : (flows : HttpConv) (outcome : Outcome) → outcome ≡ outcome_in flows.stream.phase → (outcome ≡ outcomes.Next) ⊎ (outcome ≡ outcomes.Over) → (out : List Command) →
+    AsksBehind flows children.Over out out
+ends_asks flows outcome is which out = λ before first.
+    let P : Option Ask → Type 0 = λ a. AsksOnly a before out in subst P (none_waits flows.stream.phase outcome is which) first

@@ -12,22 +12,23 @@ use Rattle.px_event.proofs.Steps.{Takes, Resumes, onward, past_end}
 use Rattle.px_exchange.specs.declared.place.Place.{Place}
 use Rattle.px_exchange.specs.declared.terms.Terms.{Terms}
 use Rattle.px_exchange.specs.Places.{terms_of}
-use Rattle.px_chain.specs.Chain.{http_chain, sequence}
-use Rattle.px_chain.specs.Sights.{IsWithin, Standing, unused_over}
+use Rattle.px_chain.specs.Chain.{http_chain, pass, sequence}
+use Rattle.px_chain.specs.Sights.{IsWithin, Standing, sight_over}
+use Rattle.px_chain.specs.Stages.{place_of}
 use Rattle.px_chain.proofs.FrontLaws.{now_here, now_more}
 use Rattle.px_http.specs.declared.conversation.HttpConv.{HttpConv}
-use Rattle.px_stream.specs.Anywhere.{OpensInTime, Somewhere}
+use Rattle.px_stream.specs.Anywhere.{Somewhere}
 use Rattle.px_stream.specs.Left.{sequence_left}
 use Rattle.px_stream.specs.Sequence.{IsInSequence}
 use Rattle.px_stack.specs.declared.child.Child.{Child}
 use Rattle.px_stack.specs.declared.child.Child.TheVariants as children
-use Rattle.px_stack.specs.Chain.{flows_at, shut_unused, stack_chain, turn_flows, with_closes}
+use Rattle.px_stack.specs.Chain.{flows_at, stack_chain, turn_flows}
 use Rattle.px_stack.specs.Kept.{left_by, tunnel_left}
 use Rattle.px_stack.specs.Stages.{Stage, Visitor, connecting, http, over, raw, reaching, socket, undecided}
-use Rattle.px_stack.specs.Stands.{IsChild, IsInFlows, IsSomewhere, Keeps, KeepsBy, ahead_at}
+use Rattle.px_stack.specs.Stands.{InTime, IsChild, IsInFlows, IsSomewhere, Keeps, KeepsBy, ahead_at}
 use Rattle.px_stack.specs.Steps.{Follows, IsPlain, ResumesChild, TakesChild}
 use Rattle.px_stack.proofs.LedLemmas.{plain_turn}
-use Rattle.px_stack.proofs.TimeLemmas.{in_time_more, in_time_taken}
+use Rattle.px_stack.proofs.TimeLemmas.{in_time_more, in_time_passed, in_time_turned}
 
 -- ---- where HTTP is kept
 
@@ -37,7 +38,7 @@ pub record IsKept (conv : ℕ) (client : Visitor) (flows : HttpConv) (stage : St
   pub standing : Standing
   pub is : stage ≡ http place standing
   pub there : IsInFlows conv client place flows standing prefix
-  pub in_time : OpensInTime standing.spare prefix
+  pub in_time : InTime standing prefix
 
 same_box : (a b : Box HttpConv) → children.Http a ≡ children.Http b → a ≡ b
 same_box a b is = cc
@@ -48,10 +49,10 @@ keeps_http conv client boxed (http place standing) prefix is =
     let P : Box HttpConv → Type 0 = λ b. IsInFlows conv client place b.value standing prefix in
     record { place = place; standing = standing; is = refl; there = subst P (sym (same_box boxed is.flows is.is)) is.there; in_time = is.in_time }
 keeps_http conv client boxed (connecting tunnel) prefix is = absurd (let no : children.Http boxed ≡ children.Connecting is.kept is.closed = is.is in cc)
-keeps_http conv client boxed (reaching goal side since) prefix is = absurd (let no : children.Http boxed ≡ children.Reaching is.kept = is.is in cc)
-keeps_http conv client boxed (undecided tunnel spare since) prefix is = absurd (let no : children.Http boxed ≡ children.Undecided is.kept is.server = is.is in cc)
+keeps_http conv client boxed (reaching goal link since) prefix is = absurd (let no : children.Http boxed ≡ children.Reaching is.kept = is.is in cc)
+keeps_http conv client boxed (undecided tunnel link since) prefix is = absurd (let no : children.Http boxed ≡ children.Undecided is.kept is.server = is.is in cc)
 keeps_http conv client boxed (raw ends) prefix is = absurd (let no : children.Http boxed ≡ children.Raw is.kept = is.is in cc)
-keeps_http conv client boxed (socket ends flow frames) prefix is = absurd (let no : children.Http boxed ≡ children.Socket is.kept = is.is in cc)
+keeps_http conv client boxed (socket ends flow frames) prefix is = absurd (let no : children.Http boxed ≡ children.Socket is.layer = is.is in cc)
 keeps_http conv client boxed over prefix is = absurd is
 
 kept_by_look : (l : Look Command) (conv : ℕ) (client : Visitor) (boxed : Box HttpConv) (stage : Stage) (prefix : List (Timed Event)) →
@@ -78,6 +79,18 @@ not_ended NotYet conv client boxed stage prefix owed is ends = let no : NotYet �
 not_ended (Asks ask) conv client boxed stage prefix owed is ends = let no : Asks ask ≡ Ends owed = ends in cc
 not_ended (Ends other) conv client boxed stage prefix owed is ends = let no : children.Http boxed ≡ children.Over = is in cc
 
+-- ---- a side that is parked was connected before the client closed, over one event more and behind a reply
+
+later : (standing : Standing) (prefix : List (Timed Event)) (e : Timed Event) → IsWithin standing prefix → InTime standing prefix →
+    InTime (record standing { stage = pass standing.stage (sight_over standing (prefix ++ e ∷ [])) }) (prefix ++ e ∷ [])
+later standing prefix e within in_time =
+    in_time_passed standing (prefix ++ e ∷ []) (in_time_more (place_of standing.stage).parked standing.opened prefix e within.opened in_time)
+
+turned_on : (conv : ℕ) (client : Visitor) (place : Place) (standing : Standing) (prefix : List (Timed Event)) (answer : Timed Reply) → InTime standing prefix →
+    InTime ((flows_at conv client place).pass ((flows_at conv client place).turn standing prefix answer).stage prefix).stage prefix
+turned_on conv client place standing prefix answer in_time =
+    in_time_passed ((flows_at conv client place).turn standing prefix answer).stage prefix (in_time_turned (terms_of conv client.address place) standing prefix answer in_time)
+
 -- ---- an event
 
 module _ (conv : ℕ) (client : Visitor) (boxed : Box HttpConv) (after : HttpConv) (child : Child) (moment : ℕ) (first second : List Command)
@@ -93,7 +106,7 @@ module _ (conv : ℕ) (client : Visitor) (boxed : Box HttpConv) (after : HttpCon
       ∙ (two ∙ ap (λ n. seen_of view (n ++ owed)) (sym empty))))
 
   takes_there : (event : Event) (place : Place) (standing : Standing) (prefix : List (Timed Event)) →
-      IsWithin standing prefix → OpensInTime standing.spare prefix →
+      IsWithin standing prefix → InTime standing prefix →
       ((owed : List Command) → (stack_chain conv client).look (http place standing) prefix ≡ Ends owed → ⊥) →
       Takes (flows_at conv client place) (IsInSequence (terms_of conv client.address place) (ahead_at place)) after.stream moment event first standing prefix →
       Takes (stack_chain conv client) (IsChild conv client) child moment event (first ++ second) (http place standing) prefix
@@ -101,11 +114,11 @@ module _ (conv : ℕ) (client : Visitor) (boxed : Box HttpConv) (after : HttpCon
       let e : Timed Event = record { moment = moment; value = event } in
       let longer : List (Timed Event) = prefix ++ e ∷ [] in
       let on = (flows_at conv client place).pass standing longer in
-      let next = follows conv client place on.stage longer refl (sym (now_more standing.since prefix e within.since)) at (in_time_more standing.spare prefix e within.spare in_time) in
-      onward (ap (with_closes conv client (unused_over standing.spare prefix)) is) next.there
+      let next = follows conv client place on.stage longer refl (sym (now_more standing.since prefix e within.since)) at (later standing prefix e within in_time) in
+      onward is next.there
       (λ view. gave_both view ((flows_at conv client place).so_far standing prefix) (owed_here (flows_at conv client place) on.stage longer) on.owed _ refl (gives view) (next.gives view))
   takes_there event place standing prefix within in_time goes (past_end owed is at gives) =
-      absurd (goes (owed ++ shut_unused (unused_over standing.spare prefix)) (ap (with_closes conv client (unused_over standing.spare prefix)) is))
+      absurd (goes owed is)
 
   pub http_takes : (event : Event) →
       ((made : Terms) (ahead : ℕ) (place : Standing) (prefix : List (Timed Event)) → IsInSequence made ahead boxed.value.stream place prefix →
@@ -125,7 +138,7 @@ module _ (conv : ℕ) (client : Visitor) (boxed : Box HttpConv) (after : HttpCon
   abbrev Plain : Place → Standing → List (Timed Event) → Timed Reply → Type 0
   Plain place standing prefix answer = (stack_chain conv client).turn (http place standing) prefix answer ≡ turn_flows conv client place standing prefix answer
 
-  resumes_there : (reply : Reply) (place : Place) (standing : Standing) (prefix : List (Timed Event)) → OpensInTime standing.spare prefix →
+  resumes_there : (reply : Reply) (place : Place) (standing : Standing) (prefix : List (Timed Event)) → InTime standing prefix →
       Plain place standing prefix (record { moment = moment; value = reply }) →
       Resumes (flows_at conv client place) (IsInSequence (terms_of conv client.address place) (ahead_at place)) after.stream moment reply first standing prefix →
       Resumes (stack_chain conv client) (IsChild conv client) child moment reply (first ++ second) (http place standing) prefix
@@ -133,11 +146,11 @@ module _ (conv : ℕ) (client : Visitor) (boxed : Box HttpConv) (after : HttpCon
       let answer : Timed Reply = record { moment = moment; value = reply } in
       let turned = (flows_at conv client place).turn standing prefix answer in
       let on = (flows_at conv client place).pass turned.stage prefix in
-      let next = follows conv client place on.stage prefix refl (sym (now_here moment prefix)) resumes.place (in_time_taken _ standing.spare prefix in_time) in
+      let next = follows conv client place on.stage prefix refl (sym (now_here moment prefix)) resumes.place (turned_on conv client place standing prefix answer in_time) in
       let P : Turn Stage Command → Type 0 = λ t. IsChild conv client child ((stack_chain conv client).pass t.stage prefix).stage prefix in
       record {
         ask = resumes.ask;
-        asked = ap (with_closes conv client (unused_over standing.spare prefix)) resumes.asked;
+        asked = resumes.asked;
         place = subst P (sym plain) next.there;
         gives = λ view.
             seen_append view first second
@@ -172,15 +185,15 @@ module _ (key : List ℕ) (boxed : Box HttpConv) (after : HttpConv) (child : Chi
   places_left conv client place standing prefix at = ap (λ t. tunnel_left t.place) at.is_at.is_in.terms
 
   takes_left_by : (conv : ℕ) (client : Visitor) (event : Event) (place : Place) (standing : Standing) (prefix : List (Timed Event)) →
-      IsWithin standing prefix → OpensInTime standing.spare prefix →
+      IsWithin standing prefix → InTime standing prefix →
       ((owed : List Command) → (stack_chain conv client).look (http place standing) prefix ≡ Ends owed → ⊥) → Takes (flows_at conv client place) (IsInSequence (terms_of conv client.address place) (ahead_at place)) after.stream moment event first standing prefix →
       left_by child ≤ sequence_left after.stream + tunnel_left place
   takes_left_by conv client event place standing prefix within in_time goes (onward is at gives) =
       let e : Timed Event = record { moment = moment; value = event } in
       (follows conv (keyed client) place ((flows_at conv client place).pass standing (prefix ++ e ∷ [])).stage (prefix ++ e ∷ []) refl
-      (sym (now_more standing.since prefix e within.since)) at (in_time_more standing.spare prefix e within.spare in_time)).left
+      (sym (now_more standing.since prefix e within.since)) at (later standing prefix e within in_time)).left
   takes_left_by conv client event place standing prefix within in_time goes (past_end owed is at gives) =
-      absurd (goes (owed ++ shut_unused (unused_over standing.spare prefix)) (ap (with_closes conv client (unused_over standing.spare prefix)) is))
+      absurd (goes owed is)
 
   pub takes_left : (conv : ℕ) (client : Visitor) (event : Event) → IsSomewhere conv client (children.Http boxed) →
       ((made : Terms) (ahead : ℕ) (place : Standing) (prefix : List (Timed Event)) → IsInSequence made ahead boxed.value.stream place prefix →
@@ -204,6 +217,6 @@ module _ (key : List ℕ) (boxed : Box HttpConv) (after : HttpConv) (child : Chi
       let resumed = resumes (terms_of conv client.address kept.place) (ahead_at kept.place) kept.standing prefix kept.there in
       let flows = flows_at conv client kept.place in
       let here = (follows conv (keyed client) kept.place (flows.pass (flows.turn kept.standing prefix (record { moment = moment; value = reply })).stage prefix).stage prefix refl (sym (now_here moment prefix)) resumed.place
-      (in_time_taken _ kept.standing.spare prefix kept.in_time)).left in
+      (turned_on conv client kept.place kept.standing prefix (record { moment = moment; value = reply }) kept.in_time)).left in
       let same = places_left conv client kept.place kept.standing prefix kept.there in
       omega arith

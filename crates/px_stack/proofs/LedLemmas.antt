@@ -12,18 +12,20 @@ use Rattle.px_exchange.specs.declared.terms.Terms.{Terms}
 use Rattle.px_exchange.specs.Places.{address_of, terms_of}
 use Rattle.px_chain.specs.Chain.{look}
 use Rattle.px_chain.specs.Sights.{Sight, Standing, sight_over}
-use Rattle.px_chain.specs.Stages.{At, busy, connection, given_body, given_head, idle, next, request_body, response_body, response_head, upgraded}
+use Rattle.px_chain.specs.Stages.{At, busy, connection, given_body, given_head, idle, next, request_body, response_body, response_head, unparked, upgraded}
 use Rattle.px_chain.specs.Stages as stages
+use Rattle.px_chain.specs.Streams.{client_closed}
 use Rattle.px_http.specs.declared.conversation.HttpConv.{HttpConv}
 use Rattle.px_read.specs.Reader.{State}
 use Rattle.px_stream.specs.declared.phase.Asked.TheVariants as asked
 use Rattle.px_stream.specs.declared.phase.Phase.{Phase}
 use Rattle.px_stream.specs.declared.phase.Phase.TheVariants as phase
-use Rattle.px_stream.specs.Stands.{PhaseAt}
-use Rattle.px_stream.specs.Through.{IsDialling, led_to, server_dialled}
+use Rattle.px_stream.specs.Sequence.{IsInSequence}
+use Rattle.px_stream.specs.Stands.{Dials, HasPlace, IsPlaced, PhaseAt}
+use Rattle.px_stream.specs.Through.{IsDialling, dialled_flow, led_to, server_dialled}
 use Rattle.px_stream.specs.Through as through
 use Rattle.px_stream.proofs.WaitLemmas.{asked_at, is_at_dial}
-use Rattle.px_stack.specs.Chain.{led_at, led_by, standing_of, turn_flows, turn_http}
+use Rattle.px_stack.specs.Chain.{led_at, led_by, turn_flows, turn_http}
 use Rattle.px_stack.specs.Stages.{Dialling, Visitor}
 use Rattle.px_stack.specs.Stands.{IsInFlows}
 use Rattle.px_stack.specs.Steps.{IsPlain}
@@ -54,46 +56,71 @@ module _ (terms : Terms) (requests : State) (found : Phase) (seen : Sight) where
       found ≡ phase.Asked (asked.Dial flow at.dials)
   dialled_phase at flow (awaits, same, is) = same ∙ ap phase.Asked is.phase
 
-  none_led : (standing : Standing) (stage : stages.Stage) → PhaseAt (look terms stage seen) terms requests found stage seen → server_dialled found ≡ None →
-      led_by standing stage ≡ None
-  none_led standing (idle at) is none = refl
-  none_led standing (busy at flow (request_body given)) is none = refl
-  none_led standing (busy at flow connection) is none =
+  none_led : (stage : stages.Stage) → PhaseAt (look terms stage seen) terms requests found stage seen → server_dialled found ≡ None → led_by stage ≡ None
+  none_led (idle at) is none = refl
+  none_led (busy at flow (request_body given)) is none = refl
+  none_led (busy at flow connection) is none =
       absurd (let no : Some (address_of flow.request) ≡ None = sym (ap server_dialled (dialled_phase at flow is)) ∙ none in cc)
-  none_led standing (busy at flow (response_head side how)) is none = refl
-  none_led standing (busy at flow (response_body side how)) is none = refl
-  none_led standing (busy at flow (upgraded side)) is none = refl
-  none_led standing (busy at flow given_head) is none = refl
-  none_led standing (busy at flow given_body) is none = refl
-  none_led standing (next at) is none = refl
-  none_led standing stages.over is none = refl
+  none_led (busy at flow (response_head side how)) is none = refl
+  none_led (busy at flow (response_body side how)) is none = refl
+  none_led (busy at flow (upgraded side)) is none = refl
+  none_led (busy at flow given_head) is none = refl
+  none_led (busy at flow given_body) is none = refl
+  none_led (next at) is none = refl
+  none_led stages.over is none = refl
 
 none_at : (conv : ℕ) (client : Visitor) (place : Place) (flows : HttpConv) (standing : Standing) (prefix : List (Timed Event)) →
-    IsInFlows conv client place flows standing prefix → led_to place flows.stream.phase ≡ None → led_at place standing ≡ None
+    IsInFlows conv client place flows standing prefix → led_to place flows.stream.phase ≡ None → led_at place standing.stage ≡ None
 none_at conv client places.Regular flows standing prefix at none = refl
 none_at conv client (places.Upstream proxy) flows standing prefix at none = refl
 none_at conv client (places.Fixed address side None) flows standing prefix at none = refl
 none_at conv client (places.Fixed address side (Some proxy)) flows standing prefix at none =
-    none_led (terms_of conv client.address (places.Fixed address side (Some proxy))) flows.stream.requests flows.stream.phase (sight_over standing prefix) standing standing.stage
+    none_led (terms_of conv client.address (places.Fixed address side (Some proxy))) flows.stream.requests flows.stream.phase (sight_over standing prefix) standing.stage
     at.is_at.is_in.phase none
 
 pub plain_turn : (conv : ℕ) (client : Visitor) (place : Place) (flows : HttpConv) (standing : Standing) (prefix : List (Timed Event)) (moment : ℕ) (value : Reply) →
     IsInFlows conv client place flows standing prefix → IsPlain flows value →
-    turn_http conv client (led_at place standing) place standing prefix (record { moment = moment; value = value }) value
+    turn_http conv client (led_at place standing.stage) place standing prefix (record { moment = moment; value = value }) value
     ≡ turn_flows conv client place standing prefix (record { moment = moment; value = value })
 plain_turn conv client place flows standing prefix moment value at plain =
     let P : Terms → Type 0 = λ t. led_to t.place flows.stream.phase ≡ None in
-    plain_by conv client place standing prefix (record { moment = moment; value = value }) (led_at place standing) value
+    plain_by conv client place standing prefix (record { moment = moment; value = value }) (led_at place standing.stage) value
     (λ is. none_at conv client place flows standing prefix at (subst P at.is_at.is_in.terms (plain is)))
+
+-- ---- a flow whose dial is awaited
+
+-- what it keeps there
+module _ (terms : Terms) (ahead : ℕ) (flows : HttpConv) (standing : Standing) (prefix : List (Timed Event)) (at : At) (flow : Flow) (stage : standing.stage ≡ busy at flow connection)
+    (there : IsInSequence terms ahead flows.stream standing prefix) where
+  abbrev seen_there : Sight
+  seen_there = sight_over standing prefix
+
+  placed : IsPlaced at seen_there flows.stream.numbers flows.stream.client_closed
+  placed = let P : stages.Stage → Type 0 = λ s. HasPlace s seen_there flows.stream.numbers flows.stream.client_closed in subst P stage there.is_at.is_in.place
+
+  -- whether its client has closed
+  pub closed_there : flows.stream.client_closed ≡ client_closed prefix
+  closed_there = placed.client
+
+  -- the number of its server
+  pub server_there : flows.stream.numbers.server ≡ at.dials
+  server_there = let P : stages.Stage → Type 0 = Dials in placed.servers (subst P stage there.is_at.is_in.dials)
+
+  -- and the flow
+  pub flow_there : dialled_flow flows.stream.phase ≡ Some flow
+  flow_there =
+      let P : stages.Stage → Type 0 = λ s. PhaseAt (look terms s seen_there) terms flows.stream.requests flows.stream.phase s seen_there in
+      ap dialled_flow (dialled_phase terms flows.stream.requests flows.stream.phase seen_there at flow (subst P stage there.is_at.is_in.phase))
 
 -- ---- a flow that is led on
 
 -- its dial is awaited, of this server, and this is where its server is
 pub record IsLed (place : Place) (flows : HttpConv) (standing : Standing) (address : Address) : Type 0 where
-  pub from : Dialling
-  pub standing_is : standing ≡ standing_of from
-  pub led : led_at place standing ≡ Some from
-  pub there : address ≡ address_of from.flow.request
+  pub at : At
+  pub flow : Flow
+  pub stage : standing.stage ≡ busy at flow connection
+  pub led : led_at place standing.stage ≡ Some (record { at = unparked at; flow = flow })
+  pub there : address ≡ address_of flow.request
   pub waits : IsDialling flows.stream.phase
 
 led_dials : (proxy : Option Address) (found : Phase) (address : Address) → through.led_by proxy found ≡ Some address → IsDialling found
@@ -120,9 +147,10 @@ module _ (conv : ℕ) (client : Visitor) (flows : HttpConv) (standing : Standing
       let there = is_at_dial (terms_of conv client.address (places.Fixed address side (Some proxy))) flows.stream here standing.stage (sight_over standing prefix) dials live at.is_at.is_in in
       let goes_to : server_dialled flows.stream.phase ≡ Some (address_of there.flow.request) = ap server_dialled (live ∙ ap phase.Asked there.dials) in
       record {
-        from = record { at = there.at; flow = there.flow; since = standing.since; opened = standing.opened; spare = standing.spare };
-        standing_is = ap (λ s. record standing { stage = s }) there.stage_is;
-        led = ap (led_by standing) there.stage_is;
+        at = there.at;
+        flow = there.flow;
+        stage = there.stage_is;
+        led = ap led_by there.stage_is;
         there = same_address (address_of there.flow.request) to (sym goes_to ∙ is);
         waits = dials;
       }

@@ -13,6 +13,7 @@ pub mod ReachingLemmas
 pub mod AskLemmas
 pub mod LetLemmas
 pub mod GoalLemmas
+pub mod TellLemmas
 pub mod TimeLemmas
 pub mod SaidLemmas
 pub mod AnswerLemmas

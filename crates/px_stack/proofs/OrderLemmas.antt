@@ -1,11 +1,10 @@
 -- No hook of a flow is asked behind the flow's end, whatever follows a CONNECT.
-use Rattle.std.proofs.Common.{◌≡◌, ℕ, Bool, true, false, List, [], ◌∷◌, ◌++◌, drop, length, Option, Some, None, inl, inr, refl, ap, sym, ◌∙◌, subst, append_assoc, arith, nat_lt}
-use Rattle.std.specs.Prelude.{⊤, ◌||◌, ◌≢◌}
+use Rattle.std.proofs.Common.{◌≡◌, ℕ, Bool, true, false, List, [], ◌∷◌, ◌++◌, drop, Option, Some, None, refl, ap, sym, ◌∙◌, subst, arith, nat_lt}
+use Rattle.std.specs.Prelude.{⊤, ◌==◌, ◌||◌, ◌≢◌}
 use Rattle.std.proofs.lemmas.Bool.{eqb-true, ltb-true}
 use Rattle.px_message.specs.declared.address.Address.{Address}
 use Rattle.px_message.specs.declared.fault.Fault.TheVariants.{UpstreamRefused}
 use Rattle.px_message.specs.declared.flow.Flow.{Flow}
-use Rattle.px_event.specs.declared.ask.Ask.TheVariants as asks
 use Rattle.px_event.specs.declared.command.Command.{Command}
 use Rattle.px_event.specs.declared.command.Command.TheVariants as commands
 use Rattle.px_event.specs.declared.reply.Reply.{Reply}
@@ -13,23 +12,24 @@ use Rattle.px_event.specs.declared.reply.Reply.TheVariants as reply
 use Rattle.px_event.specs.declared.event.Event.{Event}
 use Rattle.px_event.specs.declared.side.Side.{Side}
 use Rattle.px_event.specs.declared.side.Side.TheVariants.{Client, Server}
-use Rattle.px_event.specs.Chain.{Timed, Look, NotYet, Asks, Ends, Turn, found}
+use Rattle.px_event.specs.Chain.{Timed, NotYet, Asks, Ends, Turn, found, found_at}
 use Rattle.px_event.specs.Layer.{Move}
 use Rattle.px_event.specs.Stands.{due_by, events_in, replies_in}
 use Rattle.px_core.specs.Ordered.{AsksNoneOf, EndsOneOf, AsksBeforeEnds, LeavesBehind, LeavesNone, LeavesFlows}
 use Rattle.px_core.proofs.LeavingLemmas.{leaving_ordered}
-use Rattle.px_exchange.specs.declared.ending.Used.TheVariants.{ByServer}
+use Rattle.px_exchange.specs.declared.ending.Used.{Used}
+use Rattle.px_exchange.specs.declared.ending.Used.TheVariants.{ByServer, NoServer}
 use Rattle.px_exchange.specs.declared.place.Place.{Place}
 use Rattle.px_exchange.specs.declared.place.Place.TheVariants as places
 use Rattle.px_write.specs.Error.{error_text}
 use Rattle.px_exchange.specs.Texts.{connected_text}
-use Rattle.px_exchange.specs.Endings.{shut_client, shut_server}
+use Rattle.px_exchange.specs.Endings.{ends_by_fault, refuses, shut_all, shut_client, shut_server}
 use Rattle.px_exchange.specs.Places.{address_of, dialled_for, terms_of}
-use Rattle.px_chain.specs.Chain.{Connect, connect_in, look as look_of, so_far as so_far_of}
-use Rattle.px_chain.specs.Sights.{Sight, Spare, Standing, Unused, request_in, sight_over, unused_over}
-use Rattle.px_chain.specs.Stages.{At, ServerSide, busy, connection, given_body, given_head, idle, next, request_body, response_body, response_head, upgraded}
+use Rattle.px_chain.specs.Chain.{Connect, behind as behind_of, connect_in, look as look_of, so_far as so_far_of}
+use Rattle.px_chain.specs.Sights.{Sight, Standing, request_in, server_parked, sight_over}
+use Rattle.px_chain.specs.Stages.{At, ServerSide, busy, connection, given_body, given_head, idle, next, request_body, response_body, response_head, unparked, upgraded}
 use Rattle.px_chain.specs.Stages as flows
-use Rattle.px_chain.specs.Streams.{Since, client_closed, from_here, is_closed, now_over}
+use Rattle.px_chain.specs.Streams.{Since, client_closed, from_here, now_over}
 use Rattle.px_http.proofs.OrderLemmas.{is_counted as is_counted_there, is_counted_at, is_past, is_past_at, leaves_flows}
 use Rattle.px_tunnel.specs.Upstream.{Granting, awaited, connect_text, granted, refused}
 use Rattle.px_relay.specs.declared.peer.Peer.{Peer}
@@ -39,27 +39,27 @@ use Rattle.px_relay.specs.Messages.{Message}
 use Rattle.px_relay.specs.Sending.{Terms}
 use Rattle.px_relay.specs.Sights.{Sight as SocketSight}
 use Rattle.px_relay.specs.Stages.{At as MessageAt, Stage as Frames, holding, over as ended, relaying}
-use Rattle.px_stack.specs.Chain.{answer_of, asks_proxy, begun, closed_of, closes_all, dialled_by, finished_flow, flows_at, follows, goes_by, hands_by, has_answered, is_empty, is_shut, led_at, led_by, opening_text, opens_by, or_stays, pass_http, pass_reached, pass_socket, raw_look, shut_proxy, shut_unused, socket_sight, socket_terms, stack_chain, standing_of, text_behind, tunnel_for, tunnel_found, turn_connected, turn_dial, turn_flows, turn_http, upgrades, waits_for, with_closes}
+use Rattle.px_stack.specs.Chain.{answer_of, asks_proxy, begun, closed_before, closed_of, closes_all, dialled_by, finished_flow, flows_at, follows, goes_by, hands_by, has_answered, is_shut, led_at, led_by, opening_text, or_stays, pass_http, pass_reached, pass_socket, raw_look, socket_sight, socket_terms, stack_chain, tunnel_for, tunnel_found, turn_connected, turn_dial, turn_flows, turn_http, upgrades, used_proxy, way_to}
 use Rattle.px_stack.specs.Decides.{Decision, decided, is_http, is_raw, still}
 use Rattle.px_stack.specs.Frames.{AreSaid, IsOver, pass_says, turn_says}
 use Rattle.px_stack.specs.Sockets.{is_websocket}
-use Rattle.px_stack.specs.Stages.{Dialling, Ends as TunnelEnds, Goal, Stage, Tunnel, Visitor, a_flow, a_tunnel, connecting, http, over, raw, reaching, socket, undecided}
+use Rattle.px_stack.specs.Stages.{Dialling, Ends as TunnelEnds, Goal, Link, Stage, Tunnel, Visitor, a_flow, a_tunnel, connecting, http, over, raw, reaching, socket, undecided}
 
 -- ---- the tests
 
 abbrev pub is_counted_goal : Goal → Bool
 is_counted_goal (a_tunnel tunnel) = true
-is_counted_goal (a_flow place from) = is_counted_at (standing_of from)
+is_counted_goal (a_flow place from) = from.flow.id.index == from.at.flow
 
 abbrev pub is_counted : Stage → Bool
 is_counted (http place standing) = is_counted_at standing
-is_counted (reaching goal side since) = is_counted_goal goal
+is_counted (reaching goal link since) = is_counted_goal goal
 is_counted stage = true
 
 -- a tunnel is past the flows before its own, and one that is not read past all; so is what another proxy is asked for
 abbrev pub is_behind_goal : Goal → ℕ → Bool
 is_behind_goal (a_tunnel tunnel) index = nat_lt index tunnel.at.flow
-is_behind_goal (a_flow place from) index = is_past_at (standing_of from) index
+is_behind_goal (a_flow place from) index = nat_lt index from.at.flow
 
 -- a WebSocket is past the flows before its own until it has ended
 abbrev pub is_behind_frames : Frames → ℕ → ℕ → Bool
@@ -70,54 +70,10 @@ is_behind_frames ended own index = true
 abbrev pub is_behind : Stage → ℕ → Bool
 is_behind (http place standing) index = is_past_at standing index
 is_behind (connecting tunnel) index = nat_lt index tunnel.at.flow
-is_behind (reaching goal side since) index = is_behind_goal goal index
-is_behind (undecided tunnel spare since) index = nat_lt index tunnel.at.flow
+is_behind (reaching goal link since) index = is_behind_goal goal index
+is_behind (undecided tunnel link since) index = nat_lt index tunnel.at.flow
 is_behind (socket ends flow frames) index = is_behind_frames frames flow.id.index index
 is_behind stage index = true
-
--- ---- closes behind a list
-
-none_closed : (index : ℕ) (xs : List Command) (unused : Option Unused) → AsksNoneOf index xs → AsksNoneOf index (xs ++ shut_unused unused)
-none_closed index [] None all = tt
-none_closed index [] (Some unused) all = by unused.shut
-  where
-    by : (shut : Bool) → AsksNoneOf index (shut_server (ByServer unused.server shut))
-    by true = tt
-    by false = tt
-none_closed index (commands.Send side text ∷ xs) unused all = none_closed index xs unused all
-none_closed index (commands.Close side ∷ xs) unused all = none_closed index xs unused all
-none_closed index (commands.Dial server address inside ∷ xs) unused all = none_closed index xs unused all
-none_closed index (commands.Ask (asks.Hook number hook) flow ∷ xs) unused (apart, all) = (apart, none_closed index xs unused all)
-none_closed index (commands.Ask (asks.Dial server) flow ∷ xs) unused all = none_closed index xs unused all
-none_closed index (commands.Done flow ∷ xs) unused all = none_closed index xs unused all
-
-ordered_closed : (xs : List Command) (unused : Option Unused) → AsksBeforeEnds xs → AsksBeforeEnds (xs ++ shut_unused unused)
-ordered_closed [] None all = tt
-ordered_closed [] (Some unused) all = by unused.shut
-  where
-    by : (shut : Bool) → AsksBeforeEnds (shut_server (ByServer unused.server shut))
-    by true = tt
-    by false = tt
-ordered_closed (commands.Send side text ∷ xs) unused all = ordered_closed xs unused all
-ordered_closed (commands.Close side ∷ xs) unused all = ordered_closed xs unused all
-ordered_closed (commands.Dial server address inside ∷ xs) unused all = ordered_closed xs unused all
-ordered_closed (commands.Ask ask flow ∷ xs) unused all = ordered_closed xs unused all
-ordered_closed (commands.Done flow ∷ xs) unused (here, all) = (none_closed flow.id.index xs unused here, ordered_closed xs unused all)
-
--- what ends no flow ends none behind them either
-ends_closed : (index : ℕ) (xs : List Command) (unused : Option Unused) → EndsOneOf index (xs ++ shut_unused unused) → EndsOneOf index xs
-ends_closed index [] None ends = ends
-ends_closed index [] (Some unused) ends = by unused.shut ends
-  where
-    by : (shut : Bool) → EndsOneOf index (shut_server (ByServer unused.server shut)) → ⊥
-    by true ends = ends
-    by false ends = ends
-ends_closed index (commands.Send side text ∷ xs) unused ends = ends_closed index xs unused ends
-ends_closed index (commands.Close side ∷ xs) unused ends = ends_closed index xs unused ends
-ends_closed index (commands.Dial server address inside ∷ xs) unused ends = ends_closed index xs unused ends
-ends_closed index (commands.Ask ask flow ∷ xs) unused ends = ends_closed index xs unused ends
-ends_closed index (commands.Done flow ∷ xs) unused (inl is) = inl is
-ends_closed index (commands.Done flow ∷ xs) unused (inr ends) = inr (ends_closed index xs unused ends)
 
 -- ---- the closes of a tunnel
 
@@ -136,19 +92,17 @@ closes_still server true closed = client_still closed
 closes_still server false true = record { ordered = tt; none = λ index. tt; ends = λ index e. e }
 closes_still server false false = record { ordered = tt; none = λ index. tt; ends = λ index e. e }
 
-proxy_still : (closed shut : Bool) (server : ℕ) → IsStill (shut_client closed ++ shut_server (ByServer server shut))
-proxy_still true true server = record { ordered = tt; none = λ index. tt; ends = λ index e. e }
-proxy_still true false server = record { ordered = tt; none = λ index. tt; ends = λ index e. e }
-proxy_still false true server = record { ordered = tt; none = λ index. tt; ends = λ index e. e }
-proxy_still false false server = record { ordered = tt; none = λ index. tt; ends = λ index e. e }
+-- a parked side, which is closed behind a dial
+parked_still : (used : Used) (owed : List Command) → IsStill owed → IsStill (shut_server used ++ owed)
+parked_still NoServer owed is = is
+parked_still (ByServer server true) owed is = is
+parked_still (ByServer server false) owed is = record { ordered = is.ordered; none = is.none; ends = is.ends }
 
-unused_still : (unused : Option Unused) (owed : List Command) → IsStill owed → IsStill (shut_unused unused ++ owed)
-unused_still None owed is = is
-unused_still (Some unused) owed is = by unused.shut
-  where
-    by : (shut : Bool) → IsStill (shut_server (ByServer unused.server shut) ++ owed)
-    by true = is
-    by false = record { ordered = is.ordered; none = is.none; ends = is.ends }
+sends_still : (side : Side) (text : List ℕ) (owed : List Command) → IsStill owed → IsStill (commands.Send side text ∷ owed)
+sends_still side text owed is = record { ordered = is.ordered; none = is.none; ends = is.ends }
+
+nothing_still : IsStill []
+nothing_still = record { ordered = tt; none = λ index. tt; ends = λ index e. e }
 
 -- the end of the flow that became a tunnel, before its closes
 record AsksNothing (owed : List Command) : Type 0 where
@@ -207,10 +161,6 @@ later_behind ended own index before = refl
 
 apart_from : (own index : ℕ) → nat_lt index own ≡ true → own ≢ index
 apart_from own index before same = let less = ltb-true index own before in omega arith
-
--- where nothing more comes of it its closes are left
-nothing_closed : (unused : Option Unused) → AsksNothing (shut_unused unused)
-nothing_closed unused = record { ordered = ordered_closed [] unused tt; none = λ index. none_closed index [] unused tt }
 
 -- ---- the chain
 
@@ -272,84 +222,87 @@ module _ (conv : ℕ) (client : Visitor) where
       record { ordered = tt; asks_none = λ index before. tt; ends = λ index ends. absurd ends; keeps = keeps; leads = leads }
 
   -- what follows is past what the tunnel is past
-  follows_behind : (d : Decision) (tunnel : Tunnel) (spare : Spare) (since : Since) (index : ℕ) → nat_lt index tunnel.at.flow ≡ true →
-      is_behind (follows d tunnel spare since) index ≡ true
-  follows_behind still tunnel spare since index before = before
-  follows_behind is_http tunnel spare since index before = before
-  follows_behind is_raw tunnel spare since index before = refl
+  follows_behind : (d : Decision) (tunnel : Tunnel) (link : Link) (since : Since) (index : ℕ) → nat_lt index tunnel.at.flow ≡ true →
+      is_behind (follows d tunnel link since) index ≡ true
+  follows_behind still tunnel link since index before = before
+  follows_behind is_http tunnel link since index before = before
+  follows_behind is_raw tunnel link since index before = refl
 
-  goes_behind : (closed : Bool) (tunnel : Tunnel) (spare : Spare) (since : Since) (prefix : List (Timed Event)) (index : ℕ) → nat_lt index tunnel.at.flow ≡ true →
-      is_behind (goes_by closed tunnel spare since prefix) index ≡ true
-  goes_behind true tunnel spare since prefix index before = before
-  goes_behind false tunnel spare since prefix index before =
-      follows_behind (decided (opening_text tunnel prefix) (has_answered spare prefix)) tunnel spare since index before
+  goes_behind : (closed : Bool) (tunnel : Tunnel) (link : Link) (since : Since) (prefix : List (Timed Event)) (index : ℕ) → nat_lt index tunnel.at.flow ≡ true →
+      is_behind (goes_by closed tunnel link since prefix) index ≡ true
+  goes_behind true tunnel link since prefix index before = before
+  goes_behind false tunnel link since prefix index before =
+      follows_behind (decided (opening_text tunnel prefix) (has_answered link prefix)) tunnel link since index before
 
-  follows_counted : (d : Decision) (tunnel : Tunnel) (spare : Spare) (since : Since) → is_counted (follows d tunnel spare since) ≡ true
-  follows_counted still tunnel spare since = refl
-  follows_counted is_http tunnel spare since = refl
-  follows_counted is_raw tunnel spare since = refl
+  follows_counted : (d : Decision) (tunnel : Tunnel) (link : Link) (since : Since) → is_counted (follows d tunnel link since) ≡ true
+  follows_counted still tunnel link since = refl
+  follows_counted is_http tunnel link since = refl
+  follows_counted is_raw tunnel link since = refl
 
-  goes_counted : (closed : Bool) (tunnel : Tunnel) (spare : Spare) (since : Since) (prefix : List (Timed Event)) → is_counted (goes_by closed tunnel spare since prefix) ≡ true
-  goes_counted true tunnel spare since prefix = refl
-  goes_counted false tunnel spare since prefix = follows_counted (decided (opening_text tunnel prefix) (has_answered spare prefix)) tunnel spare since
+  goes_counted : (closed : Bool) (tunnel : Tunnel) (link : Link) (since : Since) (prefix : List (Timed Event)) → is_counted (goes_by closed tunnel link since prefix) ≡ true
+  goes_counted true tunnel link since prefix = refl
+  goes_counted false tunnel link since prefix = follows_counted (decided (opening_text tunnel prefix) (has_answered link prefix)) tunnel link since
 
-  decided_leaves : (tunnel : Tunnel) (spare : Spare) (since : Since) (prefix : List (Timed Event)) →
-      Leaves (undecided tunnel spare since) [] (goes_by (client_closed prefix) tunnel spare since prefix)
-  decided_leaves tunnel spare since prefix =
-      quietly _ _ (λ index before. goes_behind (client_closed prefix) tunnel spare since prefix index before) (goes_counted (client_closed prefix) tunnel spare since prefix)
-
-  -- where a proxy let a tunnel through
-  opens_leave : (empty : Bool) (tunnel : Tunnel) (side : Spare) (used : ℕ) (since from : Since) (prefix : List (Timed Event)) →
-      Leaves (reaching (a_tunnel tunnel) side from) (commands.Send Client connected_text ∷ []) (opens_by empty tunnel side used since prefix)
-  opens_leave true tunnel side used since from prefix =
-      let from_now : Spare = record { server = side.server; opened = length prefix } in
-      record {
-        ordered = tt;
-        asks_none = λ index before. tt;
-        ends = λ index ends. absurd ends;
-        keeps = λ index before. goes_behind (client_closed prefix) tunnel from_now since prefix index before;
-        leads = goes_counted (client_closed prefix) tunnel from_now since prefix;
-      }
-  opens_leave false tunnel side used since from prefix =
-      record { ordered = tt; asks_none = λ index before. tt; ends = λ index ends. absurd ends; keeps = λ index before. refl; leads = refl }
+  decided_leaves : (tunnel : Tunnel) (link : Link) (since : Since) (prefix : List (Timed Event)) →
+      Leaves (undecided tunnel link since) [] (goes_by (client_closed prefix) tunnel link since prefix)
+  decided_leaves tunnel link since prefix =
+      quietly _ _ (λ index before. goes_behind (client_closed prefix) tunnel link since prefix index before) (goes_counted (client_closed prefix) tunnel link since prefix)
 
   flows_leave : (place : Place) → LeavesFlows (flows_at conv client place) is_counted_at is_past_at
   flows_leave place = leaves_flows (terms_of conv client.address place)
 
-  -- a flow that a proxy did not let through ends, and its side is closed behind that
-  refused_leaves : (place : Place) (from : Dialling) (side : Spare) (since : Since) (prefix : List (Timed Event)) → is_counted_at (standing_of from) ≡ true →
-      Leaves (reaching (a_flow place from) side since) (pass_reached conv client (a_flow place from) side since prefix refused).owed
-      (pass_reached conv client (a_flow place from) side since prefix refused).stage
-  refused_leaves place from side since prefix is =
-      let answer : Timed Reply = record { moment = now_over since prefix; value = reply.Refused UpstreamRefused } in
-      let on = (flows_at conv client place).turn (standing_of from) prefix answer in
-      let leaves = (flows_leave place).turns (standing_of from) prefix (commands.Dial from.at.dials (dialled_for place from.flow.request) None) is refl answer in
-      let unused : Option Unused = Some (record { server = side.server; bytes = []; shut = closed_of side.server (drop side.opened prefix) }) in
+  -- where a proxy let a tunnel through
+  opened_leaves : (tunnel : Tunnel) (link : Link) (since : Since) (prefix : List (Timed Event)) (used : ℕ) →
+      Leaves (reaching (a_tunnel tunnel) link since) (pass_reached conv client (a_tunnel tunnel) link since prefix (granted used)).owed
+      (pass_reached conv client (a_tunnel tunnel) link since prefix (granted used)).stage
+  opened_leaves tunnel link since prefix used =
+      let way : Link = way_to link used prefix in
+      let from : Since = from_here (now_over since prefix) prefix in
       record {
-        ordered = ordered_closed on.owed unused leaves.ordered;
-        asks_none = λ index before. none_closed index on.owed unused (leaves.asks_none index before);
-        ends = λ index ends. leaves.ends index (ends_closed index on.owed unused ends);
-        keeps = leaves.keeps;
-        leads = leaves.leads;
+        ordered = tt;
+        asks_none = λ index before. tt;
+        ends = λ index ends. absurd ends;
+        keeps = λ index before. goes_behind (client_closed prefix) tunnel way from prefix index before;
+        leads = goes_counted (client_closed prefix) tunnel way from prefix;
       }
 
-  reached_leaves : (goal : Goal) (side : Spare) (since : Since) (prefix : List (Timed Event)) (g : Granting) → is_counted_goal goal ≡ true →
-      Leaves (reaching goal side since) (pass_reached conv client goal side since prefix g).owed (pass_reached conv client goal side since prefix g).stage
-  reached_leaves goal side since prefix awaited is = quietly (reaching goal side since) (reaching goal side since) (λ index before. before) is
-  reached_leaves (a_tunnel tunnel) side since prefix (granted used) is =
-      opens_leave (is_empty (text_behind side used prefix)) tunnel side used (from_here (now_over since prefix) prefix) since prefix
-  reached_leaves (a_flow place from) side since prefix (granted used) is =
+  -- what leads to the end
+  ends_there : (goal : Goal) (link : Link) (since : Since) (owed : List Command) → AsksNothing owed → Leaves (reaching goal link since) owed over
+  ends_there goal link since owed is = record {
+    ordered = is.ordered;
+    asks_none = λ index before. is.none index;
+    ends = λ index ends. refl;
+    keeps = λ index before. refl;
+    leads = refl;
+  }
+
+  proxy_closes : (link : Link) (prefix : List (Timed Event)) → IsStill (shut_all (used_proxy link prefix) (closed_before link prefix))
+  proxy_closes link prefix = closes_still link.side.server (closed_of link.side.server (drop link.opened prefix)) (closed_before link prefix)
+
+  -- a tunnel that a proxy did not let through, and a flow, which ends
+  refused_tunnel : (tunnel : Tunnel) (link : Link) (since : Since) (prefix : List (Timed Event)) →
+      Leaves (reaching (a_tunnel tunnel) link since) (refuses UpstreamRefused false (used_proxy link prefix) (closed_before link prefix)) over
+  refused_tunnel tunnel link since prefix =
+      let closes = proxy_closes link prefix in
+      ends_there (a_tunnel tunnel) link since (refuses UpstreamRefused false (used_proxy link prefix) (closed_before link prefix))
+      (record { ordered = closes.ordered; none = closes.none })
+
+  refused_flow : (place : Place) (from : Dialling) (link : Link) (since : Since) (prefix : List (Timed Event)) →
+      Leaves (reaching (a_flow place from) link since)
+      (ends_by_fault from.flow UpstreamRefused (now_over since prefix) (used_proxy link prefix) (closed_before link prefix)) over
+  refused_flow place from link since prefix =
+      let closes = proxy_closes link prefix in
+      ends_there (a_flow place from) link since (ends_by_fault from.flow UpstreamRefused (now_over since prefix) (used_proxy link prefix) (closed_before link prefix))
+      (record { ordered = (closes.none from.flow.id.index, closes.ordered); none = closes.none })
+
+  reached_leaves : (goal : Goal) (link : Link) (since : Since) (prefix : List (Timed Event)) (g : Granting) → is_counted_goal goal ≡ true →
+      Leaves (reaching goal link since) (pass_reached conv client goal link since prefix g).owed (pass_reached conv client goal link since prefix g).stage
+  reached_leaves goal link since prefix awaited is = quietly (reaching goal link since) (reaching goal link since) (λ index before. before) is
+  reached_leaves (a_tunnel tunnel) link since prefix (granted used) is = opened_leaves tunnel link since prefix used
+  reached_leaves (a_flow place from) link since prefix (granted used) is =
       record { ordered = tt; asks_none = λ index before. tt; ends = λ index ends. absurd ends; keeps = λ index before. before; leads = is }
-  reached_leaves (a_tunnel tunnel) side since prefix refused is =
-      let still = proxy_still (client_closed prefix) (closed_of side.server (drop side.opened prefix)) side.server in
-      record {
-        ordered = still.ordered;
-        asks_none = λ index before. still.none index;
-        ends = λ index ends. absurd (still.ends index ends);
-        keeps = λ index before. refl;
-        leads = refl;
-      }
-  reached_leaves (a_flow place from) side since prefix refused is = refused_leaves place from side since prefix is
+  reached_leaves (a_tunnel tunnel) link since prefix refused is = refused_tunnel tunnel link since prefix
+  reached_leaves (a_flow place from) link since prefix refused is = refused_flow place from link since prefix
 
   -- ---- a WebSocket
 
@@ -378,8 +331,8 @@ module _ (conv : ℕ) (client : Visitor) where
   begun_leaves : (stage : Stage) (prefix : List (Timed Event)) → is_counted stage ≡ true → Leaves stage (begun conv client stage prefix).owed (begun conv client stage prefix).stage
   begun_leaves (http place standing) prefix is = quietly (http place standing) (http place standing) (λ index before. before) is
   begun_leaves (connecting tunnel) prefix is = quietly (connecting tunnel) (connecting tunnel) (λ index before. before) refl
-  begun_leaves (reaching goal side since) prefix is = quietly (reaching goal side since) (reaching goal side since) (λ index before. before) is
-  begun_leaves (undecided tunnel spare since) prefix is = quietly (undecided tunnel spare since) (undecided tunnel spare since) (λ index before. before) refl
+  begun_leaves (reaching goal link since) prefix is = quietly (reaching goal link since) (reaching goal link since) (λ index before. before) is
+  begun_leaves (undecided tunnel link since) prefix is = quietly (undecided tunnel link since) (undecided tunnel link since) (λ index before. before) refl
   begun_leaves (raw ends) prefix is = quietly (raw ends) (raw ends) (λ index before. before) refl
   begun_leaves (socket ends flow frames) prefix is = socket_passes ends flow frames prefix
   begun_leaves over prefix is = quietly over over (λ index before. before) refl
@@ -407,8 +360,8 @@ module _ (conv : ℕ) (client : Visitor) where
       Leaves stage ((stack_chain conv client).pass stage prefix).owed ((stack_chain conv client).pass stage prefix).stage
   passes (http place standing) prefix is = http_passes place standing prefix is
   passes (connecting tunnel) prefix is = quietly (connecting tunnel) (connecting tunnel) (λ index before. before) refl
-  passes (reaching goal side since) prefix is = reached_leaves goal side since prefix (answer_of side prefix) is
-  passes (undecided tunnel spare since) prefix is = decided_leaves tunnel spare since prefix
+  passes (reaching goal link since) prefix is = reached_leaves goal link since prefix (answer_of link prefix) is
+  passes (undecided tunnel link since) prefix is = decided_leaves tunnel link since prefix
   passes (raw ends) prefix is = quietly (raw ends) (raw ends) (λ index before. before) refl
   passes (socket ends flow frames) prefix is = socket_passes ends flow frames prefix
   passes over prefix is = quietly over over (λ index before. before) refl
@@ -418,12 +371,6 @@ module _ (conv : ℕ) (client : Visitor) where
       is_counted to ≡ true → Leaves (connecting tunnel) (commands.Dial tunnel.at.dials (dialled_by tunnel) None ∷ owed) to
   dial_leaves tunnel owed to is keeps leads =
       record { ordered = is.ordered; asks_none = λ index before. is.none index; ends = λ index ends. absurd (is.ends index ends); keeps = keeps; leads = leads }
-
-  sends_still : (side : Side) (text : List ℕ) (owed : List Command) → IsStill owed → IsStill (commands.Send side text ∷ owed)
-  sends_still side text owed is = record { ordered = is.ordered; none = is.none; ends = is.ends }
-
-  nothing_still : IsStill []
-  nothing_still = record { ordered = tt; none = λ index. tt; ends = λ index e. e }
 
   -- a proxy is sent the request for a tunnel, or the client is told
   connected_turns : (proxy : Option Address) (tunnel : Tunnel) (prefix : List (Timed Event)) (moment : ℕ) →
@@ -455,76 +402,83 @@ module _ (conv : ℕ) (client : Visitor) where
       let P : Command → Type 0 = λ c. Leaves (connecting tunnel) (c ∷ owed) to in
       subst P same leaves
 
-  -- HTTP found the ask
-  http_asked : (unused : Option Unused) (l : Look Command) (ask : Command) → with_closes conv client unused l ≡ Asks ask → l ≡ Asks ask
-  http_asked unused NotYet ask is = absurd (let no : NotYet ≡ Asks ask = is in cc)
-  http_asked unused (Asks one) ask is = is
-  http_asked unused (Ends owed) ask is = absurd (let no : Ends (owed ++ shut_unused unused) ≡ Asks ask = is in cc)
-
   -- ---- a flow whose dial connected another proxy
 
   -- it stands where its server is dialled, in the place
-  abbrev IsLed : Standing → Option Dialling → Type 0
-  IsLed standing None = ⊤
-  IsLed standing (Some from) = standing.stage ≡ busy from.at from.flow connection
+  record IsLedTo (stage : flows.Stage) (from : Dialling) : Type 0 where
+    at : At
+    stands : stage ≡ busy at from.flow connection
+    from_there : from.at ≡ unparked at
 
-  led_is_by : (standing : Standing) (stage : flows.Stage) → standing.stage ≡ stage → IsLed standing (led_by standing stage)
-  led_is_by standing (idle at) is = tt
-  led_is_by standing (busy at flow (request_body given)) is = tt
-  led_is_by standing (busy at flow connection) is = is
-  led_is_by standing (busy at flow (response_head side how)) is = tt
-  led_is_by standing (busy at flow (response_body side how)) is = tt
-  led_is_by standing (busy at flow (upgraded side)) is = tt
-  led_is_by standing (busy at flow given_head) is = tt
-  led_is_by standing (busy at flow given_body) is = tt
-  led_is_by standing (next at) is = tt
-  led_is_by standing flows.over is = tt
+  abbrev IsLed : flows.Stage → Option Dialling → Type 0
+  IsLed stage None = ⊤
+  IsLed stage (Some from) = IsLedTo stage from
 
-  led_is : (place : Place) (standing : Standing) → IsLed standing (led_at place standing)
-  led_is places.Regular standing = tt
-  led_is (places.Upstream proxy) standing = tt
-  led_is (places.Fixed address side None) standing = tt
-  led_is (places.Fixed address side (Some proxy)) standing = led_is_by standing standing.stage refl
+  led_is_by : (stage : flows.Stage) → IsLed stage (led_by stage)
+  led_is_by (idle at) = tt
+  led_is_by (busy at flow (request_body given)) = tt
+  led_is_by (busy at flow connection) = record { at = at; stands = refl; from_there = refl }
+  led_is_by (busy at flow (response_head side how)) = tt
+  led_is_by (busy at flow (response_body side how)) = tt
+  led_is_by (busy at flow (upgraded side)) = tt
+  led_is_by (busy at flow given_head) = tt
+  led_is_by (busy at flow given_body) = tt
+  led_is_by (next at) = tt
+  led_is_by flows.over = tt
 
-  -- there it owes nothing but the dial
-  led_owes : (place : Place) (standing : Standing) (prefix : List (Timed Event)) (ask : Command) (from : Dialling) → IsLed standing (Some from) →
+  led_is : (place : Place) (stage : flows.Stage) → IsLed stage (led_at place stage)
+  led_is places.Regular stage = tt
+  led_is (places.Upstream proxy) stage = tt
+  led_is (places.Fixed address side None) stage = tt
+  led_is (places.Fixed address side (Some proxy)) stage = led_is_by stage
+
+  -- there it owes nothing but the dial, and behind that the close of a parked side
+  led_owes : (place : Place) (standing : Standing) (prefix : List (Timed Event)) (ask : Command) (from : Dialling) (is : IsLedTo standing.stage from) →
       (flows_at conv client place).look standing prefix ≡ Asks ask → (owed : List Command) →
-      (commands.Dial from.at.dials (dialled_for place from.flow.request) None ∷ owed) ≡ ((flows_at conv client place).so_far standing prefix ++ ask ∷ owed)
+      (commands.Dial is.at.dials (dialled_for place from.flow.request) None ∷ (shut_server (server_parked is.at.parked (sight_over standing prefix)) ++ owed))
+      ≡ ((flows_at conv client place).so_far standing prefix ++ ask ∷ ((flows_at conv client place).behind standing prefix ++ owed))
   led_owes place standing prefix ask from is asked owed =
       let seen : Sight = sight_over standing prefix in
-      let nothing : so_far_of standing.stage seen ≡ [] = ap (λ s. so_far_of s seen) is in
-      let dial : Asks (commands.Dial from.at.dials (dialled_for place from.flow.request) None) ≡ Asks ask =
-      sym (ap (λ s. look_of (terms_of conv client.address place) s seen) is) ∙ asked in
-      let same : commands.Dial from.at.dials (dialled_for place from.flow.request) None ≡ ask = cc in
-      ap (λ c. c ∷ owed) same ∙ ap (λ l. l ++ ask ∷ owed) (sym nothing)
+      let closes : List Command = shut_server (server_parked is.at.parked seen) in
+      let nothing : so_far_of standing.stage seen ≡ [] = ap (λ s. so_far_of s seen) is.stands in
+      let parts : behind_of standing.stage seen ≡ closes = ap (λ s. behind_of s seen) is.stands in
+      let dial : Asks (commands.Dial is.at.dials (dialled_for place from.flow.request) None) ≡ Asks ask =
+      sym (ap (λ s. look_of (terms_of conv client.address place) s seen) is.stands) ∙ asked in
+      let same : commands.Dial is.at.dials (dialled_for place from.flow.request) None ≡ ask = cc in
+      ap (λ c. c ∷ (closes ++ owed)) same
+      ∙ (ap (λ l. ask ∷ (l ++ owed)) (sym parts) ∙ ap (λ l. l ++ ask ∷ (behind_of standing.stage seen ++ owed)) (sym nothing))
 
-  proxy_asked : (place : Place) (standing : Standing) (prefix : List (Timed Event)) (ask : Command) (from : Dialling) (answer : Timed Reply) → IsLed standing (Some from) →
+  proxy_asked : (place : Place) (standing : Standing) (prefix : List (Timed Event)) (ask : Command) (from : Dialling) (answer : Timed Reply) → IsLedTo standing.stage from →
       is_counted_at standing ≡ true → (flows_at conv client place).look standing prefix ≡ Asks ask →
+      (let on : Turn Stage Command = asks_proxy conv client (a_flow place from) (address_of from.flow.request) from.at.dials prefix answer.moment in
       Leaves (http place standing)
-      ((flows_at conv client place).so_far standing prefix ++ ask ∷ (asks_proxy conv client (a_flow place from) (address_of from.flow.request) from.at.dials prefix answer.moment).owed)
-      (asks_proxy conv client (a_flow place from) (address_of from.flow.request) from.at.dials prefix answer.moment).stage
+      ((flows_at conv client place).so_far standing prefix ++ ask ∷ ((flows_at conv client place).behind standing prefix ++ on.owed)) on.stage)
   proxy_asked place standing prefix ask from answer is counted asked =
       let on : Turn Stage Command = asks_proxy conv client (a_flow place from) (address_of from.flow.request) from.at.dials prefix answer.moment in
       let P : List Command → Type 0 = λ l. Leaves (http place standing) l on.stage in
+      let still = parked_still (server_parked is.at.parked (sight_over standing prefix)) on.owed (sends_still (Server from.at.dials) (connect_text (address_of from.flow.request)) [] nothing_still) in
       subst P (led_owes place standing prefix ask from is asked on.owed) (record {
-        ordered = tt;
-        asks_none = λ index before. tt;
-        ends = λ index ends. absurd ends;
-        keeps = λ index before. ap (λ s. is_past s index) (sym is) ∙ before;
-        leads = ap is_counted_there (sym is) ∙ counted;
+        ordered = still.ordered;
+        asks_none = λ index before. still.none index;
+        ends = λ index ends. absurd (still.ends index ends);
+        keeps = λ index before. ap (λ a. nat_lt index a.flow) is.from_there ∙ (ap (λ s. is_past s index) (sym is.stands) ∙ before);
+        leads = ap (λ a. from.flow.id.index == a.flow) is.from_there ∙ (ap is_counted_there (sym is.stands) ∙ counted);
       })
 
   flows_turn : (place : Place) (standing : Standing) (prefix : List (Timed Event)) (ask : Command) (answer : Timed Reply) → is_counted_at standing ≡ true →
       (flows_at conv client place).look standing prefix ≡ Asks ask →
-      Leaves (http place standing) ((flows_at conv client place).so_far standing prefix ++ ask ∷ (turn_flows conv client place standing prefix answer).owed)
+      Leaves (http place standing)
+      ((flows_at conv client place).so_far standing prefix ++ ask ∷ ((flows_at conv client place).behind standing prefix ++ (turn_flows conv client place standing prefix answer).owed))
       (turn_flows conv client place standing prefix answer).stage
   flows_turn place standing prefix ask answer is asked =
       let on = (flows_at conv client place).turn standing prefix answer in
       leads_on place standing on.stage _ (http place on.stage) (same_follows place on.stage) ((flows_leave place).turns standing prefix ask is asked answer)
 
   http_turns : (led : Option Dialling) (place : Place) (standing : Standing) (prefix : List (Timed Event)) (ask : Command) (answer : Timed Reply) (value : Reply) →
-      IsLed standing led → is_counted_at standing ≡ true → (flows_at conv client place).look standing prefix ≡ Asks ask →
-      Leaves (http place standing) ((flows_at conv client place).so_far standing prefix ++ ask ∷ (turn_http conv client led place standing prefix answer value).owed)
+      IsLed standing.stage led → is_counted_at standing ≡ true → (flows_at conv client place).look standing prefix ≡ Asks ask →
+      Leaves (http place standing)
+      ((flows_at conv client place).so_far standing prefix
+      ++ ask ∷ ((flows_at conv client place).behind standing prefix ++ (turn_http conv client led place standing prefix answer value).owed))
       (turn_http conv client led place standing prefix answer value).stage
   http_turns None place standing prefix ask answer value led is asked = flows_turn place standing prefix ask answer is asked
   http_turns (Some from) place standing prefix ask answer (reply.Go given stream) led is asked = flows_turn place standing prefix ask answer is asked
@@ -533,10 +487,6 @@ module _ (conv : ℕ) (client : Visitor) where
   http_turns (Some from) place standing prefix ask answer reply.Discard led is asked = flows_turn place standing prefix ask answer is asked
   http_turns (Some from) place standing prefix ask answer reply.Dialled led is asked = proxy_asked place standing prefix ask from answer led is asked
   http_turns (Some from) place standing prefix ask answer (reply.Refused fault) led is asked = flows_turn place standing prefix ask answer is asked
-
-  waits_not : (goal : Goal) (side : Spare) (prefix : List (Timed Event)) (ask : Command) → waits_for goal side prefix ≡ Asks ask → ⊥
-  waits_not (a_tunnel tunnel) side prefix ask is = asks_not (client_closed prefix) (shut_proxy side prefix) ask is
-  waits_not (a_flow place from) side prefix ask is = let no : NotYet ≡ Asks ask = is in cc
 
   -- a message is asked about
   message_turns : (ends : TunnelEnds) (flow : Flow) (from : Peer) (message : Message) (at : MessageAt) (seen : SocketSight) (answer : Timed Reply) →
@@ -570,69 +520,48 @@ module _ (conv : ℕ) (client : Visitor) where
 
   turns : (stage : Stage) (prefix : List (Timed Event)) (ask : Command) → is_counted stage ≡ true → (stack_chain conv client).look stage prefix ≡ Asks ask →
       (answer : Timed Reply) →
-      Leaves stage ((stack_chain conv client).so_far stage prefix ++ ask ∷ ((stack_chain conv client).turn stage prefix answer).owed) ((stack_chain conv client).turn stage prefix answer).stage
+      Leaves stage ((stack_chain conv client).so_far stage prefix ++ ask ∷ ((stack_chain conv client).behind stage prefix ++ ((stack_chain conv client).turn stage prefix answer).owed))
+      ((stack_chain conv client).turn stage prefix answer).stage
   turns (http place standing) prefix ask is asked answer =
-      let here = http_asked (unused_over standing.spare prefix) ((flows_at conv client place).look standing prefix) ask asked in
-      http_turns (led_at place standing) place standing prefix ask answer answer.value (led_is place standing) is here
+      http_turns (led_at place standing.stage) place standing prefix ask answer answer.value (led_is place standing.stage) is asked
   turns (connecting tunnel) prefix ask is asked answer =
       asked_dial tunnel ask (turn_dial conv client tunnel prefix answer.value answer.moment).owed _ asked (dial_turns tunnel prefix answer.value answer.moment)
-  turns (reaching goal side since) prefix ask is asked answer = absurd (waits_not goal side prefix ask asked)
-  turns (undecided tunnel spare since) prefix ask is asked answer = absurd (asks_not _ _ ask asked)
+  turns (reaching goal link since) prefix ask is asked answer = absurd (let no : NotYet ≡ Asks ask = asked in cc)
+  turns (undecided tunnel link since) prefix ask is asked answer = absurd (asks_not _ _ ask asked)
   turns (raw ends) prefix ask is asked answer = absurd (asks_not _ _ ask asked)
   turns (socket ends flow frames) prefix ask is asked answer =
-      socket_turns ends flow frames (socket_sight ends prefix) ask answer
-      (http_asked (unused_over ends.spare prefix) (relay.look (socket_terms client.key ends flow) frames) ask asked)
+      socket_turns ends flow frames (socket_sight ends prefix) ask answer asked
   turns over prefix ask is asked answer = absurd (let no : Ends [] ≡ Asks ask = asked in cc)
 
   -- where it stops
-  with_ordered : (unused : Option Unused) (l : Look Command) (so_far : List Command) (past : ℕ → Bool) →
-      AsksBeforeEnds (so_far ++ found l) × ((index : ℕ) → past index ≡ true → AsksNoneOf index (so_far ++ found l)) →
-      AsksBeforeEnds (so_far ++ found (with_closes conv client unused l)) × ((index : ℕ) → past index ≡ true → AsksNoneOf index (so_far ++ found (with_closes conv client unused l)))
-  with_ordered unused NotYet so_far past all = all
-  with_ordered unused (Asks ask) so_far past all = all
-  with_ordered unused (Ends owed) so_far past (ordered, none) =
-      let same : (so_far ++ owed) ++ shut_unused unused ≡ so_far ++ (owed ++ shut_unused unused) = append_assoc so_far owed (shut_unused unused) in
-      let P : List Command → Type 0 = λ l. AsksBeforeEnds l × ((index : ℕ) → past index ≡ true → AsksNoneOf index l) in
-      subst P same (ordered_closed (so_far ++ owed) unused ordered, λ index before. none_closed index (so_far ++ owed) unused (none index before))
-
   nothing_there : (stage : Stage) (owed : List Command) → AsksNothing owed → LeavesNone is_behind stage owed
   nothing_there stage owed is = record { ordered = is.ordered; asks_none = λ index before. is.none index }
 
   raw_stops : (ends : TunnelEnds) (prefix : List (Timed Event)) → AsksNothing (found (raw_look ends prefix))
   raw_stops ends prefix =
       let closed : Bool = client_closed prefix in
-      let shut : Bool = is_shut ends prefix in
-      let unused : Option Unused = unused_over ends.spare prefix in
-      let closes : List Command = closes_all ends.side.server shut closed in
-      found_nothing (closed || shut) (finished_flow ends.flow ++ (shut_unused unused ++ closes))
-      (finished_first ends.flow (shut_unused unused ++ closes) (unused_still unused closes (closes_still ends.side.server shut closed)))
-
-  waits_still : (goal : Goal) (side : Spare) (prefix : List (Timed Event)) → AsksNothing (found (waits_for goal side prefix))
-  waits_still (a_tunnel tunnel) side prefix =
-      let closes = proxy_still true (closed_of side.server (drop side.opened prefix)) side.server in
-      found_nothing (client_closed prefix) (shut_proxy side prefix) (record { ordered = closes.ordered; none = closes.none })
-  waits_still (a_flow place from) side prefix = record { ordered = tt; none = λ index. tt }
+      let shut : Bool = is_shut ends.link prefix in
+      let closes : List Command = closes_all ends.link.side.server shut closed in
+      found_nothing (closed || shut) (finished_flow ends.flow ++ closes) (finished_first ends.flow closes (closes_still ends.link.side.server shut closed))
 
   socket_stops : (ends : TunnelEnds) (flow : Flow) (frames : Frames) (prefix : List (Timed Event)) →
       LeavesNone is_behind (socket ends flow frames) (found ((stack_chain conv client).look (socket ends flow frames) prefix))
   socket_stops ends flow (relaying at) prefix = record { ordered = tt; asks_none = λ index before. tt }
   socket_stops ends flow (holding from message at) prefix = record { ordered = tt; asks_none = λ index before. (apart_from flow.id.index index before, tt) }
-  socket_stops ends flow ended prefix = nothing_there (socket ends flow ended) _ (nothing_closed (unused_over ends.spare prefix))
+  socket_stops ends flow ended prefix = record { ordered = tt; asks_none = λ index before. tt }
 
   stops : (stage : Stage) (prefix : List (Timed Event)) → is_counted stage ≡ true →
-      LeavesNone is_behind stage ((stack_chain conv client).so_far stage prefix ++ found ((stack_chain conv client).look stage prefix))
+      LeavesNone is_behind stage ((stack_chain conv client).so_far stage prefix ++ found_at (stack_chain conv client) stage prefix)
   stops (http place standing) prefix is =
-      let here = (flows_leave place).stops standing prefix is in
-      let both = with_ordered (unused_over standing.spare prefix) ((flows_at conv client place).look standing prefix) ((flows_at conv client place).so_far standing prefix)
-      (λ index. is_past_at standing index) (here.ordered, here.asks_none) in
-      record { ordered = both.0; asks_none = both.1 }
+      let here = (flows_leave place).stops standing prefix is in record { ordered = here.ordered; asks_none = here.asks_none }
   stops (connecting tunnel) prefix is = record { ordered = tt; asks_none = λ index before. tt }
-  stops (reaching goal side since) prefix is = nothing_there (reaching goal side since) _ (waits_still goal side prefix)
-  stops (undecided tunnel spare since) prefix is =
-      let shut : Bool = is_closed (Server spare.server) (drop spare.opened prefix) in
+  stops (reaching goal link since) prefix is = record { ordered = tt; asks_none = λ index before. tt }
+  stops (undecided tunnel link since) prefix is =
+      let shut : Bool = is_shut link prefix in
       let closed : Bool = client_closed prefix in
-      let closes = closes_still spare.server shut closed in
-      nothing_there (undecided tunnel spare since) _ (found_nothing (closed || shut) (closes_all spare.server shut closed) (record { ordered = closes.ordered; none = closes.none }))
+      let closes = closes_still link.side.server shut closed in
+      nothing_there (undecided tunnel link since) _
+      (found_nothing (closed || shut) (closes_all link.side.server shut closed) (record { ordered = closes.ordered; none = closes.none }))
   stops (raw ends) prefix is =
       let nothing = raw_stops ends prefix in record { ordered = nothing.ordered; asks_none = λ index before. nothing.none index }
   stops (socket ends flow frames) prefix is = socket_stops ends flow frames prefix

@@ -7,7 +7,6 @@ use Rattle.px_message.specs.declared.request.Request.{Request}
 use Rattle.px_message.specs.declared.response.Response.{Response}
 use Rattle.px_event.specs.declared.command.Command.{Command}
 use Rattle.px_event.specs.declared.command.Command.TheVariants as commands
-use Rattle.px_event.specs.declared.event.Event.{Event}
 use Rattle.px_event.specs.declared.reply.Reply.{Reply}
 use Rattle.px_event.specs.declared.reply.Reply.TheVariants as reply
 use Rattle.px_event.specs.declared.side.Side.TheVariants.{Server}
@@ -27,27 +26,23 @@ use Rattle.px_exchange.specs.declared.terms.Terms.{Terms}
 use Rattle.px_exchange.specs.Dials.{dial_owes}
 use Rattle.px_exchange.specs.Endings.{connection_goes_on, killed_message}
 use Rattle.px_exchange.specs.Flows.{response_of, with_answer, with_body, with_end, with_returned, with_start}
-use Rattle.px_exchange.specs.Places.{goes_home}
+use Rattle.px_exchange.specs.Places.{is_same_address, server_for}
 use Rattle.px_exchange.specs.Replies.{taken_at_response_body, taken_at_response_head}
 use Rattle.px_exchange.specs.Requests.{judged}
-use Rattle.px_chain.specs.Chain.{behind_flow, dial_leads, finish_by, goes_on_by, pass, pass_body, sequence, side_behind, spare_for, turn, turn_answer, turn_body, turn_head, turn_judged, turn_response, turn_returned, turn_taken_answer, turn_taken_body, turn_taken_given, turn_taken_head, turn_taken_returned, turn_taken_whole, used_more}
-use Rattle.px_chain.specs.Sights.{Sight, Spare, Standing, Unused, answers_in, request_in, server_in, sight_over, unused_over}
-use Rattle.px_chain.specs.Silent.{SpareBelow, connects}
-use Rattle.px_chain.specs.Stages.{At, ServerSide, Stage, busy, connection, given_body, given_head, idle, next, over, request_body, response_body, response_head, upgraded}
+use Rattle.px_chain.specs.Chain.{behind_flow, dial_leads, finish_by, goes_on_by, parked_for, pass, pass_body, sequence, side_behind, side_if, turn, turn_answer, turn_body, turn_head, turn_judged, turn_response, turn_returned, turn_taken_answer, turn_taken_body, turn_taken_given, turn_taken_head, turn_taken_returned, turn_taken_whole, used_more}
+use Rattle.px_chain.specs.Sights.{Sight, answers_in, request_in, server_in, server_parked}
+use Rattle.px_chain.specs.Silent.{connects}
+use Rattle.px_chain.specs.Stages.{At, Parked, ServerSide, Stage, busy, connection, given_body, given_head, idle, next, over, request_body, response_body, response_head, unparked, upgraded}
 use Rattle.px_chain.proofs.CountedLemmas.{IsSilent}
-use Rattle.px_chain.proofs.SilentLemmas.{IsBetween, IsBeyond, ServersBelow, UnusedBelow, beyond_by, dialled, early_silent, fault_silent, turn_leads, unused_below}
+use Rattle.px_chain.proofs.SilentLemmas.{IsBetween, IsBeyond, ServersBelow, beyond_by, dialled, early_silent, fault_silent, parked_at, turn_leads}
 use Rattle.px_stack.proofs.AnswerLemmas.{IsWithoutHead}
 
--- what px_chain has of a reply, at any server
-sees_spare : (standing : Standing) (prefix : List (Timed Event)) (dials : ℕ) → SpareBelow standing.spare dials → UnusedBelow (sight_over standing prefix).spare dials
-sees_spare standing prefix dials below = unused_below standing.spare prefix dials below
-
--- it leads to where as many servers were dialled, or more
-between_of : (terms : Terms) (standing : Standing) (prefix : List (Timed Event)) (stage : Stage) (answer : Timed Reply) → ServersBelow standing.spare stage →
-    IsBetween (dialled stage) (dialled stage + connects answer.value) (turn terms stage (sight_over standing prefix) answer).stage
-between_of terms standing prefix stage answer below =
+-- what px_chain has of a reply, at any server: it leads to where as many servers were dialled, or more
+between_of : (terms : Terms) (stage : Stage) (seen : Sight) (answer : Timed Reply) → ServersBelow stage →
+    IsBetween (parked_at stage) (dialled stage) (dialled stage + connects answer.value) (turn terms stage seen answer).stage
+between_of terms stage seen answer below =
     let beyond : ℕ = dialled stage + connects answer.value in
-    (turn_leads beyond terms stage standing.spare (sight_over standing prefix) answer below (sees_spare standing prefix) (beyond_by beyond answer.value stage (omega arith))).1
+    (turn_leads beyond terms stage seen answer below (beyond_by beyond answer.value stage (omega arith))).1
 
 module _ (server : ℕ) where
   -- ---- what is said of a place
@@ -60,19 +55,24 @@ module _ (server : ℕ) where
   pub send_silent : (number : ℕ) (text : List ℕ) → number ≢ server → IsSilent server (commands.Send (Server number) text ∷ [])
   send_silent number text apart = ap (λ same. bytes_in (cond same (map byte text) [] ++ [])) (apart_by number (number == server) refl apart)
 
-  -- the spare side is another's
-  abbrev pub SpareApart : Option Spare → Type 0
-  SpareApart None = ⊤
-  SpareApart (Some spare) = spare.server ≢ server
+  -- a side that a flow goes to, and one that is parked, is another's
+  abbrev SideApart : Option ServerSide → Type 0
+  SideApart None = ⊤
+  SideApart (Some side) = side.server ≢ server
 
-  abbrev UnusedApart : Option Unused → Type 0
-  UnusedApart None = ⊤
-  UnusedApart (Some unused) = unused.server ≢ server
+  abbrev pub ParkedApart : Option Parked → Type 0
+  ParkedApart None = ⊤
+  ParkedApart (Some parked) = parked.side.server ≢ server
 
-  -- where a response's head has come the side is another's
+  -- Where a response's head has come the side is another's, and where a side is parked that one is.
   abbrev pub FlowApart : Stage → Type 0
+  FlowApart (idle at) = ParkedApart at.parked
+  FlowApart (busy at flow (request_body given)) = ParkedApart at.parked
   FlowApart (busy at flow (response_body side how)) = side.server ≢ server
   FlowApart (busy at flow (upgraded side)) = side.server ≢ server
+  FlowApart (busy at flow given_head) = ParkedApart at.parked
+  FlowApart (busy at flow given_body) = ParkedApart at.parked
+  FlowApart (next at) = ParkedApart at.parked
   FlowApart stage = ⊤
 
   -- no response's head stands in what is seen of the server
@@ -87,22 +87,25 @@ module _ (server : ℕ) where
 
   -- ---- where a reply leads
 
-  head_apart : (at : At) (flow : Flow) (expected : Bool) (taken : Taken Request) (moment : ℕ) (closed : Bool) → FlowApart (turn_taken_head at flow expected taken moment closed).stage
-  head_apart at flow expected (GoesOn request) moment closed = tt
-  head_apart at flow expected (Responds response) moment closed = tt
-  head_apart at flow expected Kills moment closed = tt
+  head_apart : (at : At) (flow : Flow) (expected : Bool) (taken : Taken Request) (moment : ℕ) (seen : Sight) → ParkedApart at.parked →
+      FlowApart (turn_taken_head at flow expected taken moment seen).stage
+  head_apart at flow expected (GoesOn request) moment seen apart = apart
+  head_apart at flow expected (Responds response) moment seen apart = apart
+  head_apart at flow expected Kills moment seen apart = tt
 
-  judged_apart : (terms : Terms) (at : At) (head : ReadRequest) (made : Judged) (seen : Sight) (answer : Timed Reply) → FlowApart (turn_judged terms at head made seen answer).stage
-  judged_apart terms at head (Refused fault) seen answer = tt
-  judged_apart terms at head (Connects address) seen answer = tt
-  judged_apart terms at head (Accepted request) seen answer = head_apart at _ _ _ answer.moment _
+  judged_apart : (terms : Terms) (at : At) (head : ReadRequest) (made : Judged) (seen : Sight) (answer : Timed Reply) → ParkedApart at.parked →
+      FlowApart (turn_judged terms at head made seen answer).stage
+  judged_apart terms at head (Refused fault) seen answer apart = tt
+  judged_apart terms at head (Connects address) seen answer apart = tt
+  judged_apart terms at head (Accepted request) seen answer apart = head_apart at _ _ _ answer.moment seen apart
 
-  item_apart : (terms : Terms) (at : At) (item : Item ReadRequest) (seen : Sight) (answer : Timed Reply) → FlowApart (turn_head terms at item seen answer).stage
-  item_apart terms at missing seen answer = tt
-  item_apart terms at (part head body) seen answer = judged_apart terms at head (judged terms.place head) seen answer
-  item_apart terms at (complete head body trailers used) seen answer = judged_apart terms at head (judged terms.place head) seen answer
-  item_apart terms at (bad_head fault) seen answer = tt
-  item_apart terms at (bad_body fault head body) seen answer = judged_apart terms at head (judged terms.place head) seen answer
+  item_apart : (terms : Terms) (at : At) (item : Item ReadRequest) (seen : Sight) (answer : Timed Reply) → ParkedApart at.parked →
+      FlowApart (turn_head terms at item seen answer).stage
+  item_apart terms at missing seen answer apart = tt
+  item_apart terms at (part head body) seen answer apart = judged_apart terms at head (judged terms.place head) seen answer apart
+  item_apart terms at (complete head body trailers used) seen answer apart = judged_apart terms at head (judged terms.place head) seen answer apart
+  item_apart terms at (bad_head fault) seen answer apart = tt
+  item_apart terms at (bad_body fault head body) seen answer apart = judged_apart terms at head (judged terms.place head) seen answer apart
 
   taken_answer_apart : (at : At) (flow : Flow) (side : ServerSide) (taken : Taken Response) (moment : ℕ) (used : Used) (closed : Bool) → side.server ≢ server →
       FlowApart (turn_taken_answer at flow side taken moment used closed).stage
@@ -118,9 +121,9 @@ module _ (server : ℕ) where
   answer_apart at flow side (bad_head fault) seen answer without = tt
   answer_apart at flow side (bad_body fault head body) seen answer without = taken_answer_apart at (with_answer flow (response_of head) seen.now) side _ answer.moment _ _ without
 
-  behind_apart : (stays : Bool) (at : At) → FlowApart (behind_flow stays at)
-  behind_apart true at = tt
-  behind_apart false at = tt
+  behind_apart : (stays : Bool) (at : At) → ParkedApart at.parked → FlowApart (behind_flow stays at)
+  behind_apart true at apart = apart
+  behind_apart false at apart = tt
 
   response_apart : (response : Option Response) (takes : Response → Taken Response) (goes : Taken Response → Turn Stage Command) →
       ((taken : Taken Response) → FlowApart (goes taken).stage) → FlowApart (turn_response response takes goes).stage
@@ -130,7 +133,7 @@ module _ (server : ℕ) where
   finish_apart : (switches : Bool) (at : At) (flow : Flow) (response : Response) (side : ServerSide) (used : Used) (closed : Bool) → side.server ≢ server →
       FlowApart (finish_by switches at flow response side used closed).stage
   finish_apart true at flow response side used closed apart = apart
-  finish_apart false at flow response side used closed apart = behind_apart (connection_goes_on at.flow flow.request response) at
+  finish_apart false at flow response side used closed apart = behind_apart (connection_goes_on at.flow flow.request response) (unparked at) tt
 
   taken_whole_apart : (at : At) (flow : Flow) (side : ServerSide) (taken : Taken Response) (moment : ℕ) (used : Used) (closed : Bool) → side.server ≢ server →
       FlowApart (turn_taken_whole at flow side taken moment used closed).stage
@@ -150,56 +153,66 @@ module _ (server : ℕ) where
   returned_apart at flow side interim (bad_head fault) seen answer apart = tt
   returned_apart at flow side interim (bad_body fault head body) seen answer apart = tt
 
-  taken_returned_apart : (at : At) (flow : Flow) (taken : Taken Response) (moment : ℕ) (used : Used) (closed : Bool) → FlowApart (turn_taken_returned at flow taken moment used closed).stage
-  taken_returned_apart at flow (GoesOn response) moment used closed = behind_apart (connection_goes_on at.flow flow.request response) at
-  taken_returned_apart at flow (Responds response) moment used closed = tt
-  taken_returned_apart at flow Kills moment used closed = tt
+  taken_returned_apart : (at : At) (flow : Flow) (taken : Taken Response) (moment : ℕ) (parked : Used) (closed : Bool) → ParkedApart at.parked →
+      FlowApart (turn_taken_returned at flow taken moment parked closed).stage
+  taken_returned_apart at flow (GoesOn response) moment parked closed apart = behind_apart (connection_goes_on at.flow flow.request response) at apart
+  taken_returned_apart at flow (Responds response) moment parked closed apart = tt
+  taken_returned_apart at flow Kills moment parked closed apart = tt
 
-  given_apart : (at : At) (flow : Flow) (taken : Taken Response) (moment : ℕ) (closed : Bool) → FlowApart (turn_taken_given at flow taken moment closed).stage
-  given_apart at flow (GoesOn response) moment closed = tt
-  given_apart at flow (Responds response) moment closed = tt
-  given_apart at flow Kills moment closed = tt
+  given_apart : (at : At) (flow : Flow) (taken : Taken Response) (moment : ℕ) (parked : Used) (closed : Bool) → ParkedApart at.parked →
+      FlowApart (turn_taken_given at flow taken moment parked closed).stage
+  given_apart at flow (GoesOn response) moment parked closed apart = apart
+  given_apart at flow (Responds response) moment parked closed apart = tt
+  given_apart at flow Kills moment parked closed apart = tt
 
   -- ---- a request that is whole
 
-  goes_silent : (home : Bool) (spare : Option Unused) (place : Place) (at : At) (flow : Flow) → UnusedApart spare → IsSilent server (goes_on_by (spare_for home spare) place at flow).owed
-  goes_silent true None place at flow apart = refl
-  goes_silent true (Some unused) place at flow apart = send_silent unused.server _ apart
-  goes_silent false spare place at flow apart = refl
+  if_apart : (to_it : Bool) (side : ServerSide) → side.server ≢ server → SideApart (side_if to_it side)
+  if_apart true side apart = apart
+  if_apart false side apart = tt
 
-  goes_apart : (home : Bool) (spare : Option Unused) (place : Place) (at : At) (flow : Flow) → FlowApart (goes_on_by (spare_for home spare) place at flow).stage
-  goes_apart true None place at flow = tt
-  goes_apart true (Some unused) place at flow = tt
-  goes_apart false spare place at flow = tt
+  for_apart : (place : Place) (request : Request) (parked : Option Parked) → ParkedApart parked → SideApart (parked_for place request parked)
+  for_apart place request None apart = tt
+  for_apart place request (Some parked) apart = if_apart (is_same_address parked.address (server_for place request)) parked.side apart
 
-  taken_body_silent : (place : Place) (at : At) (flow : Flow) (spare : Option Unused) (taken : Taken Request) (moment : ℕ) (closed : Bool) → UnusedApart spare →
-      IsSilent server (turn_taken_body place at flow spare taken moment closed).owed
-  taken_body_silent place at flow spare (GoesOn request) moment closed apart = goes_silent (goes_home place request) spare place at _ apart
-  taken_body_silent place at flow spare (Responds response) moment closed apart = refl
-  taken_body_silent place at flow spare Kills moment closed apart = early_silent server flow killed_message moment NoServer closed
+  goes_silent : (side : Option ServerSide) (place : Place) (at : At) (flow : Flow) → SideApart side → IsSilent server (goes_on_by side place at flow).owed
+  goes_silent None place at flow apart = refl
+  goes_silent (Some side) place at flow apart = send_silent side.server _ apart
 
-  taken_body_apart : (place : Place) (at : At) (flow : Flow) (spare : Option Unused) (taken : Taken Request) (moment : ℕ) (closed : Bool) →
-      FlowApart (turn_taken_body place at flow spare taken moment closed).stage
-  taken_body_apart place at flow spare (GoesOn request) moment closed = goes_apart (goes_home place request) spare place at _
-  taken_body_apart place at flow spare (Responds response) moment closed = tt
-  taken_body_apart place at flow spare Kills moment closed = tt
+  goes_apart : (side : Option ServerSide) (place : Place) (at : At) (flow : Flow) → FlowApart (goes_on_by side place at flow).stage
+  goes_apart None place at flow = tt
+  goes_apart (Some side) place at flow = tt
 
-  body_silent : (place : Place) (at : At) (flow : Flow) (item : Item ReadRequest) (seen : Sight) (answer : Timed Reply) → UnusedApart seen.spare →
+  taken_body_silent : (place : Place) (at : At) (flow : Flow) (taken : Taken Request) (moment : ℕ) (seen : Sight) → ParkedApart at.parked →
+      IsSilent server (turn_taken_body place at flow taken moment seen).owed
+  taken_body_silent place at flow (GoesOn request) moment seen apart =
+      goes_silent (parked_for place request at.parked) place at _ (for_apart place request at.parked apart)
+  taken_body_silent place at flow (Responds response) moment seen apart = refl
+  taken_body_silent place at flow Kills moment seen apart = early_silent server flow killed_message moment (server_parked at.parked seen) seen.closed
+
+  taken_body_apart : (place : Place) (at : At) (flow : Flow) (taken : Taken Request) (moment : ℕ) (seen : Sight) → ParkedApart at.parked →
+      FlowApart (turn_taken_body place at flow taken moment seen).stage
+  taken_body_apart place at flow (GoesOn request) moment seen apart = goes_apart (parked_for place request at.parked) place at _
+  taken_body_apart place at flow (Responds response) moment seen apart = apart
+  taken_body_apart place at flow Kills moment seen apart = tt
+
+  body_silent : (place : Place) (at : At) (flow : Flow) (item : Item ReadRequest) (seen : Sight) (answer : Timed Reply) → ParkedApart at.parked →
       IsSilent server (turn_body place at flow item seen answer).owed
   body_silent place at flow missing seen answer apart = refl
   body_silent place at flow (part head body) seen answer apart = refl
   body_silent place at flow (complete head body trailers used) seen answer apart =
-      taken_body_silent place (used_more at used) (with_body flow body.content trailers seen.now) seen.spare _ answer.moment _ apart
+      taken_body_silent place (used_more at used) (with_body flow body.content trailers seen.now) _ answer.moment seen apart
   body_silent place at flow (bad_head fault) seen answer apart = refl
   body_silent place at flow (bad_body fault head body) seen answer apart = refl
 
-  body_apart : (place : Place) (at : At) (flow : Flow) (item : Item ReadRequest) (seen : Sight) (answer : Timed Reply) → FlowApart (turn_body place at flow item seen answer).stage
-  body_apart place at flow missing seen answer = tt
-  body_apart place at flow (part head body) seen answer = tt
-  body_apart place at flow (complete head body trailers used) seen answer =
-      taken_body_apart place (used_more at used) (with_body flow body.content trailers seen.now) seen.spare _ answer.moment _
-  body_apart place at flow (bad_head fault) seen answer = tt
-  body_apart place at flow (bad_body fault head body) seen answer = tt
+  body_apart : (place : Place) (at : At) (flow : Flow) (item : Item ReadRequest) (seen : Sight) (answer : Timed Reply) → ParkedApart at.parked →
+      FlowApart (turn_body place at flow item seen answer).stage
+  body_apart place at flow missing seen answer apart = tt
+  body_apart place at flow (part head body) seen answer apart = tt
+  body_apart place at flow (complete head body trailers used) seen answer apart =
+      taken_body_apart place (used_more at used) (with_body flow body.content trailers seen.now) _ answer.moment seen apart
+  body_apart place at flow (bad_head fault) seen answer apart = tt
+  body_apart place at flow (bad_body fault head body) seen answer apart = tt
 
   -- ---- a dial
 
@@ -222,33 +235,27 @@ module _ (server : ℕ) where
 
   -- ---- the flows of a place
 
-  unused_apart : (spare : Option Spare) (prefix : List (Timed Event)) → SpareApart spare → UnusedApart (unused_over spare prefix)
-  unused_apart None prefix apart = tt
-  unused_apart (Some spare) prefix apart = apart
-
-  led : (terms : Terms) (standing : Standing) (prefix : List (Timed Event)) (stage : Stage) (answer : Timed Reply) → ServersBelow standing.spare stage →
-      IsBeyond server answer.value stage → IsSilent server (turn terms stage (sight_over standing prefix) answer).owed
-  led terms standing prefix stage answer below beyond = (turn_leads server terms stage standing.spare (sight_over standing prefix) answer below (sees_spare standing prefix) beyond).0
+  led : (terms : Terms) (stage : Stage) (seen : Sight) (answer : Timed Reply) → ServersBelow stage → IsBeyond server answer.value stage →
+      IsSilent server (turn terms stage seen answer).owed
+  led terms stage seen answer below beyond = (turn_leads server terms stage seen answer below beyond).0
 
   -- what a reply brings sends nothing to the server, unless it connects a server
-  pub turn_silent : (terms : Terms) (standing : Standing) (prefix : List (Timed Event)) (stage : Stage) (answer : Timed Reply) → ServersBelow standing.spare stage →
-      SpareApart standing.spare → ConnectsNone stage answer.value → IsSilent server (turn terms stage (sight_over standing prefix) answer).owed
-  turn_silent terms standing prefix (idle at) answer below apart none = led terms standing prefix (idle at) answer below tt
-  turn_silent terms standing prefix (busy at flow (request_body given)) answer below apart none =
-      let seen : Sight = sight_over standing prefix in
-      body_silent terms.place at flow (request_in at seen) seen answer (unused_apart standing.spare prefix apart)
-  turn_silent terms standing prefix (busy at flow connection) answer below apart none = dial_silent terms.place at flow answer.value answer.moment _ none
-  turn_silent terms standing prefix (busy at flow (response_head side how)) answer below apart none = led terms standing prefix (busy at flow (response_head side how)) answer below tt
-  turn_silent terms standing prefix (busy at flow (response_body side how)) answer below apart none = led terms standing prefix (busy at flow (response_body side how)) answer below tt
-  turn_silent terms standing prefix (busy at flow (upgraded side)) answer below apart none = refl
-  turn_silent terms standing prefix (busy at flow given_head) answer below apart none = led terms standing prefix (busy at flow given_head) answer below tt
-  turn_silent terms standing prefix (busy at flow given_body) answer below apart none = led terms standing prefix (busy at flow given_body) answer below tt
-  turn_silent terms standing prefix (next at) answer below apart none = refl
-  turn_silent terms standing prefix over answer below apart none = refl
+  pub turn_silent : (terms : Terms) (stage : Stage) (seen : Sight) (answer : Timed Reply) → ServersBelow stage → FlowApart stage → ConnectsNone stage answer.value →
+      IsSilent server (turn terms stage seen answer).owed
+  turn_silent terms (idle at) seen answer below apart none = led terms (idle at) seen answer below tt
+  turn_silent terms (busy at flow (request_body given)) seen answer below apart none = body_silent terms.place at flow (request_in at seen) seen answer apart
+  turn_silent terms (busy at flow connection) seen answer below apart none = dial_silent terms.place at flow answer.value answer.moment _ none
+  turn_silent terms (busy at flow (response_head side how)) seen answer below apart none = led terms (busy at flow (response_head side how)) seen answer below tt
+  turn_silent terms (busy at flow (response_body side how)) seen answer below apart none = led terms (busy at flow (response_body side how)) seen answer below tt
+  turn_silent terms (busy at flow (upgraded side)) seen answer below apart none = refl
+  turn_silent terms (busy at flow given_head) seen answer below apart none = led terms (busy at flow given_head) seen answer below tt
+  turn_silent terms (busy at flow given_body) seen answer below apart none = led terms (busy at flow given_body) seen answer below tt
+  turn_silent terms (next at) seen answer below apart none = refl
+  turn_silent terms over seen answer below apart none = refl
 
   pub turn_apart : (terms : Terms) (stage : Stage) (seen : Sight) (answer : Timed Reply) → FlowApart stage → SeesNothing stage seen → FlowApart (turn terms stage seen answer).stage
-  turn_apart terms (idle at) seen answer apart sees = item_apart terms at (request_in at seen) seen answer
-  turn_apart terms (busy at flow (request_body given)) seen answer apart sees = body_apart terms.place at flow (request_in at seen) seen answer
+  turn_apart terms (idle at) seen answer apart sees = item_apart terms at (request_in at seen) seen answer apart
+  turn_apart terms (busy at flow (request_body given)) seen answer apart sees = body_apart terms.place at flow (request_in at seen) seen answer apart
   turn_apart terms (busy at flow connection) seen answer apart sees = dial_apart terms.place at flow answer.value
   turn_apart terms (busy at flow (response_head side how)) seen answer apart sees = answer_apart at flow side (answers_in flow.request side seen).final seen answer sees
   turn_apart terms (busy at flow (response_body side how)) seen answer apart sees =
@@ -256,40 +263,42 @@ module _ (server : ℕ) where
   turn_apart terms (busy at flow (upgraded side)) seen answer apart sees = tt
   turn_apart terms (busy at flow given_head) seen answer apart sees =
       let asked : Flow = with_start flow seen.now in
-      response_apart asked.response (λ response. taken_at_response_head response answer.value) (λ taken. turn_taken_given at asked taken answer.moment seen.closed)
-      (λ taken. given_apart at asked taken answer.moment seen.closed)
+      let parked : Used = server_parked at.parked seen in
+      response_apart asked.response (λ response. taken_at_response_head response answer.value) (λ taken. turn_taken_given at asked taken answer.moment parked seen.closed)
+      (λ taken. given_apart at asked taken answer.moment parked seen.closed apart)
   turn_apart terms (busy at flow given_body) seen answer apart sees =
       let asked : Flow = with_end flow seen.now in
+      let parked : Used = server_parked at.parked seen in
       response_apart asked.response (λ response. taken_at_response_body response answer.value)
-      (λ taken. turn_taken_returned at asked taken answer.moment NoServer seen.closed)
-      (λ taken. taken_returned_apart at asked taken answer.moment NoServer seen.closed)
-  turn_apart terms (next at) seen answer apart sees = tt
+      (λ taken. turn_taken_returned at asked taken answer.moment parked seen.closed)
+      (λ taken. taken_returned_apart at asked taken answer.moment parked seen.closed apart)
+  turn_apart terms (next at) seen answer apart sees = apart
   turn_apart terms over seen answer apart sees = tt
 
   pub sequence_apart : (stage : Stage) → FlowApart stage → FlowApart (sequence stage)
   sequence_apart (idle at) apart = apart
   sequence_apart (busy at flow doing) apart = apart
-  sequence_apart (next at) apart = tt
+  sequence_apart (next at) apart = apart
   sequence_apart over apart = tt
 
-  passed_apart : (at : At) (flow : Flow) (given : Option Response) (item : Item ReadRequest) (now : ℕ) → FlowApart (pass_body at flow given item now)
-  passed_apart at flow None item now = tt
-  passed_apart at flow (Some response) missing now = tt
-  passed_apart at flow (Some response) (part head body) now = tt
-  passed_apart at flow (Some response) (complete head body trailers used) now = tt
-  passed_apart at flow (Some response) (bad_head fault) now = tt
-  passed_apart at flow (Some response) (bad_body fault head body) now = tt
+  passed_apart : (at : At) (flow : Flow) (given : Option Response) (item : Item ReadRequest) (now : ℕ) → ParkedApart at.parked → FlowApart (pass_body at flow given item now)
+  passed_apart at flow None item now apart = apart
+  passed_apart at flow (Some response) missing now apart = apart
+  passed_apart at flow (Some response) (part head body) now apart = apart
+  passed_apart at flow (Some response) (complete head body trailers used) now apart = apart
+  passed_apart at flow (Some response) (bad_head fault) now apart = apart
+  passed_apart at flow (Some response) (bad_body fault head body) now apart = apart
 
   pub pass_apart : (stage : Stage) (seen : Sight) → FlowApart stage → FlowApart (pass stage seen)
-  pass_apart (idle at) seen apart = tt
-  pass_apart (busy at flow (request_body given)) seen apart = passed_apart at flow given (request_in at seen) seen.now
+  pass_apart (idle at) seen apart = apart
+  pass_apart (busy at flow (request_body given)) seen apart = passed_apart at flow given (request_in at seen) seen.now apart
   pass_apart (busy at flow connection) seen apart = tt
   pass_apart (busy at flow (response_head side how)) seen apart = tt
   pass_apart (busy at flow (response_body side how)) seen apart = apart
   pass_apart (busy at flow (upgraded side)) seen apart = apart
-  pass_apart (busy at flow given_head) seen apart = tt
-  pass_apart (busy at flow given_body) seen apart = tt
-  pass_apart (next at) seen apart = tt
+  pass_apart (busy at flow given_head) seen apart = apart
+  pass_apart (busy at flow given_body) seen apart = apart
+  pass_apart (next at) seen apart = apart
   pass_apart over seen apart = tt
 
   -- ---- a server that is not dialled yet
@@ -305,22 +314,22 @@ module _ (server : ℕ) where
   FlowUntold text over = ⊤
 
   module _ (text : List ℕ) where
-    untold_further : (least most : ℕ) (stage : Stage) → IsBetween least most stage → Untold text least → FlowUntold text stage
-    untold_further least most (idle at) between untold = let few = between.0 in λ beyond. untold (omega arith)
-    untold_further least most (busy at flow doing) between untold = let few = between.0.0 in λ beyond. untold (omega arith)
-    untold_further least most (next at) between untold = let few = between.0 in λ beyond. untold (omega arith)
-    untold_further least most over between untold = tt
+    untold_further : (was : Option Parked) (least most : ℕ) (stage : Stage) → IsBetween was least most stage → Untold text least → FlowUntold text stage
+    untold_further was least most (idle at) between untold = let few = between.0.0 in λ beyond. untold (omega arith)
+    untold_further was least most (busy at flow doing) between untold = let few = between.0.0 in λ beyond. untold (omega arith)
+    untold_further was least most (next at) between untold = let few = between.0.0 in λ beyond. untold (omega arith)
+    untold_further was least most over between untold = tt
 
-    turn_untold : (terms : Terms) (standing : Standing) (prefix : List (Timed Event)) (stage : Stage) (answer : Timed Reply) → ServersBelow standing.spare stage → FlowUntold text stage →
-        FlowUntold text (turn terms stage (sight_over standing prefix) answer).stage
-    turn_untold terms standing prefix (idle at) answer below untold = untold_further at.dials _ _ (between_of terms standing prefix (idle at) answer below) untold
-    turn_untold terms standing prefix (busy at flow doing) answer below untold = untold_further at.dials _ _ (between_of terms standing prefix (busy at flow doing) answer below) untold
-    turn_untold terms standing prefix (next at) answer below untold = untold
-    turn_untold terms standing prefix over answer below untold = tt
+    turn_untold : (terms : Terms) (stage : Stage) (seen : Sight) (answer : Timed Reply) → ServersBelow stage → FlowUntold text stage →
+        FlowUntold text (turn terms stage seen answer).stage
+    turn_untold terms (idle at) seen answer below untold = untold_further at.parked at.dials _ _ (between_of terms (idle at) seen answer below) untold
+    turn_untold terms (busy at flow doing) seen answer below untold = untold_further at.parked at.dials _ _ (between_of terms (busy at flow doing) seen answer below) untold
+    turn_untold terms (next at) seen answer below untold = untold
+    turn_untold terms over seen answer below untold = tt
 
-    pub onward_untold : (terms : Terms) (standing : Standing) (prefix : List (Timed Event)) (stage : Stage) (answer : Timed Reply) → ServersBelow standing.spare stage → FlowUntold text stage →
-        FlowUntold text (sequence (turn terms stage (sight_over standing prefix) answer).stage)
-    onward_untold terms standing prefix stage answer below untold = by (turn terms stage (sight_over standing prefix) answer).stage (turn_untold terms standing prefix stage answer below untold)
+    pub onward_untold : (terms : Terms) (stage : Stage) (seen : Sight) (answer : Timed Reply) → ServersBelow stage → FlowUntold text stage →
+        FlowUntold text (sequence (turn terms stage seen answer).stage)
+    onward_untold terms stage seen answer below untold = by (turn terms stage seen answer).stage (turn_untold terms stage seen answer below untold)
       where
         by : (to : Stage) → FlowUntold text to → FlowUntold text (sequence to)
         by (idle at) is = is

@@ -12,7 +12,7 @@ use Rattle.px_event.specs.declared.event.Event.{Event}
 use Rattle.px_event.specs.declared.reply.Reply.{Reply}
 use Rattle.px_event.specs.declared.reply.Reply.TheVariants as reply
 use Rattle.px_event.specs.declared.side.Side.TheVariants.{Client, Server}
-use Rattle.px_event.specs.Chain.{Chain, Look, NotYet, Asks, Ends, Reached, Stamp, Stamped, Stop, Timed, Turn, at_its_step, found, never, owed_at, reach, reach_by, walk, walk_by, worked_off}
+use Rattle.px_event.specs.Chain.{Chain, Look, NotYet, Asks, Ends, Reached, Stamp, Stamped, Stop, Timed, Turn, at_its_step, found, found_at, never, owed_at, reach, reach_by, walk, walk_by, worked_off}
 use Rattle.px_event.specs.Layer.{Move, Took, Replied}
 use Rattle.px_event.specs.Stands.{events_in, replies_in}
 use Rattle.px_event.specs.View.{byte, bytes_in, line, seen_of}
@@ -26,32 +26,31 @@ use Rattle.px_exchange.specs.declared.mode.Mode.TheVariants as modes
 use Rattle.px_exchange.specs.declared.place.Place.{Place}
 use Rattle.px_exchange.specs.declared.place.Place.TheVariants as places
 use Rattle.px_exchange.specs.Dials.{dial_owes}
-use Rattle.px_exchange.specs.Endings.{refuses}
+use Rattle.px_exchange.specs.Endings.{ends_by_fault, refuses}
 use Rattle.px_exchange.specs.Places.{address_of, terms_of}
 use Rattle.px_exchange.specs.Requests.{is_head}
 use Rattle.px_exchange.specs.Texts.{connected_text, onward_text}
 use Rattle.px_chain.specs.Chain.{Connect, connect_in, dial_leads, new_side, pass as pass_of, reached, sequence, stands, turn as turn_of}
-use Rattle.px_chain.specs.Sights.{Sight, Spare, Standing, bytes_over, request_in, sight_over, took_spare, unless_taken, unused_over}
-use Rattle.px_chain.specs.Stages.{At, ServerSide, all_sent, busy, connection, given_body, given_head, idle, next, request_body, response_body, response_head, side_of, upgraded}
+use Rattle.px_chain.specs.Sights.{Sight, Standing, bytes_over, request_in, sight_over}
+use Rattle.px_chain.specs.Stages.{At, ServerSide, all_sent, busy, connection, given_body, given_head, idle, next, request_body, response_body, response_head, side_of, unparked, upgraded}
 use Rattle.px_chain.specs.Stages as flows
 use Rattle.px_event.specs.Sides.{piece_of}
-use Rattle.px_chain.specs.Streams.{Since, bytes_of, client_closed, from_here, is_closed, now_over}
-use Rattle.px_chain.proofs.CountedLemmas.{IsSilent, silent_both}
-use Rattle.px_chain.proofs.SilentLemmas.{AreBelow, fault_silent, looks_silent, so_far_silent}
+use Rattle.px_chain.specs.Streams.{Since, bytes_of, client_closed, from_here, now_over}
+use Rattle.px_chain.proofs.CountedLemmas.{IsSilent, silent_both, silent_found}
+use Rattle.px_chain.proofs.SilentLemmas.{AreBelow, behind_silent, fault_silent, looks_silent, so_far_silent}
 use Rattle.px_tunnel.specs.Upstream.{Granting, awaited, connect_text, granted, refused}
-use Rattle.px_relay.specs.Chain as relay
 use Rattle.px_relay.specs.Stages.{Stage as Frames}
-use Rattle.px_stack.specs.Chain.{answer_of, asks_proxy, begins, begun, closed_of, closes_all, finished_flow, flows_at, follows, goes_by, hands_by, has_answered, is_empty, is_shut, led_by, opening_text, opens_by, or_stays, pass_http, pass_reached, pass_socket, proxy_at, shut_proxy, shut_unused, socket_sight, socket_terms, socket_turn, stack_chain, standing_of, text_behind, text_down, text_of, text_up, tunnel_for, tunnel_found, turn_connected, turn_dial, turn_flows, turn_http, upgrades}
+use Rattle.px_stack.specs.Chain.{answer_of, asks_proxy, begins, begun, closed_before, closed_of, closes_all, finished_flow, flows_at, follows, goes_by, hands_by, has_answered, is_empty, is_shut, led_by, opening_text, or_stays, pass_http, pass_reached, pass_socket, proxy_at, socket_sight, socket_terms, socket_turn, stack_chain, text_behind, text_down, text_of, text_up, tunnel_for, tunnel_found, turn_connected, turn_dial, turn_flows, turn_http, upgrades, used_proxy, way_by, way_to}
 use Rattle.px_stack.specs.Decides.{Decision, decided, is_http, is_raw, still}
 use Rattle.px_stack.specs.Frames.{Says, pass_says, turn_says}
 use Rattle.px_stack.specs.Laws.{never_connects}
 use Rattle.px_stack.specs.Modes.{mode_due}
 use Rattle.px_stack.specs.Proxies.{DecidesNothing, HasNotAnswered, IsOneRequest, for_tunnel, in_full, is_none, said_of}
 use Rattle.px_stack.specs.Sockets.{is_websocket}
-use Rattle.px_stack.specs.Stages.{Dialling, Ends as TunnelEnds, Goal, Stage, Tunnel, Visitor, a_flow, a_tunnel, connecting, http, over, raw, reaching, socket, undecided}
+use Rattle.px_stack.specs.Stages.{Dialling, Ends as TunnelEnds, Goal, Link, Stage, Tunnel, Visitor, a_flow, a_tunnel, connecting, http, over, raw, reaching, socket, undecided}
 use Rattle.px_stack.proofs.AnswerLemmas.{answers_without, bytes_decide, grants_not, nothing_before, nothing_within, said_in, said_more, text_decides}
-use Rattle.px_stack.proofs.ProxyFlowLemmas.{ConnectsNone, FlowApart, FlowUntold, SeesNothing, SpareApart, Untold, onward_untold, pass_apart, pass_untold, send_silent, sequence_apart, turn_apart, turn_silent}
-use Rattle.px_stack.proofs.SilentLemmas.{AllBelow, client_silent, finished_silent, closes_silent, found_silent, frames_silent, said_silent, server_silent, stack_counts, unused_silent, with_silent}
+use Rattle.px_stack.proofs.ProxyFlowLemmas.{ConnectsNone, FlowApart, FlowUntold, SeesNothing, Untold, onward_untold, pass_apart, pass_untold, send_silent, sequence_apart, turn_apart, turn_silent}
+use Rattle.px_stack.proofs.SilentLemmas.{AllBelow, client_silent, finished_silent, closes_silent, found_silent, frames_silent, said_silent, stack_counts}
 
 module _ (server : ℕ) where
   -- ---- texts
@@ -85,15 +84,15 @@ module _ (server : ℕ) where
   -- No stage sends anything more to the server: it is the side of none that has heard of it.
   abbrev GoalApart : Goal → Type 0
   GoalApart (a_tunnel tunnel) = IsVia tunnel.proxy
-  GoalApart (a_flow place from) = IsThrough place × SpareApart server from.spare
+  GoalApart (a_flow place from) = IsThrough place
 
   abbrev IsApart : Stage → Type 0
-  IsApart (http place standing) = IsThrough place × (SpareApart server standing.spare × FlowApart server standing.stage)
+  IsApart (http place standing) = IsThrough place × FlowApart server standing.stage
   IsApart (connecting tunnel) = IsVia tunnel.proxy
-  IsApart (reaching goal side since) = GoalApart goal
-  IsApart (undecided tunnel spare since) = IsVia tunnel.proxy × (spare.server ≢ server)
-  IsApart (raw ends) = ends.side.server ≢ server
-  IsApart (socket ends flow frames) = ends.side.server ≢ server
+  IsApart (reaching goal link since) = GoalApart goal
+  IsApart (undecided tunnel link since) = IsVia tunnel.proxy × (link.side.server ≢ server)
+  IsApart (raw ends) = ends.link.side.server ≢ server
+  IsApart (socket ends flow frames) = ends.link.side.server ≢ server
   IsApart over = ⊤
 
   -- nothing was sent to the server before it was dialled
@@ -104,8 +103,8 @@ module _ (server : ℕ) where
   abbrev IsUntold : List ℕ → Stage → Type 0
   IsUntold text (http place standing) = FlowUntold server text standing.stage
   IsUntold text (connecting tunnel) = Untold server text tunnel.at.dials
-  IsUntold text (reaching goal side since) = GoalUntold text goal
-  IsUntold text (undecided tunnel spare since) = Untold server text tunnel.at.dials
+  IsUntold text (reaching goal link since) = GoalUntold text goal
+  IsUntold text (undecided tunnel link since) = Untold server text tunnel.at.dials
   IsUntold text (raw ends) = ⊤
   IsUntold text (socket ends flow frames) = ⊤
   IsUntold text over = ⊤
@@ -166,7 +165,7 @@ module _ (server : ℕ) where
         let P : Option Connect → Type 0 = λ c. Stays text (or_stays (http place standing) (tunnel_for place at c)) in
         subst P (sym (never_connects address side inside item)) is
 
-    upgrades_stay : (is : Bool) (flow : Flow) (moment : ℕ) (ends : TunnelEnds) → ends.side.server ≢ server → Stays text (upgrades is flow moment ends)
+    upgrades_stay : (is : Bool) (flow : Flow) (moment : ℕ) (ends : TunnelEnds) → ends.link.side.server ≢ server → Stays text (upgrades is flow moment ends)
     upgrades_stay true flow moment ends apart = record { apart = apart; untold = tt }
     upgrades_stay false flow moment ends apart = record { apart = apart; untold = tt }
 
@@ -184,20 +183,20 @@ module _ (server : ℕ) where
     hands_stay place standing flows.over seen is apart untold = is
 
     -- a WebSocket sends to its own server, which has answered
-    socket_goes : (ends : TunnelEnds) (flow : Flow) (on : Turn Frames Command) → ends.side.server ≢ server → Says (socket_terms client.key ends flow) on →
+    socket_goes : (ends : TunnelEnds) (flow : Flow) (on : Turn Frames Command) → ends.link.side.server ≢ server → Says (socket_terms client.key ends flow) on →
         Goes text (socket_turn ends flow on)
     socket_goes ends flow on apart said =
         quietly text on.owed (socket ends flow on.stage) one (said_silent server (socket_terms client.key ends flow) on.stage apart on.owed said) (record { apart = apart; untold = tt })
 
-    socket_passes : (ends : TunnelEnds) (flow : Flow) (frames : Frames) (prefix : List (Timed Event)) → ends.side.server ≢ server →
+    socket_passes : (ends : TunnelEnds) (flow : Flow) (frames : Frames) (prefix : List (Timed Event)) → ends.link.side.server ≢ server →
         Goes text (pass_socket conv client ends flow frames prefix)
     socket_passes ends flow frames prefix apart = socket_goes ends flow _ apart (pass_says (socket_terms client.key ends flow) (socket_sight ends prefix) frames)
 
     begun_goes : (stage : Stage) (prefix : List (Timed Event)) → Stays text stage → Goes text (begun conv client stage prefix)
     begun_goes (http place standing) prefix is = quietly text [] (http place standing) one refl is
     begun_goes (connecting tunnel) prefix is = quietly text [] (connecting tunnel) one refl is
-    begun_goes (reaching goal side since) prefix is = quietly text [] (reaching goal side since) one refl is
-    begun_goes (undecided tunnel spare since) prefix is = quietly text [] (undecided tunnel spare since) one refl is
+    begun_goes (reaching goal link since) prefix is = quietly text [] (reaching goal link since) one refl is
+    begun_goes (undecided tunnel link since) prefix is = quietly text [] (undecided tunnel link since) one refl is
     begun_goes (raw ends) prefix is = quietly text [] (raw ends) one refl is
     begun_goes (socket ends flow frames) prefix is = socket_passes ends flow frames prefix is.apart
     begun_goes over prefix is = quietly text [] over one refl is
@@ -206,68 +205,60 @@ module _ (server : ℕ) where
     http_passes place standing prefix is =
         let on = (flows_at conv client place).pass standing prefix in
         let seen : Sight = sight_over standing prefix in
-        let apart : FlowApart server (pass_of standing.stage seen) = pass_apart server standing.stage seen is.apart.1.1 in
+        let apart : FlowApart server (pass_of standing.stage seen) = pass_apart server standing.stage seen is.apart.1 in
         let untold : FlowUntold server text (pass_of standing.stage seen) = pass_untold server text standing.stage seen is.untold in
-        let there : Stays text (http place on.stage) = record { apart = (is.apart.0, (is.apart.1.0, apart)); untold = untold } in
+        let there : Stays text (http place on.stage) = record { apart = (is.apart.0, apart); untold = untold } in
         begun_goes (pass_http conv client place on.stage prefix) prefix (hands_stay place on.stage on.stage.stage (sight_over on.stage prefix) there apart untold)
 
     -- what follows a CONNECT
-    follows_stay : (d : Decision) (tunnel : Tunnel) (spare : Spare) (since : Since) → Stays text (undecided tunnel spare since) → Stays text (follows d tunnel spare since)
-    follows_stay still tunnel spare since is = is
-    follows_stay is_http tunnel spare since is = record { apart = (is.apart.0, (is.apart.1, tt)); untold = is.untold }
-    follows_stay is_raw tunnel spare since is = record { apart = is.apart.1; untold = tt }
+    follows_stay : (d : Decision) (tunnel : Tunnel) (link : Link) (since : Since) → Stays text (undecided tunnel link since) → Stays text (follows d tunnel link since)
+    follows_stay still tunnel link since is = is
+    follows_stay is_http tunnel link since is = record { apart = (is.apart.0, is.apart.1); untold = is.untold }
+    follows_stay is_raw tunnel link since is = record { apart = is.apart.1; untold = tt }
 
-    goes_stay : (closed : Bool) (tunnel : Tunnel) (spare : Spare) (since : Since) (prefix : List (Timed Event)) → Stays text (undecided tunnel spare since) →
-        Stays text (goes_by closed tunnel spare since prefix)
-    goes_stay true tunnel spare since prefix is = is
-    goes_stay false tunnel spare since prefix is = follows_stay (decided (opening_text tunnel prefix) (has_answered spare prefix)) tunnel spare since is
-
-    opens_stay : (empty : Bool) (tunnel : Tunnel) (side : Spare) (used : ℕ) (since : Since) (prefix : List (Timed Event)) → IsVia tunnel.proxy → side.server ≢ server →
-        Untold server text tunnel.at.dials → Stays text (opens_by empty tunnel side used since prefix)
-    opens_stay true tunnel side used since prefix via apart untold =
-        goes_stay (client_closed prefix) tunnel (record { server = side.server; opened = length prefix }) since prefix (record { apart = (via, apart); untold = untold })
-    opens_stay false tunnel side used since prefix via apart untold = record { apart = apart; untold = tt }
+    goes_stay : (closed : Bool) (tunnel : Tunnel) (link : Link) (since : Since) (prefix : List (Timed Event)) → Stays text (undecided tunnel link since) →
+        Stays text (goes_by closed tunnel link since prefix)
+    goes_stay true tunnel link since prefix is = is
+    goes_stay false tunnel link since prefix is = follows_stay (decided (opening_text tunnel prefix) (has_answered link prefix)) tunnel link since is
 
     -- ---- a proxy that has answered is another one
 
-    is_another : (side : Spare) (prefix : List (Timed Event)) (used : ℕ) → DecidesNothing (said_in server prefix) → answer_of side prefix ≡ granted used → side.server ≢ server
-    is_another side prefix used none grants same =
-        let P : ℕ → Type 0 = λ n. DecidesNothing (text_of n (drop side.opened prefix)) in
-        grants_not (text_of side.server (drop side.opened prefix)) (closed_of side.server (drop side.opened prefix)) used
-        (subst P (sym same) (text_decides server side.opened prefix none)) grants
+    is_another : (link : Link) (prefix : List (Timed Event)) (used : ℕ) → DecidesNothing (said_in server prefix) → answer_of link prefix ≡ granted used → link.side.server ≢ server
+    is_another link prefix used none grants same =
+        let P : ℕ → Type 0 = λ n. DecidesNothing (text_of n (drop link.opened prefix)) in
+        grants_not (text_of link.side.server (drop link.opened prefix)) (closed_of link.side.server (drop link.opened prefix)) used
+        (subst P (sym same) (text_decides server link.opened prefix none)) grants
 
-    shut_silent : (side : Spare) (prefix : List (Timed Event)) → IsSilent server (shut_proxy side prefix)
-    shut_silent side prefix = server_silent server side.server (closed_of side.server (drop side.opened prefix))
+    way_apart : (empty : Bool) (link : Link) (used come : ℕ) → link.side.server ≢ server → (way_by empty link used come).side.server ≢ server
+    way_apart true link used come apart = apart
+    way_apart false link used come apart = apart
 
-    refused_goes : (place : Place) (from : Dialling) (side : Spare) (since : Since) (prefix : List (Timed Event)) → GoalApart (a_flow place from) →
-        Goes text (pass_reached conv client (a_flow place from) side since prefix refused)
-    refused_goes place from side since prefix apart =
-        let on = (flows_at conv client place).turn (standing_of from) prefix (record { moment = now_over since prefix; value = reply.Refused UpstreamRefused }) in
-        quietly text (on.owed ++ shut_proxy side prefix) (http place on.stage) one
-        (silent_both server on.owed (shut_proxy side prefix) (fault_silent server from.flow UpstreamRefused (now_over since prefix) NoServer _) (shut_silent side prefix))
-        (record { apart = (apart.0, (apart.1, tt)); untold = tt })
-
-    reached_goes : (goal : Goal) (side : Spare) (since : Since) (prefix : List (Timed Event)) (g : Granting) → DecidesNothing (said_in server prefix) → answer_of side prefix ≡ g →
-        Stays text (reaching goal side since) → Goes text (pass_reached conv client goal side since prefix g)
-    reached_goes goal side since prefix awaited none is stays = quietly text [] (reaching goal side since) one refl stays
-    reached_goes (a_tunnel tunnel) side since prefix (granted used) none is stays =
+    opened_goes : (tunnel : Tunnel) (link : Link) (since : Since) (prefix : List (Timed Event)) (used : ℕ) → link.side.server ≢ server → Stays text (reaching (a_tunnel tunnel) link since) →
+        Goes text (pass_reached conv client (a_tunnel tunnel) link since prefix (granted used))
+    opened_goes tunnel link since prefix used apart stays =
         quietly text (commands.Send Client connected_text ∷ []) _ one refl
-        (opens_stay (is_empty (text_behind side used prefix)) tunnel side used (from_here (now_over since prefix) prefix) prefix stays.apart (is_another side prefix used none is) stays.untold)
-    reached_goes (a_flow place from) side since prefix (granted used) none is stays =
-        quietly text _ _ one (send_silent server side.server _ (is_another side prefix used none is))
-        (record { apart = (stays.apart.0, (stays.apart.1, tt)); untold = stays.untold })
-    reached_goes (a_tunnel tunnel) side since prefix refused none is stays =
-        quietly text (refuses UpstreamRefused false (client_closed prefix) ++ shut_proxy side prefix) over one
-        (silent_both server (refuses UpstreamRefused false (client_closed prefix)) (shut_proxy side prefix) (client_silent server (client_closed prefix)) (shut_silent side prefix))
-        (record { apart = tt; untold = tt })
-    reached_goes (a_flow place from) side since prefix refused none is stays = refused_goes place from side since prefix stays.apart
+        (goes_stay (client_closed prefix) tunnel (way_to link used prefix) (from_here (now_over since prefix) prefix) prefix
+        (record { apart = (stays.apart, way_apart (is_empty (text_behind link used prefix)) link used (length prefix) apart); untold = stays.untold }))
+
+    reached_goes : (goal : Goal) (link : Link) (since : Since) (prefix : List (Timed Event)) (g : Granting) → DecidesNothing (said_in server prefix) → answer_of link prefix ≡ g →
+        Stays text (reaching goal link since) → Goes text (pass_reached conv client goal link since prefix g)
+    reached_goes goal link since prefix awaited none is stays = quietly text [] (reaching goal link since) one refl stays
+    reached_goes (a_tunnel tunnel) link since prefix (granted used) none is stays = opened_goes tunnel link since prefix used (is_another link prefix used none is) stays
+    reached_goes (a_flow place from) link since prefix (granted used) none is stays =
+        quietly text _ _ one (send_silent server link.side.server _ (is_another link prefix used none is)) (record { apart = (stays.apart, tt); untold = stays.untold })
+    reached_goes (a_tunnel tunnel) link since prefix refused none is stays =
+        quietly text (refuses UpstreamRefused false (used_proxy link prefix) (closed_before link prefix)) over one
+        (closes_silent server link.side.server (closed_of link.side.server (drop link.opened prefix)) (closed_before link prefix)) (record { apart = tt; untold = tt })
+    reached_goes (a_flow place from) link since prefix refused none is stays =
+        quietly text (ends_by_fault from.flow UpstreamRefused (now_over since prefix) (used_proxy link prefix) (closed_before link prefix)) over one
+        (fault_silent server from.flow UpstreamRefused (now_over since prefix) (used_proxy link prefix) (closed_before link prefix)) (record { apart = tt; untold = tt })
 
     passes : (stage : Stage) (prefix : List (Timed Event)) → DecidesNothing (said_in server prefix) → Stays text stage → Goes text ((stack_chain conv client).pass stage prefix)
     passes (http place standing) prefix none is = http_passes place standing prefix is
     passes (connecting tunnel) prefix none is = quietly text [] (connecting tunnel) one refl is
-    passes (reaching goal side since) prefix none is = reached_goes goal side since prefix (answer_of side prefix) none refl is
-    passes (undecided tunnel spare since) prefix none is =
-        quietly text [] (goes_by (client_closed prefix) tunnel spare since prefix) one refl (goes_stay (client_closed prefix) tunnel spare since prefix is)
+    passes (reaching goal link since) prefix none is = reached_goes goal link since prefix (answer_of link prefix) none refl is
+    passes (undecided tunnel link since) prefix none is =
+        quietly text [] (goes_by (client_closed prefix) tunnel link since prefix) one refl (goes_stay (client_closed prefix) tunnel link since prefix is)
     passes (raw ends) prefix none is = quietly text [] (raw ends) one refl is
     passes (socket ends flow frames) prefix none is = socket_passes ends flow frames prefix is.apart
     passes over prefix none is = quietly text [] over one refl is
@@ -278,34 +269,36 @@ module _ (server : ℕ) where
     opening_silent closed shut number = found_silent server (closed || shut) (closes_all number shut closed) (closes_silent server number shut closed)
 
     looks : (stage : Stage) (prefix : List (Timed Event)) → IsSilent server (found ((stack_chain conv client).look stage prefix))
-    looks (http place standing) prefix =
-        with_silent conv client server (unused_over standing.spare prefix) ((flows_at conv client place).look standing prefix)
-        (looks_silent server (terms_of conv client.address place) standing.stage (sight_over standing prefix))
+    looks (http place standing) prefix = looks_silent server (terms_of conv client.address place) standing.stage (sight_over standing prefix)
     looks (connecting tunnel) prefix = refl
-    looks (reaching (a_tunnel tunnel) side since) prefix = found_silent server (client_closed prefix) (shut_proxy side prefix) (shut_silent side prefix)
-    looks (reaching (a_flow place from) side since) prefix = refl
-    looks (undecided tunnel spare since) prefix = opening_silent (client_closed prefix) (is_closed (Server spare.server) (drop spare.opened prefix)) spare.server
+    looks (reaching goal link since) prefix = refl
+    looks (undecided tunnel link since) prefix = opening_silent (client_closed prefix) (is_shut link prefix) link.side.server
     looks (raw ends) prefix =
         let closed : Bool = client_closed prefix in
-        let shut : Bool = is_shut ends prefix in
-        let closes : List Command = closes_all ends.side.server shut closed in
-        let unused : List Command = shut_unused (unused_over ends.spare prefix) in
-        found_silent server (closed || shut) (finished_flow ends.flow ++ (unused ++ closes))
-        (silent_both server (finished_flow ends.flow) (unused ++ closes) (finished_silent server ends.flow)
-        (silent_both server unused closes (unused_silent server (unused_over ends.spare prefix)) (closes_silent server ends.side.server shut closed)))
-    looks (socket ends flow frames) prefix =
-        let terms = socket_terms client.key ends flow in
-        with_silent conv client server (unused_over ends.spare prefix) (relay.look terms frames) (frames_silent server terms frames)
+        let shut : Bool = is_shut ends.link prefix in
+        let closes : List Command = closes_all ends.link.side.server shut closed in
+        found_silent server (closed || shut) (finished_flow ends.flow ++ closes)
+        (silent_both server (finished_flow ends.flow) closes (finished_silent server ends.flow) (closes_silent server ends.link.side.server shut closed))
+    looks (socket ends flow frames) prefix = frames_silent server (socket_terms client.key ends flow) frames
     looks over prefix = refl
+
+    parts : (stage : Stage) (prefix : List (Timed Event)) → IsSilent server ((stack_chain conv client).behind stage prefix)
+    parts (http place standing) prefix = behind_silent server standing.stage (sight_over standing prefix)
+    parts (connecting tunnel) prefix = refl
+    parts (reaching goal link since) prefix = refl
+    parts (undecided tunnel link since) prefix = refl
+    parts (raw ends) prefix = refl
+    parts (socket ends flow frames) prefix = refl
+    parts over prefix = refl
 
     waits : (stage : Stage) (prefix : List (Timed Event)) → Stays text stage → IsSilent server ((stack_chain conv client).so_far stage prefix)
     waits (http place standing) prefix is = so_far_silent server standing.stage (sight_over standing prefix)
     waits (connecting tunnel) prefix is = refl
-    waits (reaching goal side since) prefix is = refl
-    waits (undecided tunnel spare since) prefix is = refl
+    waits (reaching goal link since) prefix is = refl
+    waits (undecided tunnel link since) prefix is = refl
     waits (raw ends) prefix is =
-        silent_both server (commands.Send (Server ends.side.server) (text_up ends prefix) ∷ []) (commands.Send Client (text_down ends prefix) ∷ [])
-        (send_silent server ends.side.server (text_up ends prefix) is.apart) refl
+        silent_both server (commands.Send (Server ends.link.side.server) (text_up ends prefix) ∷ []) (commands.Send Client (text_down ends prefix) ∷ [])
+        (send_silent server ends.link.side.server (text_up ends prefix) is.apart) refl
     waits (socket ends flow frames) prefix is = refl
     waits over prefix is = refl
 
@@ -332,7 +325,7 @@ module _ (server : ℕ) where
     dial_goes tunnel prefix reply.Kill moment is = over_goes [] refl
     dial_goes tunnel prefix reply.Discard moment is = over_goes [] refl
     dial_goes tunnel prefix reply.Dialled moment is = connected_goes tunnel.proxy tunnel prefix moment refl is
-    dial_goes tunnel prefix (reply.Refused fault) moment is = over_goes (refuses fault false (client_closed prefix)) (client_silent server (client_closed prefix))
+    dial_goes tunnel prefix (reply.Refused fault) moment is = over_goes (refuses fault false NoServer (client_closed prefix)) (client_silent server (client_closed prefix))
 
     -- what a flow sees of the server has no head
     sees_nothing : (standing : Standing) (prefix : List (Timed Event)) (stage : flows.Stage) → DecidesNothing (said_in server prefix) → standing.stage ≡ stage →
@@ -354,10 +347,6 @@ module _ (server : ℕ) where
     sees_nothing standing prefix (next at) none is = tt
     sees_nothing standing prefix flows.over none is = tt
 
-    unless_apart : (taken : Bool) (spare : Option Spare) → SpareApart server spare → SpareApart server (unless_taken taken spare)
-    unless_apart true spare apart = tt
-    unless_apart false spare apart = apart
-
     -- a reply that connects no server
     flows_go : (place : Place) (standing : Standing) (prefix : List (Timed Event)) (answer : Timed Reply) → DecidesNothing (said_in server prefix) → AreBelow standing →
         ConnectsNone server standing.stage answer.value → Stays text (http place standing) → Goes text (turn_flows conv client place standing prefix answer)
@@ -365,11 +354,11 @@ module _ (server : ℕ) where
         let terms = terms_of conv client.address place in
         let seen : Sight = sight_over standing prefix in
         let turned : Turn flows.Stage Command = turn_of terms standing.stage seen answer in
-        let apart : FlowApart server turned.stage = turn_apart server terms standing.stage seen answer is.apart.1.1 (sees_nothing standing prefix standing.stage none refl) in
-        quietly text turned.owed _ one (turn_silent server terms standing prefix standing.stage answer below is.apart.1.0 connects_none)
+        let apart : FlowApart server turned.stage = turn_apart server terms standing.stage seen answer is.apart.1 (sees_nothing standing prefix standing.stage none refl) in
+        quietly text turned.owed _ one (turn_silent server terms standing.stage seen answer below is.apart.1 connects_none)
         (record {
-          apart = (is.apart.0, (unless_apart (took_spare standing.stage (sequence turned.stage)) standing.spare is.apart.1.0, sequence_apart server turned.stage apart));
-          untold = onward_untold server text terms standing prefix standing.stage answer below is.untold;
+          apart = (is.apart.0, sequence_apart server turned.stage apart);
+          untold = onward_untold server text terms standing.stage seen answer below is.untold;
         })
 
     -- what a dial's answer brings a flow
@@ -393,7 +382,7 @@ module _ (server : ℕ) where
           let terms = terms_of conv client.address place in
           let seen : Sight = sight_over standing prefix in
           let request : List ℕ = onward_text Absolute flow.request in
-          let to : flows.Stage = busy (record at { dials = at.dials + 1 }) (reached place flow) (response_head (new_side at.dials) all_sent) in
+          let to : flows.Stage = busy (record at { dials = at.dials + 1; parked = None }) (reached place flow) (response_head (new_side at.dials) all_sent) in
           let asked : Turn flows.Stage Command = record { owed = commands.Send (Server at.dials) request ∷ []; stage = to } in
           let brings : turn_of terms standing.stage seen answer ≡ asked =
           ap (λ s. turn_of terms s seen answer) is
@@ -404,7 +393,7 @@ module _ (server : ℕ) where
           λ t. Goes text (record { owed = t.owed; stage = http place (stands standing answer.moment prefix (sequence t.stage)) }) in
           subst P (sym brings) (record {
             sent = sent.one;
-            stays = record { apart = (tt, (unless_apart (took_spare standing.stage to) standing.spare stays.apart.1.0, tt)); untold = sent.untold };
+            stays = record { apart = (tt, tt); untold = sent.untold };
           })
 
       upstream_goes : (proxy : Address) (stage : flows.Stage) (value : Reply) → standing.stage ≡ stage → answer.value ≡ value → Stays text (http (places.Upstream proxy) standing) →
@@ -428,19 +417,19 @@ module _ (server : ℕ) where
       -- ---- a request inside a tunnel
 
       led_goes : (place : Place) (at : At) (flow : Flow) (value : Reply) → standing.stage ≡ busy at flow connection → answer.value ≡ value → Stays text (http place standing) →
-          Goes text (turn_http conv client (led_by standing (busy at flow connection)) place standing prefix answer value)
+          Goes text (turn_http conv client (led_by (busy at flow connection)) place standing prefix answer value)
       led_goes place at flow (reply.Go given stream) is same stays = flows_go place standing prefix answer none below (none_by standing answer _ _ is same tt) stays
       led_goes place at flow (reply.Respond response) is same stays = flows_go place standing prefix answer none below (none_by standing answer _ _ is same tt) stays
       led_goes place at flow reply.Kill is same stays = flows_go place standing prefix answer none below (none_by standing answer _ _ is same tt) stays
       led_goes place at flow reply.Discard is same stays = flows_go place standing prefix answer none below (none_by standing answer _ _ is same tt) stays
       led_goes place at flow reply.Dialled is same stays =
           let U : flows.Stage → Type 0 = λ s. FlowUntold server text s in
-          let from : Dialling = record { at = at; flow = flow; since = standing.since; opened = standing.opened; spare = standing.spare } in
-          proxy_goes (a_flow place from) (address_of flow.request) at.dials prefix answer.moment (stays.apart.0, stays.apart.1.0) (subst U is stays.untold) (λ longer further. further)
+          let from : Dialling = record { at = unparked at; flow = flow } in
+          proxy_goes (a_flow place from) (address_of flow.request) at.dials prefix answer.moment stays.apart.0 (subst U is stays.untold) (λ longer further. further)
       led_goes place at flow (reply.Refused fault) is same stays = flows_go place standing prefix answer none below (none_by standing answer _ _ is same tt) stays
 
       inside_goes : (place : Place) (stage : flows.Stage) (value : Reply) → standing.stage ≡ stage → answer.value ≡ value → Stays text (http place standing) →
-          Goes text (turn_http conv client (led_by standing stage) place standing prefix answer value)
+          Goes text (turn_http conv client (led_by stage) place standing prefix answer value)
       inside_goes place (busy at flow connection) value is same stays = led_goes place at flow value is same stays
       inside_goes place (idle at) value is same stays = flows_go place standing prefix answer none below (none_by standing answer (idle at) value is same tt) stays
       inside_goes place (busy at flow (request_body given)) value is same stays = flows_go place standing prefix answer none below (none_by standing answer (busy at flow (request_body given)) value is same tt) stays
@@ -462,8 +451,8 @@ module _ (server : ℕ) where
         Goes text ((stack_chain conv client).turn stage prefix answer)
     turns (http place standing) prefix answer none below is = http_goes standing prefix answer none below place is
     turns (connecting tunnel) prefix answer none below is = dial_goes tunnel prefix answer.value answer.moment is
-    turns (reaching goal side since) prefix answer none below is = quietly text [] (reaching goal side since) one refl is
-    turns (undecided tunnel spare since) prefix answer none below is = quietly text [] (undecided tunnel spare since) one refl is
+    turns (reaching goal link since) prefix answer none below is = quietly text [] (reaching goal link since) one refl is
+    turns (undecided tunnel link since) prefix answer none below is = quietly text [] (undecided tunnel link since) one refl is
     turns (raw ends) prefix answer none below is = quietly text [] (raw ends) one refl is
     turns (socket ends flow frames) prefix answer none below is =
         socket_goes ends flow _ is.apart (turn_says (socket_terms client.key ends flow) (socket_sight ends prefix) frames answer.value answer.moment)
@@ -533,24 +522,28 @@ module _ (server : ℕ) where
 
     -- what is owed there beside
     there_one : (before : List Command) (stage : Stage) (prefix : List (Timed Event)) → Holds before stage →
-        IsOneRequest (sent_in (before ++ (chain.so_far stage prefix ++ found (chain.look stage prefix))))
+        IsOneRequest (sent_in (before ++ (chain.so_far stage prefix ++ found_at chain stage prefix)))
     there_one before stage prefix holds =
-        let more : List Command = chain.so_far stage prefix ++ found (chain.look stage prefix) in
+        let more : List Command = chain.so_far stage prefix ++ found_at chain stage prefix in
         let silent : sent_in more ≡ [] =
-        silent_both server (chain.so_far stage prefix) (found (chain.look stage prefix)) (waits conv client (sent_in before) holds.one stage prefix holds.stays)
-        (looks conv client (sent_in before) holds.one stage prefix) in
+        silent_both server (chain.so_far stage prefix) (found_at chain stage prefix) (waits conv client (sent_in before) holds.one stage prefix holds.stays)
+        (silent_found server (chain.behind stage prefix) (chain.look stage prefix) (parts conv client (sent_in before) holds.one stage prefix)
+        (looks conv client (sent_in before) holds.one stage prefix)) in
         subst IsOneRequest (sym (sent_both before more ∙ (ap (λ l. sent_in before ++ l) silent ∙ append-nil (sent_in before)))) holds.one
 
     -- and where something was asked, the reply's beside
     asked_same : (before : List Command) (stage : Stage) (prefix : List (Timed Event)) (ask : Command) (owed : List Command) → Holds before stage → chain.look stage prefix ≡ Asks ask →
-        sent_in (before ++ owed) ≡ sent_in (before ++ (chain.so_far stage prefix ++ ask ∷ owed))
+        sent_in (before ++ owed) ≡ sent_in (before ++ (chain.so_far stage prefix ++ ask ∷ (chain.behind stage prefix ++ owed)))
     asked_same before stage prefix ask owed holds asked =
+        let more : List Command = chain.behind stage prefix ++ owed in
+        let more_same : sent_in more ≡ sent_in owed =
+        sent_both (chain.behind stage prefix) owed ∙ ap (λ l. l ++ sent_in owed) (parts conv client (sent_in before) holds.one stage prefix) in
         let asks_silent : sent_in (ask ∷ []) ≡ [] = ap (λ l. sent_in (found l)) (sym asked) ∙ looks conv client (sent_in before) holds.one stage prefix in
         let so_far_none : sent_in (chain.so_far stage prefix) ≡ [] = waits conv client (sent_in before) holds.one stage prefix holds.stays in
-        let ask_same : sent_in (ask ∷ owed) ≡ sent_in owed = sent_both (ask ∷ []) owed ∙ ap (λ l. l ++ sent_in owed) asks_silent in
-        let all : sent_in (chain.so_far stage prefix ++ ask ∷ owed) ≡ sent_in owed =
-        sent_both (chain.so_far stage prefix) (ask ∷ owed) ∙ (ap (λ l. l ++ sent_in (ask ∷ owed)) so_far_none ∙ ask_same) in
-        sent_both before owed ∙ sym (sent_both before (chain.so_far stage prefix ++ ask ∷ owed) ∙ ap (λ l. sent_in before ++ l) all)
+        let ask_same : sent_in (ask ∷ more) ≡ sent_in owed = sent_both (ask ∷ []) more ∙ (ap (λ l. l ++ sent_in more) asks_silent ∙ more_same) in
+        let all : sent_in (chain.so_far stage prefix ++ ask ∷ more) ≡ sent_in owed =
+        sent_both (chain.so_far stage prefix) (ask ∷ more) ∙ (ap (λ l. l ++ sent_in (ask ∷ more)) so_far_none ∙ ask_same) in
+        sent_both before owed ∙ sym (sent_both before (chain.so_far stage prefix ++ ask ∷ more) ∙ ap (λ l. sent_in before ++ l) all)
 
     holds_same : (before longer : List Command) (stage : Stage) → sent_in before ≡ sent_in longer → Holds before stage → Holds longer stage
     holds_same before longer stage same holds =
@@ -578,7 +571,7 @@ module _ (server : ℕ) where
         (λ ask asked.
         let goes = turns conv client (sent_in here.before) there.holds.one here.stage here.prefix (at_its_step r) (decides here.prefix here.rest there.whole) there.holds.below there.holds.stays in
         let below = ((stack_counts conv client).turns here.stage here.prefix ask (at_its_step r) there.holds.below asked).stays in
-        walk_one rs r.stamp (here.before ++ (chain.so_far here.stage here.prefix ++ ask ∷ on.owed)) on.stage here.prefix here.rest
+        walk_one rs r.stamp (here.before ++ (chain.so_far here.stage here.prefix ++ ask ∷ (chain.behind here.stage here.prefix ++ on.owed))) on.stage here.prefix here.rest
         (holds_same (here.before ++ on.owed) _ on.stage (asked_same here.before here.stage here.prefix ask on.owed there.holds asked) (holds_more here.before on goes below)) there.whole)
         (there_one here.before here.stage here.prefix there.holds)
 
@@ -587,4 +580,4 @@ pub mode_one_request : (proxy : Address) (peer : Option Address) (key : List ℕ
     IsOneRequest (bytes_in (seen_of (line (Server server)) (mode_due (modes.Upstream proxy) key conv peer moves)))
 mode_one_request proxy peer key conv server moves none =
     walk_one server conv (record { address = peer; key = key }) (said_of server moves) none (replies_in 1 moves) never [] (begins (modes.Upstream proxy)) [] (events_in 1 moves)
-    (record { one = is_none refl; stays = record { apart = (tt, (tt, tt)); untold = λ before. refl }; below = tt }) (said_are server 1 moves)
+    (record { one = is_none refl; stays = record { apart = (tt, tt); untold = λ before. refl }; below = tt }) (said_are server 1 moves)

@@ -13,14 +13,9 @@ use Rattle.px_event.specs.Chain.{Timed, Look, NotYet, Ends, found}
 use Rattle.px_event.specs.View.{View, seen_of}
 use Rattle.px_event.proofs.Seen.{seen_append}
 use Rattle.px_event.proofs.Steps.{onward}
-use Rattle.px_exchange.specs.declared.ending.Used.TheVariants.{ByServer}
-use Rattle.px_exchange.specs.Endings.{shut_server}
-use Rattle.px_chain.specs.Sights.{IsWithin, SpareIsWithin, Standing, Unused, unused_over, unused_with}
-use Rattle.px_chain.specs.Stages.{idle}
 use Rattle.px_event.specs.Sides.{closes, piece_of}
 use Rattle.px_chain.specs.Streams.{bytes_of, client_closed, is_closed}
-use Rattle.px_chain.proofs.FrontLaws.{bytes_more, closed_more, open_behind as still_behind}
-use Rattle.px_chain.proofs.SightLaws.{sight_more, within_more}
+use Rattle.px_chain.proofs.FrontLaws.{bytes_more, closed_more, open_behind}
 use Rattle.px_tunnel.specs.declared.tunnel.RawTunnel.{RawTunnel}
 use Rattle.px_tunnel.specs.Tunnel.{both_ways, brought, left_alone, left_behind, no_rests}
 use Rattle.px_tunnel.specs.Stands.{closing, given_for, has_ended, is_alone, rests_of, server_of}
@@ -30,10 +25,9 @@ use Rattle.px_stack.specs.declared.child.Child.{Child}
 use Rattle.px_stack.specs.declared.child.Child.TheVariants as children
 use Rattle.px_stack.specs.declared.child.Relay.{Relay}
 use Rattle.px_stack.specs.declared.closing.Sides.{Sides}
-use Rattle.px_stack.specs.Chain.{closes_all, finished_flow, first_at, is_shut, raw_look, shut_unused, text_down, text_up, tunnel_found}
-use Rattle.px_stack.specs.Kept.{open_behind, shut_open}
-use Rattle.px_stack.specs.Stages.{Ends as TunnelEnds, Visitor, raw}
-use Rattle.px_stack.specs.Stands.{IsChild, IsRaw, IsRelay, KeepsBy, open_unused, unless_shut}
+use Rattle.px_stack.specs.Chain.{closes_all, finished_flow, is_shut, raw_look, text_down, text_on, text_up, tunnel_found}
+use Rattle.px_stack.specs.Stages.{Ends as TunnelEnds, Link, Visitor, raw}
+use Rattle.px_stack.specs.Stands.{IsChild, IsRaw, IsRelay, KeepsBy}
 use Rattle.px_stack.specs.Steps.{Adds, GoesOn, MayRelay, RelayTakes, Relays, sides_by, sides_closed}
 
 -- ---- what an event brings, once nothing is left
@@ -106,80 +100,43 @@ some_close server false true sides is = let same = same_sides (record { server =
 some_close server true closed sides is = let same = same_sides (record { server = server; shut = true; closed = closed }) sides is in
     record { same = ap (λ s. s.server) same; shut_is = ap (λ s. s.shut) same; closed_is = ap (λ s. s.closed) same; ends = refl }
 
--- ---- the spare side
-
--- its close is owed while it is connected
-pub shut_same : (spare : Option Unused) → shut_unused spare ≡ shut_open (open_unused spare)
-shut_same None = refl
-shut_same (Some unused) = by unused.shut
-  where
-    by : (shut : Bool) → shut_server (ByServer unused.server shut) ≡ shut_open (unless_shut unused shut)
-    by true = refl
-    by false = refl
-
-open_by : (number : ℕ) (now : Unused) → now.server ≡ number → (closed : Bool) → unless_shut now closed ≡ (if closed then None else Some number)
-open_by number now same true = refl
-open_by number now same false = ap Some same
-
--- behind an event
-open_with : (spare : Option Unused) (event : Event) → open_unused (unused_with spare event) ≡ open_behind (open_unused spare) event
-open_with None event = refl
-open_with (Some unused) event =
-    by (record {
-      server = unused.server;
-      bytes = if unused.shut then unused.bytes else (unused.bytes ++ piece_of (Server unused.server) event);
-      shut = unused.shut || closes (Server unused.server) event;
-    }) refl unused.shut
-  where
-    by : (now : Unused) → now.server ≡ unused.server → (shut : Bool) → unless_shut now (shut || closes (Server unused.server) event) ≡ open_behind (unless_shut unused shut) event
-    by now same true = refl
-    by now same false = open_by unused.server now same (closes (Server unused.server) event)
-
 -- ---- one event more, where no side has closed
-
--- a place with this side and this spare one
-abbrev pub place_at : TunnelEnds → Standing
-place_at ends = record { stage = idle first_at; since = record { events = 0; moment = 0 }; opened = ends.opened; spare = ends.spare }
 
 pub longer_bytes : (used : ℕ) (bytes piece longer : List ℕ) → longer ≡ bytes ++ piece → used ≤ length bytes → used ≤ length longer
 longer_bytes used bytes piece longer is within = let size = length-append bytes piece in let same : length longer ≡ length (bytes ++ piece) = ap length is in omega arith
 
-module _ (ends : TunnelEnds) (prefix : List (Timed Event)) (e : Timed Event) (open_client : client_closed prefix ≡ false) (unshut : is_shut ends prefix ≡ false)
-    (opened : ends.opened ≤ length prefix) where
+pub opened_more : (opened : ℕ) (prefix : List (Timed Event)) (e : Timed Event) → opened ≤ length prefix → opened ≤ length (prefix ++ e ∷ [])
+opened_more opened prefix e within = let size = length-append prefix (e ∷ []) in omega arith
+
+module _ (link : Link) (prefix : List (Timed Event)) (e : Timed Event) (open_client : client_closed prefix ≡ false) (unshut : is_shut link prefix ≡ false)
+    (opened : link.opened ≤ length prefix) where
   pub client_more : bytes_of Client (prefix ++ e ∷ []) ≡ bytes_of Client prefix ++ piece_of Client e.value
   client_more = bytes_more Client prefix e open_client open_client
 
   pub client_closes : client_closed (prefix ++ e ∷ []) ≡ closes Client e.value
   client_closes = closed_more Client prefix e open_client ∙ ap (λ b. b || closes Client e.value) open_client
 
-  pub later : drop ends.opened (prefix ++ e ∷ []) ≡ drop ends.opened prefix ++ e ∷ []
-  later = drop-append-le ends.opened prefix (e ∷ []) opened
+  pub later : drop link.opened (prefix ++ e ∷ []) ≡ drop link.opened prefix ++ e ∷ []
+  later = drop-append-le link.opened prefix (e ∷ []) opened
 
-  pub server_more : bytes_of (Server ends.side.server) (drop ends.opened (prefix ++ e ∷ []))
-      ≡ bytes_of (Server ends.side.server) (drop ends.opened prefix) ++ piece_of (Server ends.side.server) e.value
-  server_more = ap (λ l. bytes_of (Server ends.side.server) l) later
-      ∙ bytes_more (Server ends.side.server) (drop ends.opened prefix) e (still_behind ends.opened prefix open_client) unshut
+  pub server_more : bytes_of (Server link.side.server) (drop link.opened (prefix ++ e ∷ []))
+      ≡ bytes_of (Server link.side.server) (drop link.opened prefix) ++ piece_of (Server link.side.server) e.value
+  server_more = ap (λ l. bytes_of (Server link.side.server) l) later
+      ∙ bytes_more (Server link.side.server) (drop link.opened prefix) e (open_behind link.opened prefix open_client) unshut
 
-  pub server_closes : is_shut ends (prefix ++ e ∷ []) ≡ closes (Server ends.side.server) e.value
-  server_closes = ap (λ l. is_closed (Server ends.side.server) l) later
-      ∙ (closed_more (Server ends.side.server) (drop ends.opened prefix) e (still_behind ends.opened prefix open_client)
-      ∙ ap (λ b. b || closes (Server ends.side.server) e.value) unshut)
+  pub server_closes : is_shut link (prefix ++ e ∷ []) ≡ closes (Server link.side.server) e.value
+  server_closes = ap (λ l. is_closed (Server link.side.server) l) later
+      ∙ (closed_more (Server link.side.server) (drop link.opened prefix) e (open_behind link.opened prefix open_client)
+      ∙ ap (λ b. b || closes (Server link.side.server) e.value) unshut)
 
-  pub up_more : ends.used ≤ length (bytes_of Client prefix) → text_up ends (prefix ++ e ∷ []) ≡ text_up ends prefix ++ piece_of Client e.value
-  up_more within = ap (λ l. drop ends.used l) client_more ∙ drop-append-le ends.used (bytes_of Client prefix) (piece_of Client e.value) within
+  pub up_more : (used : ℕ) → used ≤ length (bytes_of Client prefix) →
+      drop used (bytes_of Client (prefix ++ e ∷ [])) ≡ drop used (bytes_of Client prefix) ++ piece_of Client e.value
+  up_more used within = ap (λ l. drop used l) client_more ∙ drop-append-le used (bytes_of Client prefix) (piece_of Client e.value) within
 
-  pub down_more : ends.side.used ≤ length (bytes_of (Server ends.side.server) (drop ends.opened prefix)) →
-      text_down ends (prefix ++ e ∷ []) ≡ text_down ends prefix ++ piece_of (Server ends.side.server) e.value
-  down_more within = ap (λ l. drop ends.side.used l) server_more
-      ∙ drop-append-le ends.side.used (bytes_of (Server ends.side.server) (drop ends.opened prefix)) (piece_of (Server ends.side.server) e.value) within
-
-  pub is_within : SpareIsWithin ends.spare prefix → IsWithin (place_at ends) prefix
-  is_within within = record { since = omega arith; opened = opened; spare = within }
-
-  pub spare_more : SpareIsWithin ends.spare prefix →
-      open_unused (unused_over ends.spare (prefix ++ e ∷ [])) ≡ open_behind (open_unused (unused_over ends.spare prefix)) e.value
-  spare_more within = ap (λ seen. open_unused seen.spare) (sight_more (place_at ends) prefix e open_client (is_within within))
-      ∙ open_with (unused_over ends.spare prefix) e.value
+  pub down_more : link.side.used ≤ length (bytes_of (Server link.side.server) (drop link.opened prefix)) →
+      text_on link (prefix ++ e ∷ []) ≡ text_on link prefix ++ piece_of (Server link.side.server) e.value
+  down_more within = ap (λ l. drop link.side.used l) server_more
+      ∙ drop-append-le link.side.used (bytes_of (Server link.side.server) (drop link.opened prefix)) (piece_of (Server link.side.server) e.value) within
 
 -- ---- where it ends, and where it goes on
 
@@ -192,8 +149,8 @@ not_found_by true owed is = absurd (let no : true ≡ false = is in cc)
 not_found_by false owed is = refl
 
 -- what is closed and finished at the end
-abbrev ending : Option Flow → Option ℕ → ℕ → Bool → Bool → List Command
-ending flow spare server shut closed = finished_flow flow ++ (shut_open spare ++ closes_all server shut closed)
+abbrev ending : Option Flow → ℕ → Bool → Bool → List Command
+ending flow server shut closed = finished_flow flow ++ closes_all server shut closed
 
 either : (shut closed : Bool) → (shut || closed) ≡ true → (closed || shut) ≡ true
 either true true is = refl
@@ -206,23 +163,20 @@ neither true closed is = absurd (let no : true ≡ false = is in cc)
 neither false true is = absurd (let no : true ≡ false = is in cc)
 neither false false is = refl
 
-module _ (ends : TunnelEnds) (prefix : List (Timed Event)) (shut closed : Bool) (shut_is : is_shut ends prefix ≡ shut) (closed_is : client_closed prefix ≡ closed) where
-  ends_by : (client_closed prefix || is_shut ends prefix) ≡ (closed || shut)
-  ends_by = ap (λ b. b || is_shut ends prefix) closed_is ∙ ap (λ b. closed || b) shut_is
+module _ (ends : TunnelEnds) (prefix : List (Timed Event)) (shut closed : Bool) (shut_is : is_shut ends.link prefix ≡ shut) (closed_is : client_closed prefix ≡ closed) where
+  ends_by : (client_closed prefix || is_shut ends.link prefix) ≡ (closed || shut)
+  ends_by = ap (λ b. b || is_shut ends.link prefix) closed_is ∙ ap (λ b. closed || b) shut_is
 
-  ends_with : (flow : Option Flow) (spare : Option ℕ) → flow ≡ ends.flow → spare ≡ open_unused (unused_over ends.spare prefix) →
-      (shut || closed) ≡ true → raw_look ends prefix ≡ Ends (ending flow spare ends.side.server shut closed)
-  ends_with flow spare same_flow same_spare is =
-      let here = unused_over ends.spare prefix in
-      found_by (client_closed prefix || is_shut ends prefix) _ (ends_by ∙ either shut closed is)
+  ends_with : (flow : Option Flow) → flow ≡ ends.flow → (shut || closed) ≡ true → raw_look ends prefix ≡ Ends (ending flow ends.link.side.server shut closed)
+  ends_with flow same_flow is =
+      let server = ends.link.side.server in
+      found_by (client_closed prefix || is_shut ends.link prefix) _ (ends_by ∙ either shut closed is)
       ∙ ap Ends
-      (ap (λ f. finished_flow f ++ (shut_unused here ++ closes_all ends.side.server (is_shut ends prefix) (client_closed prefix))) (sym same_flow)
-      ∙ (ap (λ l. finished_flow flow ++ (l ++ closes_all ends.side.server (is_shut ends prefix) (client_closed prefix))) (shut_same here ∙ ap shut_open (sym same_spare))
-      ∙ (ap (λ b. finished_flow flow ++ (shut_open spare ++ closes_all ends.side.server b (client_closed prefix))) shut_is
-      ∙ ap (λ b. finished_flow flow ++ (shut_open spare ++ closes_all ends.side.server shut b)) closed_is)))
+      (ap (λ f. ending f server (is_shut ends.link prefix) (client_closed prefix)) (sym same_flow)
+      ∙ (ap (λ b. ending flow server b (client_closed prefix)) shut_is ∙ ap (λ b. ending flow server shut b) closed_is))
 
   goes_on_with : (shut || closed) ≡ false → raw_look ends prefix ≡ NotYet
-  goes_on_with is = not_found_by (client_closed prefix || is_shut ends prefix) _ (ends_by ∙ neither shut closed is)
+  goes_on_with is = not_found_by (client_closed prefix || is_shut ends.link prefix) _ (ends_by ∙ neither shut closed is)
 
 pub shut_ends : (sides : Sides) → sides.shut ≡ true → (sides.shut || sides.closed) ≡ true
 shut_ends sides is = ap (λ b. b || sides.closed) is
@@ -237,12 +191,12 @@ closed_ends sides is = ap (λ b. sides.shut || b) is ∙ by sides.shut
 -- where it has not ended no side has closed
 record IsOpen (ends : TunnelEnds) (prefix : List (Timed Event)) : Type 0 where
   client : client_closed prefix ≡ false
-  server : is_shut ends prefix ≡ false
+  server : is_shut ends.link prefix ≡ false
 
 is_open : (ends : TunnelEnds) (prefix : List (Timed Event)) → raw_look ends prefix ≡ NotYet → IsOpen ends prefix
-is_open ends prefix is = by (client_closed prefix) (is_shut ends prefix) _ refl refl is
+is_open ends prefix is = by (client_closed prefix) (is_shut ends.link prefix) _ refl refl is
   where
-    by : (closed shut : Bool) (owed : List Command) → client_closed prefix ≡ closed → is_shut ends prefix ≡ shut → tunnel_found (closed || shut) owed ≡ NotYet → IsOpen ends prefix
+    by : (closed shut : Bool) (owed : List Command) → client_closed prefix ≡ closed → is_shut ends.link prefix ≡ shut → tunnel_found (closed || shut) owed ≡ NotYet → IsOpen ends prefix
     by true shut owed c s none = absurd (let no : Ends owed ≡ NotYet = none in cc)
     by false true owed c s none = absurd (let no : Ends owed ≡ NotYet = none in cc)
     by false false owed c s none = record { client = c; server = s }
@@ -263,22 +217,22 @@ module _ (conv : ℕ) (client : Visitor) (ends : TunnelEnds) (prefix : List (Tim
 
 -- ---- where it begins
 
-module _ (sides : Sides) (rests : Rests) (flow : Option Flow) (spare : Option ℕ) (next : Child) where
-  begun_both : (ends : TunnelEnds) (prefix : List (Timed Event)) → MayRelay ends prefix sides rests flow spare →
-      both_ways sides.server rests.client rests.server ≡ both_ways ends.side.server (text_up ends prefix) (text_down ends prefix)
+module _ (sides : Sides) (rests : Rests) (flow : Option Flow) (next : Child) where
+  begun_both : (ends : TunnelEnds) (prefix : List (Timed Event)) → MayRelay ends prefix sides rests flow →
+      both_ways sides.server rests.client rests.server ≡ both_ways ends.link.side.server (text_up ends prefix) (text_down ends prefix)
   begun_both ends prefix may = both_as _ _ _ _ _ _ may.server may.up may.down
 
-  ends_here : (ends : TunnelEnds) (prefix : List (Timed Event)) → MayRelay ends prefix sides rests flow spare → (sides.shut || sides.closed) ≡ true →
-      raw_look ends prefix ≡ Ends (ending flow spare sides.server sides.shut sides.closed)
+  ends_here : (ends : TunnelEnds) (prefix : List (Timed Event)) → MayRelay ends prefix sides rests flow → (sides.shut || sides.closed) ≡ true →
+      raw_look ends prefix ≡ Ends (ending flow sides.server sides.shut sides.closed)
   ends_here ends prefix may is =
-      ends_with ends prefix sides.shut sides.closed (sym may.shut) (sym may.closed) flow spare may.same_flow may.same_spare is
-      ∙ ap (λ n. Ends (ending flow spare n sides.shut sides.closed)) (sym may.server)
+      ends_with ends prefix sides.shut sides.closed (sym may.shut) (sym may.closed) flow may.same_flow is
+      ∙ ap (λ n. Ends (ending flow n sides.shut sides.closed)) (sym may.server)
 
   over_relays : next ≡ children.Over → (sides.shut || sides.closed) ≡ true →
-      Relays sides rests flow spare next (given_for sides.server rests events.Begun ++ ending flow spare sides.server sides.shut sides.closed)
+      Relays sides rests flow next (given_for sides.server rests events.Begun ++ ending flow sides.server sides.shut sides.closed)
   over_relays over is conv client ends prefix may =
-      let tail : List Command = ending flow spare sides.server sides.shut sides.closed in
-      let both : List Command = both_ways ends.side.server (text_up ends prefix) (text_down ends prefix) in
+      let tail : List Command = ending flow sides.server sides.shut sides.closed in
+      let both : List Command = both_ways ends.link.side.server (text_up ends prefix) (text_down ends prefix) in
       let look = ends_here ends prefix may is in
       record {
         there = kept_over conv client ends prefix next tail look over;
@@ -287,31 +241,29 @@ module _ (sides : Sides) (rests : Rests) (flow : Option Flow) (spare : Option �
             ∙ (sym (seen_append view both tail) ∙ ap (λ l. seen_of view (both ++ found l)) (sym look)));
       }
 
-  begun_relay : (tunnel : RawTunnel) (ends : TunnelEnds) (prefix : List (Timed Event)) → MayRelay ends prefix sides rests flow spare →
+  begun_relay : (tunnel : RawTunnel) (ends : TunnelEnds) (prefix : List (Timed Event)) → MayRelay ends prefix sides rests flow →
       server_of tunnel ≡ sides.server → rests_of tunnel ≡ no_rests → has_ended tunnel ≡ false →
-      IsRelay ends prefix (record { tunnel = tunnel; server = sides.server; flow = flow; spare = spare })
+      IsRelay ends prefix (record { tunnel = tunnel; server = sides.server; flow = flow })
   begun_relay tunnel ends prefix may server left goes_on = record {
     same = may.server;
     server = server ∙ may.server;
     rests = left;
     goes_on = goes_on;
     flow = may.same_flow;
-    spare = may.same_spare;
     used = may.used;
     side_used = may.side_used;
     opened = may.opened;
-    within = may.within;
   }
 
-  raw_relays : (tunnel : RawTunnel) → next ≡ children.Raw (record { tunnel = tunnel; server = sides.server; flow = flow; spare = spare }) →
+  raw_relays : (tunnel : RawTunnel) → next ≡ children.Raw (record { tunnel = tunnel; server = sides.server; flow = flow }) →
       server_of tunnel ≡ sides.server → rests_of tunnel ≡ no_rests → has_ended tunnel ≡ false → (sides.shut || sides.closed) ≡ false →
-      Relays sides rests flow spare next (given_for sides.server rests events.Begun)
+      Relays sides rests flow next (given_for sides.server rests events.Begun)
   raw_relays tunnel same server left goes_on is conv client ends prefix may =
-      let both : List Command = both_ways ends.side.server (text_up ends prefix) (text_down ends prefix) in
+      let both : List Command = both_ways ends.link.side.server (text_up ends prefix) (text_down ends prefix) in
       let look = goes_on_with ends prefix sides.shut sides.closed (sym may.shut) (sym may.closed) is in
       record {
         there = kept_raw conv client ends prefix next look (record {
-          kept = record { tunnel = tunnel; server = sides.server; flow = flow; spare = spare };
+          kept = record { tunnel = tunnel; server = sides.server; flow = flow };
           is = same;
           relay = begun_relay tunnel ends prefix may server left goes_on;
         });
@@ -324,57 +276,52 @@ module _ (sides : Sides) (rests : Rests) (flow : Option Flow) (spare : Option �
 pub nothing_more : (text piece : List ℕ) → piece ≡ [] → text ++ piece ≡ text
 nothing_more text piece is = ap (λ l. text ++ l) is ∙ append-nil text
 
-module _ (kept : Relay) (next : Child) (event : Event) (spare : Option ℕ) (spare_is : spare ≡ open_behind kept.spare event) where
+module _ (kept : Relay) (next : Child) (event : Event) where
   -- at a close
   over_takes : (sides : Sides) → next ≡ children.Over → sides_closed kept.server event ≡ Some sides →
-      RelayTakes kept next event (ending kept.flow spare sides.server sides.shut sides.closed)
+      RelayTakes kept next event (ending kept.flow sides.server sides.shut sides.closed)
   over_takes sides over closes_some conv client moment ends prefix look there =
       let e : Timed Event = record { moment = moment; value = event } in
       let longer : List (Timed Event) = prefix ++ e ∷ [] in
       let open_still = is_open ends prefix look in
       let some = some_close kept.server (closes (Server kept.server) event) (closes Client event) sides closes_some in
-      let shut_now : is_shut ends longer ≡ sides.shut =
-      server_closes ends prefix e open_still.client open_still.server there.opened ∙ (ap (λ n. closes (Server n) event) (sym there.same) ∙ sym some.shut_is) in
-      let closed_now : client_closed longer ≡ sides.closed = client_closes ends prefix e open_still.client open_still.server there.opened ∙ sym some.closed_is in
-      let spare_now : spare ≡ open_unused (unused_over ends.spare longer) =
-      spare_is ∙ (ap (λ s. open_behind s event) there.spare ∙ sym (spare_more ends prefix e open_still.client open_still.server there.opened there.within)) in
+      let shut_now : is_shut ends.link longer ≡ sides.shut =
+      server_closes ends.link prefix e open_still.client open_still.server there.opened ∙ (ap (λ n. closes (Server n) event) (sym there.same) ∙ sym some.shut_is) in
+      let closed_now : client_closed longer ≡ sides.closed = client_closes ends.link prefix e open_still.client open_still.server there.opened ∙ sym some.closed_is in
       let ended : (sides.shut || sides.closed) ≡ true = ap (λ b. b || sides.closed) some.shut_is ∙ (ap (λ b. closes (Server kept.server) event || b) some.closed_is ∙ some.ends) in
-      let more : List Command = ending kept.flow spare sides.server sides.shut sides.closed in
+      let more : List Command = ending kept.flow sides.server sides.shut sides.closed in
       let ends_now : raw_look ends longer ≡ Ends more =
-      ends_with ends longer sides.shut sides.closed shut_now closed_now kept.flow spare there.flow spare_now ended
-      ∙ ap (λ n. Ends (ending kept.flow spare n sides.shut sides.closed)) (sym (some.same ∙ there.same)) in
+      ends_with ends longer sides.shut sides.closed shut_now closed_now kept.flow there.flow ended
+      ∙ ap (λ n. Ends (ending kept.flow n sides.shut sides.closed)) (sym (some.same ∙ there.same)) in
       let up : text_up ends longer ≡ text_up ends prefix =
-      up_more ends prefix e open_still.client open_still.server there.opened there.used ∙ nothing_more (text_up ends prefix) _ (none_brought Client (Server kept.server) event some.ends) in
+      up_more ends.link prefix e open_still.client open_still.server there.opened ends.used there.used ∙ nothing_more (text_up ends prefix) _ (none_brought Client (Server kept.server) event some.ends) in
       let down : text_down ends longer ≡ text_down ends prefix =
-      down_more ends prefix e open_still.client open_still.server there.opened there.side_used
-      ∙ nothing_more (text_down ends prefix) _ (none_brought (Server ends.side.server) (Server kept.server) event some.ends) in
-      let both : List Command = both_ways ends.side.server (text_up ends prefix) (text_down ends prefix) in
+      down_more ends.link prefix e open_still.client open_still.server there.opened there.side_used
+      ∙ nothing_more (text_down ends prefix) _ (none_brought (Server ends.link.side.server) (Server kept.server) event some.ends) in
+      let both : List Command = both_ways ends.link.side.server (text_up ends prefix) (text_down ends prefix) in
       onward look (kept_over conv client ends longer next more ends_now over)
       (λ view. sym (seen_append view both more)
       ∙ (ap (λ l. seen_of view (l ++ more)) (both_as _ _ _ _ _ _ refl (sym up) (sym down))
-      ∙ ap (λ l. seen_of view (both_ways ends.side.server (text_up ends longer) (text_down ends longer) ++ found l)) (sym ends_now)))
+      ∙ ap (λ l. seen_of view (both_ways ends.link.side.server (text_up ends longer) (text_down ends longer) ++ found l)) (sym ends_now)))
 
   -- where no side closes
   goes_relay : (tunnel : RawTunnel) (ends : TunnelEnds) (prefix : List (Timed Event)) (moment : ℕ) → IsOpen ends prefix → IsRelay ends prefix kept →
       server_of tunnel ≡ server_of kept.tunnel → rests_of tunnel ≡ left_behind (rests_of kept.tunnel) event → has_ended tunnel ≡ false →
-      IsRelay ends (prefix ++ record { moment = moment; value = event } ∷ []) (record kept { tunnel = tunnel; spare = spare })
+      IsRelay ends (prefix ++ record { moment = moment; value = event } ∷ []) (record kept { tunnel = tunnel })
   goes_relay tunnel ends prefix moment open_still there server left goes_on =
       let e : Timed Event = record { moment = moment; value = event } in
-      let longer = within_more (place_at ends) prefix e (is_within ends prefix e open_still.client open_still.server there.opened there.within) in
       record {
         same = there.same;
         server = server ∙ there.server;
         rests = left ∙ (ap (λ r. left_behind r event) there.rests ∙ none_left event);
         goes_on = goes_on;
         flow = there.flow;
-        spare = spare_is ∙ (ap (λ s. open_behind s event) there.spare ∙ sym (spare_more ends prefix e open_still.client open_still.server there.opened there.within));
-        used = longer_bytes ends.used _ _ _ (client_more ends prefix e open_still.client open_still.server there.opened) there.used;
-        side_used = longer_bytes ends.side.used _ _ _ (server_more ends prefix e open_still.client open_still.server there.opened) there.side_used;
-        opened = longer.opened;
-        within = longer.spare;
+        used = longer_bytes ends.used _ _ _ (client_more ends.link prefix e open_still.client open_still.server there.opened) there.used;
+        side_used = longer_bytes ends.link.side.used _ _ _ (server_more ends.link prefix e open_still.client open_still.server there.opened) there.side_used;
+        opened = opened_more ends.link.opened prefix e there.opened;
       }
 
-  goes_takes : (tunnel : RawTunnel) → next ≡ children.Raw (record kept { tunnel = tunnel; spare = spare }) → sides_closed kept.server event ≡ None →
+  goes_takes : (tunnel : RawTunnel) → next ≡ children.Raw (record kept { tunnel = tunnel }) → sides_closed kept.server event ≡ None →
       server_of tunnel ≡ server_of kept.tunnel → rests_of tunnel ≡ left_behind (rests_of kept.tunnel) event →
       has_ended tunnel ≡ is_alone (left_alone (server_of kept.tunnel) event) →
       RelayTakes kept next event (given_for (server_of kept.tunnel) (rests_of kept.tunnel) event)
@@ -383,17 +330,17 @@ module _ (kept : Relay) (next : Child) (event : Event) (spare : Option ℕ) (spa
       let longer : List (Timed Event) = prefix ++ e ∷ [] in
       let open_still = is_open ends prefix look in
       let none = none_closes kept.server event closes_none in
-      let number : ℕ = ends.side.server in
+      let number : ℕ = ends.link.side.server in
       let unshut : closes (Server number) event ≡ false = ap (λ n. closes (Server n) event) (sym there.same) ∙ none.unshut in
       let alone : left_alone number event ≡ None = none_alone number event unshut none.unclosed in
       let going : has_ended tunnel ≡ false = goes_on ∙ (ap (λ n. is_alone (left_alone n event)) there.server ∙ ap is_alone alone) in
       let look_now : raw_look ends longer ≡ NotYet =
-      goes_on_with ends longer false false (server_closes ends prefix e open_still.client open_still.server there.opened ∙ unshut)
-      (client_closes ends prefix e open_still.client open_still.server there.opened ∙ none.unclosed) refl in
+      goes_on_with ends longer false false (server_closes ends.link prefix e open_still.client open_still.server there.opened ∙ unshut)
+      (client_closes ends.link prefix e open_still.client open_still.server there.opened ∙ none.unclosed) refl in
       let up_piece : List ℕ = piece_of Client event in
       let down_piece : List ℕ = piece_of (Server number) event in
-      let up = up_more ends prefix e open_still.client open_still.server there.opened there.used in
-      let down = down_more ends prefix e open_still.client open_still.server there.opened there.side_used in
+      let up = up_more ends.link prefix e open_still.client open_still.server there.opened ends.used there.used in
+      let down = down_more ends.link prefix e open_still.client open_still.server there.opened there.side_used in
       let both : List Command = both_ways number (text_up ends longer) (text_down ends longer) in
       let given : given_for (server_of kept.tunnel) (rests_of kept.tunnel) event ≡ given_for number no_rests event =
       ap (λ n. given_for n (rests_of kept.tunnel) event) there.server ∙ ap (λ r. given_for number r event) there.rests in
@@ -401,7 +348,7 @@ module _ (kept : Relay) (next : Child) (event : Event) (spare : Option ℕ) (spa
       both_as _ _ _ _ _ _ refl (client_brings event) (server_brings number event) in
       onward look
       (kept_raw conv client ends longer next look_now (record {
-        kept = record kept { tunnel = tunnel; spare = spare };
+        kept = record kept { tunnel = tunnel };
         is = same;
         relay = goes_relay tunnel ends prefix moment open_still there server left going;
       }))
@@ -426,49 +373,49 @@ given_as : (server : ℕ) (rests : Rests) (tunnel : RawTunnel) → server_of tun
 given_as server rests tunnel same left = ap (λ n. given_for n (rests_of tunnel) events.Begun) same ∙ ap (λ r. given_for server r events.Begun) left
 
 -- one that begins: the tunnel as it was made, and what was given when it began
-module _ (sides : Sides) (rests : Rests) (flow : Option Flow) (spare : Option ℕ) (made : RawTunnel) (out mid : List Command)
+module _ (sides : Sides) (rests : Rests) (flow : Option Flow) (made : RawTunnel) (out mid : List Command)
     (made_server : server_of made ≡ sides.server) (made_rests : rests_of made ≡ rests) (given : mid ≡ out ++ given_for (server_of made) (rests_of made) events.Begun) where
   begun : mid ≡ out ++ given_for sides.server rests events.Begun
   begun = given ∙ ap (λ l. out ++ l) (given_as sides.server rests made made_server made_rests)
 
   -- where a side has closed
   pub begins_over : {E : Type 0} (longer : List Command) (result : Result Child E) → IfOk result (λ next. next ≡ children.Over) →
-      OnOk result (longer ≡ mid ++ (finished_flow flow ++ (shut_open spare ++ closes_all sides.server sides.shut sides.closed))) →
-      (sides.shut || sides.closed) ≡ true → IfOk result (λ next. Adds (Relays sides rests flow spare next) out longer)
+      OnOk result (longer ≡ mid ++ (finished_flow flow ++ closes_all sides.server sides.shut sides.closed)) →
+      (sides.shut || sides.closed) ≡ true → IfOk result (λ next. Adds (Relays sides rests flow next) out longer)
   begins_over longer (Ok next) over more is = record {
-    more = given_for sides.server rests events.Begun ++ ending flow spare sides.server sides.shut sides.closed;
+    more = given_for sides.server rests events.Begun ++ ending flow sides.server sides.shut sides.closed;
     grown = given_twice out mid longer _ _ begun more;
-    holds = over_relays sides rests flow spare next over is;
+    holds = over_relays sides rests flow next over is;
   }
   begins_over longer (Err error) over more is = tt
 
   -- where none has
   pub begins_raw : (tunnel : RawTunnel) → server_of tunnel ≡ server_of made → rests_of tunnel ≡ no_rests → has_ended tunnel ≡ false →
       sides.shut ≡ false → sides.closed ≡ false →
-      Adds (Relays sides rests flow spare (children.Raw (record { tunnel = tunnel; server = sides.server; flow = flow; spare = spare }))) out mid
+      Adds (Relays sides rests flow (children.Raw (record { tunnel = tunnel; server = sides.server; flow = flow }))) out mid
   begins_raw tunnel server left goes_on unshut unclosed = record {
     more = given_for sides.server rests events.Begun;
     grown = begun;
-    holds = raw_relays sides rests flow spare _ tunnel refl (server ∙ made_server) left goes_on (ap (λ b. b || sides.closed) unshut ∙ unclosed);
+    holds = raw_relays sides rests flow _ tunnel refl (server ∙ made_server) left goes_on (ap (λ b. b || sides.closed) unshut ∙ unclosed);
   }
 
 -- one that takes an event
-module _ {E : Type 0} (kept : Relay) (event : Event) (spare : Option ℕ) (out longer : List Command) (spare_is : spare ≡ open_behind kept.spare event) where
+module _ {E : Type 0} (kept : Relay) (event : Event) (out longer : List Command) where
   pub takes_over : (sides : Sides) → sides_closed kept.server event ≡ Some sides → (result : Result Child E) → IfOk result (λ next. next ≡ children.Over) →
-      OnOk result (longer ≡ out ++ (finished_flow kept.flow ++ (shut_open spare ++ closes_all sides.server sides.shut sides.closed))) →
+      OnOk result (longer ≡ out ++ (finished_flow kept.flow ++ closes_all sides.server sides.shut sides.closed)) →
       IfOk result (λ next. Adds (RelayTakes kept next event) out longer)
   takes_over sides closes_some (Ok next) over more = record {
-    more = ending kept.flow spare sides.server sides.shut sides.closed;
+    more = ending kept.flow sides.server sides.shut sides.closed;
     grown = more;
-    holds = over_takes kept next event spare spare_is sides over closes_some;
+    holds = over_takes kept next event sides over closes_some;
   }
   takes_over sides closes_some (Err error) over more = tt
 
-  pub takes_on : sides_closed kept.server event ≡ None → (result : Result Child E) → IfOk result (λ next. GoesOn (record kept { spare = spare }) event next out longer) →
+  pub takes_on : sides_closed kept.server event ≡ None → (result : Result Child E) → IfOk result (λ next. GoesOn kept event next out longer) →
       IfOk result (λ next. Adds (RelayTakes kept next event) out longer)
   takes_on closes_none (Ok next) on = record {
     more = given_for (server_of kept.tunnel) (rests_of kept.tunnel) event;
     grown = on.gives;
-    holds = goes_takes kept next event spare spare_is on.tunnel on.is closes_none on.server on.rests on.closed;
+    holds = goes_takes kept next event on.tunnel on.is closes_none on.server on.rests on.closed;
   }
   takes_on closes_none (Err error) on = tt

@@ -8,7 +8,6 @@ use Rattle.px_event.specs.declared.side.Side.{Side}
 use Rattle.px_event.specs.declared.side.Side.TheVariants.{Client, Server}
 use Rattle.px_event.specs.Chain.{Timed}
 use Rattle.px_event.specs.Trace.{is_same_side}
-use Rattle.px_chain.specs.Sights.{Spare}
 use Rattle.px_event.specs.Sides.{closes, piece_of}
 use Rattle.px_chain.specs.Streams.{bytes_of, client_closed, is_closed}
 use Rattle.px_tunnel.specs.declared.upstream.ProxyAnswer.{ProxyAnswer}
@@ -21,6 +20,7 @@ use Rattle.px_stack.specs.declared.reaching.ProxySays.{ProxySays}
 use Rattle.px_stack.specs.declared.reaching.ProxySays.TheVariants as told
 use Rattle.px_stack.specs.Chain.{answer_of, closed_of, text_of}
 use Rattle.px_stack.specs.Reached.{HearsProxy, says_answer, says_close, says_of}
+use Rattle.px_stack.specs.Stages.{Link}
 
 -- ---- one event more
 
@@ -61,19 +61,19 @@ shut_more server (f ∷ prefix) e unshut =
     shut_by (closes (Server server) f.value) (closed_of server prefix) (closed_of server (prefix ++ e ∷ [])) (closes (Server server) e.value) unshut (shut_more server prefix e)
 
 -- of a side that is asked
-module _ (side : Spare) (prefix : List (Timed Event)) (e : Timed Event) (opened : side.opened ≤ length prefix)
-    (unshut : closed_of side.server (drop side.opened prefix) ≡ false) where
-  pub heard_more : text_of side.server (drop side.opened (prefix ++ e ∷ [])) ≡ text_of side.server (drop side.opened prefix) ++ piece_of (Server side.server) e.value
-  heard_more = ap (text_of side.server) (drop-append-le side.opened prefix (e ∷ []) opened) ∙ text_more side.server (drop side.opened prefix) e unshut
+module _ (link : Link) (prefix : List (Timed Event)) (e : Timed Event) (opened : link.opened ≤ length prefix)
+    (unshut : closed_of link.side.server (drop link.opened prefix) ≡ false) where
+  pub heard_more : text_of link.side.server (drop link.opened (prefix ++ e ∷ [])) ≡ text_of link.side.server (drop link.opened prefix) ++ piece_of (Server link.side.server) e.value
+  heard_more = ap (text_of link.side.server) (drop-append-le link.opened prefix (e ∷ []) opened) ∙ text_more link.side.server (drop link.opened prefix) e unshut
 
-  pub closed_more : closed_of side.server (drop side.opened (prefix ++ e ∷ [])) ≡ closes (Server side.server) e.value
-  closed_more = ap (closed_of side.server) (drop-append-le side.opened prefix (e ∷ []) opened) ∙ shut_more side.server (drop side.opened prefix) e unshut
+  pub closed_more : closed_of link.side.server (drop link.opened (prefix ++ e ∷ [])) ≡ closes (Server link.side.server) e.value
+  closed_more = ap (closed_of link.side.server) (drop-append-le link.opened prefix (e ∷ []) opened) ∙ shut_more link.side.server (drop link.opened prefix) e unshut
 
-  pub answer_more : answer_of side (prefix ++ e ∷ [])
-      ≡ granting (text_of side.server (drop side.opened prefix) ++ piece_of (Server side.server) e.value) (closes (Server side.server) e.value)
+  pub answer_more : answer_of link (prefix ++ e ∷ [])
+      ≡ granting (text_of link.side.server (drop link.opened prefix) ++ piece_of (Server link.side.server) e.value) (closes (Server link.side.server) e.value)
   answer_more =
-      ap (λ t. granting t (closed_of side.server (drop side.opened (prefix ++ e ∷ [])))) heard_more
-      ∙ ap (granting (text_of side.server (drop side.opened prefix) ++ piece_of (Server side.server) e.value)) closed_more
+      ap (λ t. granting t (closed_of link.side.server (drop link.opened (prefix ++ e ∷ [])))) heard_more
+      ∙ ap (granting (text_of link.side.server (drop link.opened prefix) ++ piece_of (Server link.side.server) e.value)) closed_more
 
 -- ---- while the client has not closed, it is what is heard of any side
 

@@ -12,32 +12,33 @@ use Rattle.px_event.specs.declared.reply.Reply.{Reply}
 use Rattle.px_event.specs.declared.reply.Reply.TheVariants as reply
 use Rattle.px_event.specs.declared.side.Side.{Side}
 use Rattle.px_event.specs.declared.side.Side.TheVariants.{Client, Server}
-use Rattle.px_event.specs.Chain.{Timed, Look, NotYet, Asks, Ends, Turn, found}
+use Rattle.px_event.specs.Chain.{Timed, NotYet, Asks, Ends, Turn, found}
 use Rattle.px_event.specs.Layer.{Move}
 use Rattle.px_event.specs.View.{byte, bytes_in, close, line, seen_of}
+use Rattle.px_exchange.specs.declared.ending.Used.TheVariants.{ByServer}
 use Rattle.px_exchange.specs.declared.mode.Mode.{Mode}
 use Rattle.px_exchange.specs.declared.place.Place.{Place}
 use Rattle.px_exchange.specs.declared.place.Place.TheVariants as places
-use Rattle.px_exchange.specs.Endings.{refuses, shut_client}
-use Rattle.px_exchange.specs.Places.{address_of, dialled_for, terms_of}
+use Rattle.px_exchange.specs.Endings.{shut_client, shut_server}
+use Rattle.px_exchange.specs.Places.{address_of, terms_of}
 use Rattle.px_chain.specs.Chain.{Connect, connect_in, is_sequence, sequence}
-use Rattle.px_chain.specs.Sights.{Sight, Spare, Standing, Unused, request_in, sight_over, unused_over}
-use Rattle.px_chain.specs.Silent.{NoAnswer, SpareBelow, connects}
+use Rattle.px_chain.specs.Sights.{Sight, Standing, request_in, sight_over}
+use Rattle.px_chain.specs.Silent.{NoAnswer, connects}
 use Rattle.px_chain.specs.Stages.{At, busy, connection, given_body, given_head, idle, next, request_body, response_body, response_head, upgraded}
 use Rattle.px_chain.specs.Stages as flows
-use Rattle.px_chain.specs.Streams.{Since, client_closed, from_here, is_closed, now_over}
+use Rattle.px_chain.specs.Streams.{Since, client_closed, from_here, now_over}
 use Rattle.px_chain.proofs.CountedLemmas.{Counts, CountsServers, IsSilent, counted_silent, silent_both}
-use Rattle.px_chain.proofs.SilentLemmas.{AreBelow, ServersBelow, dialled, dialled_at, http_counts}
+use Rattle.px_chain.proofs.SilentLemmas.{AreBelow, ServersBelow, dialled, dialled_at, fault_silent, http_counts}
 use Rattle.px_tunnel.specs.Upstream.{Granting, awaited, connect_text, granted, refused}
 use Rattle.px_relay.specs.Chain as relay
 use Rattle.px_relay.specs.Sending.{Terms}
 use Rattle.px_relay.specs.Stages.{Stage as Frames, holding, over as ended, relaying}
-use Rattle.px_stack.specs.Chain.{answer_of, asks_proxy, begins, begun, closed_of, closes_all, finished_flow, flows_at, follows, goes_by, hands_by, has_answered, is_empty, is_shut, led_at, led_by, opening_text, opens_by, or_stays, pass_http, pass_reached, pass_socket, shut_proxy, shut_unused, socket_sight, socket_terms, socket_turn, stack_chain, standing_of, text_behind, text_down, text_up, tunnel_for, tunnel_found, turn_connected, turn_dial, turn_flows, turn_http, upgrades, waits_for, way_by, with_closes}
+use Rattle.px_stack.specs.Chain.{answer_of, asks_proxy, begins, begun, closed_before, closed_of, closes_all, finished_flow, flows_at, follows, goes_by, hands_by, has_answered, is_empty, is_shut, led_at, led_by, opening_text, or_stays, pass_http, pass_reached, pass_socket, socket_sight, socket_terms, socket_turn, stack_chain, text_behind, text_down, text_up, tunnel_for, tunnel_found, turn_connected, turn_dial, turn_flows, turn_http, upgrades, used_proxy, way_by, way_to}
 use Rattle.px_stack.specs.Decides.{Decision, decided, is_http, is_raw, still}
 use Rattle.px_stack.specs.Frames.{AreSaid, Says, pass_says, turn_says}
 use Rattle.px_stack.specs.Modes.{mode_due}
 use Rattle.px_stack.specs.Sockets.{is_websocket}
-use Rattle.px_stack.specs.Stages.{Dialling, Ends as TunnelEnds, Goal, Stage, Tunnel, Visitor, a_flow, a_tunnel, connecting, http, over, raw, reaching, socket, undecided}
+use Rattle.px_stack.specs.Stages.{Dialling, Ends as TunnelEnds, Goal, Link, Stage, Tunnel, Visitor, a_flow, a_tunnel, connecting, http, over, raw, reaching, socket, undecided}
 
 -- ---- what is counted
 
@@ -49,21 +50,21 @@ dials_of (a_flow place from) = from.at.dials + 1
 abbrev pub dials_at : Stage → ℕ
 dials_at (http place standing) = dialled_at standing
 dials_at (connecting tunnel) = tunnel.at.dials
-dials_at (reaching goal side since) = dials_of goal
-dials_at (undecided tunnel spare since) = tunnel.at.dials
-dials_at (raw ends) = ends.side.server + 1
-dials_at (socket ends flow frames) = ends.side.server + 1
+dials_at (reaching goal link since) = dials_of goal
+dials_at (undecided tunnel link since) = tunnel.at.dials
+dials_at (raw ends) = ends.link.side.server + 1
+dials_at (socket ends flow frames) = ends.link.side.server + 1
 dials_at over = 0
 
--- the server's sides of a stage are among those that were dialled before it
+-- the server's side that is open at a stage is among those that were dialled before it
 abbrev pub GoalBelow : Goal → ℕ → Type 0
 GoalBelow (a_tunnel tunnel) server = server < tunnel.at.dials
-GoalBelow (a_flow place from) server = (server ≡ from.at.dials) × SpareBelow from.spare from.at.dials
+GoalBelow (a_flow place from) server = server ≡ from.at.dials
 
 abbrev pub AllBelow : Stage → Type 0
 AllBelow (http place standing) = AreBelow standing
-AllBelow (reaching goal side since) = GoalBelow goal side.server
-AllBelow (undecided tunnel spare since) = spare.server < tunnel.at.dials
+AllBelow (reaching goal link since) = GoalBelow goal link.side.server
+AllBelow (undecided tunnel link since) = link.side.server < tunnel.at.dials
 AllBelow stage = ⊤
 
 -- ---- texts and closes
@@ -73,7 +74,7 @@ module _ (server : ℕ) where
   close_silent side true = refl
   close_silent side false = refl
 
-  pub server_silent : (number : ℕ) (shut : Bool) → IsSilent server (shut_unused (Some (record { server = number; bytes = []; shut = shut })))
+  server_silent : (number : ℕ) (shut : Bool) → IsSilent server (shut_server (ByServer number shut))
   server_silent number true = refl
   server_silent number false = close_silent (Server number) (number == server)
 
@@ -81,13 +82,9 @@ module _ (server : ℕ) where
   client_silent true = refl
   client_silent false = refl
 
-  pub unused_silent : (unused : Option Unused) → IsSilent server (shut_unused unused)
-  unused_silent None = refl
-  unused_silent (Some unused) = server_silent unused.server unused.shut
-
   pub closes_silent : (number : ℕ) (shut closed : Bool) → IsSilent server (closes_all number shut closed)
   closes_silent number shut closed =
-      silent_both server (shut_unused (Some (record { server = number; bytes = []; shut = shut }))) (shut_client closed) (server_silent number shut) (client_silent closed)
+      silent_both server (shut_server (ByServer number shut)) (shut_client closed) (server_silent number shut) (client_silent closed)
 
   pub finished_silent : (flow : Option Flow) → IsSilent server (finished_flow flow)
   finished_silent None = refl
@@ -145,12 +142,12 @@ module _ (conv : ℕ) (client : Visitor) where
   tunnel_few place standing at None is below = (omega arith, below)
   tunnel_few place standing at (Some connect) is below = let same : dialled standing.stage ≡ at.dials = ap dialled is in (omega arith, tt)
 
-  upgrades_few : (most : ℕ) (is : Bool) (flow : Flow) (moment : ℕ) (ends : TunnelEnds) → ends.side.server + 1 ≤ most → Few most (upgrades is flow moment ends)
+  upgrades_few : (most : ℕ) (is : Bool) (flow : Flow) (moment : ℕ) (ends : TunnelEnds) → ends.link.side.server + 1 ≤ most → Few most (upgrades is flow moment ends)
   upgrades_few most true flow moment ends less = (less, tt)
   upgrades_few most false flow moment ends less = (less, tt)
 
-  hands_few : (place : Place) (standing : Standing) (stage : flows.Stage) (seen : Sight) → standing.stage ≡ stage → AreBelow standing →
-      ServersBelow standing.spare stage → Few (dialled_at standing) (or_stays (http place standing) (hands_by place standing stage seen))
+  hands_few : (place : Place) (standing : Standing) (stage : flows.Stage) (seen : Sight) → standing.stage ≡ stage → AreBelow standing → ServersBelow stage →
+      Few (dialled_at standing) (or_stays (http place standing) (hands_by place standing stage seen))
   hands_few place standing (idle at) seen is below here = tunnel_few place standing at (connect_in place (request_in at seen)) is below
   hands_few place standing (busy at flow (request_body given)) seen is below here = (omega arith, below)
   hands_few place standing (busy at flow connection) seen is below here = (omega arith, below)
@@ -158,7 +155,7 @@ module _ (conv : ℕ) (client : Visitor) where
   hands_few place standing (busy at flow (response_body side how)) seen is below here = (omega arith, below)
   hands_few place standing (busy at flow (upgraded side)) seen is below here =
       let same : dialled standing.stage ≡ at.dials = ap dialled is in
-      let less : side.server < at.dials = here.1 in
+      let less : side.server < at.dials = here in
       upgrades_few (dialled_at standing) (is_websocket flow seen.closed) flow seen.now _ (omega arith)
   hands_few place standing (busy at flow given_head) seen is below here = (omega arith, below)
   hands_few place standing (busy at flow given_body) seen is below here = (omega arith, below)
@@ -171,73 +168,59 @@ module _ (conv : ℕ) (client : Visitor) where
   quietly : (most : ℕ) (stage : Stage) → Few most stage → Counts dials_at AllBelow most (record { owed = []; stage = stage })
   quietly most stage few = record { silent = λ server beyond. refl; few = few.0; stays = few.1 }
 
-  decided_few : (d : Decision) (tunnel : Tunnel) (spare : Spare) (since : Since) → spare.server < tunnel.at.dials → Few tunnel.at.dials (follows d tunnel spare since)
-  decided_few still tunnel spare since below = (omega arith, below)
-  decided_few is_http tunnel spare since below = (omega arith, below)
-  decided_few is_raw tunnel spare since below = (omega arith, tt)
+  decided_few : (d : Decision) (tunnel : Tunnel) (link : Link) (since : Since) → link.side.server < tunnel.at.dials → Few tunnel.at.dials (follows d tunnel link since)
+  decided_few still tunnel link since below = (omega arith, below)
+  decided_few is_http tunnel link since below = (omega arith, below)
+  decided_few is_raw tunnel link since below = (omega arith, tt)
 
-  goes_few : (closed : Bool) (tunnel : Tunnel) (spare : Spare) (since : Since) (prefix : List (Timed Event)) → spare.server < tunnel.at.dials →
-      Few tunnel.at.dials (goes_by closed tunnel spare since prefix)
-  goes_few true tunnel spare since prefix below = (omega arith, below)
-  goes_few false tunnel spare since prefix below = decided_few (decided (opening_text tunnel prefix) (has_answered spare prefix)) tunnel spare since below
+  goes_few : (closed : Bool) (tunnel : Tunnel) (link : Link) (since : Since) (prefix : List (Timed Event)) → link.side.server < tunnel.at.dials →
+      Few tunnel.at.dials (goes_by closed tunnel link since prefix)
+  goes_few true tunnel link since prefix below = (omega arith, below)
+  goes_few false tunnel link since prefix below = decided_few (decided (opening_text tunnel prefix) (has_answered link prefix)) tunnel link since below
 
   -- ---- another proxy, which has answered
 
-  opens_few : (empty : Bool) (tunnel : Tunnel) (side : Spare) (used : ℕ) (since : Since) (prefix : List (Timed Event)) → side.server < tunnel.at.dials →
-      Few tunnel.at.dials (opens_by empty tunnel side used since prefix)
-  opens_few true tunnel side used since prefix below = goes_few (client_closed prefix) tunnel (record { server = side.server; opened = length prefix }) since prefix below
-  opens_few false tunnel side used since prefix below = (omega arith, tt)
+  -- it is heard on its own side
+  way_below : (empty : Bool) (link : Link) (used come dials : ℕ) → link.side.server < dials → (way_by empty link used come).side.server < dials
+  way_below true link used come dials below = below
+  way_below false link used come dials below = below
 
-  -- the spare side was dialled before, and the proxy's is the last that was
-  spare_before : (spare : Option Spare) (dials : ℕ) → SpareBelow spare dials → SpareBelow spare (dials + 1)
-  spare_before None dials below = tt
-  spare_before (Some spare) dials below = omega arith
+  way_there : (link : Link) (used : ℕ) (prefix : List (Timed Event)) (dials : ℕ) → link.side.server < dials → (way_to link used prefix).side.server < dials
+  way_there link used prefix dials below = way_below (is_empty (text_behind link used prefix)) link used (length prefix) dials below
 
-  way_below : (empty : Bool) (side : Spare) (used come dials : ℕ) → side.server ≡ dials → (way_by empty side used come).side.server < dials + 1
-  way_below true side used come dials is = omega arith
-  way_below false side used come dials is = omega arith
+  opened_counts : (tunnel : Tunnel) (link : Link) (since : Since) (prefix : List (Timed Event)) (used : ℕ) → link.side.server < tunnel.at.dials →
+      Counts dials_at AllBelow tunnel.at.dials (pass_reached conv client (a_tunnel tunnel) link since prefix (granted used))
+  opened_counts tunnel link since prefix used below =
+      let few = goes_few (client_closed prefix) tunnel (way_to link used prefix) (from_here (now_over since prefix) prefix) prefix
+      (way_there link used prefix tunnel.at.dials below) in
+      record { silent = λ server beyond. refl; few = few.0; stays = few.1 }
 
-  connected_counts : (place : Place) (from : Dialling) (side : Spare) (since : Since) (prefix : List (Timed Event)) (used : ℕ) → GoalBelow (a_flow place from) side.server →
-      Counts dials_at AllBelow (from.at.dials + 1) (pass_reached conv client (a_flow place from) side since prefix (granted used))
-  connected_counts place from side since prefix used (is, below) = record {
-    silent = λ server beyond. sent_silent server side.server _ (omega arith);
+  connected_counts : (place : Place) (from : Dialling) (link : Link) (since : Since) (prefix : List (Timed Event)) (used : ℕ) → link.side.server ≡ from.at.dials →
+      Counts dials_at AllBelow (from.at.dials + 1) (pass_reached conv client (a_flow place from) link since prefix (granted used))
+  connected_counts place from link since prefix used is = record {
+    silent = λ server beyond. sent_silent server link.side.server _ (omega arith);
     few = omega arith;
-    stays = (spare_before from.spare from.at.dials below, way_below (is_empty (text_behind side used prefix)) side used (length prefix) from.at.dials is);
+    stays = way_there link used prefix (from.at.dials + 1) (omega arith);
   }
 
-  shut_silent : (server : ℕ) (side : Spare) (prefix : List (Timed Event)) → IsSilent server (shut_proxy side prefix)
-  shut_silent server side prefix = server_silent server side.server (closed_of side.server (drop side.opened prefix))
-
-  refused_counts : (place : Place) (from : Dialling) (side : Spare) (since : Since) (prefix : List (Timed Event)) → GoalBelow (a_flow place from) side.server →
-      Counts dials_at AllBelow (from.at.dials + 1) (pass_reached conv client (a_flow place from) side since prefix refused)
-  refused_counts place from side since prefix (is, below) =
-      let answer : Timed Reply = record { moment = now_over since prefix; value = reply.Refused UpstreamRefused } in
-      let dial : Command = commands.Dial from.at.dials (dialled_for place from.flow.request) None in
-      let counts = (flows_count place).turns (standing_of from) prefix dial answer (below, tt) refl in
-      let owed : List Command = ((flows_at conv client place).turn (standing_of from) prefix answer).owed in
-      let fewer = counts.few in
-      record {
-        silent = λ server beyond. silent_both server owed (shut_proxy side prefix) (counts.silent server (omega arith)) (shut_silent server side prefix);
-        few = omega arith;
-        stays = counts.stays;
-      }
-
-  reached_counts : (goal : Goal) (side : Spare) (since : Since) (prefix : List (Timed Event)) (g : Granting) → GoalBelow goal side.server →
-      Counts dials_at AllBelow (dials_of goal) (pass_reached conv client goal side since prefix g)
-  reached_counts goal side since prefix awaited is = quietly (dials_of goal) (reaching goal side since) (omega arith, is)
-  reached_counts (a_tunnel tunnel) side since prefix (granted used) is =
-      let few = opens_few (is_empty (text_behind side used prefix)) tunnel side used (from_here (now_over since prefix) prefix) prefix is in
-      record { silent = λ server beyond. refl; few = few.0; stays = few.1 }
-  reached_counts (a_flow place from) side since prefix (granted used) is = connected_counts place from side since prefix used is
-  reached_counts (a_tunnel tunnel) side since prefix refused is = record {
-    silent = λ server beyond. silent_both server (refuses UpstreamRefused false (client_closed prefix)) (shut_proxy side prefix) (client_silent server (client_closed prefix)) (shut_silent server side prefix);
+  reached_counts : (goal : Goal) (link : Link) (since : Since) (prefix : List (Timed Event)) (g : Granting) → GoalBelow goal link.side.server →
+      Counts dials_at AllBelow (dials_of goal) (pass_reached conv client goal link since prefix g)
+  reached_counts goal link since prefix awaited is = quietly (dials_of goal) (reaching goal link since) (omega arith, is)
+  reached_counts (a_tunnel tunnel) link since prefix (granted used) is = opened_counts tunnel link since prefix used is
+  reached_counts (a_flow place from) link since prefix (granted used) is = connected_counts place from link since prefix used is
+  reached_counts (a_tunnel tunnel) link since prefix refused is = record {
+    silent = λ server beyond. closes_silent server link.side.server (closed_of link.side.server (drop link.opened prefix)) (closed_before link prefix);
     few = omega arith;
     stays = tt;
   }
-  reached_counts (a_flow place from) side since prefix refused is = refused_counts place from side since prefix is
+  reached_counts (a_flow place from) link since prefix refused is = record {
+    silent = λ server beyond. fault_silent server from.flow UpstreamRefused (now_over since prefix) (used_proxy link prefix) (closed_before link prefix);
+    few = omega arith;
+    stays = tt;
+  }
 
   -- a WebSocket
-  socket_counts : (ends : TunnelEnds) (flow : Flow) (most : ℕ) (on : Turn Frames Command) → ends.side.server + 1 ≤ most → Says (socket_terms client.key ends flow) on →
+  socket_counts : (ends : TunnelEnds) (flow : Flow) (most : ℕ) (on : Turn Frames Command) → ends.link.side.server + 1 ≤ most → Says (socket_terms client.key ends flow) on →
       Counts dials_at AllBelow most (socket_turn ends flow on)
   socket_counts ends flow most on less said = record {
     silent = λ server beyond. said_silent server (socket_terms client.key ends flow) on.stage (λ same. omega arith) on.owed said;
@@ -246,15 +229,15 @@ module _ (conv : ℕ) (client : Visitor) where
   }
 
   socket_passes : (ends : TunnelEnds) (flow : Flow) (frames : Frames) (prefix : List (Timed Event)) →
-      Counts dials_at AllBelow (ends.side.server + 1) (pass_socket conv client ends flow frames prefix)
-  socket_passes ends flow frames prefix = socket_counts ends flow (ends.side.server + 1) _ (omega arith) (pass_says (socket_terms client.key ends flow) (socket_sight ends prefix) frames)
+      Counts dials_at AllBelow (ends.link.side.server + 1) (pass_socket conv client ends flow frames prefix)
+  socket_passes ends flow frames prefix = socket_counts ends flow (ends.link.side.server + 1) _ (omega arith) (pass_says (socket_terms client.key ends flow) (socket_sight ends prefix) frames)
 
   begun_counts : (stage : Stage) (prefix : List (Timed Event)) → AllBelow stage → Counts dials_at AllBelow (dials_at stage) (begun conv client stage prefix)
   begun_counts (http place standing) prefix is = quietly (dialled_at standing) (http place standing) (omega arith, is)
   begun_counts (connecting tunnel) prefix is = quietly tunnel.at.dials (connecting tunnel) (omega arith, tt)
-  begun_counts (reaching goal side since) prefix is = quietly (dials_of goal) (reaching goal side since) (omega arith, is)
-  begun_counts (undecided tunnel spare since) prefix is = quietly tunnel.at.dials (undecided tunnel spare since) (omega arith, is)
-  begun_counts (raw ends) prefix is = quietly (ends.side.server + 1) (raw ends) (omega arith, tt)
+  begun_counts (reaching goal link since) prefix is = quietly (dials_of goal) (reaching goal link since) (omega arith, is)
+  begun_counts (undecided tunnel link since) prefix is = quietly tunnel.at.dials (undecided tunnel link since) (omega arith, is)
+  begun_counts (raw ends) prefix is = quietly (ends.link.side.server + 1) (raw ends) (omega arith, tt)
   begun_counts (socket ends flow frames) prefix is = socket_passes ends flow frames prefix
   begun_counts over prefix is = quietly 0 over (omega arith, tt)
 
@@ -274,52 +257,47 @@ module _ (conv : ℕ) (client : Visitor) where
         stays = further.stays;
       }
   passes (connecting tunnel) prefix is = quietly tunnel.at.dials (connecting tunnel) (omega arith, tt)
-  passes (reaching goal side since) prefix is = reached_counts goal side since prefix (answer_of side prefix) is
-  passes (undecided tunnel spare since) prefix is =
-      quietly tunnel.at.dials (goes_by (client_closed prefix) tunnel spare since prefix) (goes_few (client_closed prefix) tunnel spare since prefix is)
-  passes (raw ends) prefix is = quietly (ends.side.server + 1) (raw ends) (omega arith, tt)
+  passes (reaching goal link since) prefix is = reached_counts goal link since prefix (answer_of link prefix) is
+  passes (undecided tunnel link since) prefix is =
+      quietly tunnel.at.dials (goes_by (client_closed prefix) tunnel link since prefix) (goes_few (client_closed prefix) tunnel link since prefix is)
+  passes (raw ends) prefix is = quietly (ends.link.side.server + 1) (raw ends) (omega arith, tt)
   passes (socket ends flow frames) prefix is = socket_passes ends flow frames prefix
   passes over prefix is = quietly 0 over (omega arith, tt)
 
-  pub with_silent : (server : ℕ) (unused : Option Unused) (l : Look Command) → IsSilent server (found l) → IsSilent server (found (with_closes conv client unused l))
-  with_silent server unused NotYet is = is
-  with_silent server unused (Asks ask) is = is
-  with_silent server unused (Ends owed) is = silent_both server owed (shut_unused unused) is (unused_silent server unused)
-
-  waits_silent : (server : ℕ) (goal : Goal) (side : Spare) (prefix : List (Timed Event)) → IsSilent server (found (waits_for goal side prefix))
-  waits_silent server (a_tunnel tunnel) side prefix = found_silent server (client_closed prefix) (shut_proxy side prefix) (shut_silent server side prefix)
-  waits_silent server (a_flow place from) side prefix = refl
-
   looks : (stage : Stage) (prefix : List (Timed Event)) → AllBelow stage → (server : ℕ) → dials_at stage ≤ server → IsSilent server (found ((stack_chain conv client).look stage prefix))
-  looks (http place standing) prefix is server beyond =
-      with_silent server (unused_over standing.spare prefix) ((flows_at conv client place).look standing prefix) ((flows_count place).looks standing prefix is server beyond)
+  looks (http place standing) prefix is server beyond = (flows_count place).looks standing prefix is server beyond
   looks (connecting tunnel) prefix is server beyond = refl
-  looks (reaching goal side since) prefix is server beyond = waits_silent server goal side prefix
-  looks (undecided tunnel spare since) prefix is server beyond =
-      let shut : Bool = is_closed (Server spare.server) (drop spare.opened prefix) in
+  looks (reaching goal link since) prefix is server beyond = refl
+  looks (undecided tunnel link since) prefix is server beyond =
+      let shut : Bool = is_shut link prefix in
       let closed : Bool = client_closed prefix in
-      found_silent server (closed || shut) (closes_all spare.server shut closed) (closes_silent server spare.server shut closed)
+      found_silent server (closed || shut) (closes_all link.side.server shut closed) (closes_silent server link.side.server shut closed)
   looks (raw ends) prefix is server beyond =
       let closed : Bool = client_closed prefix in
-      let shut : Bool = is_shut ends prefix in
-      let unused : Option Unused = unused_over ends.spare prefix in
-      let closes : List Command = closes_all ends.side.server shut closed in
-      found_silent server (closed || shut) (finished_flow ends.flow ++ (shut_unused unused ++ closes))
-      (silent_both server (finished_flow ends.flow) (shut_unused unused ++ closes) (finished_silent server ends.flow)
-      (silent_both server (shut_unused unused) closes (unused_silent server unused) (closes_silent server ends.side.server shut closed)))
-  looks (socket ends flow frames) prefix is server beyond =
-      let terms : Terms = socket_terms client.key ends flow in
-      with_silent server (unused_over ends.spare prefix) (relay.look terms frames) (frames_silent server terms frames)
+      let shut : Bool = is_shut ends.link prefix in
+      let closes : List Command = closes_all ends.link.side.server shut closed in
+      found_silent server (closed || shut) (finished_flow ends.flow ++ closes)
+      (silent_both server (finished_flow ends.flow) closes (finished_silent server ends.flow) (closes_silent server ends.link.side.server shut closed))
+  looks (socket ends flow frames) prefix is server beyond = frames_silent server (socket_terms client.key ends flow) frames
   looks over prefix is server beyond = refl
 
   waits : (stage : Stage) (prefix : List (Timed Event)) → AllBelow stage → (server : ℕ) → dials_at stage ≤ server → IsSilent server ((stack_chain conv client).so_far stage prefix)
   waits (http place standing) prefix is server beyond = (flows_count place).waits standing prefix is server beyond
   waits (connecting tunnel) prefix is server beyond = refl
-  waits (reaching goal side since) prefix is server beyond = refl
-  waits (undecided tunnel spare since) prefix is server beyond = refl
-  waits (raw ends) prefix is server beyond = both_silent server ends.side.server (text_up ends prefix) (text_down ends prefix) beyond
+  waits (reaching goal link since) prefix is server beyond = refl
+  waits (undecided tunnel link since) prefix is server beyond = refl
+  waits (raw ends) prefix is server beyond = both_silent server ends.link.side.server (text_up ends prefix) (text_down ends prefix) beyond
   waits (socket ends flow frames) prefix is server beyond = refl
   waits over prefix is server beyond = refl
+
+  parts : (stage : Stage) (prefix : List (Timed Event)) → AllBelow stage → (server : ℕ) → dials_at stage ≤ server → IsSilent server ((stack_chain conv client).behind stage prefix)
+  parts (http place standing) prefix is server beyond = (flows_count place).behind standing prefix is server beyond
+  parts (connecting tunnel) prefix is server beyond = refl
+  parts (reaching goal link since) prefix is server beyond = refl
+  parts (undecided tunnel link since) prefix is server beyond = refl
+  parts (raw ends) prefix is server beyond = refl
+  parts (socket ends flow frames) prefix is server beyond = refl
+  parts over prefix is server beyond = refl
 
   -- a proxy is sent the request for a tunnel behind its connection
   connected_turns : (proxy : Option Address) (tunnel : Tunnel) (prefix : List (Timed Event)) (moment : ℕ) →
@@ -338,48 +316,39 @@ module _ (conv : ℕ) (client : Visitor) where
   dial_turns tunnel prefix (reply.Refused fault) moment =
       record { silent = λ server beyond. client_silent server (client_closed prefix); few = omega arith; stays = tt }
 
-  http_asked : (unused : Option Unused) (l : Look Command) (ask : Command) → with_closes conv client unused l ≡ Asks ask → l ≡ Asks ask
-  http_asked unused NotYet ask is = absurd (let no : NotYet ≡ Asks ask = is in cc)
-  http_asked unused (Asks one) ask is = is
-  http_asked unused (Ends owed) ask is = absurd (let no : Ends (owed ++ shut_unused unused) ≡ Asks ask = is in cc)
-
   asks_not : (ends : Bool) (owed : List Command) (ask : Command) → tunnel_found ends owed ≡ Asks ask → ⊥
   asks_not true owed ask is = let no : Ends owed ≡ Asks ask = is in cc
   asks_not false owed ask is = let no : NotYet ≡ Asks ask = is in cc
 
-  waits_not : (goal : Goal) (side : Spare) (prefix : List (Timed Event)) (ask : Command) → waits_for goal side prefix ≡ Asks ask → ⊥
-  waits_not (a_tunnel tunnel) side prefix ask is = asks_not (client_closed prefix) (shut_proxy side prefix) ask is
-  waits_not (a_flow place from) side prefix ask is = let no : NotYet ≡ Asks ask = is in cc
-
   -- ---- a flow whose dial connected another proxy
 
   -- it stands where its server is dialled
-  abbrev IsLed : Standing → Option Dialling → Type 0
-  IsLed standing None = ⊤
-  IsLed standing (Some from) = (dialled_at standing ≡ from.at.dials) × SpareBelow from.spare from.at.dials
+  abbrev IsLed : flows.Stage → Option Dialling → Type 0
+  IsLed stage None = ⊤
+  IsLed stage (Some from) = dialled stage ≡ from.at.dials
 
-  led_is_by : (standing : Standing) (stage : flows.Stage) → standing.stage ≡ stage → ServersBelow standing.spare stage → IsLed standing (led_by standing stage)
-  led_is_by standing (idle at) is below = tt
-  led_is_by standing (busy at flow (request_body given)) is below = tt
-  led_is_by standing (busy at flow connection) is below = (ap dialled is, below.0)
-  led_is_by standing (busy at flow (response_head side how)) is below = tt
-  led_is_by standing (busy at flow (response_body side how)) is below = tt
-  led_is_by standing (busy at flow (upgraded side)) is below = tt
-  led_is_by standing (busy at flow given_head) is below = tt
-  led_is_by standing (busy at flow given_body) is below = tt
-  led_is_by standing (next at) is below = tt
-  led_is_by standing flows.over is below = tt
+  led_is_by : (stage : flows.Stage) → IsLed stage (led_by stage)
+  led_is_by (idle at) = tt
+  led_is_by (busy at flow (request_body given)) = tt
+  led_is_by (busy at flow connection) = refl
+  led_is_by (busy at flow (response_head side how)) = tt
+  led_is_by (busy at flow (response_body side how)) = tt
+  led_is_by (busy at flow (upgraded side)) = tt
+  led_is_by (busy at flow given_head) = tt
+  led_is_by (busy at flow given_body) = tt
+  led_is_by (next at) = tt
+  led_is_by flows.over = tt
 
-  led_is : (place : Place) (standing : Standing) → AreBelow standing → IsLed standing (led_at place standing)
-  led_is places.Regular standing below = tt
-  led_is (places.Upstream proxy) standing below = tt
-  led_is (places.Fixed address side None) standing below = tt
-  led_is (places.Fixed address side (Some proxy)) standing below = led_is_by standing standing.stage refl below
+  led_is : (place : Place) (stage : flows.Stage) → IsLed stage (led_at place stage)
+  led_is places.Regular stage = tt
+  led_is (places.Upstream proxy) stage = tt
+  led_is (places.Fixed address side None) stage = tt
+  led_is (places.Fixed address side (Some proxy)) stage = led_is_by stage
 
-  proxy_asked : (most : ℕ) (place : Place) (prefix : List (Timed Event)) (from : Dialling) (moment : ℕ) → from.at.dials + 1 ≤ most → SpareBelow from.spare from.at.dials →
+  proxy_asked : (most : ℕ) (place : Place) (prefix : List (Timed Event)) (from : Dialling) (moment : ℕ) → from.at.dials + 1 ≤ most →
       Counts dials_at AllBelow most (asks_proxy conv client (a_flow place from) (address_of from.flow.request) from.at.dials prefix moment)
-  proxy_asked most place prefix from moment more below =
-      record { silent = λ server beyond. sent_silent server from.at.dials (connect_text (address_of from.flow.request)) (omega arith); few = more; stays = (refl, below) }
+  proxy_asked most place prefix from moment more =
+      record { silent = λ server beyond. sent_silent server from.at.dials (connect_text (address_of from.flow.request)) (omega arith); few = more; stays = refl }
 
   flows_turn : (place : Place) (standing : Standing) (prefix : List (Timed Event)) (ask : Command) (answer : Timed Reply) → AreBelow standing →
       (flows_at conv client place).look standing prefix ≡ Asks ask →
@@ -389,7 +358,7 @@ module _ (conv : ℕ) (client : Visitor) where
       record { silent = counts.silent; few = counts.few; stays = counts.stays }
 
   http_turns : (led : Option Dialling) (place : Place) (standing : Standing) (prefix : List (Timed Event)) (ask : Command) (answer : Timed Reply) (value : Reply) →
-      IsLed standing led → answer.value ≡ value → AreBelow standing → (flows_at conv client place).look standing prefix ≡ Asks ask →
+      IsLed standing.stage led → answer.value ≡ value → AreBelow standing → (flows_at conv client place).look standing prefix ≡ Asks ask →
       Counts dials_at AllBelow (dialled_at standing + connects answer.value) (turn_http conv client led place standing prefix answer value)
   http_turns None place standing prefix ask answer value led same is asked = flows_turn place standing prefix ask answer is asked
   http_turns (Some from) place standing prefix ask answer (reply.Go given stream) led same is asked = flows_turn place standing prefix ask answer is asked
@@ -398,27 +367,26 @@ module _ (conv : ℕ) (client : Visitor) where
   http_turns (Some from) place standing prefix ask answer reply.Discard led same is asked = flows_turn place standing prefix ask answer is asked
   http_turns (Some from) place standing prefix ask answer reply.Dialled led same is asked =
       let one : connects answer.value ≡ 1 = ap connects same in
-      let dials = led.0 in
-      proxy_asked (dialled_at standing + connects answer.value) place prefix from answer.moment (omega arith) led.1
+      let dials = led in
+      proxy_asked (dialled_at standing + connects answer.value) place prefix from answer.moment (omega arith)
   http_turns (Some from) place standing prefix ask answer (reply.Refused fault) led same is asked = flows_turn place standing prefix ask answer is asked
 
   turns : (stage : Stage) (prefix : List (Timed Event)) (ask : Command) (answer : Timed Reply) → AllBelow stage → (stack_chain conv client).look stage prefix ≡ Asks ask →
       Counts dials_at AllBelow (dials_at stage + connects answer.value) ((stack_chain conv client).turn stage prefix answer)
   turns (http place standing) prefix ask answer is asked =
-      http_turns (led_at place standing) place standing prefix ask answer answer.value (led_is place standing is) refl is
-      (http_asked (unused_over standing.spare prefix) ((flows_at conv client place).look standing prefix) ask asked)
+      http_turns (led_at place standing.stage) place standing prefix ask answer answer.value (led_is place standing.stage) refl is asked
   turns (connecting tunnel) prefix ask answer is asked = dial_turns tunnel prefix answer.value answer.moment
-  turns (reaching goal side since) prefix ask answer is asked = absurd (waits_not goal side prefix ask asked)
-  turns (undecided tunnel spare since) prefix ask answer is asked = absurd (asks_not _ _ ask asked)
+  turns (reaching goal link since) prefix ask answer is asked = absurd (let no : NotYet ≡ Asks ask = asked in cc)
+  turns (undecided tunnel link since) prefix ask answer is asked = absurd (asks_not _ _ ask asked)
   turns (raw ends) prefix ask answer is asked = absurd (asks_not _ _ ask asked)
   turns (socket ends flow frames) prefix ask answer is asked =
       let more = connects answer.value in
-      socket_counts ends flow (ends.side.server + 1 + connects answer.value) _ (omega arith)
+      socket_counts ends flow (ends.link.side.server + 1 + connects answer.value) _ (omega arith)
       (turn_says (socket_terms client.key ends flow) (socket_sight ends prefix) frames answer.value answer.moment)
   turns over prefix ask answer is asked = absurd (let no : Ends [] ≡ Asks ask = asked in cc)
 
   pub stack_counts : CountsServers (stack_chain conv client) dials_at AllBelow
-  stack_counts = record { passes = passes; looks = looks; waits = waits; turns = turns }
+  stack_counts = record { passes = passes; looks = looks; waits = waits; behind = parts; turns = turns }
 
 -- No byte is due to a server while no call answers its dial with the connection. Servers are numbered from 0 in the order of their dials.
 pub mode_silent : (mode : Mode) (key : List ℕ) (conv : ℕ) (peer : Option Address) (server : ℕ) (moves : List Move) → NoAnswer server moves →

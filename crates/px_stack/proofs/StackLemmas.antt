@@ -16,7 +16,7 @@ use Rattle.px_exchange.specs.declared.mode.Mode.TheVariants as modes
 use Rattle.px_exchange.specs.declared.place.Place.{Place}
 use Rattle.px_exchange.specs.declared.terms.Terms.{Terms}
 use Rattle.px_exchange.specs.Places.{place_of, terms_of}
-use Rattle.px_chain.specs.Chain.{begin, begin_with, http_chain, sequence, spare_of}
+use Rattle.px_chain.specs.Chain.{begin, http_chain, sequence}
 use Rattle.px_chain.specs.Stages.{idle}
 use Rattle.px_http.specs.declared.conversation.HttpConv.{HttpConv}
 use Rattle.px_http.specs.Stands.{HttpStands}
@@ -39,22 +39,22 @@ use Rattle.px_stack.specs.Steps.{Adds, ResumesChild, TakesChild}
 -- ---- one that was made stands for itself
 
 -- no side of the first place is connected yet
-no_spare : (mode : Mode) → begin_with (spare_of (place_of mode)) (idle first_at) ≡ begin (idle first_at)
-no_spare modes.Regular = refl
-no_spare (modes.Reverse address) = refl
-no_spare (modes.Upstream proxy) = refl
+none_parked : (mode : Mode) → flow_start (place_of mode) (record { flow = 0; server = 0 }) ≡ first_at
+none_parked modes.Regular = refl
+none_parked (modes.Reverse address) = refl
+none_parked (modes.Upstream proxy) = refl
 
 pub starts : (mode : Mode) (place : Place) (numbers : Numbers) → place ≡ place_of mode → numbers ≡ record { flow = 0; server = 0 } →
-    http place (begin_with (spare_of place) (idle (flow_start numbers))) ≡ begins mode
+    http place (begin (idle (flow_start place numbers))) ≡ begins mode
 starts mode place numbers same none =
-    let at_place = ap (λ p. http p (begin_with (spare_of p) (idle (flow_start numbers)))) same in
-    let at_numbers = ap (λ n. http (place_of mode) (begin_with (spare_of (place_of mode)) (idle (flow_start n)))) none in
-    at_place ∙ (at_numbers ∙ ap (http (place_of mode)) (no_spare mode))
+    let at_place = ap (λ p. http p (begin (idle (flow_start p numbers)))) same in
+    let at_numbers = ap (λ n. http (place_of mode) (begin (idle (flow_start (place_of mode) n)))) none in
+    at_place ∙ (at_numbers ∙ ap (λ at. http (place_of mode) (begin (idle at))) (none_parked mode))
 
 -- where its flows are, before the first move
 abbrev FirstIn : Stream → Terms → Numbers → Type 0
 FirstIn stream terms numbers =
-    let stop = stop_of (http_chain sequence terms) (begin_with (spare_of terms.place) (idle (flow_start numbers))) [] in
+    let stop = stop_of (http_chain sequence terms) (begin (idle (flow_start terms.place numbers))) [] in
     IsInSequence terms (ahead_of numbers) stream stop.stage stop.prefix
 
 first_there : (conv : ℕ) (client : Visitor) (mode : Mode) (stream : Stream) → FirstIn stream (terms_of conv client.address (place_of mode)) (record { flow = 0; server = 0 }) →

@@ -1,22 +1,47 @@
--- A spare side was connected before the client closed: that stays so.
-use Rattle.std.proofs.Common.{◌≡◌, Bool, true, false, List, [], ◌∷◌, ◌++◌, drop, Option, Some, None, refl, ap, sym, ◌∙◌}
-use Rattle.std.specs.Prelude.{◌||◌}
+-- A side that is parked was connected before the client closed: that stays so, over one event more, where a flow passes and where a reply leads.
+use Rattle.std.proofs.Common.{◌≡◌, ◌≤◌, ◌+◌, ℕ, Bool, true, false, List, [], ◌∷◌, ◌++◌, drop, length, Option, Some, None, refl, ap, sym, ◌∙◌, subst}
+use Rattle.std.specs.Prelude.{◌==◌, ◌||◌}
 use Rattle.std.proofs.lemmas.List.{drop-append-le}
+use Rattle.px_message.specs.declared.flow.Flow.{Flow}
+use Rattle.px_message.specs.declared.request.Request.{Request}
+use Rattle.px_message.specs.declared.response.Response.{Response}
+use Rattle.px_event.specs.declared.command.Command.{Command}
 use Rattle.px_event.specs.declared.event.Event.{Event}
+use Rattle.px_event.specs.declared.reply.Reply.{Reply}
+use Rattle.px_event.specs.declared.reply.Reply.TheVariants as reply
 use Rattle.px_event.specs.declared.side.Side.TheVariants.{Client}
-use Rattle.px_event.specs.Chain.{Timed}
-use Rattle.px_chain.specs.Sights.{Spare, SpareIsWithin, unless_taken}
+use Rattle.px_event.specs.Chain.{Timed, Turn}
 use Rattle.px_event.specs.Sides.{closes}
+use Rattle.px_read.specs.Items.{Item, missing, part, complete, bad_head, bad_body}
+use Rattle.px_read.specs.declared.head.RequestHead.{RequestHead as ReadRequest}
+use Rattle.px_read.specs.declared.head.ResponseHead.{ResponseHead as ReadResponse}
+use Rattle.px_exchange.specs.declared.asked.Judged.{Judged}
+use Rattle.px_exchange.specs.declared.asked.Judged.TheVariants.{Refused, Accepted, Connects}
+use Rattle.px_exchange.specs.declared.ending.Used.{Used}
+use Rattle.px_exchange.specs.declared.place.Place.{Place}
+use Rattle.px_exchange.specs.declared.taken.Taken.{Taken}
+use Rattle.px_exchange.specs.declared.taken.Taken.TheVariants.{GoesOn, Responds, Kills}
+use Rattle.px_exchange.specs.declared.terms.Terms.{Terms}
+use Rattle.px_exchange.specs.Endings.{connection_goes_on}
+use Rattle.px_exchange.specs.Flows.{response_of, with_answer, with_body, with_end, with_returned, with_start}
+use Rattle.px_exchange.specs.Replies.{taken_at_request_body, taken_at_request_head, taken_at_response_body, taken_at_response_head}
+use Rattle.px_exchange.specs.Requests.{expects, flow_of, judged}
+use Rattle.px_chain.specs.Chain.{behind_flow, dial_leads, finish_by, goes_on_by, opened_by, parked_for, pass, pass_body, sequence, side_behind, stands, turn, turn_answer, turn_answer_head, turn_body, turn_given_head, turn_head, turn_judged, turn_response, turn_returned, turn_taken_answer, turn_taken_body, turn_taken_given, turn_taken_head, turn_taken_returned, turn_taken_whole, turn_whole_answer, used_more}
+use Rattle.px_chain.specs.Sights.{Sight, Standing, answers_in, dials_at, request_in, server_in, server_parked, sight_over}
+use Rattle.px_chain.specs.Stages.{At, Parked, ServerSide, Stage, busy, connection, given_body, given_head, idle, next, over, place_of, request_body, response_body, response_head, unparked, upgraded}
 use Rattle.px_chain.specs.Streams.{client_closed}
 use Rattle.px_chain.proofs.FrontLaws.{closed_more, closed_stays, open_behind}
+use Rattle.px_chain.proofs.SilentLemmas.{IsParkedFrom, none_parked, same_parked}
 use Rattle.px_stream.specs.Anywhere.{OpensInTime}
+use Rattle.px_stack.specs.Stands.{InTime}
 
 -- while the client has not closed there is nothing to show
-pub open_in_time : (spare : Option Spare) (prefix : List (Timed Event)) → client_closed prefix ≡ false → OpensInTime spare prefix
-open_in_time None prefix open_still = tt
-open_in_time (Some spare) prefix open_still = λ closed. absurd (let no : true ≡ false = sym closed ∙ open_still in cc)
+pub open_in_time : (parked : Option Parked) (opened : ℕ) (prefix : List (Timed Event)) → client_closed prefix ≡ false → OpensInTime parked opened prefix
+open_in_time None opened prefix open_still = tt
+open_in_time (Some parked) opened prefix open_still = λ closed. absurd (let no : true ≡ false = sym closed ∙ open_still in cc)
 
--- one event more
+-- ---- one event more
+
 later_by : (behind prefix : List (Timed Event)) (e : Timed Event) (was : Bool) → client_closed prefix ≡ was → client_closed (prefix ++ e ∷ []) ≡ true →
     (client_closed prefix ≡ true → client_closed behind ≡ true) → (client_closed prefix ≡ false → client_closed behind ≡ false) →
     client_closed (behind ++ e ∷ []) ≡ true
@@ -25,14 +50,190 @@ later_by behind prefix e false is closed in_time open_there =
     let closes_now : closes Client e.value ≡ true = sym (closed_more Client prefix e is ∙ ap (λ b. b || closes Client e.value) is) ∙ closed in
     closed_more Client behind e (open_there is) ∙ (ap (λ b. b || closes Client e.value) (open_there is) ∙ closes_now)
 
-pub in_time_more : (spare : Option Spare) (prefix : List (Timed Event)) (e : Timed Event) → SpareIsWithin spare prefix → OpensInTime spare prefix →
-    OpensInTime spare (prefix ++ e ∷ [])
-in_time_more None prefix e within in_time = tt
-in_time_more (Some spare) prefix e within in_time = λ closed.
-    ap client_closed (drop-append-le spare.opened prefix (e ∷ []) within)
-    ∙ later_by (drop spare.opened prefix) prefix e (client_closed prefix) refl closed in_time (open_behind spare.opened prefix)
+pub in_time_more : (parked : Option Parked) (opened : ℕ) (prefix : List (Timed Event)) (e : Timed Event) → opened ≤ length prefix → OpensInTime parked opened prefix →
+    OpensInTime parked opened (prefix ++ e ∷ [])
+in_time_more None opened prefix e within in_time = tt
+in_time_more (Some parked) opened prefix e within in_time = λ closed.
+    ap client_closed (drop-append-le opened prefix (e ∷ []) within)
+    ∙ later_by (drop opened prefix) prefix e (client_closed prefix) refl closed in_time (open_behind opened prefix)
 
--- and where a reply may have led to its use
-pub in_time_taken : (taken : Bool) (spare : Option Spare) (prefix : List (Timed Event)) → OpensInTime spare prefix → OpensInTime (unless_taken taken spare) prefix
-in_time_taken true spare prefix in_time = tt
-in_time_taken false spare prefix in_time = in_time
+-- ---- where the same side is parked, or none
+
+in_time_from : (was later : Option Parked) (opened : ℕ) (prefix : List (Timed Event)) → IsParkedFrom was later → OpensInTime was opened prefix → OpensInTime later opened prefix
+in_time_from was later opened prefix (same_parked is) in_time = let P : Option Parked → Type 0 = λ p. OpensInTime p opened prefix in subst P (sym is) in_time
+in_time_from was later opened prefix (none_parked is) in_time = let P : Option Parked → Type 0 = λ p. OpensInTime p opened prefix in subst P (sym is) tt
+
+-- a flow passes
+body_passes : (at : At) (flow : Flow) (given : Option Response) (item : Item ReadRequest) (now : ℕ) → (place_of (pass_body at flow given item now)).parked ≡ at.parked
+body_passes at flow None item now = refl
+body_passes at flow (Some response) missing now = refl
+body_passes at flow (Some response) (part head body) now = refl
+body_passes at flow (Some response) (complete head body trailers used) now = refl
+body_passes at flow (Some response) (bad_head fault) now = refl
+body_passes at flow (Some response) (bad_body fault head body) now = refl
+
+stage_passes : (stage : Stage) (seen : Sight) → (place_of (pass stage seen)).parked ≡ (place_of stage).parked
+stage_passes (idle at) seen = refl
+stage_passes (busy at flow (request_body given)) seen = body_passes at flow given (request_in at seen) seen.now
+stage_passes (busy at flow connection) seen = refl
+stage_passes (busy at flow (response_head side how)) seen = refl
+stage_passes (busy at flow (response_body side how)) seen = refl
+stage_passes (busy at flow (upgraded side)) seen = refl
+stage_passes (busy at flow given_head) seen = refl
+stage_passes (busy at flow given_body) seen = refl
+stage_passes (next at) seen = refl
+stage_passes over seen = refl
+
+pub in_time_passed : (standing : Standing) (prefix : List (Timed Event)) → InTime standing prefix → InTime (record standing { stage = pass standing.stage (sight_over standing prefix) }) prefix
+in_time_passed standing prefix in_time =
+    in_time_from (place_of standing.stage).parked _ standing.opened prefix (same_parked (stage_passes standing.stage (sight_over standing prefix))) in_time
+
+-- ---- a reply leads on
+
+abbrev Parks : Option Parked → Stage → Type 0
+Parks was to = IsParkedFrom was (place_of (sequence to)).parked
+
+taken_head_parks : (at : At) (flow : Flow) (expected : Bool) (taken : Taken Request) (moment : ℕ) (seen : Sight) → Parks at.parked (turn_taken_head at flow expected taken moment seen).stage
+taken_head_parks at flow expected (GoesOn request) moment seen = same_parked refl
+taken_head_parks at flow expected (Responds response) moment seen = same_parked refl
+taken_head_parks at flow expected Kills moment seen = none_parked refl
+
+judged_parks : (terms : Terms) (at : At) (head : ReadRequest) (made : Judged) (seen : Sight) (answer : Timed Reply) → Parks at.parked (turn_judged terms at head made seen answer).stage
+judged_parks terms at head (Refused fault) seen answer = none_parked refl
+judged_parks terms at head (Connects address) seen answer = none_parked refl
+judged_parks terms at head (Accepted request) seen answer =
+    taken_head_parks at (flow_of terms at.flow request seen.now) (expects head) (taken_at_request_head request answer.value) answer.moment seen
+
+head_parks : (terms : Terms) (at : At) (item : Item ReadRequest) (seen : Sight) (answer : Timed Reply) → Parks at.parked (turn_head terms at item seen answer).stage
+head_parks terms at missing seen answer = none_parked refl
+head_parks terms at (part head body) seen answer = judged_parks terms at head (judged terms.place head) seen answer
+head_parks terms at (complete head body trailers used) seen answer = judged_parks terms at head (judged terms.place head) seen answer
+head_parks terms at (bad_head fault) seen answer = none_parked refl
+head_parks terms at (bad_body fault head body) seen answer = judged_parks terms at head (judged terms.place head) seen answer
+
+goes_on_parks : (side : Option ServerSide) (place : Place) (at : At) (flow : Flow) → Parks at.parked (goes_on_by side place at flow).stage
+goes_on_parks None place at flow = same_parked refl
+goes_on_parks (Some side) place at flow = none_parked refl
+
+taken_body_parks : (place : Place) (at : At) (flow : Flow) (taken : Taken Request) (moment : ℕ) (seen : Sight) → Parks at.parked (turn_taken_body place at flow taken moment seen).stage
+taken_body_parks place at flow (GoesOn request) moment seen = goes_on_parks (parked_for place request at.parked) place at (record flow { request = request })
+taken_body_parks place at flow (Responds response) moment seen = same_parked refl
+taken_body_parks place at flow Kills moment seen = none_parked refl
+
+body_parks : (place : Place) (at : At) (flow : Flow) (item : Item ReadRequest) (seen : Sight) (answer : Timed Reply) → Parks at.parked (turn_body place at flow item seen answer).stage
+body_parks place at flow missing seen answer = none_parked refl
+body_parks place at flow (part head body) seen answer = none_parked refl
+body_parks place at flow (complete head body trailers used) seen answer =
+    let whole : Flow = with_body flow body.content trailers seen.now in
+    taken_body_parks place (used_more at used) whole (taken_at_request_body whole.request answer.value) answer.moment seen
+body_parks place at flow (bad_head fault) seen answer = none_parked refl
+body_parks place at flow (bad_body fault head body) seen answer = none_parked refl
+
+taken_answer_parks : (at : At) (flow : Flow) (side : ServerSide) (taken : Taken Response) (moment : ℕ) (used : Used) (closed : Bool) →
+    Parks at.parked (turn_taken_answer at flow side taken moment used closed).stage
+taken_answer_parks at flow side (GoesOn response) moment used closed = same_parked refl
+taken_answer_parks at flow side (Responds response) moment used closed = none_parked refl
+taken_answer_parks at flow side Kills moment used closed = none_parked refl
+
+answer_head_parks : (at : At) (flow : Flow) (side : ServerSide) (head : ReadResponse) (seen : Sight) (answer : Timed Reply) → Parks at.parked (turn_answer_head at flow side head seen answer).stage
+answer_head_parks at flow side head seen answer =
+    taken_answer_parks at (with_answer flow (response_of head) seen.now) side (taken_at_response_head (response_of head) answer.value) answer.moment (server_in side seen) seen.closed
+
+answer_parks : (at : At) (flow : Flow) (side : ServerSide) (item : Item ReadResponse) (seen : Sight) (answer : Timed Reply) → Parks at.parked (turn_answer at flow side item seen answer).stage
+answer_parks at flow side missing seen answer = none_parked refl
+answer_parks at flow side (part head body) seen answer = answer_head_parks at flow side head seen answer
+answer_parks at flow side (complete head body trailers size) seen answer = answer_head_parks at flow side head seen answer
+answer_parks at flow side (bad_head fault) seen answer = none_parked refl
+answer_parks at flow side (bad_body fault head body) seen answer = answer_head_parks at flow side head seen answer
+
+behind_parks : (stays : Bool) (at : At) → Parks at.parked (behind_flow stays at)
+behind_parks true at = same_parked refl
+behind_parks false at = none_parked refl
+
+-- behind its own side a flow leaves none
+none_behind : (was : Option Parked) (stays : Bool) (at : At) → Parks was (behind_flow stays (unparked at))
+none_behind was true at = none_parked refl
+none_behind was false at = none_parked refl
+
+response_parks : (was : Option Parked) (there : Option Response) (takes : Response → Taken Response) (goes : Taken Response → Turn Stage Command) →
+    ((taken : Taken Response) → Parks was (goes taken).stage) → Parks was (turn_response there takes goes).stage
+response_parks was None takes goes each = none_parked refl
+response_parks was (Some response) takes goes each = each (takes response)
+
+taken_returned_parks : (at : At) (flow : Flow) (taken : Taken Response) (moment : ℕ) (parked : Used) (closed : Bool) → Parks at.parked (turn_taken_returned at flow taken moment parked closed).stage
+taken_returned_parks at flow (GoesOn response) moment parked closed = behind_parks (connection_goes_on at.flow flow.request response) at
+taken_returned_parks at flow (Responds response) moment parked closed = none_parked refl
+taken_returned_parks at flow Kills moment parked closed = none_parked refl
+
+finish_parks : (switches : Bool) (at : At) (flow : Flow) (response : Response) (side : ServerSide) (used : Used) (closed : Bool) →
+    Parks at.parked (finish_by switches at flow response side used closed).stage
+finish_parks true at flow response side used closed = same_parked refl
+finish_parks false at flow response side used closed = none_behind at.parked (connection_goes_on at.flow flow.request response) at
+
+taken_whole_parks : (at : At) (flow : Flow) (side : ServerSide) (taken : Taken Response) (moment : ℕ) (used : Used) (closed : Bool) →
+    Parks at.parked (turn_taken_whole at flow side taken moment used closed).stage
+taken_whole_parks at flow side (GoesOn response) moment used closed = finish_parks (response.status == 101) at flow response side used closed
+taken_whole_parks at flow side (Responds response) moment used closed = none_parked refl
+taken_whole_parks at flow side Kills moment used closed = none_parked refl
+
+returned_parks : (at : At) (flow : Flow) (side : ServerSide) (interim : ℕ) (item : Item ReadResponse) (seen : Sight) (answer : Timed Reply) →
+    Parks at.parked (turn_returned at flow side interim item seen answer).stage
+returned_parks at flow side interim missing seen answer = none_parked refl
+returned_parks at flow side interim (part head body) seen answer = none_parked refl
+returned_parks at flow side interim (complete head body trailers size) seen answer =
+    let whole : Flow = with_returned flow body.content trailers seen.now in
+    let side_left : ServerSide = side_behind side (interim + size) in
+    response_parks at.parked whole.response (λ response. taken_at_response_body response answer.value)
+    (λ taken. turn_taken_whole at whole side_left taken answer.moment (server_in side seen) seen.closed)
+    (λ taken. taken_whole_parks at whole side_left taken answer.moment (server_in side seen) seen.closed)
+returned_parks at flow side interim (bad_head fault) seen answer = none_parked refl
+returned_parks at flow side interim (bad_body fault head body) seen answer = none_parked refl
+
+taken_given_parks : (at : At) (flow : Flow) (taken : Taken Response) (moment : ℕ) (parked : Used) (closed : Bool) → Parks at.parked (turn_taken_given at flow taken moment parked closed).stage
+taken_given_parks at flow (GoesOn response) moment parked closed = same_parked refl
+taken_given_parks at flow (Responds response) moment parked closed = none_parked refl
+taken_given_parks at flow Kills moment parked closed = none_parked refl
+
+given_parks : (at : At) (flow : Flow) (answer : Timed Reply) (parked : Used) (closed : Bool) → Parks at.parked (turn_given_head at flow answer parked closed).stage
+given_parks at flow answer parked closed =
+    response_parks at.parked flow.response (λ response. taken_at_response_head response answer.value)
+    (λ taken. turn_taken_given at flow taken answer.moment parked closed)
+    (λ taken. taken_given_parks at flow taken answer.moment parked closed)
+
+whole_parks : (at : At) (flow : Flow) (answer : Timed Reply) (parked : Used) (closed : Bool) → Parks at.parked (turn_whole_answer at flow answer parked closed).stage
+whole_parks at flow answer parked closed =
+    response_parks at.parked flow.response (λ response. taken_at_response_body response answer.value)
+    (λ taken. turn_taken_returned at flow taken answer.moment parked closed)
+    (λ taken. taken_returned_parks at flow taken answer.moment parked closed)
+
+-- behind a dial none is
+dial_parks : (place : Place) (at : At) (flow : Flow) (answer : Reply) → (place_of (sequence (dial_leads place at flow answer))).parked ≡ None
+dial_parks place at flow reply.Dialled = refl
+dial_parks place at flow (reply.Refused fault) = refl
+dial_parks place at flow (reply.Go given stream) = refl
+dial_parks place at flow (reply.Respond response) = refl
+dial_parks place at flow reply.Kill = refl
+dial_parks place at flow reply.Discard = refl
+
+turned_by : (terms : Terms) (stage : Stage) (seen : Sight) (answer : Timed Reply) (opened come : ℕ) (prefix : List (Timed Event)) → OpensInTime (place_of stage).parked opened prefix →
+    OpensInTime (place_of (sequence (turn terms stage seen answer).stage)).parked (opened_by (dials_at stage) opened come) prefix
+turned_by terms (idle at) seen answer opened come prefix in_time = in_time_from at.parked _ opened prefix (head_parks terms at (request_in at seen) seen answer) in_time
+turned_by terms (busy at flow (request_body given)) seen answer opened come prefix in_time =
+    in_time_from at.parked _ opened prefix (body_parks terms.place at flow (request_in at seen) seen answer) in_time
+turned_by terms (busy at flow connection) seen answer opened come prefix in_time =
+    let P : Option Parked → Type 0 = λ p. OpensInTime p come prefix in subst P (sym (dial_parks terms.place at flow answer.value)) tt
+turned_by terms (busy at flow (response_head side how)) seen answer opened come prefix in_time =
+    in_time_from at.parked _ opened prefix (answer_parks at flow side (answers_in flow.request side seen).final seen answer) in_time
+turned_by terms (busy at flow (response_body side how)) seen answer opened come prefix in_time =
+    let answers = answers_in flow.request side seen in in_time_from at.parked _ opened prefix (returned_parks at flow side answers.used answers.final seen answer) in_time
+turned_by terms (busy at flow (upgraded side)) seen answer opened come prefix in_time = tt
+turned_by terms (busy at flow given_head) seen answer opened come prefix in_time =
+    in_time_from at.parked _ opened prefix (given_parks at (with_start flow seen.now) answer (server_parked at.parked seen) seen.closed) in_time
+turned_by terms (busy at flow given_body) seen answer opened come prefix in_time =
+    in_time_from at.parked _ opened prefix (whole_parks at (with_end flow seen.now) answer (server_parked at.parked seen) seen.closed) in_time
+turned_by terms (next at) seen answer opened come prefix in_time = in_time
+turned_by terms over seen answer opened come prefix in_time = tt
+
+pub in_time_turned : (terms : Terms) (standing : Standing) (prefix : List (Timed Event)) (answer : Timed Reply) → InTime standing prefix →
+    InTime (stands standing answer.moment prefix (sequence (turn terms standing.stage (sight_over standing prefix) answer).stage)) prefix
+in_time_turned terms standing prefix answer in_time = turned_by terms standing.stage (sight_over standing prefix) answer standing.opened (length prefix) prefix in_time

@@ -1,6 +1,6 @@
 -- What is due in a conversation: HTTP's chain, until a CONNECT or a response of code 101 hands over; then a tunnel, in which HTTP may
 -- follow again. All of it looks at joined prefixes alone, so what the one has not used is there for the other.
-use Rattle.std.specs.Prelude.{ℕ, ◌+◌, ◌==◌, Bool, true, false, ◌||◌, not, if◌then◌else◌, List, [], ◌∷◌, ◌++◌, drop, length, Option, Some, None, unwrap_or}
+use Rattle.std.specs.Prelude.{ℕ, ◌+◌, ◌==◌, Bool, true, false, ◌||◌, not, if◌then◌else◌, List, [], ◌∷◌, ◌++◌, drop, take, length, Option, Some, None, unwrap_or}
 use Rattle.px_message.specs.declared.address.Address.{Address}
 use Rattle.px_message.specs.declared.fault.Fault.TheVariants.{UpstreamRefused}
 use Rattle.px_message.specs.declared.flow.Flow.{Flow}
@@ -11,17 +11,18 @@ use Rattle.px_event.specs.declared.reply.Reply.{Reply}
 use Rattle.px_event.specs.declared.reply.Reply.TheVariants as reply
 use Rattle.px_event.specs.declared.side.Side.TheVariants.{Client, Server}
 use Rattle.px_event.specs.Chain.{Timed, Look, NotYet, Asks, Ends, Turn, Chain}
-use Rattle.px_exchange.specs.declared.ending.Used.TheVariants.{ByServer}
+use Rattle.px_exchange.specs.declared.ending.Used.{Used}
+use Rattle.px_exchange.specs.declared.ending.Used.TheVariants.{NoServer, ByServer}
 use Rattle.px_exchange.specs.declared.mode.Mode.{Mode}
 use Rattle.px_exchange.specs.declared.place.Place.{Place}
 use Rattle.px_exchange.specs.declared.place.Place.TheVariants as places
 use Rattle.px_exchange.specs.Dials.{connected_owes}
-use Rattle.px_exchange.specs.Endings.{refuses, shut_all, shut_server}
+use Rattle.px_exchange.specs.Endings.{ends_by_fault, refuses, shut_all}
 use Rattle.px_exchange.specs.Places.{address_of, place_of, terms_of}
 use Rattle.px_exchange.specs.Texts.{connected_text}
 use Rattle.px_chain.specs.Chain.{Connect, begin, connect_in, http_chain, new_side, reached, sequence, used_more}
-use Rattle.px_chain.specs.Sights.{Sight, Spare, Standing, Unused, request_in, sight_over, unused_over}
-use Rattle.px_chain.specs.Stages.{At, ServerSide, all_sent, busy, connection, idle, response_head, upgraded}
+use Rattle.px_chain.specs.Sights.{Sight, Standing, request_in, sight_over}
+use Rattle.px_chain.specs.Stages.{At, all_sent, busy, connection, idle, response_head, unparked, upgraded}
 use Rattle.px_chain.specs.Stages as flows
 use Rattle.px_event.specs.Sides.{closes, piece_of}
 use Rattle.px_chain.specs.Streams.{Since, bytes_of, client_closed, from_here, is_closed, last_moment, now_over}
@@ -32,7 +33,7 @@ use Rattle.px_relay.specs.Sending.{Terms}
 use Rattle.px_relay.specs.Sights.{Sight as SocketSight}
 use Rattle.px_relay.specs.Stages.{Stage as Frames, relaying}
 use Rattle.px_stack.specs.Sockets.{is_websocket}
-use Rattle.px_stack.specs.Stages.{Dialling, Ends as TunnelEnds, Goal, Stage, Tunnel, Visitor, a_flow, a_tunnel, connecting, http, over, raw, reaching, socket, undecided}
+use Rattle.px_stack.specs.Stages.{Dialling, Ends as TunnelEnds, Goal, Link, Stage, Tunnel, Visitor, a_flow, a_tunnel, connecting, http, over, raw, reaching, socket, undecided}
 
 -- ---- where HTTP hands over
 
@@ -55,7 +56,7 @@ upgrades false flow moment ends = raw ends
 abbrev pub hands_by : Place → Standing → flows.Stage → Sight → Option Stage
 hands_by place standing (idle at) seen = tunnel_for place at (connect_in place (request_in at seen))
 hands_by place standing (busy at flow (upgraded side)) seen = Some (upgrades (is_websocket flow seen.closed) flow seen.now
-    (record { used = at.used; side = side; opened = standing.opened; flow = Some flow; spare = standing.spare }))
+    (record { used = at.used; link = record { side = side; opened = standing.opened }; flow = Some flow }))
 hands_by place standing stage seen = None
 
 abbrev pub hands_over : Place → Standing → List (Timed Event) → Option Stage
@@ -71,34 +72,38 @@ or_stays stage (Some to) = to
 abbrev pub opening_text : Tunnel → List (Timed Event) → List ℕ
 opening_text tunnel prefix = drop tunnel.at.used (bytes_of Client prefix)
 
-abbrev pub has_answered : Spare → List (Timed Event) → Bool
-has_answered spare prefix = not (length (bytes_of (Server spare.server) (drop spare.opened prefix)) == 0)
+abbrev pub text_on : Link → List (Timed Event) → List ℕ
+text_on link prefix = drop link.side.used (bytes_of (Server link.side.server) (drop link.opened prefix))
 
--- HTTP in a tunnel goes to where the CONNECT asked to, the first request on the side that is connected
-abbrev pub inner_place : Tunnel → Spare → Place
-inner_place tunnel spare = places.Fixed tunnel.address (Some spare.server) tunnel.proxy
+abbrev pub is_empty : List ℕ → Bool
+is_empty text = length text == 0
 
-abbrev pub inner_standing : Tunnel → Spare → Since → Standing
-inner_standing tunnel spare since = record { stage = idle tunnel.at; since = since; opened = 0; spare = Some spare }
+abbrev pub has_answered : Link → List (Timed Event) → Bool
+has_answered link prefix = not (is_empty (text_on link prefix))
 
-abbrev pub tunnel_ends : Tunnel → Spare → TunnelEnds
-tunnel_ends tunnel spare = record {
-  used = tunnel.at.used;
-  side = record { server = spare.server; used = 0 };
-  opened = spare.opened;
-  flow = None;
-  spare = None;
+-- HTTP in a tunnel goes to where the CONNECT asked to, the first request on the side that is connected, which is parked until then
+abbrev pub inner_place : Tunnel → Link → Place
+inner_place tunnel link = places.Fixed tunnel.address (Some link.side.server) tunnel.proxy
+
+abbrev pub inner_standing : Tunnel → Link → Since → Standing
+inner_standing tunnel link since = record {
+  stage = idle (record tunnel.at { parked = Some (record { side = link.side; address = tunnel.address }) });
+  since = since;
+  opened = link.opened;
 }
 
-abbrev pub follows : Decision → Tunnel → Spare → Since → Stage
-follows still tunnel spare since = undecided tunnel spare since
-follows is_http tunnel spare since = http (inner_place tunnel spare) (inner_standing tunnel spare since)
-follows is_raw tunnel spare since = raw (tunnel_ends tunnel spare)
+abbrev pub tunnel_ends : Tunnel → Link → TunnelEnds
+tunnel_ends tunnel link = record { used = tunnel.at.used; link = link; flow = None }
+
+abbrev pub follows : Decision → Tunnel → Link → Since → Stage
+follows still tunnel link since = undecided tunnel link since
+follows is_http tunnel link since = http (inner_place tunnel link) (inner_standing tunnel link since)
+follows is_raw tunnel link since = raw (tunnel_ends tunnel link)
 
 -- Where the client has closed, nothing follows: it ends there.
-abbrev pub goes_by : Bool → Tunnel → Spare → Since → List (Timed Event) → Stage
-goes_by true tunnel spare since prefix = undecided tunnel spare since
-goes_by false tunnel spare since prefix = follows (decided (opening_text tunnel prefix) (has_answered spare prefix)) tunnel spare since
+abbrev pub goes_by : Bool → Tunnel → Link → Since → List (Timed Event) → Stage
+goes_by true tunnel link since prefix = undecided tunnel link since
+goes_by false tunnel link since prefix = follows (decided (opening_text tunnel prefix) (has_answered link prefix)) tunnel link since
 
 -- ---- another proxy, which is asked for a tunnel
 
@@ -113,62 +118,40 @@ closed_of server [] = false
 closed_of server (e ∷ prefix) = closes (Server server) e.value || closed_of server prefix
 
 -- its answer, as far as it has come
-abbrev pub answer_of : Spare → List (Timed Event) → Granting
-answer_of side prefix = granting (text_of side.server (drop side.opened prefix)) (closed_of side.server (drop side.opened prefix))
+abbrev pub answer_of : Link → List (Timed Event) → Granting
+answer_of link prefix = granting (text_of link.side.server (drop link.opened prefix)) (closed_of link.side.server (drop link.opened prefix))
 
 -- What came of the server behind the proxy's head; behind the client's close nothing is heard of it.
 abbrev pub unless_closed : Bool → List ℕ → List ℕ
 unless_closed true text = []
 unless_closed false text = text
 
-abbrev pub text_behind : Spare → ℕ → List (Timed Event) → List ℕ
-text_behind side used prefix = unless_closed (client_closed prefix) (drop used (text_of side.server (drop side.opened prefix)))
-
-abbrev pub is_empty : List ℕ → Bool
-is_empty text = length text == 0
+abbrev pub text_behind : Link → ℕ → List (Timed Event) → List ℕ
+text_behind link used prefix = unless_closed (client_closed prefix) (drop used (text_of link.side.server (drop link.opened prefix)))
 
 -- Where the server is heard: from here on where nothing came behind the head, and else behind the head.
-pub record Way : Type 0 where
-  pub side : ServerSide
-  pub opened : ℕ
+abbrev pub way_by : Bool → Link → ℕ → ℕ → Link
+way_by true link used come = record { side = new_side link.side.server; opened = come }
+way_by false link used come = record { side = record { server = link.side.server; used = used }; opened = link.opened }
 
-abbrev pub way_by : Bool → Spare → ℕ → ℕ → Way
-way_by true side used come = record { side = new_side side.server; opened = come }
-way_by false side used come = record { side = record { server = side.server; used = used }; opened = side.opened }
+abbrev pub way_to : Link → ℕ → List (Timed Event) → Link
+way_to link used prefix = way_by (is_empty (text_behind link used prefix)) link used (length prefix)
 
-abbrev pub way_to : Spare → ℕ → List (Timed Event) → Way
-way_to side used prefix = way_by (is_empty (text_behind side used prefix)) side used (length prefix)
-
--- a flow that is dialled, and one that is connected so
-abbrev pub standing_of : Dialling → Standing
-standing_of from = record { stage = busy from.at from.flow connection; since = from.since; opened = from.opened; spare = from.spare }
-
-abbrev pub connected_on : Place → Dialling → Way → Since → Standing
+-- a flow that is connected so
+abbrev pub connected_on : Place → Dialling → Link → Since → Standing
 connected_on place from way since = record {
   stage = busy (record from.at { dials = from.at.dials + 1 }) (reached place from.flow) (response_head way.side all_sent);
   since = since;
   opened = way.opened;
-  spare = from.spare;
 }
 
--- a tunnel whose server spoke at once is not read
-abbrev pub opens_by : Bool → Tunnel → Spare → ℕ → Since → List (Timed Event) → Stage
-opens_by true tunnel side used since prefix =
-    goes_by (client_closed prefix) tunnel (record { server = side.server; opened = length prefix }) since prefix
-opens_by false tunnel side used since prefix = raw (record {
-  used = tunnel.at.used;
-  side = record { server = side.server; used = used };
-  opened = side.opened;
-  flow = None;
-  spare = None;
-})
+-- the proxy's side, and whether it closed
+abbrev pub used_proxy : Link → List (Timed Event) → Used
+used_proxy link prefix = ByServer link.side.server (closed_of link.side.server (drop link.opened prefix))
 
-abbrev pub opens : Tunnel → Spare → ℕ → Since → List (Timed Event) → Stage
-opens tunnel side used since prefix = opens_by (is_empty (text_behind side used prefix)) tunnel side used since prefix
-
--- the proxy's side is closed, unless it closed itself
-abbrev pub shut_proxy : Spare → List (Timed Event) → List Command
-shut_proxy side prefix = shut_server (ByServer side.server (closed_of side.server (drop side.opened prefix)))
+-- A proxy is a part of a dial: an end by what it says comes at the place of the dial, and what closed behind that was not heard there.
+abbrev pub closed_before : Link → List (Timed Event) → Bool
+closed_before link prefix = client_closed (take link.opened prefix)
 
 -- ---- a tunnel
 
@@ -176,20 +159,15 @@ abbrev pub text_up : TunnelEnds → List (Timed Event) → List ℕ
 text_up ends prefix = drop ends.used (bytes_of Client prefix)
 
 abbrev pub text_down : TunnelEnds → List (Timed Event) → List ℕ
-text_down ends prefix = drop ends.side.used (bytes_of (Server ends.side.server) (drop ends.opened prefix))
+text_down ends prefix = text_on ends.link prefix
 
-abbrev pub is_shut : TunnelEnds → List (Timed Event) → Bool
-is_shut ends prefix = is_closed (Server ends.side.server) (drop ends.opened prefix)
+abbrev pub is_shut : Link → List (Timed Event) → Bool
+is_shut link prefix = is_closed (Server link.side.server) (drop link.opened prefix)
 
 -- the flow that became the tunnel ends with it, and without an error
 abbrev pub finished_flow : Option Flow → List Command
 finished_flow None = []
 finished_flow (Some flow) = commands.Done flow ∷ []
-
--- a side that no flow has used is closed at the end
-abbrev pub shut_unused : Option Unused → List Command
-shut_unused None = []
-shut_unused (Some unused) = shut_server (ByServer unused.server unused.shut)
 
 -- The first close of either side ends it.
 abbrev pub tunnel_found : Bool → List Command → Look Command
@@ -202,15 +180,14 @@ closes_all server shut closed = shut_all (ByServer server shut) closed
 abbrev pub raw_look : TunnelEnds → List (Timed Event) → Look Command
 raw_look ends prefix =
     let closed = client_closed prefix in
-    let shut = is_shut ends prefix in
-    tunnel_found (closed || shut)
-    (finished_flow ends.flow ++ (shut_unused (unused_over ends.spare prefix) ++ closes_all ends.side.server shut closed))
+    let shut = is_shut ends.link prefix in
+    tunnel_found (closed || shut) (finished_flow ends.flow ++ closes_all ends.link.side.server shut closed)
 
-abbrev pub opening_look : Spare → List (Timed Event) → Look Command
-opening_look spare prefix =
+abbrev pub opening_look : Link → List (Timed Event) → Look Command
+opening_look link prefix =
     let closed = client_closed prefix in
-    let shut = is_closed (Server spare.server) (drop spare.opened prefix) in
-    tunnel_found (closed || shut) (closes_all spare.server shut closed)
+    let shut = is_shut link prefix in
+    tunnel_found (closed || shut) (closes_all link.side.server shut closed)
 
 -- ---- dials
 
@@ -218,32 +195,26 @@ opening_look spare prefix =
 abbrev pub dialled_by : Tunnel → Address
 dialled_by tunnel = unwrap_or tunnel.proxy tunnel.address
 
--- a flow whose server is dialled through another proxy
-abbrev pub led_by : Standing → flows.Stage → Option Dialling
-led_by standing (busy at flow connection) =
-    Some (record { at = at; flow = flow; since = standing.since; opened = standing.opened; spare = standing.spare })
-led_by standing stage = None
+-- a flow whose server is dialled through another proxy; the side that was parked is closed by then
+abbrev pub led_by : flows.Stage → Option Dialling
+led_by (busy at flow connection) = Some (record { at = unparked at; flow = flow })
+led_by stage = None
 
-abbrev pub led_at : Place → Standing → Option Dialling
-led_at (places.Fixed address side (Some proxy)) standing = led_by standing standing.stage
-led_at place standing = None
-
--- A client that leaves before its tunnel stands ends it; a flow's request is whole, so the proxy is heard further.
-abbrev pub waits_for : Goal → Spare → List (Timed Event) → Look Command
-waits_for (a_tunnel tunnel) side prefix = tunnel_found (client_closed prefix) (shut_proxy side prefix)
-waits_for (a_flow place from) side prefix = NotYet
+abbrev pub led_at : Place → flows.Stage → Option Dialling
+led_at (places.Fixed address side (Some proxy)) stage = led_by stage
+led_at place stage = None
 
 -- ---- a WebSocket
 
 abbrev pub socket_terms : List ℕ → TunnelEnds → Flow → Terms
-socket_terms key ends flow = record { flow = flow; server = ends.side.server; key = key }
+socket_terms key ends flow = record { flow = flow; server = ends.link.side.server; key = key }
 
 abbrev pub socket_sight : TunnelEnds → List (Timed Event) → SocketSight
 socket_sight ends prefix = record {
   client = text_up ends prefix;
   closed = client_closed prefix;
   server = text_down ends prefix;
-  shut = is_shut ends prefix;
+  shut = is_shut ends.link prefix;
   now = last_moment 0 prefix;
 }
 
@@ -262,21 +233,22 @@ module _ (conv : ℕ) (client : Visitor) where
   pass_http place standing prefix = or_stays (http place standing) (hands_over place standing prefix)
 
   -- a proxy that let through, or refused
-  abbrev pub pass_reached : Goal → Spare → Since → List (Timed Event) → Granting → Turn Stage Command
-  pass_reached goal side since prefix awaited = record { owed = []; stage = reaching goal side since }
-  pass_reached (a_tunnel tunnel) side since prefix (granted used) = record {
+  abbrev pub pass_reached : Goal → Link → Since → List (Timed Event) → Granting → Turn Stage Command
+  pass_reached goal link since prefix awaited = record { owed = []; stage = reaching goal link since }
+  pass_reached (a_tunnel tunnel) link since prefix (granted used) = record {
     owed = commands.Send Client connected_text ∷ [];
-    stage = opens tunnel side used (from_here (now_over since prefix) prefix) prefix;
+    stage = goes_by (client_closed prefix) tunnel (way_to link used prefix) (from_here (now_over since prefix) prefix) prefix;
   }
-  pass_reached (a_flow place from) side since prefix (granted used) = record {
-    owed = connected_owes place from.flow side.server;
-    stage = http place (connected_on place from (way_to side used prefix) (from_here (now_over since prefix) prefix));
+  pass_reached (a_flow place from) link since prefix (granted used) = record {
+    owed = connected_owes place from.flow link.side.server;
+    stage = http place (connected_on place from (way_to link used prefix) (from_here (now_over since prefix) prefix));
   }
-  pass_reached (a_tunnel tunnel) side since prefix refused =
-      record { owed = refuses UpstreamRefused false (client_closed prefix) ++ shut_proxy side prefix; stage = over }
-  pass_reached (a_flow place from) side since prefix refused =
-      let on = (flows_at place).turn (standing_of from) prefix (record { moment = now_over since prefix; value = reply.Refused UpstreamRefused }) in
-      record { owed = on.owed ++ shut_proxy side prefix; stage = http place on.stage }
+  pass_reached (a_tunnel tunnel) link since prefix refused =
+      record { owed = refuses UpstreamRefused false (used_proxy link prefix) (closed_before link prefix); stage = over }
+  pass_reached (a_flow place from) link since prefix refused = record {
+    owed = ends_by_fault from.flow UpstreamRefused (now_over since prefix) (used_proxy link prefix) (closed_before link prefix);
+    stage = over;
+  }
 
   abbrev pub pass_socket : TunnelEnds → Flow → Frames → List (Timed Event) → Turn Stage Command
   pass_socket ends flow frames prefix = socket_turn ends flow (relay.pass (socket_terms client.key ends flow) frames (socket_sight ends prefix))
@@ -292,53 +264,55 @@ module _ (conv : ℕ) (client : Visitor) where
       let to = begun (pass_http place on.stage prefix) prefix in
       record { owed = on.owed ++ to.owed; stage = to.stage }
   pass (socket ends flow frames) prefix = pass_socket ends flow frames prefix
-  pass (reaching goal side since) prefix = pass_reached goal side since prefix (answer_of side prefix)
-  pass (undecided tunnel spare since) prefix = record { owed = []; stage = goes_by (client_closed prefix) tunnel spare since prefix }
+  pass (reaching goal link since) prefix = pass_reached goal link since prefix (answer_of link prefix)
+  pass (undecided tunnel link since) prefix = record { owed = []; stage = goes_by (client_closed prefix) tunnel link since prefix }
   pass stage prefix = record { owed = []; stage = stage }
 
-  -- at its end a side that no flow has used is closed
-  abbrev pub with_closes : Option Unused → Look Command → Look Command
-  with_closes unused (Ends owed) = Ends (owed ++ shut_unused unused)
-  with_closes unused found = found
-
   abbrev pub look : Stage → List (Timed Event) → Look Command
-  look (http place standing) prefix = with_closes (unused_over standing.spare prefix) ((flows_at place).look standing prefix)
+  look (http place standing) prefix = (flows_at place).look standing prefix
   look (connecting tunnel) prefix = Asks (commands.Dial tunnel.at.dials (dialled_by tunnel) None)
-  look (reaching goal side since) prefix = waits_for goal side prefix
-  look (undecided tunnel spare since) prefix = opening_look spare prefix
+  look (reaching goal link since) prefix = NotYet
+  look (undecided tunnel link since) prefix = opening_look link prefix
   look (raw ends) prefix = raw_look ends prefix
-  look (socket ends flow frames) prefix =
-      with_closes (unused_over ends.spare prefix) (relay.look (socket_terms client.key ends flow) frames)
+  look (socket ends flow frames) prefix = relay.look (socket_terms client.key ends flow) frames
   look over prefix = Ends []
 
   -- what a tunnel owes so far: to each side what has come of the other
   abbrev pub so_far : Stage → List (Timed Event) → List Command
   so_far (http place standing) prefix = (flows_at place).so_far standing prefix
   so_far (raw ends) prefix =
-      commands.Send (Server ends.side.server) (text_up ends prefix) ∷ commands.Send Client (text_down ends prefix) ∷ []
+      commands.Send (Server ends.link.side.server) (text_up ends prefix) ∷ commands.Send Client (text_down ends prefix) ∷ []
   so_far stage prefix = []
+
+  -- behind the dial for a flow the side that was parked is closed
+  abbrev pub behind : Stage → List (Timed Event) → List Command
+  behind (http place standing) prefix = (flows_at place).behind standing prefix
+  behind stage prefix = []
 
   -- one dial more was made
   abbrev pub dialled_more : Tunnel → Tunnel
   dialled_more tunnel = record tunnel { at = record tunnel.at { dials = tunnel.at.dials + 1 } }
 
   -- a server that is connected, or a proxy, which is asked for a tunnel to there
+  abbrev pub link_at : ℕ → List (Timed Event) → Link
+  link_at server prefix = record { side = new_side server; opened = length prefix }
+
   abbrev pub asks_proxy : Goal → Address → ℕ → List (Timed Event) → ℕ → Turn Stage Command
   asks_proxy goal address server prefix moment = record {
     owed = commands.Send (Server server) (connect_text address) ∷ [];
-    stage = reaching goal (record { server = server; opened = length prefix }) (from_here moment prefix);
+    stage = reaching goal (link_at server prefix) (from_here moment prefix);
   }
 
   abbrev pub turn_connected : Option Address → Tunnel → List (Timed Event) → ℕ → Turn Stage Command
   turn_connected None tunnel prefix moment = record {
     owed = commands.Send Client connected_text ∷ [];
-    stage = undecided (dialled_more tunnel) (record { server = tunnel.at.dials; opened = length prefix }) (from_here moment prefix);
+    stage = undecided (dialled_more tunnel) (link_at tunnel.at.dials prefix) (from_here moment prefix);
   }
   turn_connected (Some proxy) tunnel prefix moment = asks_proxy (a_tunnel (dialled_more tunnel)) tunnel.address tunnel.at.dials prefix moment
 
   abbrev pub turn_dial : Tunnel → List (Timed Event) → Reply → ℕ → Turn Stage Command
   turn_dial tunnel prefix reply.Dialled moment = turn_connected tunnel.proxy tunnel prefix moment
-  turn_dial tunnel prefix (reply.Refused fault) moment = record { owed = refuses fault false (client_closed prefix); stage = over }
+  turn_dial tunnel prefix (reply.Refused fault) moment = record { owed = refuses fault false NoServer (client_closed prefix); stage = over }
   turn_dial tunnel prefix answer moment = record { owed = []; stage = over }
 
   -- Where a flow's server is reached through another proxy, its dial has connected that proxy.
@@ -352,18 +326,18 @@ module _ (conv : ℕ) (client : Visitor) where
   turn_http from place standing prefix answer value = turn_flows place standing prefix answer
 
   abbrev pub turn : Stage → List (Timed Event) → Timed Reply → Turn Stage Command
-  turn (http place standing) prefix answer = turn_http (led_at place standing) place standing prefix answer answer.value
+  turn (http place standing) prefix answer = turn_http (led_at place standing.stage) place standing prefix answer answer.value
   turn (connecting tunnel) prefix answer = turn_dial tunnel prefix answer.value answer.moment
   turn (socket ends flow frames) prefix answer =
       socket_turn ends flow (relay.turn (socket_terms client.key ends flow) frames (socket_sight ends prefix) answer.value answer.moment)
   turn stage prefix answer = record { owed = []; stage = stage }
 
   abbrev pub stack_chain : Chain Stage Event Reply Command
-  stack_chain = record { pass = pass; look = look; so_far = so_far; turn = turn }
+  stack_chain = record { pass = pass; look = look; so_far = so_far; behind = behind; turn = turn }
 
 -- where a conversation begins, in this mode
 abbrev pub first_at : At
-first_at = record { flow = 0; dials = 0; used = 0 }
+first_at = record { flow = 0; dials = 0; used = 0; parked = None }
 
 abbrev pub begins : Mode → Stage
 begins mode = http (place_of mode) (begin (idle first_at))

@@ -1,14 +1,9 @@
 -- What a conversation keeps, by where it stands.
-use Rattle.std.specs.Prelude.{ℕ, ◌+◌, ◌-◌, Bool, true, false, if◌then◌else◌, List, [], ◌∷◌, length, Option, Some, None}
+use Rattle.std.specs.Prelude.{ℕ, ◌+◌, ◌-◌, Bool, true, false, length, Option, Some, None}
 use Rattle.px_event.specs.declared.ask.Ask.{Ask}
 use Rattle.px_event.specs.declared.ask.Ask.TheVariants as asks
-use Rattle.px_event.specs.declared.command.Command.{Command}
-use Rattle.px_event.specs.declared.event.Event.{Event}
-use Rattle.px_event.specs.declared.command.Command.TheVariants as commands
-use Rattle.px_event.specs.declared.side.Side.TheVariants.{Client, Server}
 use Rattle.px_exchange.specs.declared.place.Place.{Place}
 use Rattle.px_exchange.specs.declared.place.Place.TheVariants as places
-use Rattle.px_event.specs.Sides.{closes}
 use Rattle.px_http.specs.Stands.{awaits}
 use Rattle.px_relay.specs.declared.layer.WsLayer.{WsLayer}
 use Rattle.px_relay.specs.Chain.{most_whole}
@@ -22,26 +17,11 @@ use Rattle.px_stack.specs.declared.child.Child.TheVariants as children
 use Rattle.px_stack.specs.declared.child.Goal.{Goal}
 use Rattle.px_stack.specs.declared.child.Goal.TheVariants as goals
 
--- the close of a spare side that is still connected
-abbrev pub shut_open : Option ℕ → List Command
-shut_open None = []
-shut_open (Some server) = commands.Close (Server server) ∷ []
-
--- the spare side behind an event, unless that closes it
-abbrev pub open_behind : Option ℕ → Event → Option ℕ
-open_behind None event = None
-open_behind (Some server) event = if closes (Server server) event then None else Some server
-
--- the client leaves before its tunnel stands
-abbrev pub is_left : Goal → Event → Bool
-is_left (goals.Tunnel opening) event = closes Client event
-is_left (goals.Flow flows) event = false
-
 -- what is awaited
 abbrev pub awaited_by : Child → Option Ask
 awaited_by (children.Http flows) = awaits flows.value
 awaited_by (children.Connecting opening closed) = Some (asks.Dial opening.numbers.server)
-awaited_by (children.Socket kept) = frames.awaits kept.layer.value
+awaited_by (children.Socket layer) = frames.awaits layer.value
 awaited_by child = None
 
 -- nothing more comes of it
@@ -69,7 +49,7 @@ tunnel_left place = connecting_left
 
 -- the dial of a flow is answered where another proxy is asked for its way
 abbrev pub goal_left : Goal → ℕ
-goal_left (goals.Tunnel opening) = opened_left
+goal_left (goals.Tunnel opening closed) = opened_left
 goal_left (goals.Flow flows) = sequence_left flows.value.stream - 1 + tunnel_left flows.value.stream.terms.place
 
 abbrev pub left_by : Child → ℕ
@@ -77,17 +57,16 @@ left_by (children.Http flows) = sequence_left flows.value.stream + tunnel_left f
 left_by (children.Connecting opening closed) = connecting_left
 left_by (children.Reaching kept) = goal_left kept.goal
 left_by (children.Undecided opening server) = opened_left
-left_by (children.Socket kept) = socket_left kept.layer.value
+left_by (children.Socket layer) = socket_left layer.value
 left_by child = 0
 
--- how many bytes it keeps: what HTTP or a WebSocket does, those by which nothing is decided, and those of a proxy's head
+-- How many bytes it keeps: what HTTP or a WebSocket does, and those of a proxy's head. The bytes behind a CONNECT wait for what follows.
 abbrev pub goal_keeps : Goal → ℕ
-goal_keeps (goals.Tunnel opening) = length opening.rest
+goal_keeps (goals.Tunnel opening closed) = 0
 goal_keeps (goals.Flow flows) = stream_keeps flows.value.stream
 
 abbrev pub kept_by : Child → ℕ
 kept_by (children.Http flows) = stream_keeps flows.value.stream
 kept_by (children.Reaching kept) = goal_keeps kept.goal + length (rest_of kept.asked)
-kept_by (children.Undecided opening server) = length opening.rest
-kept_by (children.Socket kept) = ws_keeps kept.layer.value
+kept_by (children.Socket layer) = ws_keeps layer.value
 kept_by child = 0

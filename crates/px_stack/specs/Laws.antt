@@ -1,19 +1,17 @@
 -- The laws of the chain: at one prefix passing settles at once, and in each view what is owed while it waits only grows.
-use Rattle.std.proofs.Common.{◌≡◌, ℕ, Bool, true, false, List, [], ◌∷◌, ◌++◌, drop, Option, Some, None, refl, ap, sym, ◌∙◌, subst, append-nil, append_assoc, length}
+use Rattle.std.proofs.Common.{◌≡◌, ℕ, Bool, true, false, List, [], ◌∷◌, ◌++◌, drop, Option, Some, None, refl, ap, sym, ◌∙◌, subst, append-nil, append_assoc}
 use Rattle.std.specs.Prelude.{zero, suc, ◌≢◌, ◌||◌, ⊤, bytes_eq, Result, Ok, Err}
 use Rattle.px_text.specs.Prefix.{IsPrefixOf}
 use Rattle.px_message.specs.declared.address.Address.{Address}
 use Rattle.px_message.specs.declared.fault.Fault.{Fault}
-use Rattle.px_message.specs.declared.fault.Fault.TheVariants.{UpstreamRefused}
 use Rattle.px_message.specs.declared.flow.Flow.{Flow}
 use Rattle.px_message.specs.declared.length.Length.{Length}
 use Rattle.px_message.specs.declared.request.Request.{Request}
 use Rattle.px_event.specs.declared.command.Command.{Command}
 use Rattle.px_event.specs.declared.event.Event.{Event}
-use Rattle.px_event.specs.declared.reply.Reply.TheVariants as reply
 use Rattle.px_event.specs.declared.side.Side.{Side}
 use Rattle.px_event.specs.declared.side.Side.TheVariants.{Client, Server}
-use Rattle.px_event.specs.Chain.{Timed, Look, NotYet, Asks, Ends, found}
+use Rattle.px_event.specs.Chain.{Timed, NotYet, Ends, found, found_with}
 use Rattle.px_event.specs.Laws.{IsSettled, Settles, SoFarGrows, owed_here, owed_over}
 use Rattle.px_event.specs.View.{View, seen_of}
 use Rattle.px_event.proofs.Seen.{seen_append}
@@ -22,15 +20,17 @@ use Rattle.px_read.specs.Items.{Item, missing, part, complete, bad_head, bad_bod
 use Rattle.px_read.specs.declared.head.RequestHead.{RequestHead as ReadRequest}
 use Rattle.px_exchange.specs.declared.asked.Judged.{Judged}
 use Rattle.px_exchange.specs.declared.asked.Judged.TheVariants.{Refused, Accepted, Connects}
+use Rattle.px_exchange.specs.declared.ending.Used.{Used}
 use Rattle.px_exchange.specs.declared.place.Place.{Place}
 use Rattle.px_exchange.specs.declared.place.Place.TheVariants as places
 use Rattle.px_exchange.specs.declared.terms.Terms.{Terms}
+use Rattle.px_exchange.specs.Endings.{shut_server}
 use Rattle.px_exchange.specs.Places.{terms_of}
 use Rattle.px_exchange.specs.Finds.{look_head, look_judged, or_leaves}
 use Rattle.px_exchange.specs.Requests.{judged, judged_goal, judged_length, judged_method}
 use Rattle.px_chain.specs.Chain.{Connect, connect_by, connect_in, look as look_of, so_far as so_far_of, sequence, used_more}
-use Rattle.px_chain.specs.Sights.{Sight, Spare, Standing, Unused, request_in, sight_over, unused_over}
-use Rattle.px_chain.specs.Stages.{At, busy, connection, given_body, given_head, idle, next, request_body, response_body, response_head, upgraded}
+use Rattle.px_chain.specs.Sights.{Sight, Standing, request_in, server_parked, sight_over}
+use Rattle.px_chain.specs.Stages.{At, busy, connection, given_body, given_head, idle, next, place_of, request_body, response_body, response_head, upgraded}
 use Rattle.px_chain.specs.Stages as flows
 use Rattle.px_event.specs.Sides.{piece_of}
 use Rattle.px_chain.specs.Streams.{Since, bytes_of, client_closed, from_here, now_over}
@@ -41,10 +41,10 @@ use Rattle.px_tunnel.specs.Laws.{both_append}
 use Rattle.px_tunnel.specs.Upstream.{Granting, awaited, granted, refused}
 use Rattle.px_relay.specs.Laws.{settles as frames_settle}
 use Rattle.px_relay.specs.Stages.{Stage as Frames}
-use Rattle.px_stack.specs.Chain.{answer_of, begun, connected_on, flows_at, follows, goes_by, hands_by, hands_over, has_answered, inner_place, inner_standing, is_empty, is_shut, opening_text, opens_by, or_stays, pass_http, pass_reached, pass_socket, proxy_at, raw_look, shut_unused, socket_sight, socket_terms, stack_chain, standing_of, text_behind, text_down, text_up, tunnel_for, tunnel_found, upgrades, way_to, with_closes}
+use Rattle.px_stack.specs.Chain.{answer_of, begun, connected_on, flows_at, follows, goes_by, hands_by, hands_over, has_answered, inner_place, inner_standing, is_shut, opening_text, or_stays, pass_http, pass_reached, pass_socket, proxy_at, raw_look, socket_sight, socket_terms, stack_chain, text_down, text_up, tunnel_for, tunnel_found, upgrades, way_to}
 use Rattle.px_stack.specs.Decides.{Decision, decided, is_http, is_raw, still}
 use Rattle.px_stack.specs.Sockets.{is_websocket}
-use Rattle.px_stack.specs.Stages.{Dialling, Ends as TunnelEnds, Goal, Stage, Tunnel, Visitor, a_flow, a_tunnel, connecting, http, over, raw, reaching, socket, undecided}
+use Rattle.px_stack.specs.Stages.{Dialling, Ends as TunnelEnds, Goal, Link, Stage, Tunnel, Visitor, a_flow, a_tunnel, connecting, http, over, raw, reaching, socket, undecided}
 
 -- ---- at one address nothing is a CONNECT
 
@@ -98,19 +98,20 @@ leaves_nothing false leaves = refl
 some_same : (a b : Stage) → Some a ≡ Some b → a ≡ b
 some_same a b is = cc
 
-judged_ends : (terms : Terms) (index : ℕ) (head : ReadRequest) (made : Judged) (used moment : ℕ) (closed : Bool) (connect : Connect) →
-    connect_by made used ≡ Some connect → look_judged terms index head made moment closed ≡ Ends []
-judged_ends terms index head (Refused fault) used moment closed connect is = absurd (let no : None ≡ Some connect = is in cc)
-judged_ends terms index head (Accepted request) used moment closed connect is = absurd (let no : None ≡ Some connect = is in cc)
-judged_ends terms index head (Connects address) used moment closed connect is = refl
+judged_ends : (terms : Terms) (index : ℕ) (head : ReadRequest) (made : Judged) (used moment : ℕ) (parked : Used) (closed : Bool) (connect : Connect) →
+    connect_by made used ≡ Some connect → look_judged terms index head made moment parked closed ≡ Ends []
+judged_ends terms index head (Refused fault) used moment parked closed connect is = absurd (let no : None ≡ Some connect = is in cc)
+judged_ends terms index head (Accepted request) used moment parked closed connect is = absurd (let no : None ≡ Some connect = is in cc)
+judged_ends terms index head (Connects address) used moment parked closed connect is = refl
 
-item_ends : (terms : Terms) (index : ℕ) (item : Item ReadRequest) (moment : ℕ) (closed : Bool) (connect : Connect) →
-    connect_in terms.place item ≡ Some connect → look_head terms index item moment closed ≡ Ends []
-item_ends terms index missing moment closed connect is = absurd (let no : None ≡ Some connect = is in cc)
-item_ends terms index (part head body) moment closed connect is = absurd (let no : None ≡ Some connect = is in cc)
-item_ends terms index (complete head body trailers used) moment closed connect is = judged_ends terms index head (judged terms.place head) used moment closed connect is
-item_ends terms index (bad_head fault) moment closed connect is = absurd (let no : None ≡ Some connect = is in cc)
-item_ends terms index (bad_body fault head body) moment closed connect is = absurd (let no : None ≡ Some connect = is in cc)
+item_ends : (terms : Terms) (index : ℕ) (item : Item ReadRequest) (moment : ℕ) (parked : Used) (closed : Bool) (connect : Connect) →
+    connect_in terms.place item ≡ Some connect → look_head terms index item moment parked closed ≡ Ends []
+item_ends terms index missing moment parked closed connect is = absurd (let no : None ≡ Some connect = is in cc)
+item_ends terms index (part head body) moment parked closed connect is = absurd (let no : None ≡ Some connect = is in cc)
+item_ends terms index (complete head body trailers used) moment parked closed connect is =
+    judged_ends terms index head (judged terms.place head) used moment parked closed connect is
+item_ends terms index (bad_head fault) moment parked closed connect is = absurd (let no : None ≡ Some connect = is in cc)
+item_ends terms index (bad_body fault head body) moment parked closed connect is = absurd (let no : None ≡ Some connect = is in cc)
 
 -- from a head that is awaited it hands over exactly by a CONNECT
 idle_hands : (terms : Terms) (at : At) (seen : Sight) (to : Stage) (found : Option Connect) → connect_in terms.place (request_in at seen) ≡ found →
@@ -118,10 +119,12 @@ idle_hands : (terms : Terms) (at : At) (seen : Sight) (to : Stage) (found : Opti
 idle_hands terms at seen to None is hands = absurd (let no : None ≡ Some to = hands in cc)
 idle_hands terms at seen to (Some connect) is hands =
     let there : Stage = connecting (record { at = used_more at connect.used; address = connect.address; proxy = proxy_at terms.place }) in
+    let parked : Used = server_parked at.parked seen in
     record {
       is_tunnel = let P : Stage → Type 0 = IsTunnel in subst P (some_same there to hands) tt;
       owes = refl;
-      ends = ap (λ l. or_leaves seen.closed [] l) (item_ends terms at.flow (request_in at seen) seen.now seen.closed connect is) ∙ leaves_nothing seen.closed [];
+      ends = ap (λ l. or_leaves seen.closed (shut_server parked) l) (item_ends terms at.flow (request_in at seen) seen.now parked seen.closed connect is)
+          ∙ leaves_nothing seen.closed (shut_server parked);
     }
 
 pub hands : (terms : Terms) (standing : Standing) (stage : flows.Stage) (seen : Sight) (to : Stage) → hands_by terms.place standing stage seen ≡ Some to →
@@ -154,8 +157,8 @@ module _ (conv : ℕ) (client : Visitor) where
   tunnel_settled : (stage : Stage) (prefix : List (Timed Event)) → IsTunnel stage → IsSettled (stack_chain conv client) (begun conv client stage prefix).stage prefix
   tunnel_settled (http place standing) prefix is = absurd is
   tunnel_settled (connecting tunnel) prefix is = record { stays = refl; owes_nothing = refl }
-  tunnel_settled (reaching goal side since) prefix is = absurd is
-  tunnel_settled (undecided tunnel spare since) prefix is = absurd is
+  tunnel_settled (reaching goal link since) prefix is = absurd is
+  tunnel_settled (undecided tunnel link since) prefix is = absurd is
   tunnel_settled (raw ends) prefix is = record { stays = refl; owes_nothing = refl }
   tunnel_settled (socket ends flow frames) prefix is = socket_settled ends flow frames prefix
   tunnel_settled over prefix is = absurd is
@@ -178,56 +181,42 @@ module _ (conv : ℕ) (client : Visitor) where
   http_settled place standing prefix (Some to) at is =
       tunnel_settled to prefix (hands (terms_of conv client.address place) standing standing.stage (sight_over standing prefix) to is).is_tunnel
 
-  decided_settled : (tunnel : Tunnel) (spare : Spare) (since : Since) (prefix : List (Timed Event)) (d : Decision) → client_closed prefix ≡ false →
-      decided (opening_text tunnel prefix) (has_answered spare prefix) ≡ d → IsSettled (stack_chain conv client) (follows d tunnel spare since) prefix
-  decided_settled tunnel spare since prefix still unclosed is = record {
-    stays = ap (λ c. goes_by c tunnel spare since prefix) unclosed ∙ ap (λ d. follows d tunnel spare since) is;
+  decided_settled : (tunnel : Tunnel) (link : Link) (since : Since) (prefix : List (Timed Event)) (d : Decision) → client_closed prefix ≡ false →
+      decided (opening_text tunnel prefix) (has_answered link prefix) ≡ d → IsSettled (stack_chain conv client) (follows d tunnel link since) prefix
+  decided_settled tunnel link since prefix still unclosed is = record {
+    stays = ap (λ c. goes_by c tunnel link since prefix) unclosed ∙ ap (λ d. follows d tunnel link since) is;
     owes_nothing = refl;
   }
-  decided_settled tunnel spare since prefix is_http unclosed is =
-      stays_settled (inner_place tunnel spare) (inner_standing tunnel spare since) prefix (record { stays = refl; owes_nothing = refl })
-      (ap (tunnel_for (inner_place tunnel spare) tunnel.at)
-      (never_connects tunnel.address (Some spare.server) tunnel.proxy (request_in tunnel.at (sight_over (inner_standing tunnel spare since) prefix))))
-  decided_settled tunnel spare since prefix is_raw unclosed is = record { stays = refl; owes_nothing = refl }
+  decided_settled tunnel link since prefix is_http unclosed is =
+      let inner : Standing = inner_standing tunnel link since in
+      let at : At = place_of inner.stage in
+      stays_settled (inner_place tunnel link) inner prefix (record { stays = refl; owes_nothing = refl })
+      (ap (tunnel_for (inner_place tunnel link) at) (never_connects tunnel.address (Some link.side.server) tunnel.proxy (request_in at (sight_over inner prefix))))
+  decided_settled tunnel link since prefix is_raw unclosed is = record { stays = refl; owes_nothing = refl }
 
-  goes_settled : (tunnel : Tunnel) (spare : Spare) (since : Since) (prefix : List (Timed Event)) (closed : Bool) → client_closed prefix ≡ closed →
-      IsSettled (stack_chain conv client) (goes_by closed tunnel spare since prefix) prefix
-  goes_settled tunnel spare since prefix true is = record { stays = ap (λ c. goes_by c tunnel spare since prefix) is; owes_nothing = refl }
-  goes_settled tunnel spare since prefix false is =
-      decided_settled tunnel spare since prefix (decided (opening_text tunnel prefix) (has_answered spare prefix)) is refl
+  goes_settled : (tunnel : Tunnel) (link : Link) (since : Since) (prefix : List (Timed Event)) (closed : Bool) → client_closed prefix ≡ closed →
+      IsSettled (stack_chain conv client) (goes_by closed tunnel link since prefix) prefix
+  goes_settled tunnel link since prefix true is = record { stays = ap (λ c. goes_by c tunnel link since prefix) is; owes_nothing = refl }
+  goes_settled tunnel link since prefix false is =
+      decided_settled tunnel link since prefix (decided (opening_text tunnel prefix) (has_answered link prefix)) is refl
 
-  -- where a proxy let a tunnel through
-  opens_settled : (empty : Bool) (tunnel : Tunnel) (side : Spare) (used : ℕ) (since : Since) (prefix : List (Timed Event)) →
-      IsSettled (stack_chain conv client) (opens_by empty tunnel side used since prefix) prefix
-  opens_settled true tunnel side used since prefix =
-      goes_settled tunnel (record { server = side.server; opened = length prefix }) since prefix (client_closed prefix) refl
-  opens_settled false tunnel side used since prefix = record { stays = refl; owes_nothing = refl }
+  -- a flow that goes on where a proxy let it through
+  connected_settled : (place : Place) (from : Dialling) (way : Link) (since : Since) (prefix : List (Timed Event)) →
+      IsSettled (stack_chain conv client) (http place (connected_on place from way since)) prefix
+  connected_settled place from way since prefix = stays_settled place (connected_on place from way since) prefix (record { stays = refl; owes_nothing = refl }) refl
 
-  -- a flow that goes on, or ends, where a proxy has answered
-  connected_settled : (place : Place) (from : Dialling) (side : Spare) (used : ℕ) (since : Since) (prefix : List (Timed Event)) →
-      IsSettled (stack_chain conv client) (http place (connected_on place from (way_to side used prefix) since)) prefix
-  connected_settled place from side used since prefix =
-      stays_settled place (connected_on place from (way_to side used prefix) since) prefix (record { stays = refl; owes_nothing = refl }) refl
-
-  refused_settled : (place : Place) (from : Dialling) (moment : ℕ) (prefix : List (Timed Event)) →
-      IsSettled (stack_chain conv client)
-      (http place ((flows_at conv client place).turn (standing_of from) prefix (record { moment = moment; value = reply.Refused UpstreamRefused })).stage) prefix
-  refused_settled place from moment prefix =
-      let on = (flows_at conv client place).turn (standing_of from) prefix (record { moment = moment; value = reply.Refused UpstreamRefused }) in
-      stays_settled place on.stage prefix (record { stays = refl; owes_nothing = refl }) refl
-
-  reached_settled : (goal : Goal) (side : Spare) (since : Since) (prefix : List (Timed Event)) (g : Granting) → answer_of side prefix ≡ g →
-      IsSettled (stack_chain conv client) (pass_reached conv client goal side since prefix g).stage prefix
-  reached_settled goal side since prefix awaited is = record {
-    stays = ap (λ g. (pass_reached conv client goal side since prefix g).stage) is;
-    owes_nothing = ap (λ g. (pass_reached conv client goal side since prefix g).owed) is;
+  reached_settled : (goal : Goal) (link : Link) (since : Since) (prefix : List (Timed Event)) (g : Granting) → answer_of link prefix ≡ g →
+      IsSettled (stack_chain conv client) (pass_reached conv client goal link since prefix g).stage prefix
+  reached_settled goal link since prefix awaited is = record {
+    stays = ap (λ g. (pass_reached conv client goal link since prefix g).stage) is;
+    owes_nothing = ap (λ g. (pass_reached conv client goal link since prefix g).owed) is;
   }
-  reached_settled (a_tunnel tunnel) side since prefix (granted used) is =
-      opens_settled (is_empty (text_behind side used prefix)) tunnel side used (from_here (now_over since prefix) prefix) prefix
-  reached_settled (a_flow place from) side since prefix (granted used) is =
-      connected_settled place from side used (from_here (now_over since prefix) prefix) prefix
-  reached_settled (a_tunnel tunnel) side since prefix refused is = record { stays = refl; owes_nothing = refl }
-  reached_settled (a_flow place from) side since prefix refused is = refused_settled place from (now_over since prefix) prefix
+  reached_settled (a_tunnel tunnel) link since prefix (granted used) is =
+      goes_settled tunnel (way_to link used prefix) (from_here (now_over since prefix) prefix) prefix (client_closed prefix) refl
+  reached_settled (a_flow place from) link since prefix (granted used) is =
+      connected_settled place from (way_to link used prefix) (from_here (now_over since prefix) prefix) prefix
+  reached_settled (a_tunnel tunnel) link since prefix refused is = record { stays = refl; owes_nothing = refl }
+  reached_settled (a_flow place from) link since prefix refused is = record { stays = refl; owes_nothing = refl }
 
   settled_at : (stage : Stage) (prefix : List (Timed Event)) → IsSettled (stack_chain conv client) ((stack_chain conv client).pass stage prefix).stage prefix
   settled_at (http place standing) prefix =
@@ -235,8 +224,8 @@ module _ (conv : ℕ) (client : Visitor) where
       let law = flows_settle sequence (terms_of conv client.address place) in
       http_settled place on.stage prefix (hands_over place on.stage prefix) (law.at standing prefix) refl
   settled_at (connecting tunnel) prefix = record { stays = refl; owes_nothing = refl }
-  settled_at (reaching goal side since) prefix = reached_settled goal side since prefix (answer_of side prefix) refl
-  settled_at (undecided tunnel spare since) prefix = goes_settled tunnel spare since prefix (client_closed prefix) refl
+  settled_at (reaching goal link since) prefix = reached_settled goal link since prefix (answer_of link prefix) refl
+  settled_at (undecided tunnel link since) prefix = goes_settled tunnel link since prefix (client_closed prefix) refl
   settled_at (raw ends) prefix = record { stays = refl; owes_nothing = refl }
   settled_at (socket ends flow frames) prefix = socket_settled ends flow frames prefix
   settled_at over prefix = record { stays = refl; owes_nothing = refl }
@@ -265,18 +254,6 @@ begins_as : {A : Type 0} (xs ys zs : List A) → IsPrefixOf xs ys → ys ≡ zs 
 begins_as xs ys zs (rest, is) same = (rest, sym same ∙ is)
 
 module _ (conv : ℕ) (client : Visitor) where
-  -- nothing was found before the closes were added
-  not_yet : (unused : Option Unused) (l : Look Command) → with_closes conv client unused l ≡ NotYet → l ≡ NotYet
-  not_yet unused NotYet is = refl
-  not_yet unused (Asks ask) is = absurd (let no : Asks ask ≡ NotYet = is in cc)
-  not_yet unused (Ends owed) is = absurd (let no : Ends (owed ++ shut_unused unused) ≡ NotYet = is in cc)
-
-  -- where something was found, they are added at an end
-  adds_closes : (unused : Option Unused) (l : Look Command) → IsPrefixOf (found l) (found (with_closes conv client unused l))
-  adds_closes unused NotYet = ([], refl)
-  adds_closes unused (Asks ask) = ([], refl)
-  adds_closes unused (Ends owed) = (shut_unused unused, refl)
-
   module _ (view : View) where
     -- what is seen of two lists, where the one begins the other
     seen_begins : (before xs ys : List Command) → IsPrefixOf xs ys → IsPrefixOf (seen_of view (before ++ xs)) (seen_of view (before ++ ys))
@@ -294,19 +271,13 @@ module _ (conv : ℕ) (client : Visitor) where
         (let on = begun conv client (or_stays (http place standing) to) prefix in
         IsPrefixOf (seen_of view owed) (seen_of view ((before ++ on.owed) ++ owed_here (stack_chain conv client) on.stage prefix)))
     http_grows place owed before standing prefix None is empty begins =
-        let so_far : List Command = (flows_at conv client place).so_far standing prefix in
-        let found_there : Look Command = (flows_at conv client place).look standing prefix in
-        let more = adds_closes (unused_over standing.spare prefix) found_there in
-        begins_on owed (before ++ (so_far ++ found found_there)) _ begins
-        (begins_as (seen_of view (before ++ (so_far ++ found found_there))) _ _
-        (seen_begins before (so_far ++ found found_there) _
-        (more.0, ap (λ l. so_far ++ l) more.1 ∙ sym (append_assoc so_far (found found_there) more.0)))
-        (ap (λ b. seen_of view (b ++ owed_here (stack_chain conv client) (http place standing) prefix)) (sym (append-nil before))))
+        begins_as (seen_of view owed) _ _ begins (ap (λ b. seen_of view (b ++ owed_here (flows_at conv client place) standing prefix)) (sym (append-nil before)))
     http_grows place owed before standing prefix (Some to) is empty begins =
         let over = hands (terms_of conv client.address place) standing standing.stage (sight_over standing prefix) to is in
+        let parts : List Command = (flows_at conv client place).behind standing prefix in
         of_nothing (seen_of view owed) _ _ begins
         (ap (seen_of view) (ap (λ b. b ++ owed_here (flows_at conv client place) standing prefix) empty
-        ∙ (ap (λ l. l ++ found ((flows_at conv client place).look standing prefix)) over.owes ∙ ap found over.ends)))
+        ∙ (ap (λ l. l ++ found_with parts ((flows_at conv client place).look standing prefix)) over.owes ∙ ap (found_with parts) over.ends)))
 
     -- a tunnel: the bytes of both sides
     both_grow : (server : ℕ) (up down longer_up longer_down : List ℕ) → IsPrefixOf up longer_up → IsPrefixOf down longer_down →
@@ -323,20 +294,20 @@ module _ (conv : ℕ) (client : Visitor) where
           begins_as _ _ _ (drops ends.used (bytes_of Client prefix) (piece_of Client event.value))
           (ap (drop ends.used) (sym (bytes_more Client prefix event open_still open_still)))
 
-      server_by : DropMore ends.opened prefix event → client_closed prefix ≡ false → is_shut ends prefix ≡ false →
-          IsPrefixOf (bytes_of (Server ends.side.server) (drop ends.opened prefix)) (bytes_of (Server ends.side.server) (drop ends.opened (prefix ++ event ∷ [])))
+      server_by : DropMore ends.link.opened prefix event → client_closed prefix ≡ false → is_shut ends.link prefix ≡ false →
+          IsPrefixOf (bytes_of (Server ends.link.side.server) (drop ends.link.opened prefix)) (bytes_of (Server ends.link.side.server) (drop ends.link.opened (prefix ++ event ∷ [])))
       server_by (behind is) open_still unshut =
-          let side : Side = Server ends.side.server in
-          (piece_of side event.value, ap (bytes_of side) is ∙ bytes_more side (drop ends.opened prefix) event (open_behind ends.opened prefix open_still) unshut)
+          let side : Side = Server ends.link.side.server in
+          (piece_of side event.value, ap (bytes_of side) is ∙ bytes_more side (drop ends.link.opened prefix) event (open_behind ends.link.opened prefix open_still) unshut)
       server_by (none was is) open_still unshut =
-          let side : Side = Server ends.side.server in
+          let side : Side = Server ends.link.side.server in
           (bytes_of side [], ap (bytes_of side) is ∙ sym (ap (λ l. bytes_of side l ++ bytes_of side []) was))
 
-      down_by : (bytes longer : List ℕ) → IsPrefixOf bytes longer → IsPrefixOf (drop ends.side.used bytes) (drop ends.side.used longer)
-      down_by bytes longer (more, is) = begins_as _ _ _ (drops ends.side.used bytes more) (ap (drop ends.side.used) (sym is))
+      down_by : (bytes longer : List ℕ) → IsPrefixOf bytes longer → IsPrefixOf (drop ends.link.side.used bytes) (drop ends.link.side.used longer)
+      down_by bytes longer (more, is) = begins_as _ _ _ (drops ends.link.side.used bytes more) (ap (drop ends.link.side.used) (sym is))
 
-      down_grows : client_closed prefix ≡ false → is_shut ends prefix ≡ false → IsPrefixOf (text_down ends prefix) (text_down ends (prefix ++ event ∷ []))
-      down_grows open_still unshut = down_by _ _ (server_by (drop_more ends.opened prefix event) open_still unshut)
+      down_grows : client_closed prefix ≡ false → is_shut ends.link prefix ≡ false → IsPrefixOf (text_down ends prefix) (text_down ends (prefix ++ event ∷ []))
+      down_grows open_still unshut = down_by _ _ (server_by (drop_more ends.link.opened prefix event) open_still unshut)
 
       raw_open : (closed shut : Bool) (owed : List Command) → tunnel_found (closed || shut) owed ≡ NotYet → (closed ≡ false) × (shut ≡ false)
       raw_open true shut owed is = absurd (let no : Ends owed ≡ NotYet = is in cc)
@@ -344,14 +315,14 @@ module _ (conv : ℕ) (client : Visitor) where
       raw_open false false owed is = (refl, refl)
 
       raw_grows : raw_look ends prefix ≡ NotYet →
-          IsPrefixOf (seen_of view (both_ways ends.side.server (text_up ends prefix) (text_down ends prefix)))
+          IsPrefixOf (seen_of view (both_ways ends.link.side.server (text_up ends prefix) (text_down ends prefix)))
           (seen_of view (owed_over (stack_chain conv client) (raw ends) (prefix ++ event ∷ [])))
       raw_grows is =
-          let still_open = raw_open (client_closed prefix) (is_shut ends prefix) _ is in
+          let still_open = raw_open (client_closed prefix) (is_shut ends.link prefix) _ is in
           let longer : List (Timed Event) = prefix ++ event ∷ [] in
-          let texts : List Command = both_ways ends.side.server (text_up ends longer) (text_down ends longer) in
-          begins_on (both_ways ends.side.server (text_up ends prefix) (text_down ends prefix)) texts (texts ++ found (raw_look ends longer))
-          (both_grow ends.side.server _ _ _ _ (up_grows still_open.0) (down_grows still_open.0 still_open.1))
+          let texts : List Command = both_ways ends.link.side.server (text_up ends longer) (text_down ends longer) in
+          begins_on (both_ways ends.link.side.server (text_up ends prefix) (text_down ends prefix)) texts (texts ++ found (raw_look ends longer))
+          (both_grow ends.link.side.server _ _ _ _ (up_grows still_open.0) (down_grows still_open.0 still_open.1))
           (seen_begins [] texts (texts ++ found (raw_look ends longer)) (found (raw_look ends longer), refl))
 
     grows_at : (stage : Stage) (prefix : List (Timed Event)) (event : Timed Event) → (stack_chain conv client).look stage prefix ≡ NotYet →
@@ -361,10 +332,10 @@ module _ (conv : ℕ) (client : Visitor) where
         let on = (flows_at conv client place).pass standing longer in
         let law = flows_grow sequence (terms_of conv client.address place) view in
         http_grows place _ on.owed on.stage longer (hands_over place on.stage longer) refl refl
-        (law.grows standing prefix event (not_yet (unused_over standing.spare prefix) _ is))
+        (law.grows standing prefix event is)
     grows_at (connecting tunnel) prefix event is = (_, refl)
-    grows_at (reaching goal side since) prefix event is = (_, refl)
-    grows_at (undecided tunnel spare since) prefix event is = (_, refl)
+    grows_at (reaching goal link since) prefix event is = (_, refl)
+    grows_at (undecided tunnel link since) prefix event is = (_, refl)
     grows_at (raw ends) prefix event is = raw_grows ends prefix event is
     grows_at (socket ends flow frames) prefix event is = (_, refl)
     grows_at over prefix event is = (_, refl)

@@ -1,16 +1,14 @@
 -- What is due of a conversation names it alone.
-use Rattle.std.proofs.Common.{◌≡◌, ℕ, List, [], ◌∷◌, ◌++◌, Bool, true, false, drop, length, Option, Some, None, refl, ap, sym, ◌∙◌, subst}
+use Rattle.std.proofs.Common.{◌≡◌, ℕ, List, [], ◌∷◌, ◌++◌, Bool, true, false, Option, Some, None, refl, ap, sym, ◌∙◌, subst}
 use Rattle.std.specs.Prelude.{⊤, ◌||◌}
 use Rattle.px_message.specs.declared.address.Address.{Address}
-use Rattle.px_message.specs.declared.fault.Fault.TheVariants.{UpstreamRefused}
 use Rattle.px_message.specs.declared.flow.Flow.{Flow}
 use Rattle.px_event.specs.declared.command.Command.{Command}
 use Rattle.px_event.specs.declared.command.Command.TheVariants as commands
 use Rattle.px_event.specs.declared.event.Event.{Event}
 use Rattle.px_event.specs.declared.reply.Reply.{Reply}
 use Rattle.px_event.specs.declared.reply.Reply.TheVariants as reply
-use Rattle.px_event.specs.declared.side.Side.TheVariants.{Server}
-use Rattle.px_event.specs.Chain.{Timed, Look, NotYet, Asks, Ends, Turn, found}
+use Rattle.px_event.specs.Chain.{Timed, Turn, found}
 use Rattle.px_event.specs.Layer.{Move}
 use Rattle.px_event.specs.Stands.{due_by}
 use Rattle.px_core.specs.Conversation.{AllNamed}
@@ -22,10 +20,10 @@ use Rattle.px_exchange.specs.declared.place.Place.TheVariants as places
 use Rattle.px_exchange.specs.Endings.{shut_all, shut_client, shut_server}
 use Rattle.px_exchange.specs.Places.{terms_of}
 use Rattle.px_chain.specs.Chain.{Connect, connect_in}
-use Rattle.px_chain.specs.Sights.{Sight, Spare, Standing, Unused, request_in, sight_over, unused_over}
+use Rattle.px_chain.specs.Sights.{Sight, Standing, request_in, sight_over}
 use Rattle.px_chain.specs.Stages.{At, busy, connection, given_body, given_head, idle, next, request_body, response_body, response_head, upgraded}
 use Rattle.px_chain.specs.Stages as flows
-use Rattle.px_chain.specs.Streams.{Since, client_closed, from_here, is_closed, now_over}
+use Rattle.px_chain.specs.Streams.{Since, client_closed, from_here, now_over}
 use Rattle.px_chain.proofs.Quiet.{IsOf}
 use Rattle.px_http.specs.Names.{OfConversation, stays as flows_stay}
 use Rattle.px_tunnel.specs.Upstream.{Granting, awaited, granted, refused}
@@ -33,11 +31,11 @@ use Rattle.px_relay.specs.Chain as relay
 use Rattle.px_relay.specs.Sending.{Terms}
 use Rattle.px_relay.specs.Sights.{Sight as SocketSight}
 use Rattle.px_relay.specs.Stages.{Stage as Frames, holding, over as ended, relaying}
-use Rattle.px_stack.specs.Chain.{answer_of, begun, closed_of, closes_all, finished_flow, flows_at, follows, goes_by, hands_by, has_answered, is_empty, is_shut, led_at, led_by, opening_text, opens_by, or_stays, pass_http, pass_reached, pass_socket, shut_proxy, shut_unused, socket_sight, socket_terms, stack_chain, standing_of, text_behind, tunnel_for, tunnel_found, turn_connected, turn_dial, turn_http, upgrades, waits_for, with_closes}
+use Rattle.px_stack.specs.Chain.{answer_of, begun, closed_before, closes_all, finished_flow, flows_at, follows, goes_by, hands_by, has_answered, is_shut, led_at, led_by, opening_text, or_stays, pass_http, pass_reached, pass_socket, socket_sight, socket_terms, stack_chain, tunnel_for, tunnel_found, turn_connected, turn_dial, turn_http, upgrades, used_proxy, way_to}
 use Rattle.px_stack.specs.Decides.{Decision, decided, is_http, is_raw, still}
 use Rattle.px_stack.specs.Frames.{AreSaid, pass_says, turn_says}
 use Rattle.px_stack.specs.Sockets.{is_websocket}
-use Rattle.px_stack.specs.Stages.{Dialling, Ends as TunnelEnds, Goal, Stage, Tunnel, Visitor, a_flow, a_tunnel, connecting, http, over, raw, reaching, socket, undecided}
+use Rattle.px_stack.specs.Stages.{Dialling, Ends as TunnelEnds, Goal, Link, Stage, Tunnel, Visitor, a_flow, a_tunnel, connecting, http, over, raw, reaching, socket, undecided}
 
 -- the flow of a place is the conversation's, and so are the one that became a tunnel and the one for which a proxy is asked
 abbrev pub IsFlowOf : ℕ → Option Flow → Type 0
@@ -50,7 +48,7 @@ IsGoalOf conv (a_flow place from) = from.flow.id.conv ≡ conv
 
 abbrev pub IsOfIt : ℕ → Visitor → Stage → Type 0
 IsOfIt conv client (http place standing) = IsOf (terms_of conv client.address place) (OfConversation conv) standing.stage
-IsOfIt conv client (reaching goal side since) = IsGoalOf conv goal
+IsOfIt conv client (reaching goal link since) = IsGoalOf conv goal
 IsOfIt conv client (raw ends) = IsFlowOf conv ends.flow
 IsOfIt conv client (socket ends flow frames) = flow.id.conv ≡ conv
 IsOfIt conv client stage = ⊤
@@ -70,10 +68,6 @@ module _ (conv : ℕ) where
   client_named : (closed : Bool) → AllNamed conv (shut_client closed)
   client_named true = tt
   client_named false = (tt, tt)
-
-  unused_named : (unused : Option Unused) → AllNamed conv (shut_unused unused)
-  unused_named None = tt
-  unused_named (Some unused) = server_named (ByServer unused.server unused.shut)
 
   closes_named : (used : Used) (closed : Bool) → AllNamed conv (shut_all used closed)
   closes_named used closed = named_append conv (shut_server used) (shut_client closed) (server_named used) (client_named closed)
@@ -103,11 +97,6 @@ module _ (conv : ℕ) where
   -- ---- the chain
 
   module _ (client : Visitor) where
-    with_named : (unused : Option Unused) (l : Look Command) → AllNamed conv (found l) → AllNamed conv (found (with_closes conv client unused l))
-    with_named unused NotYet all = tt
-    with_named unused (Asks ask) all = all
-    with_named unused (Ends owed) all = named_append conv owed (shut_unused unused) all (unused_named unused)
-
     -- where HTTP hands over
     tunnel_is : (place : Place) (standing : Standing) (at : At) (connect : Option Connect) → IsOf (terms_of conv client.address place) (OfConversation conv) standing.stage →
         IsOfIt conv client (or_stays (http place standing) (tunnel_for place at connect))
@@ -131,19 +120,14 @@ module _ (conv : ℕ) where
     hands_is place standing (next at) seen is here = is
     hands_is place standing flows.over seen is here = is
 
-    follows_is : (d : Decision) (tunnel : Tunnel) (spare : Spare) (since : Since) → IsOfIt conv client (follows d tunnel spare since)
-    follows_is still tunnel spare since = tt
-    follows_is is_http tunnel spare since = refl
-    follows_is is_raw tunnel spare since = tt
+    follows_is : (d : Decision) (tunnel : Tunnel) (link : Link) (since : Since) → IsOfIt conv client (follows d tunnel link since)
+    follows_is still tunnel link since = tt
+    follows_is is_http tunnel link since = refl
+    follows_is is_raw tunnel link since = tt
 
-    goes_is : (closed : Bool) (tunnel : Tunnel) (spare : Spare) (since : Since) (prefix : List (Timed Event)) → IsOfIt conv client (goes_by closed tunnel spare since prefix)
-    goes_is true tunnel spare since prefix = tt
-    goes_is false tunnel spare since prefix = follows_is (decided (opening_text tunnel prefix) (has_answered spare prefix)) tunnel spare since
-
-    opens_is : (empty : Bool) (tunnel : Tunnel) (side : Spare) (used : ℕ) (since : Since) (prefix : List (Timed Event)) →
-        IsOfIt conv client (opens_by empty tunnel side used since prefix)
-    opens_is true tunnel side used since prefix = goes_is (client_closed prefix) tunnel (record { server = side.server; opened = length prefix }) since prefix
-    opens_is false tunnel side used since prefix = tt
+    goes_is : (closed : Bool) (tunnel : Tunnel) (link : Link) (since : Since) (prefix : List (Timed Event)) → IsOfIt conv client (goes_by closed tunnel link since prefix)
+    goes_is true tunnel link since prefix = tt
+    goes_is false tunnel link since prefix = follows_is (decided (opening_text tunnel prefix) (has_answered link prefix)) tunnel link since
 
     -- what is owed names it, and the stage is of it
     abbrev IsNamedTurn : Turn Stage Command → Type 0
@@ -153,29 +137,14 @@ module _ (conv : ℕ) where
     its_flows place = flows_stay (terms_of conv client.address place)
 
     -- where a proxy has answered
-    shut_named : (side : Spare) (prefix : List (Timed Event)) → AllNamed conv (shut_proxy side prefix)
-    shut_named side prefix = server_named (ByServer side.server (closed_of side.server (drop side.opened prefix)))
-
-    refused_is : (place : Place) (from : Dialling) (side : Spare) (since : Since) (prefix : List (Timed Event)) → from.flow.id.conv ≡ conv →
-        IsNamedTurn (pass_reached conv client (a_flow place from) side since prefix refused)
-    refused_is place from side since prefix is =
-        let answer : Timed Reply = record { moment = now_over since prefix; value = reply.Refused UpstreamRefused } in
-        let on = (its_flows place).turn (standing_of from) prefix answer is in
-        (named_append conv ((flows_at conv client place).turn (standing_of from) prefix answer).owed (shut_proxy side prefix) on.0 (shut_named side prefix), on.1)
-
-    reached_is : (goal : Goal) (side : Spare) (since : Since) (prefix : List (Timed Event)) (g : Granting) → IsGoalOf conv goal →
-        IsNamedTurn (pass_reached conv client goal side since prefix g)
-    reached_is goal side since prefix awaited is = (tt, is)
-    reached_is (a_tunnel tunnel) side since prefix (granted used) is =
-        ((tt, tt), opens_is (is_empty (text_behind side used prefix)) tunnel side used (from_here (now_over since prefix) prefix) prefix)
-    reached_is (a_flow place from) side since prefix (granted used) is = ((tt, tt), is)
-    reached_is (a_tunnel tunnel) side since prefix refused is =
-        ((tt, named_append conv (shut_client (client_closed prefix)) (shut_proxy side prefix) (client_named (client_closed prefix)) (shut_named side prefix)), tt)
-    reached_is (a_flow place from) side since prefix refused is = refused_is place from side since prefix is
-
-    waits_named : (goal : Goal) (side : Spare) (prefix : List (Timed Event)) → AllNamed conv (found (waits_for goal side prefix))
-    waits_named (a_tunnel tunnel) side prefix = tunnel_named (client_closed prefix) (shut_proxy side prefix) (shut_named side prefix)
-    waits_named (a_flow place from) side prefix = tt
+    reached_is : (goal : Goal) (link : Link) (since : Since) (prefix : List (Timed Event)) (g : Granting) → IsGoalOf conv goal →
+        IsNamedTurn (pass_reached conv client goal link since prefix g)
+    reached_is goal link since prefix awaited is = (tt, is)
+    reached_is (a_tunnel tunnel) link since prefix (granted used) is =
+        ((tt, tt), goes_is (client_closed prefix) tunnel (way_to link used prefix) (from_here (now_over since prefix) prefix) prefix)
+    reached_is (a_flow place from) link since prefix (granted used) is = ((tt, tt), is)
+    reached_is (a_tunnel tunnel) link since prefix refused is = ((tt, closes_named (used_proxy link prefix) (closed_before link prefix)), tt)
+    reached_is (a_flow place from) link since prefix refused is = ((tt, (is, closes_named (used_proxy link prefix) (closed_before link prefix))), tt)
 
     socket_is : (ends : TunnelEnds) (flow : Flow) (frames : Frames) (prefix : List (Timed Event)) → flow.id.conv ≡ conv →
         IsNamedTurn (pass_socket conv client ends flow frames prefix)
@@ -187,8 +156,8 @@ module _ (conv : ℕ) where
     begun_is : (stage : Stage) (prefix : List (Timed Event)) → IsOfIt conv client stage → IsNamedTurn (begun conv client stage prefix)
     begun_is (http place standing) prefix is = (tt, is)
     begun_is (connecting tunnel) prefix is = (tt, tt)
-    begun_is (reaching goal side since) prefix is = (tt, is)
-    begun_is (undecided tunnel spare since) prefix is = (tt, tt)
+    begun_is (reaching goal link since) prefix is = (tt, is)
+    begun_is (undecided tunnel link since) prefix is = (tt, tt)
     begun_is (raw ends) prefix is = (tt, is)
     begun_is (socket ends flow frames) prefix is = socket_is ends flow frames prefix is
     begun_is over prefix is = (tt, tt)
@@ -201,41 +170,46 @@ module _ (conv : ℕ) where
         let to = begun_is (pass_http conv client place on.stage prefix) prefix (hands_is place on.stage on.stage.stage (sight_over on.stage prefix) named.1 named.1) in
         (named_append conv on.owed (begun conv client (pass_http conv client place on.stage prefix) prefix).owed named.0 to.0, to.1)
     passes (connecting tunnel) prefix is = (tt, tt)
-    passes (reaching goal side since) prefix is = reached_is goal side since prefix (answer_of side prefix) is
-    passes (undecided tunnel spare since) prefix is = (tt, goes_is (client_closed prefix) tunnel spare since prefix)
+    passes (reaching goal link since) prefix is = reached_is goal link since prefix (answer_of link prefix) is
+    passes (undecided tunnel link since) prefix is = (tt, goes_is (client_closed prefix) tunnel link since prefix)
     passes (raw ends) prefix is = (tt, is)
     passes (socket ends flow frames) prefix is = socket_is ends flow frames prefix is
     passes over prefix is = (tt, tt)
 
     looks : (stage : Stage) (prefix : List (Timed Event)) → IsOfIt conv client stage → AllNamed conv (found ((stack_chain conv client).look stage prefix))
-    looks (http place standing) prefix is = with_named (unused_over standing.spare prefix) _ ((its_flows place).look standing prefix is)
+    looks (http place standing) prefix is = (its_flows place).look standing prefix is
     looks (connecting tunnel) prefix is = (tt, tt)
-    looks (reaching goal side since) prefix is = waits_named goal side prefix
-    looks (undecided tunnel spare since) prefix is =
-        let shut : Bool = is_closed (Server spare.server) (drop spare.opened prefix) in
+    looks (reaching goal link since) prefix is = tt
+    looks (undecided tunnel link since) prefix is =
+        let shut : Bool = is_shut link prefix in
         let closed : Bool = client_closed prefix in
-        tunnel_named (closed || shut) (closes_all spare.server shut closed) (closes_named (ByServer spare.server shut) closed)
+        tunnel_named (closed || shut) (closes_all link.side.server shut closed) (closes_named (ByServer link.side.server shut) closed)
     looks (raw ends) prefix is =
         let closed : Bool = client_closed prefix in
-        let shut : Bool = is_shut ends prefix in
-        let unused : Option Unused = unused_over ends.spare prefix in
-        let closes : List Command = closes_all ends.side.server shut closed in
-        tunnel_named (closed || shut) (finished_flow ends.flow ++ (shut_unused unused ++ closes))
-        (named_append conv (finished_flow ends.flow) (shut_unused unused ++ closes) (finished_named ends.flow is)
-        (named_append conv (shut_unused unused) closes (unused_named unused) (closes_named (ByServer ends.side.server shut) closed)))
-    looks (socket ends flow frames) prefix is =
-        let terms : Terms = socket_terms client.key ends flow in
-        with_named (unused_over ends.spare prefix) (relay.look terms frames) (frames_named terms frames is)
+        let shut : Bool = is_shut ends.link prefix in
+        let closes : List Command = closes_all ends.link.side.server shut closed in
+        tunnel_named (closed || shut) (finished_flow ends.flow ++ closes)
+        (named_append conv (finished_flow ends.flow) closes (finished_named ends.flow is) (closes_named (ByServer ends.link.side.server shut) closed))
+    looks (socket ends flow frames) prefix is = frames_named (socket_terms client.key ends flow) frames is
     looks over prefix is = tt
 
     waits : (stage : Stage) (prefix : List (Timed Event)) → IsOfIt conv client stage → AllNamed conv ((stack_chain conv client).so_far stage prefix)
     waits (http place standing) prefix is = (its_flows place).so_far standing prefix is
     waits (connecting tunnel) prefix is = tt
-    waits (reaching goal side since) prefix is = tt
-    waits (undecided tunnel spare since) prefix is = tt
+    waits (reaching goal link since) prefix is = tt
+    waits (undecided tunnel link since) prefix is = tt
     waits (raw ends) prefix is = (tt, (tt, tt))
     waits (socket ends flow frames) prefix is = tt
     waits over prefix is = tt
+
+    parts : (stage : Stage) (prefix : List (Timed Event)) → IsOfIt conv client stage → AllNamed conv ((stack_chain conv client).behind stage prefix)
+    parts (http place standing) prefix is = (its_flows place).behind standing prefix is
+    parts (connecting tunnel) prefix is = tt
+    parts (reaching goal link since) prefix is = tt
+    parts (undecided tunnel link since) prefix is = tt
+    parts (raw ends) prefix is = tt
+    parts (socket ends flow frames) prefix is = tt
+    parts over prefix is = tt
 
     connected_is : (proxy : Option Address) (tunnel : Tunnel) (prefix : List (Timed Event)) (moment : ℕ) → IsNamedTurn (turn_connected conv client proxy tunnel prefix moment)
     connected_is None tunnel prefix moment = ((tt, tt), tt)
@@ -255,23 +229,23 @@ module _ (conv : ℕ) where
     IsLedOf None = ⊤
     IsLedOf (Some from) = from.flow.id.conv ≡ conv
 
-    led_is_by : (place : Place) (standing : Standing) (stage : flows.Stage) → IsOf (terms_of conv client.address place) (OfConversation conv) stage → IsLedOf (led_by standing stage)
-    led_is_by place standing (idle at) is = tt
-    led_is_by place standing (busy at flow (request_body given)) is = tt
-    led_is_by place standing (busy at flow connection) is = is
-    led_is_by place standing (busy at flow (response_head side how)) is = tt
-    led_is_by place standing (busy at flow (response_body side how)) is = tt
-    led_is_by place standing (busy at flow (upgraded side)) is = tt
-    led_is_by place standing (busy at flow given_head) is = tt
-    led_is_by place standing (busy at flow given_body) is = tt
-    led_is_by place standing (next at) is = tt
-    led_is_by place standing flows.over is = tt
+    led_is_by : (place : Place) (stage : flows.Stage) → IsOf (terms_of conv client.address place) (OfConversation conv) stage → IsLedOf (led_by stage)
+    led_is_by place (idle at) is = tt
+    led_is_by place (busy at flow (request_body given)) is = tt
+    led_is_by place (busy at flow connection) is = is
+    led_is_by place (busy at flow (response_head side how)) is = tt
+    led_is_by place (busy at flow (response_body side how)) is = tt
+    led_is_by place (busy at flow (upgraded side)) is = tt
+    led_is_by place (busy at flow given_head) is = tt
+    led_is_by place (busy at flow given_body) is = tt
+    led_is_by place (next at) is = tt
+    led_is_by place flows.over is = tt
 
-    led_is : (place : Place) (standing : Standing) → IsOf (terms_of conv client.address place) (OfConversation conv) standing.stage → IsLedOf (led_at place standing)
-    led_is places.Regular standing is = tt
-    led_is (places.Upstream proxy) standing is = tt
-    led_is (places.Fixed address side None) standing is = tt
-    led_is (places.Fixed address side (Some proxy)) standing is = led_is_by (places.Fixed address side (Some proxy)) standing standing.stage is
+    led_is : (place : Place) (stage : flows.Stage) → IsOf (terms_of conv client.address place) (OfConversation conv) stage → IsLedOf (led_at place stage)
+    led_is places.Regular stage is = tt
+    led_is (places.Upstream proxy) stage is = tt
+    led_is (places.Fixed address side None) stage is = tt
+    led_is (places.Fixed address side (Some proxy)) stage is = led_is_by (places.Fixed address side (Some proxy)) stage is
 
     http_turns : (led : Option Dialling) (place : Place) (standing : Standing) (prefix : List (Timed Event)) (answer : Timed Reply) (value : Reply) → IsLedOf led →
         IsOfIt conv client (http place standing) → IsNamedTurn (turn_http conv client led place standing prefix answer value)
@@ -285,10 +259,10 @@ module _ (conv : ℕ) where
 
     turns : (stage : Stage) (prefix : List (Timed Event)) (answer : Timed Reply) → IsOfIt conv client stage →
         AllNamed conv ((stack_chain conv client).turn stage prefix answer).owed × IsOfIt conv client ((stack_chain conv client).turn stage prefix answer).stage
-    turns (http place standing) prefix answer is = http_turns (led_at place standing) place standing prefix answer answer.value (led_is place standing is) is
+    turns (http place standing) prefix answer is = http_turns (led_at place standing.stage) place standing prefix answer answer.value (led_is place standing.stage is) is
     turns (connecting tunnel) prefix answer is = dial_turns tunnel prefix answer.value answer.moment
-    turns (reaching goal side since) prefix answer is = (tt, is)
-    turns (undecided tunnel spare since) prefix answer is = (tt, tt)
+    turns (reaching goal link since) prefix answer is = (tt, is)
+    turns (undecided tunnel link since) prefix answer is = (tt, tt)
     turns (raw ends) prefix answer is = (tt, is)
     turns (socket ends flow frames) prefix answer is =
         let terms : Terms = socket_terms client.key ends flow in
@@ -298,7 +272,7 @@ module _ (conv : ℕ) where
     turns over prefix answer is = (tt, tt)
 
     pub stays : StaysNamed conv (stack_chain conv client) (IsOfIt conv client)
-    stays = record { pass = passes; look = looks; so_far = waits; turn = turns }
+    stays = record { pass = passes; look = looks; so_far = waits; behind = parts; turn = turns }
 
 -- What is due names flows of the conversation alone.
 pub stack_names : (conv : ℕ) (client : Visitor) (start : Stage) → IsOfIt conv client start → (moves : List Move) →

@@ -1,13 +1,16 @@
 -- What an event tells of a proxy's answer.
 use Rattle.std.specs.Prelude.{◌≡◌, ℕ, Bool, true, false, List, ◌++◌, drop}
 use Rattle.px_event.specs.declared.event.Event.{Event}
-use Rattle.px_event.specs.declared.side.Side.TheVariants.{Server}
+use Rattle.px_event.specs.declared.side.Side.TheVariants.{Client, Server}
 use Rattle.px_event.specs.Sides.{closes, piece_of}
 use Rattle.px_tunnel.specs.declared.upstream.ProxyAnswer.{ProxyAnswer}
 use Rattle.px_tunnel.specs.declared.upstream.ProxyAnswer.TheVariants as answer
 use Rattle.px_tunnel.specs.declared.upstream.UpstreamTunnel.{UpstreamTunnel}
 use Rattle.px_tunnel.specs.Reaching.{HasHeard, rest_of}
 use Rattle.px_tunnel.specs.Upstream.{Granting, awaited, granted, granting, refused}
+use Rattle.px_stack.specs.declared.child.Goal.{Goal}
+use Rattle.px_stack.specs.declared.child.Goal.TheVariants as goals
+use Rattle.px_stack.specs.declared.child.Opening.{Opening}
 use Rattle.px_stack.specs.declared.reaching.ProxySays.{ProxySays}
 use Rattle.px_stack.specs.declared.reaching.ProxySays.TheVariants as told
 
@@ -39,3 +42,11 @@ pub record HearsThere (server : ℕ) (after : UpstreamTunnel) (text : List ℕ) 
 
 abbrev pub HearsProxy : ℕ → UpstreamTunnel → UpstreamTunnel → Event → ProxySays → Type 0
 HearsProxy server before after event says = (text : List ℕ) → HasHeard before text → HearsThere server after text event says
+
+-- What waits for a tunnel of the client's behind an event: its bytes, and whether it has closed; behind its close nothing is heard.
+abbrev pub tunnel_by : Bool → Opening → Event → Goal
+tunnel_by true opening event = goals.Tunnel opening true
+tunnel_by false opening event = goals.Tunnel (record opening { rest = opening.rest ++ piece_of Client event }) (closes Client event)
+
+abbrev pub tunnel_behind : Opening → Bool → Event → Goal
+tunnel_behind opening closed event = tunnel_by closed opening event

@@ -1,5 +1,5 @@
 -- The laws of a conversation as a layer whose due is a chain.
-use Rattle.std.proofs.Common.{◌≡◌, ℕ, ◌++◌, Bool, true, false, List, [], Option, Some, None, refl, ap, sym, ◌∙◌, subst}
+use Rattle.std.proofs.Common.{◌≡◌, ℕ, Bool, true, false, List, [], Some, None, refl, ap, sym, ◌∙◌, subst}
 use Rattle.px_message.specs.declared.flow.Flow.{Flow}
 use Rattle.px_event.specs.declared.ask.Ask.{Ask}
 use Rattle.px_event.specs.declared.command.Command.{Command}
@@ -12,22 +12,20 @@ use Rattle.px_event.specs.View.{View, seen_of}
 use Rattle.px_core.specs.Conversation.{AllNamed}
 use Rattle.px_exchange.specs.Places.{terms_of}
 use Rattle.px_chain.specs.Chain.{sequence}
-use Rattle.px_chain.specs.Sights.{Spare, Unused, unused_over}
-use Rattle.px_chain.specs.Streams.{client_closed}
+use Rattle.px_relay.specs.declared.layer.WsLayer.{WsLayer}
 use Rattle.px_relay.specs.Chain.{look as frames_look}
 use Rattle.px_relay.specs.Stages.{Stage as Frames, holding, over as frames_over, relaying}
 use Rattle.px_relay.specs.Stands.{awaited_in, awaits as frames_awaits}
 use Rattle.px_stream.specs.StateLaws.{awaits_what_it_asks}
 use Rattle.px_stack.specs.declared.child.Child.{Child}
 use Rattle.px_stack.specs.declared.child.Child.TheVariants as children
-use Rattle.px_stack.specs.declared.child.Socket.{Socket}
 use Rattle.px_stack.specs.declared.stack.Stack.{Stack}
-use Rattle.px_stack.specs.Chain.{flows_at, shut_proxy, shut_unused, socket_terms, stack_chain, tunnel_found, waits_for, with_closes}
+use Rattle.px_stack.specs.Chain.{socket_terms, stack_chain, tunnel_found}
 use Rattle.px_stack.specs.Kept.{awaited_by, is_over}
 use Rattle.px_stack.specs.Laws.{settles, so_far_grows}
 use Rattle.px_stack.specs.Names.{IsOfIt, stack_names}
 use Rattle.px_stack.specs.Stack.{IsAt, StackStands, awaits, chain_of, start_by, start_of, visitor_of}
-use Rattle.px_stack.specs.Stages.{Ends as TunnelEnds, Goal, Stage, Visitor, a_flow, a_tunnel, connecting, http, over, raw, reaching, socket, undecided}
+use Rattle.px_stack.specs.Stages.{Ends as TunnelEnds, Stage, Visitor, connecting, http, over, raw, reaching, socket, undecided}
 use Rattle.px_stack.specs.Stands.{IsChild, IsFraming, Keeps, KeepsBy}
 
 -- ---- what is found in HTTP and in a tunnel
@@ -36,68 +34,52 @@ never_asks : (ends : Bool) (owed : List Command) (ask : Command) → tunnel_foun
 never_asks true owed ask is = let no : Ends owed ≡ Asks ask = is in cc
 never_asks false owed ask is = let no : NotYet ≡ Asks ask = is in cc
 
--- a proxy's answer is no reply
-never_waits : (goal : Goal) (side : Spare) (prefix : List (Timed Event)) (ask : Command) → waits_for goal side prefix ≡ Asks ask → ⊥
-never_waits (a_tunnel tunnel) side prefix ask is = never_asks (client_closed prefix) (shut_proxy side prefix) ask is
-never_waits (a_flow place from) side prefix ask is = let no : NotYet ≡ Asks ask = is in cc
-
 -- a WebSocket's layer asks exactly where its stage does
-socket_free : (key : List ℕ) (ends : TunnelEnds) (flow : Flow) (frames : Frames) (prefix : List (Timed Event)) (kept : Socket) → IsFraming key ends flow frames prefix kept →
-    frames_awaits kept.layer.value ≡ None → (ask : Command) → frames_look (socket_terms key ends flow) frames ≡ Asks ask → ⊥
-socket_free key ends flow (relaying at) prefix kept is free ask asks = let no : NotYet ≡ Asks ask = asks in cc
-socket_free key ends flow (holding from message at) prefix kept is free ask asks =
-    let no : Some _ ≡ None = ap (λ p. awaited_in kept.layer.value.flow p) (sym is.there.phase) ∙ free in cc
-socket_free key ends flow frames_over prefix kept is free ask asks = let no : Ends [] ≡ Asks ask = asks in cc
+socket_free : (key : List ℕ) (ends : TunnelEnds) (flow : Flow) (frames : Frames) (prefix : List (Timed Event)) (layer : WsLayer) → IsFraming key ends flow frames prefix layer →
+    frames_awaits layer ≡ None → (ask : Command) → frames_look (socket_terms key ends flow) frames ≡ Asks ask → ⊥
+socket_free key ends flow (relaying at) prefix layer is free ask asks = let no : NotYet ≡ Asks ask = asks in cc
+socket_free key ends flow (holding from message at) prefix layer is free ask asks =
+    let no : Some _ ≡ None = ap (λ p. awaited_in layer.flow p) (sym is.there.phase) ∙ free in cc
+socket_free key ends flow frames_over prefix layer is free ask asks = let no : Ends [] ≡ Asks ask = asks in cc
 
-socket_asks : (key : List ℕ) (ends : TunnelEnds) (flow : Flow) (frames : Frames) (prefix : List (Timed Event)) (kept : Socket) → IsFraming key ends flow frames prefix kept →
-    (ask : Ask) → frames_awaits kept.layer.value ≡ Some ask → (command : Command) × (frames_look (socket_terms key ends flow) frames ≡ Asks command)
-socket_asks key ends flow (relaying at) prefix kept is ask waits =
-    absurd (let no : None ≡ Some ask = ap (λ p. awaited_in kept.layer.value.flow p) (sym is.there.ready.between.phase) ∙ waits in cc)
-socket_asks key ends flow (holding from message at) prefix kept is ask waits = (_, refl)
-socket_asks key ends flow frames_over prefix kept is ask waits =
-    absurd (let no : None ≡ Some ask = ap (λ p. awaited_in kept.layer.value.flow p) (sym is.there) ∙ waits in cc)
+socket_asks : (key : List ℕ) (ends : TunnelEnds) (flow : Flow) (frames : Frames) (prefix : List (Timed Event)) (layer : WsLayer) → IsFraming key ends flow frames prefix layer →
+    (ask : Ask) → frames_awaits layer ≡ Some ask → (command : Command) × (frames_look (socket_terms key ends flow) frames ≡ Asks command)
+socket_asks key ends flow (relaying at) prefix layer is ask waits =
+    absurd (let no : None ≡ Some ask = ap (λ p. awaited_in layer.flow p) (sym is.there.ready.between.phase) ∙ waits in cc)
+socket_asks key ends flow (holding from message at) prefix layer is ask waits = (_, refl)
+socket_asks key ends flow frames_over prefix layer is ask waits =
+    absurd (let no : None ≡ Some ask = ap (λ p. awaited_in layer.flow p) (sym is.there) ∙ waits in cc)
 
 module _ (conv : ℕ) (client : Visitor) where
-  http_asks : (unused : Option Unused) (l : Look Command) (ask : Command) → with_closes conv client unused l ≡ Asks ask → l ≡ Asks ask
-  http_asks unused NotYet ask is = absurd (let no : NotYet ≡ Asks ask = is in cc)
-  http_asks unused (Asks one) ask is = is
-  http_asks unused (Ends owed) ask is = absurd (let no : Ends (owed ++ shut_unused unused) ≡ Asks ask = is in cc)
-
-  http_waits : (unused : Option Unused) (l : Look Command) (ask : Command) → l ≡ Asks ask → with_closes conv client unused l ≡ NotYet → ⊥
-  http_waits unused NotYet ask is found = let no : NotYet ≡ Asks ask = is in cc
-  http_waits unused (Asks one) ask is found = let no : Asks one ≡ NotYet = found in cc
-  http_waits unused (Ends owed) ask is found = let no : Ends owed ≡ Asks ask = is in cc
-
   -- ---- what is awaited
 
   free_by : (child : Child) (stage : Stage) (prefix : List (Timed Event)) (ask : Command) → Keeps conv client child stage prefix → awaited_by child ≡ None →
       (stack_chain conv client).look stage prefix ≡ Asks ask → ⊥
   free_by child (http place standing) prefix ask kept free asks =
       (awaits_what_it_asks sequence (terms_of conv client.address place)).free kept.flows.value.stream standing prefix ask kept.there.is_at
-      (ap awaited_by (sym kept.is) ∙ free) (http_asks (unused_over standing.spare prefix) ((flows_at conv client place).look standing prefix) ask asks)
+      (ap awaited_by (sym kept.is) ∙ free) asks
   free_by child (connecting tunnel) prefix ask kept free asks =
       let no : awaited_by (children.Connecting kept.kept kept.closed) ≡ None = ap awaited_by (sym kept.is) ∙ free in cc
-  free_by child (reaching goal side since) prefix ask kept free asks = never_waits goal side prefix ask asks
-  free_by child (undecided tunnel spare since) prefix ask kept free asks = never_asks _ _ ask asks
+  free_by child (reaching goal link since) prefix ask kept free asks = let no : NotYet ≡ Asks ask = asks in cc
+  free_by child (undecided tunnel link since) prefix ask kept free asks = never_asks _ _ ask asks
   free_by child (raw ends) prefix ask kept free asks = never_asks _ _ ask asks
   free_by child (socket ends flow frames) prefix ask kept free asks =
-      socket_free client.key ends flow frames prefix kept.kept kept.framing (ap awaited_by (sym kept.is) ∙ free) ask
-      (http_asks (unused_over ends.spare prefix) (frames_look (socket_terms client.key ends flow) frames) ask asks)
+      socket_free client.key ends flow frames prefix kept.layer.value kept.framing (ap awaited_by (sym kept.is) ∙ free) ask asks
   free_by child over prefix ask kept free asks = kept
 
   waits_by : (child : Child) (stage : Stage) (prefix : List (Timed Event)) (ask : Ask) → Keeps conv client child stage prefix → awaited_by child ≡ Some ask →
       (stack_chain conv client).look stage prefix ≡ NotYet → ⊥
   waits_by child (http place standing) prefix ask kept waits found =
       let asked = (awaits_what_it_asks sequence (terms_of conv client.address place)).asks kept.flows.value.stream standing prefix ask kept.there.is_at (ap awaited_by (sym kept.is) ∙ waits) in
-      http_waits (unused_over standing.spare prefix) ((flows_at conv client place).look standing prefix) asked.0 asked.1 found
+      let no : Asks asked.0 ≡ NotYet = sym asked.1 ∙ found in cc
   waits_by child (connecting tunnel) prefix ask kept waits found = let no : (stack_chain conv client).look (connecting tunnel) prefix ≡ NotYet = found in cc
-  waits_by child (reaching goal side since) prefix ask kept waits found = let no : None ≡ Some ask = ap awaited_by (sym kept.is) ∙ waits in cc
-  waits_by child (undecided tunnel spare since) prefix ask kept waits found =
+  waits_by child (reaching goal link since) prefix ask kept waits found = let no : None ≡ Some ask = ap awaited_by (sym kept.is) ∙ waits in cc
+  waits_by child (undecided tunnel link since) prefix ask kept waits found =
       let no : None ≡ Some ask = ap awaited_by (sym kept.is) ∙ waits in cc
   waits_by child (raw ends) prefix ask kept waits found = let no : None ≡ Some ask = ap awaited_by (sym kept.is) ∙ waits in cc
   waits_by child (socket ends flow frames) prefix ask kept waits found =
-      let asked = socket_asks client.key ends flow frames prefix kept.kept kept.framing ask (ap awaited_by (sym kept.is) ∙ waits) in
-      http_waits (unused_over ends.spare prefix) (frames_look (socket_terms client.key ends flow) frames) asked.0 asked.1 found
+      let asked = socket_asks client.key ends flow frames prefix kept.layer.value kept.framing ask (ap awaited_by (sym kept.is) ∙ waits) in
+      let no : Asks asked.0 ≡ NotYet = sym asked.1 ∙ found in cc
   waits_by child over prefix ask kept waits found = kept
 
   asks_by : (child : Child) (stage : Stage) (prefix : List (Timed Event)) (ask : Ask) (l : Look Command) → (stack_chain conv client).look stage prefix ≡ l →
@@ -111,8 +93,8 @@ module _ (conv : ℕ) (client : Visitor) where
   goes_on : (child : Child) (stage : Stage) (prefix : List (Timed Event)) → Keeps conv client child stage prefix → is_over child ≡ true → ⊥
   goes_on child (http place standing) prefix kept ended = let no : false ≡ true = ap is_over (sym kept.is) ∙ ended in cc
   goes_on child (connecting tunnel) prefix kept ended = let no : false ≡ true = ap is_over (sym kept.is) ∙ ended in cc
-  goes_on child (reaching goal side since) prefix kept ended = let no : false ≡ true = ap is_over (sym kept.is) ∙ ended in cc
-  goes_on child (undecided tunnel spare since) prefix kept ended = let no : false ≡ true = ap is_over (sym kept.is) ∙ ended in cc
+  goes_on child (reaching goal link since) prefix kept ended = let no : false ≡ true = ap is_over (sym kept.is) ∙ ended in cc
+  goes_on child (undecided tunnel link since) prefix kept ended = let no : false ≡ true = ap is_over (sym kept.is) ∙ ended in cc
   goes_on child (raw ends) prefix kept ended = let no : false ≡ true = ap is_over (sym kept.is) ∙ ended in cc
   goes_on child (socket ends flow frames) prefix kept ended = let no : false ≡ true = ap is_over (sym kept.is) ∙ ended in cc
   goes_on child over prefix kept ended = kept

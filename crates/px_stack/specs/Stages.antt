@@ -4,7 +4,7 @@ use Rattle.std.specs.Prelude.{ℕ, List, Option}
 use Rattle.px_message.specs.declared.address.Address.{Address}
 use Rattle.px_message.specs.declared.flow.Flow.{Flow}
 use Rattle.px_exchange.specs.declared.place.Place.{Place}
-use Rattle.px_chain.specs.Sights.{Spare, Standing}
+use Rattle.px_chain.specs.Sights.{Standing}
 use Rattle.px_chain.specs.Stages.{At, ServerSide}
 use Rattle.px_chain.specs.Streams.{Since}
 use Rattle.px_relay.specs.Stages.{Stage as Frames}
@@ -22,22 +22,22 @@ pub record Tunnel : Type 0 where
   pub address : Address
   pub proxy : Option Address
 
--- A tunnel's two ends: how many of the client's bytes were used before it, and the server's side, which is heard behind so many events.
--- It may have been a flow, and a spare side may be left.
-pub record Ends : Type 0 where
-  pub used : ℕ
+-- A server's side that is connected: its number and how many of its bytes were used, and how many events had come when it was connected.
+-- It is heard in the events behind those.
+pub record Link : Type 0 where
   pub side : ServerSide
   pub opened : ℕ
-  pub flow : Option Flow
-  pub spare : Option Spare
 
--- A flow that stands where its server is dialled: where in its conversation, since when, and the spare side.
+-- A tunnel's two ends: how many of the client's bytes were used before it, and the server's side. It may have been a flow.
+pub record Ends : Type 0 where
+  pub used : ℕ
+  pub link : Link
+  pub flow : Option Flow
+
+-- A flow that stands where its server is dialled: where in its conversation.
 pub record Dialling : Type 0 where
   pub at : At
   pub flow : Flow
-  pub since : Since
-  pub opened : ℕ
-  pub spare : Option Spare
 
 -- What a proxy is asked to let through: a tunnel of the client, or a flow whose requests go to this place.
 pub data Goal : Type 0 where
@@ -50,9 +50,9 @@ pub data Stage : Type 0 where
   -- a CONNECT was read, and its server is dialled
   connecting : (tunnel : Tunnel) → Stage
   -- a proxy is connected and was asked for a tunnel, since then, and its answer is awaited
-  reaching : (goal : Goal) (side : Spare) (since : Since) → Stage
+  reaching : (goal : Goal) (link : Link) (since : Since) → Stage
   -- its server is connected, since then, and the first bytes decide what follows
-  undecided : (tunnel : Tunnel) (spare : Spare) (since : Since) → Stage
+  undecided : (tunnel : Tunnel) (link : Link) (since : Since) → Stage
   -- each side's bytes go to the other
   raw : (ends : Ends) → Stage
   -- a WebSocket: the tunnel whose sides it has, the flow that became it, and where its frames stand

@@ -1,5 +1,5 @@
 -- Where a conversation is: what it keeps at a stage and over a prefix.
-use Rattle.std.specs.Prelude.{◌≡◌, ◌≤◌, ◌<◌, ◌+◌, ℕ, Bool, true, false, List, length, drop, Option, Some, None}
+use Rattle.std.specs.Prelude.{◌≡◌, ◌≤◌, ◌<◌, ◌+◌, ℕ, Bool, false, List, length, drop, Some}
 use Rattle.std.specs.Global.{Box}
 use Rattle.px_event.specs.declared.command.Command.{Command}
 use Rattle.px_event.specs.declared.event.Event.{Event}
@@ -8,10 +8,12 @@ use Rattle.px_event.specs.Chain.{Timed, Look, NotYet, Asks, Ends}
 use Rattle.px_exchange.specs.declared.place.Place.{Place}
 use Rattle.px_exchange.specs.declared.place.Place.TheVariants as places
 use Rattle.px_exchange.specs.Places.{terms_of}
-use Rattle.px_chain.specs.Sights.{Spare, SpareIsWithin, Standing, Unused, unused_over}
+use Rattle.px_chain.specs.Sights.{Standing}
+use Rattle.px_chain.specs.Stages.{At, busy, connection, place_of, unparked}
 use Rattle.px_chain.specs.Streams.{Since, bytes_of, client_closed}
 use Rattle.px_http.specs.declared.conversation.HttpConv.{HttpConv}
 use Rattle.px_message.specs.declared.flow.Flow.{Flow}
+use Rattle.px_relay.specs.declared.layer.WsLayer.{WsLayer}
 use Rattle.px_relay.specs.Sights.{no_rests as nothing_left}
 use Rattle.px_relay.specs.Stages.{Stage as Frames}
 use Rattle.px_relay.specs.Stands.{IsIn}
@@ -28,10 +30,9 @@ use Rattle.px_stack.specs.declared.child.Goal.TheVariants as goals
 use Rattle.px_stack.specs.declared.child.Opening.{Opening}
 use Rattle.px_stack.specs.declared.child.Reaching.{Reaching}
 use Rattle.px_stack.specs.declared.child.Relay.{Relay}
-use Rattle.px_stack.specs.declared.child.Socket.{Socket}
-use Rattle.px_stack.specs.Chain.{closed_of, has_answered, opening_text, socket_sight, socket_terms, stack_chain, standing_of, text_of}
+use Rattle.px_stack.specs.Chain.{closed_before, closed_of, has_answered, opening_text, socket_sight, socket_terms, stack_chain, text_of}
 use Rattle.px_stack.specs.Decides.{decided, still}
-use Rattle.px_stack.specs.Stages.{Dialling, Ends as TunnelEnds, Goal, Stage, Tunnel, Visitor, a_flow, a_tunnel, connecting, http, over, raw, reaching, socket, undecided}
+use Rattle.px_stack.specs.Stages.{Dialling, Ends as TunnelEnds, Goal, Link, Stage, Tunnel, Visitor, a_flow, a_tunnel, connecting, http, over, raw, reaching, socket, undecided}
 
 -- ---- HTTP
 
@@ -56,66 +57,61 @@ pub record IsOpening (tunnel : Tunnel) (prefix : List (Timed Event)) (kept : Ope
   pub used : tunnel.at.used ≤ length (bytes_of Client prefix)
 
 -- its server is connected: it is the last that was dialled, and no flow has dialled it
-pub record IsOpened (tunnel : Tunnel) (spare : Spare) (since : Since) (prefix : List (Timed Event)) (kept : Opening) (server : ℕ) : Type 0 where
+pub record IsOpened (tunnel : Tunnel) (link : Link) (since : Since) (prefix : List (Timed Event)) (kept : Opening) (server : ℕ) : Type 0 where
   pub opening : IsOpening tunnel prefix kept
-  pub same : server ≡ spare.server
-  pub last : tunnel.at.dials ≡ spare.server + 1
-  pub dials : spare.server ≤ tunnel.at.flow
-  pub opened : spare.opened ≤ length prefix
+  pub same : server ≡ link.side.server
+  pub last : tunnel.at.dials ≡ link.side.server + 1
+  pub dials : link.side.server ≤ tunnel.at.flow
+  pub opened : link.opened ≤ length prefix
   pub come : since.events ≤ length prefix
+  pub used : link.side.used ≤ length (bytes_of (Server link.side.server) (drop link.opened prefix))
 
--- another proxy is asked for it, and the client has not closed
-pub record IsAskedFor (tunnel : Tunnel) (side : Spare) (prefix : List (Timed Event)) (kept : Opening) : Type 0 where
+-- another proxy is asked for it; whether the client has closed
+pub record IsAskedFor (tunnel : Tunnel) (link : Link) (prefix : List (Timed Event)) (kept : Opening) (closed : Bool) : Type 0 where
   pub opening : IsOpening tunnel prefix kept
-  pub last : tunnel.at.dials ≡ side.server + 1
-  pub dials : side.server ≤ tunnel.at.flow
-  pub client : client_closed prefix ≡ false
+  pub last : tunnel.at.dials ≡ link.side.server + 1
+  pub dials : link.side.server ≤ tunnel.at.flow
+  pub client : closed ≡ client_closed prefix
 
--- or for the way of a flow
-pub record IsLedOn (conv : ℕ) (client : Visitor) (place : Place) (from : Dialling) (side : Spare) (prefix : List (Timed Event)) (flows : HttpConv) : Type 0 where
-  pub there : IsInFlows conv client place flows (standing_of from) prefix
-  -- the spare side was connected before the client closed
-  pub in_time : OpensInTime from.spare prefix
-  pub dialled : side.server ≡ from.at.dials
+-- where a side is parked, it was connected before the client closed
+abbrev pub InTime : Standing → List (Timed Event) → Type 0
+InTime standing prefix = OpensInTime (place_of standing.stage).parked standing.opened prefix
+
+-- or for the way of a flow, whose dial has connected the proxy
+pub record IsLedOn (conv : ℕ) (client : Visitor) (place : Place) (from : Dialling) (link : Link) (prefix : List (Timed Event)) (flows : HttpConv) : Type 0 where
+  pub standing : Standing
+  pub at : At
+  pub stage : standing.stage ≡ busy at from.flow connection
+  pub from_is : from.at ≡ unparked at
+  pub there : IsInFlows conv client place flows standing prefix
+  pub in_time : OpensInTime at.parked standing.opened prefix
+  pub dialled : link.side.server ≡ from.at.dials
   -- the answer to its dial is awaited
   pub waits : IsDialling flows.stream.phase
 
-abbrev pub IsGoal : ℕ → Visitor → Goal → Spare → List (Timed Event) → KeptGoal → Type 0
-IsGoal conv client (a_tunnel tunnel) side prefix (goals.Tunnel kept) = IsAskedFor tunnel side prefix kept
-IsGoal conv client (a_flow place from) side prefix (goals.Flow flows) = IsLedOn conv client place from side prefix flows.value
-IsGoal conv client goal side prefix kept = ⊥
-
--- the spare side, while it is connected
-abbrev pub unless_shut : Unused → Bool → Option ℕ
-unless_shut unused true = None
-unless_shut unused false = Some unused.server
-
-abbrev pub open_unused : Option Unused → Option ℕ
-open_unused None = None
-open_unused (Some unused) = unless_shut unused unused.shut
+abbrev pub IsGoal : ℕ → Visitor → Goal → Link → List (Timed Event) → KeptGoal → Type 0
+IsGoal conv client (a_tunnel tunnel) link prefix (goals.Tunnel kept closed) = IsAskedFor tunnel link prefix kept closed
+IsGoal conv client (a_flow place from) link prefix (goals.Flow flows) = IsLedOn conv client place from link prefix flows.value
+IsGoal conv client goal link prefix kept = ⊥
 
 -- a tunnel has handed on all that has come, and no side has closed
 pub record IsRelay (ends : TunnelEnds) (prefix : List (Timed Event)) (kept : Relay) : Type 0 where
-  pub same : kept.server ≡ ends.side.server
-  pub server : server_of kept.tunnel ≡ ends.side.server
+  pub same : kept.server ≡ ends.link.side.server
+  pub server : server_of kept.tunnel ≡ ends.link.side.server
   pub rests : rests_of kept.tunnel ≡ no_rests
   pub goes_on : has_ended kept.tunnel ≡ false
   pub flow : kept.flow ≡ ends.flow
-  pub spare : kept.spare ≡ open_unused (unused_over ends.spare prefix)
   pub used : ends.used ≤ length (bytes_of Client prefix)
-  pub side_used : ends.side.used ≤ length (bytes_of (Server ends.side.server) (drop ends.opened prefix))
-  pub opened : ends.opened ≤ length prefix
-  pub within : SpareIsWithin ends.spare prefix
+  pub side_used : ends.link.side.used ≤ length (bytes_of (Server ends.link.side.server) (drop ends.link.opened prefix))
+  pub opened : ends.link.opened ≤ length prefix
 
 -- a WebSocket's layer stands at its stage, in what is seen of the two sides
-pub record IsFraming (key : List ℕ) (ends : TunnelEnds) (flow : Flow) (frames : Frames) (prefix : List (Timed Event)) (kept : Socket) : Type 0 where
-  pub there : IsIn (socket_terms key ends flow) kept.layer.value frames (socket_sight ends prefix)
-  pub rests : kept.layer.value.rests ≡ nothing_left
-  pub spare : kept.spare ≡ open_unused (unused_over ends.spare prefix)
+pub record IsFraming (key : List ℕ) (ends : TunnelEnds) (flow : Flow) (frames : Frames) (prefix : List (Timed Event)) (layer : WsLayer) : Type 0 where
+  pub there : IsIn (socket_terms key ends flow) layer frames (socket_sight ends prefix)
+  pub rests : layer.rests ≡ nothing_left
   pub used : ends.used ≤ length (bytes_of Client prefix)
-  pub side_used : ends.side.used ≤ length (bytes_of (Server ends.side.server) (drop ends.opened prefix))
-  pub opened : ends.opened ≤ length prefix
-  pub within : SpareIsWithin ends.spare prefix
+  pub side_used : ends.link.side.used ≤ length (bytes_of (Server ends.link.side.server) (drop ends.link.opened prefix))
+  pub opened : ends.link.opened ≤ length prefix
 
 -- ---- by the stage
 
@@ -123,8 +119,7 @@ pub record IsHttp (conv : ℕ) (client : Visitor) (place : Place) (standing : St
   pub flows : Box HttpConv
   pub is : child ≡ children.Http flows
   pub there : IsInFlows conv client place flows.value standing prefix
-  -- the spare side was connected before the client closed
-  pub in_time : OpensInTime standing.spare prefix
+  pub in_time : InTime standing prefix
 
 pub record IsConnecting (tunnel : Tunnel) (prefix : List (Timed Event)) (child : Child) : Type 0 where
   pub kept : Opening
@@ -135,22 +130,23 @@ pub record IsConnecting (tunnel : Tunnel) (prefix : List (Timed Event)) (child :
   pub client : closed ≡ client_closed prefix
 
 -- nothing is decided by what has come of the proxy, which has not closed
-pub record IsReaching (conv : ℕ) (client : Visitor) (goal : Goal) (side : Spare) (since : Since) (prefix : List (Timed Event)) (child : Child) : Type 0 where
+pub record IsReaching (conv : ℕ) (client : Visitor) (goal : Goal) (link : Link) (since : Since) (prefix : List (Timed Event)) (child : Child) : Type 0 where
   pub kept : Reaching
   pub is : child ≡ children.Reaching kept
-  pub server : kept.server ≡ side.server
-  pub opened : side.opened ≤ length prefix
+  pub server : kept.server ≡ link.side.server
+  pub before : kept.closed_before ≡ closed_before link prefix
+  pub opened : link.opened ≤ length prefix
   pub come : since.events ≤ length prefix
-  pub heard : HasHeard kept.asked (text_of side.server (drop side.opened prefix))
-  pub unshut : closed_of side.server (drop side.opened prefix) ≡ false
-  pub waiting : IsGoal conv client goal side prefix kept.goal
+  pub heard : HasHeard kept.asked (text_of link.side.server (drop link.opened prefix))
+  pub unshut : closed_of link.side.server (drop link.opened prefix) ≡ false
+  pub waiting : IsGoal conv client goal link prefix kept.goal
 
-pub record IsUndecided (tunnel : Tunnel) (spare : Spare) (since : Since) (prefix : List (Timed Event)) (child : Child) : Type 0 where
+pub record IsUndecided (tunnel : Tunnel) (link : Link) (since : Since) (prefix : List (Timed Event)) (child : Child) : Type 0 where
   pub kept : Opening
   pub server : ℕ
   pub is : child ≡ children.Undecided kept server
-  pub opened : IsOpened tunnel spare since prefix kept server
-  pub decides : decided (opening_text tunnel prefix) (has_answered spare prefix) ≡ still
+  pub opened : IsOpened tunnel link since prefix kept server
+  pub decides : decided (opening_text tunnel prefix) (has_answered link prefix) ≡ still
 
 pub record IsRaw (ends : TunnelEnds) (prefix : List (Timed Event)) (child : Child) : Type 0 where
   pub kept : Relay
@@ -158,15 +154,15 @@ pub record IsRaw (ends : TunnelEnds) (prefix : List (Timed Event)) (child : Chil
   pub relay : IsRelay ends prefix kept
 
 pub record IsSocket (key : List ℕ) (ends : TunnelEnds) (flow : Flow) (frames : Frames) (prefix : List (Timed Event)) (child : Child) : Type 0 where
-  pub kept : Socket
-  pub is : child ≡ children.Socket kept
-  pub framing : IsFraming key ends flow frames prefix kept
+  pub layer : Box WsLayer
+  pub is : child ≡ children.Socket layer
+  pub framing : IsFraming key ends flow frames prefix layer.value
 
 abbrev pub Keeps : ℕ → Visitor → Child → Stage → List (Timed Event) → Type 0
 Keeps conv client child (http place standing) prefix = IsHttp conv client place standing prefix child
 Keeps conv client child (connecting tunnel) prefix = IsConnecting tunnel prefix child
-Keeps conv client child (reaching goal side since) prefix = IsReaching conv client goal side since prefix child
-Keeps conv client child (undecided tunnel spare since) prefix = IsUndecided tunnel spare since prefix child
+Keeps conv client child (reaching goal link since) prefix = IsReaching conv client goal link since prefix child
+Keeps conv client child (undecided tunnel link since) prefix = IsUndecided tunnel link since prefix child
 Keeps conv client child (raw ends) prefix = IsRaw ends prefix child
 Keeps conv client child (socket ends flow frames) prefix = IsSocket client.key ends flow frames prefix child
 Keeps conv client child over prefix = ⊥

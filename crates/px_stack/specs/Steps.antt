@@ -1,7 +1,7 @@
 -- What the calls of a conversation do, wherever it stands.
 use Rattle.std.specs.Prelude.{◌≡◌, ◌≤◌, ◌<◌, ◌+◌, ℕ, Bool, true, false, List, [], ◌∷◌, ◌++◌, length, drop, Option, Some, None}
 use Rattle.std.specs.Global.{Box}
-use Rattle.px_message.specs.declared.address.Address.{Address}
+use Rattle.px_message.specs.declared.fault.Fault.TheVariants.{UpstreamRefused}
 use Rattle.px_message.specs.declared.flow.Flow.{Flow}
 use Rattle.px_event.specs.declared.command.Command.{Command}
 use Rattle.px_event.specs.declared.command.Command.TheVariants as commands
@@ -15,20 +15,20 @@ use Rattle.px_event.specs.Laws.{owed_here, owed_over}
 use Rattle.px_event.specs.Layer.{AsksOnly}
 use Rattle.px_event.specs.View.{View, seen_of}
 use Rattle.px_event.proofs.Steps.{Takes, Resumes}
-use Rattle.px_exchange.specs.declared.ending.Used.TheVariants.{ByServer}
+use Rattle.px_exchange.specs.declared.ending.Used.{Used}
 use Rattle.px_exchange.specs.declared.place.Place.{Place}
 use Rattle.px_exchange.specs.Dials.{connected_owes}
-use Rattle.px_exchange.specs.Endings.{shut_server}
+use Rattle.px_exchange.specs.Endings.{ends_by_fault}
 use Rattle.px_exchange.specs.Texts.{connected_text}
-use Rattle.px_chain.specs.Sights.{Spare, SpareIsWithin, Standing, unused_over}
+use Rattle.px_chain.specs.Sights.{Standing}
 use Rattle.px_event.specs.Sides.{closes}
-use Rattle.px_chain.specs.Streams.{Since, bytes_of, client_closed, from_here, is_closed, now_over}
+use Rattle.px_chain.specs.Streams.{Since, bytes_of, client_closed, from_here, now_over}
 use Rattle.px_http.specs.declared.conversation.HttpConv.{HttpConv}
 use Rattle.px_http.specs.Stands.{awaits}
+use Rattle.px_relay.specs.declared.layer.WsLayer.{WsLayer}
 use Rattle.px_relay.specs.Chain.{begins_at}
 use Rattle.px_relay.specs.Stages.{relaying}
 use Rattle.px_relay.specs.Stands.{is_over as has_ended_in}
-use Rattle.px_stream.specs.Anywhere.{OpensInTime}
 use Rattle.px_stream.specs.Left.{sequence_left}
 use Rattle.px_stream.specs.Through.{led_to}
 use Rattle.px_tunnel.specs.declared.tunnel.RawTunnel.{RawTunnel}
@@ -43,13 +43,12 @@ use Rattle.px_stack.specs.declared.child.Goal.{Goal as KeptGoal}
 use Rattle.px_stack.specs.declared.child.Goal.TheVariants as goals
 use Rattle.px_stack.specs.declared.child.Opening.{Opening}
 use Rattle.px_stack.specs.declared.child.Relay.{Relay}
-use Rattle.px_stack.specs.declared.child.Socket.{Socket}
 use Rattle.px_stack.specs.declared.closing.Sides.{Sides}
-use Rattle.px_stack.specs.Chain.{answer_of, begun, closed_of, connected_on, flows_at, inner_place, inner_standing, is_shut, opens, pass_http, raw_look, stack_chain, text_behind, text_down, text_of, text_up, upgrades, way_to}
-use Rattle.px_stack.specs.Kept.{awaited_by, left_by, shut_open, tunnel_left}
+use Rattle.px_stack.specs.Chain.{answer_of, begun, closed_before, closed_of, connected_on, flows_at, inner_place, inner_standing, is_shut, pass_http, raw_look, stack_chain, text_behind, text_down, text_of, text_on, text_up, upgrades, way_to}
+use Rattle.px_stack.specs.Kept.{awaited_by, left_by, tunnel_left}
 use Rattle.px_stack.specs.Sockets.{is_websocket}
-use Rattle.px_stack.specs.Stages.{Dialling, Ends as TunnelEnds, Goal, Stage, Tunnel, Visitor, a_flow, a_tunnel, http, raw, reaching, socket, undecided}
-use Rattle.px_stack.specs.Stands.{IsChild, IsGoal, IsInFlows, IsOpened, IsRelay, open_unused}
+use Rattle.px_stack.specs.Stages.{Dialling, Ends as TunnelEnds, Goal, Link, Stage, Tunnel, Visitor, a_flow, http, raw, reaching, socket, undecided}
+use Rattle.px_stack.specs.Stands.{InTime, IsChild, IsGoal, IsInFlows, IsOpened, IsRelay}
 
 -- commands were added, of which this holds
 pub record Adds (holds_of : List Command → Type 0) (out longer : List Command) : Type 0 where
@@ -78,22 +77,20 @@ abbrev pub sides_closed : ℕ → Event → Option Sides
 sides_closed server event = sides_by server (closes (Server server) event) (closes Client event)
 
 -- what was left of both sides is what a tunnel owes there, and these are closed
-pub record MayRelay (ends : TunnelEnds) (prefix : List (Timed Event)) (sides : Sides) (rests : Rests) (flow : Option Flow) (spare : Option ℕ) : Type 0 where
-  pub server : sides.server ≡ ends.side.server
-  pub shut : sides.shut ≡ is_shut ends prefix
+pub record MayRelay (ends : TunnelEnds) (prefix : List (Timed Event)) (sides : Sides) (rests : Rests) (flow : Option Flow) : Type 0 where
+  pub server : sides.server ≡ ends.link.side.server
+  pub shut : sides.shut ≡ is_shut ends.link prefix
   pub closed : sides.closed ≡ client_closed prefix
   pub up : rests.client ≡ text_up ends prefix
   pub down : rests.server ≡ text_down ends prefix
   pub same_flow : flow ≡ ends.flow
-  pub same_spare : spare ≡ open_unused (unused_over ends.spare prefix)
   pub used : ends.used ≤ length (bytes_of Client prefix)
-  pub side_used : ends.side.used ≤ length (bytes_of (Server ends.side.server) (drop ends.opened prefix))
-  pub opened : ends.opened ≤ length prefix
-  pub within : SpareIsWithin ends.spare prefix
+  pub side_used : ends.link.side.used ≤ length (bytes_of (Server ends.link.side.server) (drop ends.link.opened prefix))
+  pub opened : ends.link.opened ≤ length prefix
 
-abbrev pub Relays : Sides → Rests → Option Flow → Option ℕ → Child → List Command → Type 0
-Relays sides rests flow spare next more = (conv : ℕ) (client : Visitor) (ends : TunnelEnds) (prefix : List (Timed Event)) →
-    MayRelay ends prefix sides rests flow spare → Arrives conv client next more (raw ends) prefix
+abbrev pub Relays : Sides → Rests → Option Flow → Child → List Command → Type 0
+Relays sides rests flow next more = (conv : ℕ) (client : Visitor) (ends : TunnelEnds) (prefix : List (Timed Event)) →
+    MayRelay ends prefix sides rests flow → Arrives conv client next more (raw ends) prefix
 
 -- one that is there takes an event
 abbrev pub RelayTakes : Relay → Child → Event → List Command → Type 0
@@ -112,39 +109,32 @@ pub record GoesOn (kept : Relay) (event : Event) (next : Child) (out longer : Li
 -- ---- a WebSocket
 
 -- where one begins at this moment, with what was left of both sides, of which the client has not closed
-abbrev pub BeginsSocket : List ℕ → ℕ → Sides → Rests → Flow → Option ℕ → Child → List Command → Type 0
-BeginsSocket key moment sides rests flow spare next more = (conv : ℕ) (client : Visitor) (ends : TunnelEnds) (prefix : List (Timed Event)) →
-    client.key ≡ key → client_closed prefix ≡ false → MayRelay ends prefix sides rests (Some flow) spare →
+abbrev pub BeginsSocket : List ℕ → ℕ → Sides → Rests → Flow → Child → List Command → Type 0
+BeginsSocket key moment sides rests flow next more = (conv : ℕ) (client : Visitor) (ends : TunnelEnds) (prefix : List (Timed Event)) →
+    client.key ≡ key → client_closed prefix ≡ false → MayRelay ends prefix sides rests (Some flow) →
     Arrives conv client next more (socket ends (record flow { websocket = true }) (relaying (begins_at moment))) prefix
 
--- behind a call: it goes on, or it has ended, and the spare side is closed
-abbrev pub comes_by : Bool → Socket → Child
-comes_by true kept = children.Over
-comes_by false kept = children.Socket kept
+-- behind a call: it goes on, or it has ended
+abbrev pub comes_by : Bool → Box WsLayer → Child
+comes_by true layer = children.Over
+comes_by false layer = children.Socket layer
 
-abbrev pub shut_by : Bool → Option ℕ → List Command
-shut_by true spare = shut_open spare
-shut_by false spare = []
-
-abbrev pub comes_to : Socket → Child
-comes_to kept = comes_by (has_ended_in kept.layer.value.phase) kept
-
-abbrev pub shut_behind : Socket → List Command
-shut_behind kept = shut_by (has_ended_in kept.layer.value.phase) kept.spare
+abbrev pub comes_to : Box WsLayer → Child
+comes_to layer = comes_by (has_ended_in layer.value.phase) layer
 
 -- what follows a response of code 101: a WebSocket, or what is not read
-abbrev pub GoesOnAs : List ℕ → ℕ → Sides → Rests → Flow → Option ℕ → Child → List Command → Type 0
-GoesOnAs key moment sides rests flow spare next more = (conv : ℕ) (client : Visitor) (ends : TunnelEnds) (prefix : List (Timed Event)) →
-    client.key ≡ key → MayRelay ends prefix sides rests (Some flow) spare →
+abbrev pub GoesOnAs : List ℕ → ℕ → Sides → Rests → Flow → Child → List Command → Type 0
+GoesOnAs key moment sides rests flow next more = (conv : ℕ) (client : Visitor) (ends : TunnelEnds) (prefix : List (Timed Event)) →
+    client.key ≡ key → MayRelay ends prefix sides rests (Some flow) →
     Arrives conv client next more (upgrades (is_websocket flow (client_closed prefix)) flow moment ends) prefix
 
 -- ---- a tunnel of which nothing is decided
 
--- nothing came of its server yet, and at this moment its bytes may decide; whether the client has closed
-pub record MayDecide (tunnel : Tunnel) (spare : Spare) (since : Since) (prefix : List (Timed Event)) (kept : Opening) (server : ℕ) (closed : Bool) (moment : ℕ) : Type 0 where
-  pub opened : IsOpened tunnel spare since prefix kept server
-  pub silent : bytes_of (Server spare.server) (drop spare.opened prefix) ≡ []
-  pub unshut : is_closed (Server spare.server) (drop spare.opened prefix) ≡ false
+-- this came of its server, which has not closed, and at this moment the first bytes may decide; whether the client has closed
+pub record MayDecide (tunnel : Tunnel) (link : Link) (since : Since) (prefix : List (Timed Event)) (kept : Opening) (server : ℕ) (rest : List ℕ) (closed : Bool) (moment : ℕ) : Type 0 where
+  pub opened : IsOpened tunnel link since prefix kept server
+  pub come : text_on link prefix ≡ rest
+  pub unshut : is_shut link prefix ≡ false
   pub client : client_closed prefix ≡ closed
   pub now : moment ≡ now_over since prefix
 
@@ -154,121 +144,110 @@ pub record IsFewDials (kept : Opening) (server : ℕ) : Type 0 where
   pub last : kept.numbers.server ≡ server + 1
   pub dials : server ≤ kept.numbers.flow
 
-abbrev pub Decides : ℕ → Visitor → Opening → ℕ → ℕ → Child → List Command → Type 0
-Decides conv client kept server moment next more = (tunnel : Tunnel) (spare : Spare) (since : Since) (prefix : List (Timed Event)) →
-    MayDecide tunnel spare since prefix kept server false moment → Arrives conv client next more (undecided tunnel spare since) prefix
+abbrev pub Decides : ℕ → Visitor → Opening → ℕ → List ℕ → ℕ → Child → List Command → Type 0
+Decides conv client kept server rest moment next more = (tunnel : Tunnel) (link : Link) (since : Since) (prefix : List (Timed Event)) →
+    MayDecide tunnel link since prefix kept server rest false moment → Arrives conv client next more (undecided tunnel link since) prefix
 
 -- HTTP begins in it
-abbrev pub GoesInside : ℕ → Visitor → Opening → ℕ → ℕ → Child → List Command → Type 0
-GoesInside conv client kept server moment next more = (tunnel : Tunnel) (spare : Spare) (since : Since) (prefix : List (Timed Event)) →
-    MayDecide tunnel spare since prefix kept server false moment → Arrives conv client next more (http (inner_place tunnel spare) (inner_standing tunnel spare since)) prefix
+abbrev pub GoesInside : ℕ → Visitor → Opening → ℕ → List ℕ → ℕ → Child → List Command → Type 0
+GoesInside conv client kept server rest moment next more = (tunnel : Tunnel) (link : Link) (since : Since) (prefix : List (Timed Event)) →
+    MayDecide tunnel link since prefix kept server rest false moment → Arrives conv client next more (http (inner_place tunnel link) (inner_standing tunnel link since)) prefix
 
 -- the client was told of the connection before
 pub record TellsThere (conv : ℕ) (client : Visitor) (next : Child) (more : List Command) (stage : Stage) (prefix : List (Timed Event)) : Type 0 where
   pub there : IsChild conv client next ((stack_chain conv client).pass stage prefix).stage prefix
   pub gives : (view : View) → seen_of view more ≡ seen_of view (commands.Send Client connected_text ∷ owed_over (stack_chain conv client) stage prefix)
 
-abbrev pub Tells : ℕ → Visitor → Opening → ℕ → Bool → ℕ → Child → List Command → Type 0
-Tells conv client kept server closed moment next more = (tunnel : Tunnel) (spare : Spare) (since : Since) (prefix : List (Timed Event)) →
-    MayDecide tunnel spare since prefix kept server closed moment → TellsThere conv client next more (undecided tunnel spare since) prefix
+abbrev pub Tells : ℕ → Visitor → Opening → ℕ → List ℕ → Bool → ℕ → Child → List Command → Type 0
+Tells conv client kept server rest closed moment next more = (tunnel : Tunnel) (link : Link) (since : Since) (prefix : List (Timed Event)) →
+    MayDecide tunnel link since prefix kept server rest closed moment → TellsThere conv client next more (undecided tunnel link since) prefix
 
 -- ---- another proxy, which is asked for a tunnel
 
--- The proxy was sent what asks for a tunnel; where the client had closed its side was closed again.
-abbrev pub asked_owes : Bool → ℕ → Address → List Command
-asked_owes true server address = commands.Send (Server server) (connect_text address) ∷ shut_server (ByServer server false)
-asked_owes false server address = commands.Send (Server server) (connect_text address) ∷ []
-
-pub record IsAsking (kept : KeptGoal) (server : ℕ) (next : Child) : Type 0 where
+-- The proxy was sent what asks for a tunnel, and its answer is awaited; whether the client had closed.
+pub record IsAsking (kept : KeptGoal) (server : ℕ) (closed : Bool) (next : Child) : Type 0 where
   pub asked : UpstreamTunnel
   pub heard : HasHeard asked []
-  pub is : next ≡ children.Reaching (record { asked = asked; server = server; goal = kept })
-
-abbrev pub IsAskingBy : Bool → Opening → ℕ → Child → Type 0
-IsAskingBy true kept server next = next ≡ children.Over
-IsAskingBy false kept server next = IsAsking (goals.Tunnel kept) server next
+  pub is : next ≡ children.Reaching (record { asked = asked; server = server; closed_before = closed; goal = kept })
 
 pub record AsksFor (kept : Opening) (server : ℕ) (closed : Bool) (next : Child) (out longer : List Command) : Type 0 where
-  pub gives : longer ≡ out ++ asked_owes closed server kept.address
-  pub next_is : IsAskingBy closed kept server next
+  pub gives : longer ≡ out ++ commands.Send (Server server) (connect_text kept.address) ∷ []
+  pub next_is : IsAsking (goals.Tunnel kept closed) server closed next
 
 -- what waits for the proxy is kept somewhere
 pub record IsGoalSomewhere (kept : KeptGoal) : Type 0 where
   pub conv : ℕ
   pub client : Visitor
   pub goal : Goal
-  pub side : Spare
+  pub link : Link
   pub prefix : List (Timed Event)
-  pub at : IsGoal conv client goal side prefix kept
+  pub at : IsGoal conv client goal link prefix kept
 
--- What it kept behind an event: the client's bytes and close, and for a flow what a spare side did.
+-- What it kept behind an event: the client's bytes and close, and for a flow what a parked side did.
 abbrev pub HearsGoal : ℕ → Visitor → KeptGoal → KeptGoal → ℕ → Event → Type 0
-HearsGoal conv client before after moment event = (goal : Goal) (side : Spare) (prefix : List (Timed Event)) →
-    IsGoal conv client goal side prefix before → IsGoal conv client goal side (prefix ++ (record { moment = moment; value = event }) ∷ []) after
+HearsGoal conv client before after moment event = (goal : Goal) (link : Link) (prefix : List (Timed Event)) →
+    IsGoal conv client goal link prefix before → IsGoal conv client goal link (prefix ++ (record { moment = moment; value = event }) ∷ []) after
 
 -- its answer was read, over a prefix at this moment: what came of the server behind its head, or whether its side closed
-pub record MayGoOn (conv : ℕ) (client : Visitor) (goal : Goal) (side : Spare) (since : Since) (prefix : List (Timed Event)) (server : ℕ) (kept : KeptGoal) (moment : ℕ) : Type 0 where
-  pub same : server ≡ side.server
-  pub opened : side.opened ≤ length prefix
+pub record MayGoOn (conv : ℕ) (client : Visitor) (goal : Goal) (link : Link) (since : Since) (prefix : List (Timed Event)) (server : ℕ) (kept : KeptGoal) (moment : ℕ) : Type 0 where
+  pub same : server ≡ link.side.server
+  pub opened : link.opened ≤ length prefix
   pub come : since.events ≤ length prefix
-  pub waiting : IsGoal conv client goal side prefix kept
+  pub waiting : IsGoal conv client goal link prefix kept
   pub now : moment ≡ now_over since prefix
 
-pub record IsLetThrough (side : Spare) (prefix : List (Timed Event)) (rest : List ℕ) : Type 0 where
+pub record IsLetThrough (link : Link) (prefix : List (Timed Event)) (rest : List ℕ) : Type 0 where
   pub used : ℕ
-  pub answer : answer_of side prefix ≡ granted used
-  pub unshut : closed_of side.server (drop side.opened prefix) ≡ false
-  pub rest_is : rest ≡ drop used (text_of side.server (drop side.opened prefix))
+  pub answer : answer_of link prefix ≡ granted used
+  pub unshut : closed_of link.side.server (drop link.opened prefix) ≡ false
+  pub rest_is : rest ≡ drop used (text_of link.side.server (drop link.opened prefix))
 
-pub record IsTurnedAway (side : Spare) (prefix : List (Timed Event)) (shut : Bool) : Type 0 where
-  pub answer : answer_of side prefix ≡ refused
-  pub shut_is : shut ≡ closed_of side.server (drop side.opened prefix)
+-- whether its side closed, and whether the client had closed before it was connected
+pub record IsTurnedAway (link : Link) (prefix : List (Timed Event)) (shut before : Bool) : Type 0 where
+  pub answer : answer_of link prefix ≡ refused
+  pub shut_is : shut ≡ closed_of link.side.server (drop link.opened prefix)
+  pub before_is : before ≡ closed_before link prefix
 
 abbrev pub LetsThrough : ℕ → Visitor → ℕ → KeptGoal → List ℕ → ℕ → Child → List Command → Type 0
-LetsThrough conv client server kept rest moment next more = (goal : Goal) (side : Spare) (since : Since) (prefix : List (Timed Event)) →
-    MayGoOn conv client goal side since prefix server kept moment → IsLetThrough side prefix rest → Arrives conv client next more (reaching goal side since) prefix
+LetsThrough conv client server kept rest moment next more = (goal : Goal) (link : Link) (since : Since) (prefix : List (Timed Event)) →
+    MayGoOn conv client goal link since prefix server kept moment → IsLetThrough link prefix rest → Arrives conv client next more (reaching goal link since) prefix
 
-abbrev pub TurnsAway : ℕ → Visitor → ℕ → KeptGoal → Bool → ℕ → Child → List Command → Type 0
-TurnsAway conv client server kept shut moment next more = (goal : Goal) (side : Spare) (since : Since) (prefix : List (Timed Event)) →
-    MayGoOn conv client goal side since prefix server kept moment → IsTurnedAway side prefix shut → Arrives conv client next more (reaching goal side since) prefix
+abbrev pub TurnsAway : ℕ → Visitor → ℕ → KeptGoal → Bool → Bool → ℕ → Child → List Command → Type 0
+TurnsAway conv client server kept shut before moment next more = (goal : Goal) (link : Link) (since : Since) (prefix : List (Timed Event)) →
+    MayGoOn conv client goal link since prefix server kept moment → IsTurnedAway link prefix shut before → Arrives conv client next more (reaching goal link since) prefix
 
 -- it was let through somewhere
 pub record CanGoOn (server : ℕ) (kept : KeptGoal) (rest : List ℕ) (moment : ℕ) : Type 0 where
   pub conv : ℕ
   pub client : Visitor
   pub goal : Goal
-  pub side : Spare
+  pub link : Link
   pub since : Since
   pub prefix : List (Timed Event)
-  pub may : MayGoOn conv client goal side since prefix server kept moment
-  pub through : IsLetThrough side prefix rest
+  pub may : MayGoOn conv client goal link since prefix server kept moment
+  pub through : IsLetThrough link prefix rest
 
--- ---- where the way to its server stands
+-- ---- where the way to the server of a flow stands
 
 -- these are the server's bytes behind the proxy's head, and its side has not closed
-pub record IsBehind (side : Spare) (used : ℕ) (prefix : List (Timed Event)) (rest : List ℕ) : Type 0 where
-  pub unshut : closed_of side.server (drop side.opened prefix) ≡ false
-  pub rest_is : rest ≡ text_behind side used prefix
+pub record IsBehind (link : Link) (used : ℕ) (prefix : List (Timed Event)) (rest : List ℕ) : Type 0 where
+  pub unshut : closed_of link.side.server (drop link.opened prefix) ≡ false
+  pub rest_is : rest ≡ text_behind link used prefix
+  pub within : used ≤ length (text_of link.side.server (drop link.opened prefix))
 
--- a tunnel of the client's opens
-abbrev pub Opens : ℕ → Visitor → Opening → ℕ → List ℕ → ℕ → Child → List Command → Type 0
-Opens conv client kept server rest moment next more = (tunnel : Tunnel) (side : Spare) (since : Since) (prefix : List (Timed Event)) (used : ℕ) →
-    MayGoOn conv client (a_tunnel tunnel) side since prefix server (goals.Tunnel kept) moment → IsBehind side used prefix rest →
-    IsHere conv client next more (opens tunnel side used (from_here (now_over since prefix) prefix) prefix) prefix
-
--- a flow goes on
-abbrev pub flow_reached : Place → Dialling → Spare → ℕ → Since → List (Timed Event) → Stage
-flow_reached place from side used since prefix =
-    http place (connected_on place from (way_to side used prefix) (from_here (now_over since prefix) prefix))
+-- the flow goes on
+abbrev pub flow_reached : Place → Dialling → Link → ℕ → Since → List (Timed Event) → Stage
+flow_reached place from link used since prefix =
+    http place (connected_on place from (way_to link used prefix) (from_here (now_over since prefix) prefix))
 
 pub record LeadsThere (conv : ℕ) (client : Visitor) (next : Child) (more owed : List Command) (stage : Stage) (prefix : List (Timed Event)) : Type 0 where
   pub there : IsChild conv client next stage prefix
   pub gives : (view : View) → seen_of view more ≡ seen_of view (owed ++ owed_here (stack_chain conv client) stage prefix)
 
 abbrev pub Leads : List ℕ → Box HttpConv → List ℕ → ℕ → Child → List Command → Type 0
-Leads key flows rest moment next more = (conv : ℕ) (client : Visitor) (place : Place) (from : Dialling) (side : Spare) (since : Since) (prefix : List (Timed Event)) (used : ℕ) →
-    client.key ≡ key → MayGoOn conv client (a_flow place from) side since prefix side.server (goals.Flow flows) moment → IsBehind side used prefix rest →
-    LeadsThere conv client next more (connected_owes place from.flow side.server) (flow_reached place from side used since prefix) prefix
+Leads key flows rest moment next more = (conv : ℕ) (client : Visitor) (place : Place) (from : Dialling) (link : Link) (since : Since) (prefix : List (Timed Event)) (used : ℕ) →
+    client.key ≡ key → MayGoOn conv client (a_flow place from) link since prefix link.side.server (goals.Flow flows) moment → IsBehind link used prefix rest →
+    LeadsThere conv client next more (connected_owes place from.flow link.side.server) (flow_reached place from link used since prefix) prefix
 
 -- and it may, somewhere
 pub record CanReach (flows : Box HttpConv) (rest : List ℕ) (moment : ℕ) : Type 0 where
@@ -276,12 +255,16 @@ pub record CanReach (flows : Box HttpConv) (rest : List ℕ) (moment : ℕ) : Ty
   pub client : Visitor
   pub place : Place
   pub from : Dialling
-  pub side : Spare
+  pub link : Link
   pub since : Since
   pub prefix : List (Timed Event)
   pub used : ℕ
-  pub may : MayGoOn conv client (a_flow place from) side since prefix side.server (goals.Flow flows) moment
-  pub behind : IsBehind side used prefix rest
+  pub may : MayGoOn conv client (a_flow place from) link since prefix link.side.server (goals.Flow flows) moment
+  pub behind : IsBehind link used prefix rest
+
+-- It is refused: the flow ends by that, with the proxy's side.
+abbrev pub EndsRefused : Option Flow → ℕ → Used → Bool → List Command → List Command → Type 0
+EndsRefused dialled moment used closed out longer = (flow : Flow) → dialled ≡ Some flow → longer ≡ out ++ ends_by_fault flow UpstreamRefused moment used closed
 
 -- The reply is not the connection of another proxy.
 abbrev pub IsPlain : HttpConv → Reply → Type 0
@@ -302,7 +285,7 @@ pub record FollowsAt (conv : ℕ) (client : Visitor) (flows : HttpConv) (next : 
 
 abbrev pub Follows : List ℕ → ℕ → HttpConv → Child → List Command → Type 0
 Follows key moment flows next more = (conv : ℕ) (client : Visitor) (place : Place) (standing : Standing) (prefix : List (Timed Event)) →
-    client.key ≡ key → moment ≡ now_over standing.since prefix → IsInFlows conv client place flows standing prefix → OpensInTime standing.spare prefix →
+    client.key ≡ key → moment ≡ now_over standing.since prefix → IsInFlows conv client place flows standing prefix → InTime standing prefix →
     FollowsAt conv client flows next more place standing prefix
 
 -- what HTTP asked is asked, or it asked nothing

@@ -24,34 +24,27 @@ pub struct Opening {
 /// What another proxy is asked to let through.
 #[derive(Drop)]
 pub enum Goal {
-    /// A CONNECT of the client, which has not closed.
-    Tunnel(Opening),
+    /// A CONNECT of the client; whether it has closed.
+    Tunnel { opening: Opening, closed: bool },
     /// The present flow of HTTP, which awaits its dial.
     Flow(Box<HttpConv>),
 }
 
-/// Another proxy, on the side of this number, that was asked for a tunnel.
+/// Another proxy, on the side of this number, that was asked for a tunnel; whether the client had closed before the proxy was connected.
 #[derive(Drop)]
 pub struct Reaching {
     pub asked: UpstreamTunnel,
     pub server: u32,
+    pub closed_before: bool,
     pub goal: Goal,
 }
 
-/// A tunnel whose bytes go both ways unread; the flow that became one, and the spare side that was left, while it is connected.
+/// A tunnel whose bytes go both ways unread, and the flow that became one.
 #[derive(Drop)]
 pub struct Relay {
     pub tunnel: RawTunnel,
     pub server: u32,
     pub flow: Option<Flow>,
-    pub spare: Option<u32>,
-}
-
-/// A WebSocket, and the spare side that was left, while it is connected.
-#[derive(Drop)]
-pub struct Socket {
-    pub layer: Box<WsLayer>,
-    pub spare: Option<u32>,
 }
 
 /// What a conversation keeps.
@@ -68,7 +61,7 @@ pub enum Child {
     /// Each side's bytes go to the other.
     Raw(Relay),
     /// Each side's frames go to the other, and whole messages are asked about.
-    Socket(Socket),
+    Socket(Box<WsLayer>),
     /// Nothing: it has ended.
     Over,
 }
@@ -86,7 +79,7 @@ fn size_of_goal(goal: &Goal) -> usize
     ensures { result ≡ min (goal_keeps goal.now) (2 ^ 64 - 1) }
 {
     match goal {
-        Goal::Tunnel(opening) => opening.rest.len(),
+        Goal::Tunnel { .. } => 0,
         Goal::Flow(http) => http.kept(),
     }
 }
@@ -101,22 +94,21 @@ impl Child {
             Child::Connecting { opening, .. } => Some(Ask::Dial {
                 server: opening.numbers.server,
             }),
-            Child::Socket(socket) => socket.layer.waiting(),
+            Child::Socket(layer) => layer.waiting(),
             Child::Reaching(_) | Child::Undecided { .. } | Child::Raw(_) | Child::Over => None,
         }
     }
 
-    /// How many bytes it keeps, or 2^64 - 1 where that is more: what HTTP or a WebSocket does, those by which nothing is decided, and those
-    /// of a proxy's head.
+    /// How many bytes it keeps, or 2^64 - 1 where that is more: what HTTP or a WebSocket does, and those of a proxy's head. The bytes behind a
+    /// CONNECT wait for what follows, and do not count.
     pub fn kept(&self) -> usize
         ensures { result ≡ min (kept_by self.now) (2 ^ 64 - 1) }
     {
         match self {
             Child::Http(http) => http.kept(),
             Child::Reaching(reaching) => reaching.kept(),
-            Child::Undecided { opening, .. } => opening.rest.len(),
-            Child::Socket(socket) => socket.layer.kept(),
-            Child::Connecting { .. } | Child::Raw(_) | Child::Over => 0,
+            Child::Socket(layer) => layer.kept(),
+            Child::Connecting { .. } | Child::Undecided { .. } | Child::Raw(_) | Child::Over => 0,
         }
     }
 

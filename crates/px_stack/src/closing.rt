@@ -3,7 +3,6 @@ ghost use Rattle.std.specs.Prelude.{◌≡◌, ◌++◌, OnOk};
 ghost use Rattle.px_exchange.specs.Endings.{shut_client, shut_server};
 ghost use Rattle.px_exchange.specs.declared.ending.Used.TheVariants.{ByServer as TheServer};
 ghost use Rattle.px_stack.specs.Chain.{closes_all, finished_flow};
-ghost use Rattle.px_stack.specs.Kept.{shut_open};
 ghost use Rattle.px_stack.specs.Steps.{sides_closed};
 
 use px_event::{Command, Event, Side};
@@ -66,16 +65,6 @@ pub fn close_sides(sides: Sides, out: &mut Vec<Command>) -> Result<(), NoMemory>
 {
     close_server(sides.server, sides.shut, out)?;
     close_client(sides, out)
-}
-
-/// Closes the spare side that is still connected, if there is one.
-pub fn close_spare(spare: Option<u32>, out: &mut Vec<Command>) -> Result<(), NoMemory>
-    ensures { OnOk result (out.new.items ≡ out.old.items ++ shut_open spare) }
-{
-    match spare {
-        Some(server) => close(Side::Server(server), out),
-        None => Ok(()),
-    }
 }
 
 /// Finishes the flow that became a tunnel, if one did.

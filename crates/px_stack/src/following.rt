@@ -1,17 +1,17 @@
 //! What follows HTTP: it goes on, a CONNECT is answered, another protocol goes on, or it has ended.
-ghost use Rattle.std.specs.Prelude.{◌≡◌, ◌≤◌, ◌++◌, ◌∷◌, ℕ, List, [], Some, None, IfOk, OnOk, unwrap_or};
+ghost use Rattle.std.specs.Prelude.{◌≡◌, ◌≤◌, ℕ, List, Some, None, IfOk, unwrap_or};
 ghost use Rattle.rand_chacha.specs.ChaCha.{key_of};
 ghost use Rattle.px_event.specs.Layer.{AsksOnly};
 ghost use Rattle.px_event.specs.declared.command.Command.TheVariants.{Dial as TheDial};
 ghost use Rattle.px_stream.specs.Rests.{phase_flow, phase_rest};
-ghost use Rattle.px_stream.specs.Sequence.{asked_tunnel, open_spare, outcome_in, upgraded_side};
+ghost use Rattle.px_stream.specs.Sequence.{asked_tunnel, outcome_in, upgraded_side};
 ghost use Rattle.px_exchange.specs.declared.ending.Used.TheVariants.{ByServer as TheServer};
 ghost use Rattle.px_stack.specs.Chain.{proxy_at};
-ghost use Rattle.px_stack.specs.Kept.{awaited_by, left_by, most_asked, shut_open};
+ghost use Rattle.px_stack.specs.Kept.{awaited_by, left_by, most_asked};
 ghost use Rattle.px_stack.specs.Steps.{Adds, AsksBehind, Follows, GoesOnAs};
 
 use crate::child::{Child, Opening};
-use crate::closing::{Sides, close_spare};
+use crate::closing::Sides;
 use crate::relay::begin_relay;
 use crate::socket::{Means, begin_socket, is_websocket};
 use px_event::{Command, Rests};
@@ -35,7 +35,10 @@ pub fn follow(
         Outcome::Going => Ok(Child::Http(http)),
         Outcome::Connects => connect(http, out),
         Outcome::Upgraded => upgrade(means, moment, http, out),
-        Outcome::Next | Outcome::Over => end(http, out),
+        Outcome::Next | Outcome::Over => {
+            drop(http);
+            Ok(Child::Over)
+        }
     }
 }
 
@@ -120,10 +123,9 @@ fn upgrade(
     ensures asks { IfOk result (λ next. AsksBehind http.value next out.old.items out.new.items) }
 {
     let sides = read_sides(&http);
-    let spare = http.spare();
     let (rests, flow) = Box::into_inner(http).into_rests()?;
     match flow {
-        Some(flow) => go_on_as(means, moment, sides, rests, flow, spare, out),
+        Some(flow) => go_on_as(means, moment, sides, rests, flow, out),
         None => unreachable!(),
     }
 }
@@ -135,17 +137,16 @@ fn go_on_as(
     sides: Sides,
     rests: Rests,
     flow: Flow,
-    spare: Option<u32>,
     out: &mut Vec<Command>,
 ) -> Result<Child, NoMemory>
-    ensures follows { IfOk result (λ next. Adds (GoesOnAs (key_of means.mask_key) moment sides rests flow spare next) out.old.items out.new.items) }
+    ensures follows { IfOk result (λ next. Adds (GoesOnAs (key_of means.mask_key) moment sides rests flow next) out.old.items out.new.items) }
     ensures asks { IfOk result (λ next. AsksOnly (awaited_by next) out.old.items out.new.items) }
     ensures left { IfOk result (λ next. left_by next ≤ most_asked) }
 {
     if is_websocket(&flow, sides.closed) {
-        return begin_socket(means, moment, sides, rests, flow, spare, out);
+        return begin_socket(means, moment, sides, rests, flow, out);
     }
-    begin_relay(sides, rests, Some(flow), spare, out)
+    begin_relay(sides, rests, Some(flow), out)
 }
 
 // The sides on which it goes on.
@@ -162,13 +163,4 @@ fn read_sides(http: &HttpConv) -> Sides
         },
         Some(Used::NoServer) | None => unreachable!(),
     }
-}
-
-// It has ended: a spare side that is still connected is closed.
-fn end(http: Box<HttpConv>, out: &mut Vec<Command>) -> Result<Child, NoMemory>
-    ensures over { IfOk result (λ next. next ≡ Child.Over) }
-    ensures gives { OnOk result (out.new.items ≡ out.old.items ++ shut_open (open_spare http.value.stream.spare)) }
-{
-    close_spare(http.spare(), out)?;
-    Ok(Child::Over)
 }

@@ -11,15 +11,14 @@
 //! Where request and response both name `websocket` in `Upgrade`, and the server takes no extension (RFC 6455 sections 4.1, 4.2.2 and 9.1), the
 //! connection is a WebSocket, unless the client has closed. px_relay works off its frames, beginning with the bytes of both sides that HTTP has
 //! not used, and asks about each whole message; frames to the server are masked by the key that `Stack::new` was handed. At its end its flow
-//! is finished, and a side that no flow has used is closed. An extension may change what frames mean, so a connection with one is not read.
+//! is finished. An extension may change what frames mean, so a connection with one is not read.
 //!
 //! In mode `upstream` the other proxy is dialled for a CONNECT, and asked for a tunnel to where the client asks to (px_tunnel); what the
 //! client sends meanwhile waits. An answer with a code from 200 to 299 makes the tunnel stand, and what comes behind its head is the
-//! server's: a tunnel whose server speaks in the same piece is not read. Any other answer, a head that is none, or the proxy's close is told
-//! to the client as a refusal, and the proxy's side is closed. A client that leaves before its tunnel stands ends it. In such a tunnel
-//! HTTP's first request uses the tunnel; each later one, or one for another address, dials the proxy again, which is asked for a tunnel to
-//! that request's own host and port, and the request goes there once that stands. It is whole, so the proxy's answer is heard also behind
-//! the client's close.
+//! server's: the client's bytes up to there decide what follows, and the server's do where those leave it open. Any other answer, a head
+//! that is none, or the proxy's close is told to the client as a refusal, and the proxy's side is closed. In such a tunnel HTTP's first
+//! request for the address uses the tunnel; each other one dials the proxy again, which is asked for a tunnel to that request's own host
+//! and port, and the request goes there once that stands. The proxy's answer is heard also behind the client's close.
 //!
 //! All of it looks at the joined bytes of a front alone, so it does not matter in which pieces they came, and what one part has not used
 //! is there for the next one. What is due names this conversation alone; so a gate before it is a conversation of a router.

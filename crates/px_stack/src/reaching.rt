@@ -1,21 +1,16 @@
 //! Another proxy, which is asked for a tunnel: what is heard meanwhile, and its answer.
-ghost use Rattle.std.specs.Prelude.{◌≡◌, ◌++◌, ℕ, List, [], Option, IfOk, OnOk, false};
-ghost use Rattle.px_event.specs.Layer.{AsksOnly};
+ghost use Rattle.std.specs.Prelude.{◌≡◌, ◌++◌, ℕ, List, IfOk};
 ghost use Rattle.px_event.specs.Trace.{is_same_side};
 ghost use Rattle.px_event.specs.declared.side.Side.TheVariants.{Client as TheClient, Server as TheServer};
-ghost use Rattle.px_exchange.specs.Endings.{shut_server};
-ghost use Rattle.px_exchange.specs.declared.ending.Used.TheVariants.{ByServer};
 ghost use Rattle.px_event.specs.Sides.{closes, piece_of};
-ghost use Rattle.px_message.specs.declared.address.Address.{Address};
 ghost use Rattle.px_tunnel.specs.Reaching.{HasHeard};
-ghost use Rattle.px_stack.specs.Kept.{goal_left, is_left};
-ghost use Rattle.px_stack.specs.Reached.{HearsProxy, says_answer, says_close};
+ghost use Rattle.px_stack.specs.Kept.{goal_left};
+ghost use Rattle.px_stack.specs.Reached.{HearsProxy, says_answer, says_close, tunnel_behind};
 ghost use Rattle.px_stack.specs.Stages.{Visitor};
 ghost use Rattle.px_stack.specs.Steps.{HearsGoal, IsGoalSomewhere};
 
-use crate::child::{Child, Goal, Opening, Reaching};
-use crate::closing::close_server;
-use px_event::{Command, Event, Side};
+use crate::child::{Goal, Opening};
+use px_event::{Event, Side};
 use px_text::{Bytes, NoMemory};
 use px_tunnel::{ProxyAnswer, UpstreamTunnel};
 use std::alloc::Global;
@@ -95,16 +90,7 @@ fn says_close(closes: bool) -> ProxySays
     }
 }
 
-/// Whether the event ends what waits for the proxy: the client leaves before its tunnel stands.
-pub fn is_left(goal: &Goal, event: &Event) -> bool
-    ensures { result ≡ is_left goal.now event.now }
-{
-    match goal {
-        Goal::Tunnel(_) => closes_client(event),
-        Goal::Flow(_) => false,
-    }
-}
-
+// Whether the event is the client's close.
 fn closes_client(event: &Event) -> bool
     ensures { result ≡ closes TheClient event.now }
 {
@@ -117,26 +103,15 @@ fn closes_client(event: &Event) -> bool
     }
 }
 
-/// It ends: the proxy's side is closed.
-pub fn leave(reaching: Reaching, out: &mut Vec<Command>) -> Result<Child, NoMemory>
-    ensures over { IfOk result (λ next. next ≡ Child.Over) }
-    ensures gives { OnOk result (out.new.items ≡ out.old.items ++ shut_server (ByServer reaching.server false)) }
-{
-    let server = reaching.server;
-    drop(reaching);
-    close_server(server, false, out)?;
-    Ok(Child::Over)
-}
-
-/// Hears the event for what waits for the proxy: the client's bytes, and for a flow the client's close and what a spare side does.
+/// Hears the event for what waits for the proxy: the client's bytes and its close, and for a flow what a parked side does. Behind the
+/// client's close nothing is heard.
 pub fn hear_goal(alloc: Global, goal: Goal, event: &Event) -> Result<Goal, NoMemory>
     requires there { IsGoalSomewhere goal }
-    requires stays { is_left goal event.now ≡ false }
     ensures hears { IfOk result (λ next. (conv : ℕ) (client : Visitor) (moment : ℕ) → HearsGoal conv client goal next moment event.now) }
     ensures left { IfOk result (λ next. goal_left next ≡ goal_left goal) }
 {
     match goal {
-        Goal::Tunnel(opening) => Ok(Goal::Tunnel(hear_tunnel(alloc, opening, event)?)),
+        Goal::Tunnel { opening, closed } => hear_tunnel(alloc, opening, closed, event),
         Goal::Flow(http) => {
             let mut http = http;
             http.hear_waiting(event)?;
@@ -145,8 +120,27 @@ pub fn hear_goal(alloc: Global, goal: Goal, event: &Event) -> Result<Goal, NoMem
     }
 }
 
-// What the event brings of the client.
-fn hear_tunnel(alloc: Global, opening: Opening, event: &Event) -> Result<Opening, NoMemory>
+// What the event brings of the client, if that has not closed.
+fn hear_tunnel(
+    alloc: Global,
+    opening: Opening,
+    closed: bool,
+    event: &Event,
+) -> Result<Goal, NoMemory>
+    ensures { IfOk result (λ next. next ≡ tunnel_behind opening closed event.now) }
+{
+    if closed {
+        return Ok(Goal::Tunnel { opening, closed });
+    }
+    let opening = hear_client(alloc, opening, event)?;
+    Ok(Goal::Tunnel {
+        opening,
+        closed: closes_client(event),
+    })
+}
+
+// The client's bytes of the event.
+fn hear_client(alloc: Global, opening: Opening, event: &Event) -> Result<Opening, NoMemory>
     ensures { IfOk result (λ longer. longer ≡ record opening { rest = opening.rest ++ piece_of TheClient event.now }) }
 {
     match event {

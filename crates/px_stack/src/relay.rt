@@ -3,26 +3,25 @@ ghost use Rattle.std.specs.Prelude.{◌≡◌, ℕ, false, None, IfOk, OnOk, ◌
 ghost use Rattle.px_event.specs.Layer.{AsksOnly};
 ghost use Rattle.px_tunnel.specs.Stands.{has_ended};
 ghost use Rattle.px_stack.specs.Chain.{closes_all, finished_flow};
-ghost use Rattle.px_stack.specs.Kept.{awaited_by, left_by, open_behind, shut_open};
+ghost use Rattle.px_stack.specs.Kept.{awaited_by, left_by};
 ghost use Rattle.px_stack.specs.Steps.{Adds, GoesOn, RelayTakes, Relays};
 
 use crate::child::{Child, Relay};
-use crate::closing::{Sides, close_sides, close_spare, closed_by, finish_flow};
-use px_event::{Command, Event, Rests, Side};
+use crate::closing::{Sides, close_sides, closed_by, finish_flow};
+use px_event::{Command, Event, Rests};
 use px_message::Flow;
 use px_text::NoMemory;
 use px_tunnel::RawTunnel;
 
-/// Begins a tunnel between these sides with what was left of both, where a flow became it or none did; `spare` is the spare side that is
-/// still connected. Where a side has closed already the tunnel ends at once.
+/// Begins a tunnel between these sides with what was left of both, where a flow became it or none did. Where a side has closed already the
+/// tunnel ends at once.
 pub fn begin_relay(
     sides: Sides,
     rests: Rests,
     flow: Option<Flow>,
-    spare: Option<u32>,
     out: &mut Vec<Command>,
 ) -> Result<Child, NoMemory>
-    ensures relays { IfOk result (λ next. Adds (Relays sides rests flow spare next) out.old.items out.new.items) }
+    ensures relays { IfOk result (λ next. Adds (Relays sides rests flow next) out.old.items out.new.items) }
     ensures asks { IfOk result (λ next. (awaited_by next ≡ None) × AsksOnly None out.old.items out.new.items) }
     ensures left { IfOk result (λ next. left_by next ≡ 0) }
 {
@@ -32,7 +31,6 @@ pub fn begin_relay(
         tunnel,
         server: sides.server,
         flow,
-        spare,
     };
     if sides.shut || sides.closed {
         return end_relay(relay, sides, out);
@@ -47,8 +45,6 @@ pub fn relay_takes(relay: Relay, event: &Event, out: &mut Vec<Command>) -> Resul
     ensures asks { IfOk result (λ next. (awaited_by next ≡ None) × AsksOnly None out.old.items out.new.items) }
     ensures left { IfOk result (λ next. left_by next ≡ 0) }
 {
-    let mut relay = relay;
-    relay.spare = still_open(relay.spare, event);
     match closed_by(relay.server, event) {
         Some(sides) => end_relay(relay, sides, out),
         None => go_on(relay, event, out),
@@ -68,26 +64,10 @@ fn go_on(relay: Relay, event: &Event, out: &mut Vec<Command>) -> Result<Child, N
 // Finishes the flow that became the tunnel, and closes what is still connected.
 fn end_relay(relay: Relay, sides: Sides, out: &mut Vec<Command>) -> Result<Child, NoMemory>
     ensures over { IfOk result (λ next. next ≡ Child.Over) }
-    ensures gives { OnOk result (out.new.items ≡ out.old.items ++ (finished_flow relay.flow ++ (shut_open relay.spare ++ closes_all sides.server sides.shut sides.closed))) }
+    ensures gives { OnOk result (out.new.items ≡ out.old.items ++ (finished_flow relay.flow ++ closes_all sides.server sides.shut sides.closed)) }
 {
-    let Relay { flow, spare, .. } = relay;
+    let Relay { flow, .. } = relay;
     finish_flow(flow, out)?;
-    close_spare(spare, out)?;
     close_sides(sides, out)?;
     Ok(Child::Over)
-}
-
-/// The spare side, unless the event closes it.
-pub fn still_open(spare: Option<u32>, event: &Event) -> Option<u32>
-    ensures { result ≡ open_behind spare event.now }
-{
-    match (spare, event) {
-        (
-            Some(server),
-            Event::Closed {
-                side: Side::Server(number),
-            },
-        ) if *number == server => None,
-        (spare, _) => spare,
-    }
 }

@@ -1,16 +1,15 @@
 //! A WebSocket, whose frames are worked off and whose messages are asked about.
-ghost use Rattle.std.specs.Prelude.{◌≡◌, ◌≤◌, ◌<◌, ◌++◌, ◌&&◌, not, ℕ, None, IfOk, OnOk};
+ghost use Rattle.std.specs.Prelude.{◌≡◌, ◌≤◌, ◌<◌, ◌&&◌, not, ℕ, None, IfOk};
 ghost use Rattle.rand_chacha.specs.ChaCha.{key_of};
 ghost use Rattle.px_event.specs.Layer.{AsksOnly, MayAnswer};
 ghost use Rattle.px_stack.specs.Kept.{awaited_by, left_by, most_asked};
 ghost use Rattle.px_stack.specs.Sockets.{is_websocket, names_it, takes_extensions};
 ghost use Rattle.px_stack.specs.Stages.{Visitor};
 ghost use Rattle.px_stack.specs.Stands.{IsSomewhere};
-ghost use Rattle.px_stack.specs.Steps.{Adds, BeginsSocket, ResumesChild, TakesChild, comes_to, shut_behind};
+ghost use Rattle.px_stack.specs.Steps.{Adds, BeginsSocket, ResumesChild, TakesChild, comes_to};
 
-use crate::child::{Child, Socket};
-use crate::closing::{Sides, close_spare};
-use crate::relay::still_open;
+use crate::child::Child;
+use crate::closing::Sides;
 use px_event::{Command, Event, Layer, Reply, Rests};
 use px_message::{Fields, Flow};
 use px_relay::WsLayer;
@@ -53,18 +52,17 @@ fn takes_extensions(fields: &Fields) -> bool
     fields.get_all(b"Sec-WebSocket-Extensions").next().is_some()
 }
 
-/// Begins a WebSocket at this moment between these sides with what was left of both, of which the client has not closed; `spare` is the spare side that is
-/// still connected. Where a Close frame or a fault stands in what was left, or the server has closed, it may end at once.
+/// Begins a WebSocket at this moment between these sides with what was left of both, of which the client has not closed. Where a Close frame
+/// or a fault stands in what was left, or the server has closed, it may end at once.
 pub fn begin_socket(
     means: Means,
     moment: u64,
     sides: Sides,
     rests: Rests,
     flow: Flow,
-    spare: Option<u32>,
     out: &mut Vec<Command>,
 ) -> Result<Child, NoMemory>
-    ensures begins { IfOk result (λ next. Adds (BeginsSocket (key_of means.mask_key) moment sides rests flow spare next) out.old.items out.new.items) }
+    ensures begins { IfOk result (λ next. Adds (BeginsSocket (key_of means.mask_key) moment sides rests flow next) out.old.items out.new.items) }
     ensures asks { IfOk result (λ next. AsksOnly (awaited_by next) out.old.items out.new.items) }
     ensures left { IfOk result (λ next. left_by next ≤ most_asked) }
 {
@@ -73,60 +71,51 @@ pub fn begin_socket(
     let mut layer = WsLayer::new(means.alloc, flow, sides.server, means.mask_key, rests)?;
     layer.begin(moment, sides.shut, out)?;
     let boxed = Box::new(means.alloc, layer)?;
-    come_to(
-        Socket {
-            layer: boxed,
-            spare,
-        },
-        out,
-    )
+    Ok(come_to(boxed))
 }
 
 /// Takes an event at this moment, while nothing is asked.
 pub fn socket_takes(
-    socket: Socket,
+    layer: Box<WsLayer>,
     moment: u64,
     event: &Event,
     out: &mut Vec<Command>,
 ) -> Result<Child, NoMemory>
-    requires somewhere { (conv : ℕ) × (client : Visitor) × IsSomewhere conv client (Child.Socket socket) }
-    requires free { awaited_by (Child.Socket socket) ≡ None }
-    ensures takes { IfOk result (λ next. Adds (λ more. (conv : ℕ) (client : Visitor) → TakesChild conv client (Child.Socket socket) next moment event.now more) out.old.items out.new.items) }
+    requires somewhere { (conv : ℕ) × (client : Visitor) × IsSomewhere conv client (Child.Socket layer) }
+    requires free { awaited_by (Child.Socket layer) ≡ None }
+    ensures takes { IfOk result (λ next. Adds (λ more. (conv : ℕ) (client : Visitor) → TakesChild conv client (Child.Socket layer) next moment event.now more) out.old.items out.new.items) }
     ensures asks { IfOk result (λ next. AsksOnly (awaited_by next) out.old.items out.new.items) }
-    ensures left { IfOk result (λ next. left_by next ≤ left_by (Child.Socket socket)) }
+    ensures left { IfOk result (λ next. left_by next ≤ left_by (Child.Socket layer)) }
 {
-    let mut socket = socket;
-    socket.spare = still_open(socket.spare, event);
-    socket.layer.hear(moment, event, out)?;
-    come_to(socket, out)
+    let mut layer = layer;
+    layer.hear(moment, event, out)?;
+    Ok(come_to(layer))
 }
 
 /// Takes the reply to what is asked.
 pub fn socket_resumes(
-    socket: Socket,
+    layer: Box<WsLayer>,
     moment: u64,
     reply: &Reply,
     out: &mut Vec<Command>,
 ) -> Result<Child, NoMemory>
-    requires somewhere { (conv : ℕ) × (client : Visitor) × IsSomewhere conv client (Child.Socket socket) }
-    requires answers { MayAnswer (awaited_by (Child.Socket socket)) reply.now }
-    ensures resumes { IfOk result (λ next. Adds (λ more. (conv : ℕ) (client : Visitor) → ResumesChild conv client (Child.Socket socket) next moment reply.now more) out.old.items out.new.items) }
+    requires somewhere { (conv : ℕ) × (client : Visitor) × IsSomewhere conv client (Child.Socket layer) }
+    requires answers { MayAnswer (awaited_by (Child.Socket layer)) reply.now }
+    ensures resumes { IfOk result (λ next. Adds (λ more. (conv : ℕ) (client : Visitor) → ResumesChild conv client (Child.Socket layer) next moment reply.now more) out.old.items out.new.items) }
     ensures asks { IfOk result (λ next. AsksOnly (awaited_by next) out.old.items out.new.items) }
-    ensures left { IfOk result (λ next. left_by next < left_by (Child.Socket socket)) }
+    ensures left { IfOk result (λ next. left_by next < left_by (Child.Socket layer)) }
 {
-    let mut socket = socket;
-    socket.layer.answer(moment, reply, out)?;
-    come_to(socket, out)
+    let mut layer = layer;
+    layer.answer(moment, reply, out)?;
+    Ok(come_to(layer))
 }
 
-// Behind a call: where the WebSocket has ended, the spare side that is still connected is closed.
-fn come_to(socket: Socket, out: &mut Vec<Command>) -> Result<Child, NoMemory>
-    ensures next { IfOk result (λ next. next ≡ comes_to socket) }
-    ensures gives { OnOk result (out.new.items ≡ out.old.items ++ shut_behind socket) }
+// Behind a call: the WebSocket, or nothing where it has ended.
+fn come_to(layer: Box<WsLayer>) -> Child
+    ensures { result ≡ comes_to layer }
 {
-    if socket.layer.ended() {
-        close_spare(socket.spare, out)?;
-        return Ok(Child::Over);
+    if layer.ended() {
+        return Child::Over;
     }
-    Ok(Child::Socket(socket))
+    Child::Socket(layer)
 }

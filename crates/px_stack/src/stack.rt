@@ -1,31 +1,31 @@
 //! A conversation: HTTP, until a CONNECT or a response of code 101 hands over, and what follows.
-ghost use Rattle.std.specs.Prelude.{◌≡◌, ◌≤◌, ◌<◌, ◌+◌, ◌++◌, ℕ, List, [], Option, Some, None, IfOk, OnOk, false};
+ghost use Rattle.std.specs.Prelude.{◌≡◌, ◌≤◌, ◌<◌, ◌+◌, ◌++◌, ℕ, Bool, List, [], Option, Some, None, IfOk, OnOk, false};
 ghost use Rattle.rand_chacha.specs.ChaCha.{key_of};
 ghost use Rattle.px_event.specs.Layer.{AsksOnly, MayAnswer};
 ghost use Rattle.px_exchange.specs.Places.{place_of, terms_of};
+ghost use Rattle.px_exchange.specs.declared.ending.Used.TheVariants.{ByServer, NoServer};
 ghost use Rattle.px_http.specs.Stands.{HttpStands, awaits as http_awaits};
-ghost use Rattle.px_stack.specs.Chain.{begins};
-ghost use Rattle.px_stack.specs.Chain.{unless_closed};
-ghost use Rattle.px_stack.specs.Kept.{awaited_by, goal_left, is_left, left_by, opened_left};
+ghost use Rattle.px_stack.specs.Chain.{begins, unless_closed};
+ghost use Rattle.px_stack.specs.Kept.{awaited_by, goal_left, left_by, opened_left};
 ghost use Rattle.px_stack.specs.Stack.{StackStands, awaits, start_of, visitor_of};
 ghost use Rattle.px_stack.specs.Stands.{IsSomewhere};
-ghost use Rattle.px_stack.specs.Steps.{Adds, AsksFor, CanGoOn, CanReach, Decides, GoesInside, IsFewDials, IsGoalSomewhere, IsPlain, Leads, LetsThrough, Opens, Relays, ResumesChild, TakesChild, Tells, TurnsAway};
+ghost use Rattle.px_stack.specs.Steps.{Adds, AsksFor, CanGoOn, CanReach, Decides, EndsRefused, GoesInside, IsFewDials, IsGoalSomewhere, IsPlain, Leads, LetsThrough, Relays, ResumesChild, TakesChild, Tells, TurnsAway};
 ghost use Rattle.px_stream.specs.Anywhere.{Begins, IsNew};
 ghost use Rattle.px_stream.specs.Left.{sequence_left};
-ghost use Rattle.px_stream.specs.Phases.{spare_at};
+ghost use Rattle.px_stream.specs.Phases.{parked_at};
 ghost use Rattle.px_stream.specs.Sequence.{IsSideBelow};
-ghost use Rattle.px_stream.specs.Through.{led_to};
+ghost use Rattle.px_stream.specs.Through.{IsDialling, dialled_flow, led_to};
 ghost use Rattle.px_stack.specs.Stages.{Visitor};
 
 use crate::child::{Child, Goal, Opening, Reaching};
 use crate::closing::{Sides, close_server, close_sides, closed_by};
 use crate::deciding::{has_method, may_have_method};
 use crate::following::follow;
-use crate::reaching::{ProxySays, add, hear_goal, hear_proxy, is_left, leave};
+use crate::reaching::{ProxySays, add, hear_goal, hear_proxy};
 use crate::relay::{begin_relay, relay_takes};
 use crate::socket::{Means, socket_resumes, socket_takes};
 use px_event::{Ask, Command, Event, Layer, Reply, Rests, Side};
-use px_exchange::ending::refuse;
+use px_exchange::ending::{Used, end_by_fault, refuse};
 use px_exchange::said::send;
 use px_exchange::terms::Now;
 use px_exchange::texts::connected_text;
@@ -121,8 +121,8 @@ impl Stack {
                 drop(event);
                 taken
             }
-            Child::Socket(socket) => {
-                let taken = socket_takes(socket, moment, &event, out);
+            Child::Socket(layer) => {
+                let taken = socket_takes(layer, moment, &event, out);
                 drop(event);
                 taken
             }
@@ -133,7 +133,7 @@ impl Stack {
         }
     }
 
-    // Takes an event where the answer of another proxy is awaited. A client that leaves before its tunnel stands ends it.
+    // Takes an event where the answer of another proxy is awaited, also behind the client's close.
     fn reaching_takes(
         &self,
         reaching: Reaching,
@@ -146,29 +146,10 @@ impl Stack {
         ensures asks { IfOk result (λ next. AsksOnly (awaited_by next) out.old.items out.new.items) }
         ensures left { IfOk result (λ next. left_by next ≤ left_by (Child.Reaching reaching)) }
     {
-        if is_left(&reaching.goal, event) {
-            return leave(reaching, out);
-        }
-        self.hear_answer(reaching, moment, event, out)
-    }
-
-    // Takes an event that may be a part of the proxy's answer.
-    fn hear_answer(
-        &self,
-        reaching: Reaching,
-        moment: u64,
-        event: &Event,
-        out: &mut Vec<Command>,
-    ) -> Result<Child, NoMemory>
-        requires somewhere { IsSomewhere self.now.conv (visitor_of self.now) (Child.Reaching reaching) }
-        requires stays { is_left reaching.goal event.now ≡ false }
-        ensures takes { IfOk result (λ next. Adds (TakesChild self.now.conv (visitor_of self.now) (Child.Reaching reaching) next moment event.now) out.old.items out.new.items) }
-        ensures asks { IfOk result (λ next. AsksOnly (awaited_by next) out.old.items out.new.items) }
-        ensures left { IfOk result (λ next. left_by next ≤ left_by (Child.Reaching reaching)) }
-    {
         let Reaching {
             asked,
             server,
+            closed_before,
             goal,
         } = reaching;
         let mut asked = asked;
@@ -177,13 +158,21 @@ impl Stack {
             ProxySays::Nothing => Ok(Child::Reaching(Reaching {
                 asked,
                 server,
+                closed_before,
                 goal,
             })),
             ProxySays::Yes => {
                 let rest = asked.into_rest()?;
                 self.let_through(goal, server, rest, moment, out)
             }
-            ProxySays::No { shut } => self.turn_away(goal, server, shut, moment, out),
+            ProxySays::No { shut } => {
+                let now = self.now_by(moment, closed_before);
+                let used = Used::ByServer {
+                    number: server,
+                    closed: shut,
+                };
+                turn_away(now, goal, used, out)
+            }
         }
     }
 
@@ -202,9 +191,9 @@ impl Stack {
         ensures left { IfOk result (λ next. left_by next ≤ goal_left goal) }
     {
         match goal {
-            Goal::Tunnel(opening) => {
-                send(Side::Client, connected_text(self.alloc)?, out)?;
-                self.open(opening, server, rest, moment, out)
+            Goal::Tunnel { opening, closed } => {
+                let rest = unless_closed(closed, rest);
+                self.tell(opening, server, rest, closed, moment, out)
             }
             Goal::Flow(http) => {
                 let rest = unless_closed(http.client_closed(), rest);
@@ -213,53 +202,17 @@ impl Stack {
         }
     }
 
-    // What follows a CONNECT whose tunnel goes through another proxy: one whose server spoke at once is not read.
-    fn open(
-        &self,
-        opening: Opening,
-        server: u32,
-        rest: Bytes,
-        moment: u64,
-        out: &mut Vec<Command>,
-    ) -> Result<Child, NoMemory>
-        requires few { IsFewDials opening server }
-        ensures opens { IfOk result (λ next. Adds (Opens self.now.conv (visitor_of self.now) opening server rest moment next) out.old.items out.new.items) }
-        ensures asks { IfOk result (λ next. AsksOnly (awaited_by next) out.old.items out.new.items) }
-        ensures left { IfOk result (λ next. left_by next ≤ opened_left) }
+    // When a call is made, where the client had closed by then or not, and no side is parked.
+    fn now_by(&self, moment: u64, client_closed: bool) -> Now
+        ensures moment { result.moment ≡ moment }
+        ensures closed { result.client_closed ≡ client_closed }
+        ensures parked { result.parked ≡ NoServer }
     {
-        if rest.is_empty() {
-            return self.decide(opening, server, moment, out);
-        }
-        unread(opening, server, rest, out)
-    }
-
-    // The proxy did not let through.
-    fn turn_away(
-        &self,
-        goal: Goal,
-        server: u32,
-        shut: bool,
-        moment: u64,
-        out: &mut Vec<Command>,
-    ) -> Result<Child, NoMemory>
-        requires there { IsGoalSomewhere goal }
-        ensures turns_away { IfOk result (λ next. Adds (TurnsAway self.now.conv (visitor_of self.now) server goal shut moment next) out.old.items out.new.items) }
-        ensures asks { IfOk result (λ next. AsksOnly (awaited_by next) out.old.items out.new.items) }
-        ensures left { IfOk result (λ next. left_by next ≤ goal_left goal) }
-    {
-        match goal {
-            Goal::Tunnel(opening) => {
-                drop(opening);
-                let now = Now {
-                    alloc: self.alloc,
-                    moment,
-                    client_closed: false,
-                };
-                refuse(now, Fault::UpstreamRefused, false, out)?;
-                close_server(server, shut, out)?;
-                Ok(Child::Over)
-            }
-            Goal::Flow(http) => refuse_flow(self.means(), http, server, shut, moment, out),
+        Now {
+            alloc: self.alloc,
+            moment,
+            client_closed,
+            parked: Used::NoServer,
         }
     }
 
@@ -307,7 +260,7 @@ impl Stack {
         match side {
             Side::Client => {
                 let opening = add(self.alloc, opening, bytes)?;
-                self.decide(opening, server, moment, out)
+                self.decide(opening, server, Bytes::empty(), moment, out)
             }
             Side::Server(number) if number == server && !bytes.is_empty() => {
                 unread(opening, server, bytes.try_clone()?, out)
@@ -316,38 +269,41 @@ impl Stack {
         }
     }
 
-    // What the client has sent decides, or nothing is decided yet. It has not closed.
+    // What the client has sent decides, or what has come of the server where that leaves it open, or nothing is decided yet. The client has
+    // not closed.
     fn decide(
         &self,
         opening: Opening,
         server: u32,
+        rest: Bytes,
         moment: u64,
         out: &mut Vec<Command>,
     ) -> Result<Child, NoMemory>
         requires few { IsFewDials opening server }
-        ensures decides { IfOk result (λ next. Adds (Decides self.now.conv (visitor_of self.now) opening server moment next) out.old.items out.new.items) }
+        ensures decides { IfOk result (λ next. Adds (Decides self.now.conv (visitor_of self.now) opening server rest moment next) out.old.items out.new.items) }
         ensures asks { IfOk result (λ next. AsksOnly (awaited_by next) out.old.items out.new.items) }
         ensures left { IfOk result (λ next. left_by next ≤ opened_left) }
     {
         if has_method(opening.rest.as_slice()) {
-            return self.begin_inside(opening, server, moment, out);
+            return self.begin_inside(opening, server, rest, moment, out);
         }
-        if !may_have_method(opening.rest.as_slice()) {
-            return unread(opening, server, Bytes::empty(), out);
+        if !rest.is_empty() || !may_have_method(opening.rest.as_slice()) {
+            return unread(opening, server, rest, out);
         }
         Ok(Child::Undecided { opening, server })
     }
 
-    // HTTP begins in the tunnel, with what the client has sent.
+    // HTTP begins in the tunnel, with what the client has sent, and with what has come of the server, whose side is parked.
     fn begin_inside(
         &self,
         opening: Opening,
         server: u32,
+        rest: Bytes,
         moment: u64,
         out: &mut Vec<Command>,
     ) -> Result<Child, NoMemory>
         requires few { IsFewDials opening server }
-        ensures inside { IfOk result (λ next. Adds (GoesInside self.now.conv (visitor_of self.now) opening server moment next) out.old.items out.new.items) }
+        ensures inside { IfOk result (λ next. Adds (GoesInside self.now.conv (visitor_of self.now) opening server rest moment next) out.old.items out.new.items) }
         ensures asks { IfOk result (λ next. AsksOnly (awaited_by next) out.old.items out.new.items) }
         ensures left { IfOk result (λ next. left_by next ≤ opened_left) }
     {
@@ -355,7 +311,7 @@ impl Stack {
             numbers,
             address,
             proxy,
-            rest,
+            rest: client,
         } = opening;
         let place = Place::Fixed {
             address,
@@ -363,7 +319,11 @@ impl Stack {
             inside: proxy,
         };
         let made = self.http_inside(place, numbers)?;
-        let http = begin_boxed(made, moment, &rest, out)?;
+        let rests = Rests {
+            client,
+            server: rest,
+        };
+        let http = begin_boxed(made, moment, &rests, out)?;
         follow(self.means(), moment, http, out)
     }
 
@@ -374,7 +334,7 @@ impl Stack {
         requires side { IsSideBelow place numbers.server }
         ensures terms { IfOk result (λ http. http.value.stream.terms ≡ terms_of self.now.conv self.now.client place) }
         ensures numbers { IfOk result (λ http. http.value.stream.numbers ≡ record { flow = numbers.flow; server = numbers.server }) }
-        ensures spare { IfOk result (λ http. http.value.stream.spare ≡ spare_at place) }
+        ensures parked { IfOk result (λ http. http.value.stream.parked ≡ parked_at place) }
         ensures new { IfOk result (λ http. IsNew http.value.stream) }
     {
         let client = copy_address(&self.client)?;
@@ -408,8 +368,8 @@ impl Stack {
             Child::Connecting { opening, closed } => {
                 self.dialled(opening, closed, moment, reply, out)
             }
-            Child::Socket(socket) => {
-                let resumed = socket_resumes(socket, moment, &reply, out);
+            Child::Socket(layer) => {
+                let resumed = socket_resumes(layer, moment, &reply, out);
                 drop(reply);
                 resumed
             }
@@ -480,6 +440,7 @@ impl Stack {
         Ok(Child::Reaching(Reaching {
             asked: UpstreamTunnel::new(self.alloc),
             server,
+            closed_before: http.client_closed(),
             goal: Goal::Flow(http),
         }))
     }
@@ -501,12 +462,8 @@ impl Stack {
         match reply {
             Reply::Dialled => self.connected(opening, closed, moment, out),
             Reply::Refused(fault) => {
-                let now = Now {
-                    alloc: self.alloc,
-                    moment,
-                    client_closed: closed,
-                };
-                refuse(now, fault, false, out)?;
+                let now = self.now_by(moment, closed);
+                refuse(now, fault, false, Used::NoServer, out)?;
                 Ok(Child::Over)
             }
             _ => Ok(Child::Over),
@@ -532,10 +489,10 @@ impl Stack {
         if opening.proxy.is_some() {
             return self.ask_for(opening, server, closed, out);
         }
-        self.tell(opening, server, closed, moment, out)
+        self.tell(opening, server, Bytes::empty(), closed, moment, out)
     }
 
-    // The proxy is asked for a tunnel to where the CONNECT asks to, unless the client has left: that ends it.
+    // The proxy is asked for a tunnel to where the CONNECT asks to.
     fn ask_for(
         &self,
         opening: Opening,
@@ -549,39 +506,57 @@ impl Stack {
     {
         let text = connect_text(self.alloc, &opening.address)?;
         send(Side::Server(server), text, out)?;
-        if closed {
-            drop(opening);
-            close_server(server, false, out)?;
-            return Ok(Child::Over);
-        }
         Ok(Child::Reaching(Reaching {
             asked: UpstreamTunnel::new(self.alloc),
             server,
-            goal: Goal::Tunnel(opening),
+            closed_before: closed,
+            goal: Goal::Tunnel { opening, closed },
         }))
     }
 
-    // The client is told of the connection, and what it has sent decides, unless it has left: that ends it.
+    // The client is told of the connection, and what it has sent decides, or what has come of the server, unless the client has left: that
+    // ends it.
     fn tell(
         &self,
         opening: Opening,
         server: u32,
+        rest: Bytes,
         closed: bool,
         moment: u64,
         out: &mut Vec<Command>,
     ) -> Result<Child, NoMemory>
         requires few { IsFewDials opening server }
-        ensures tells { IfOk result (λ next. Adds (Tells self.now.conv (visitor_of self.now) opening server closed moment next) out.old.items out.new.items) }
+        ensures tells { IfOk result (λ next. Adds (Tells self.now.conv (visitor_of self.now) opening server rest closed moment next) out.old.items out.new.items) }
         ensures asks { IfOk result (λ next. AsksOnly (awaited_by next) out.old.items out.new.items) }
         ensures left { IfOk result (λ next. left_by next ≤ opened_left) }
     {
         send(Side::Client, connected_text(self.alloc)?, out)?;
         if closed {
             drop(opening);
+            drop(rest);
             close_server(server, false, out)?;
             return Ok(Child::Over);
         }
-        self.decide(opening, server, moment, out)
+        self.decide(opening, server, rest, moment, out)
+    }
+}
+
+// The proxy did not let through: a CONNECT is refused, or the present flow is. `used` is the proxy's side, and `now` says whether the client
+// had closed before that was connected.
+fn turn_away(now: Now, goal: Goal, used: Used, out: &mut Vec<Command>) -> Result<Child, NoMemory>
+    requires there { IsGoalSomewhere goal }
+    ensures turns_away { IfOk result (λ next. Adds (λ more. (conv : ℕ) (client : Visitor) (server : ℕ) (shut : Bool) → used ≡ ByServer server shut →
+        TurnsAway conv client server goal shut now.client_closed now.moment next more) out.old.items out.new.items) }
+    ensures asks { IfOk result (λ next. AsksOnly (awaited_by next) out.old.items out.new.items) }
+    ensures left { IfOk result (λ next. left_by next ≤ goal_left goal) }
+{
+    match goal {
+        Goal::Tunnel { opening, closed: _ } => {
+            drop(opening);
+            refuse(now, Fault::UpstreamRefused, false, used, out)?;
+            Ok(Child::Over)
+        }
+        Goal::Flow(http) => refuse_flow(now, http, used, out),
     }
 }
 
@@ -603,20 +578,20 @@ fn new_http(
     Ok(Box::new(alloc, http)?)
 }
 
-// HTTP begins with what the client has sent.
+// HTTP begins with what the client has sent, and with what has come of the side that is parked.
 fn begin_boxed(
     http: Box<HttpConv>,
     moment: u64,
-    rest: &Bytes,
+    rests: &Rests,
     out: &mut Vec<Command>,
 ) -> Result<Box<HttpConv>, NoMemory>
     requires { IsNew http.value.stream }
-    ensures begins { IfOk result (λ begun. Begins http.value.stream begun.value.stream moment false rest.now out.old.items out.new.items) }
+    ensures begins { IfOk result (λ begun. Begins http.value.stream begun.value.stream moment false rests.now.client rests.now.server out.old.items out.new.items) }
     ensures asks { IfOk result (λ begun. AsksOnly (http_awaits begun.value) out.old.items out.new.items) }
     ensures left { IfOk result (λ begun. sequence_left begun.value.stream ≤ sequence_left http.value.stream) }
 {
     let mut begun = http;
-    begun.begin(moment, false, rest, out)?;
+    begun.begin(moment, false, &rests.client, &rests.server, out)?;
     Ok(begun)
 }
 
@@ -677,24 +652,24 @@ fn reach(
     follow(means, moment, http, out)
 }
 
-// It is refused as by its dial, and the proxy's side is closed.
+// The present flow is refused: it ends by that.
 fn refuse_flow(
-    means: Means,
+    now: Now,
     http: Box<HttpConv>,
-    server: u32,
-    shut: bool,
-    moment: u64,
+    used: Used,
     out: &mut Vec<Command>,
 ) -> Result<Child, NoMemory>
-    requires there { IsGoalSomewhere (Goal.Flow http) }
-    ensures turns_away { IfOk result (λ next. Adds (λ more. (conv : ℕ) (client : Visitor) → client.key ≡ key_of means.mask_key → TurnsAway conv client server (Goal.Flow http) shut moment next more) out.old.items out.new.items) }
-    ensures asks { IfOk result (λ next. AsksOnly (awaited_by next) out.old.items out.new.items) }
-    ensures left { IfOk result (λ next. left_by next ≤ goal_left (Goal.Flow http)) }
+    requires waits { IsDialling http.value.stream.phase }
+    ensures over { IfOk result (λ next. next ≡ Child.Over) }
+    ensures gives { OnOk result (EndsRefused (dialled_flow http.value.stream.phase) now.moment used now.client_closed out.old.items out.new.items) }
 {
-    let mut http = http;
-    http.resume_anywhere(moment, Reply::Refused(Fault::UpstreamRefused), out)?;
-    close_server(server, shut, out)?;
-    follow(means, moment, http, out)
+    match Box::into_inner(http).into_dialled() {
+        Some(flow) => {
+            end_by_fault(now, flow, Fault::UpstreamRefused, used, out)?;
+            Ok(Child::Over)
+        }
+        None => unreachable!(),
+    }
 }
 
 // What came of a server, unless the client has closed: behind its close nothing is heard.
@@ -711,7 +686,7 @@ fn unread(
     answered: Bytes,
     out: &mut Vec<Command>,
 ) -> Result<Child, NoMemory>
-    ensures relays { IfOk result (λ next. Adds (Relays (record { server = server; shut = false; closed = false }) (record { client = opening.rest; server = answered }) None None next) out.old.items out.new.items) }
+    ensures relays { IfOk result (λ next. Adds (Relays (record { server = server; shut = false; closed = false }) (record { client = opening.rest; server = answered }) None next) out.old.items out.new.items) }
     ensures asks { IfOk result (λ next. AsksOnly (awaited_by next) out.old.items out.new.items) }
     ensures left { IfOk result (λ next. left_by next ≤ opened_left) }
 {
@@ -724,7 +699,7 @@ fn unread(
         client: opening.rest,
         server: answered,
     };
-    begin_relay(sides, rests, None, None, out)
+    begin_relay(sides, rests, None, out)
 }
 
 fn copy_address(address: &Option<Address>) -> Result<Option<Address>, NoMemory>

@@ -19,6 +19,7 @@ use Rattle.px_exchange.specs.declared.body.Progress.TheVariants as progress
 use Rattle.px_stream.specs.declared.numbers.Numbers.{Numbers}
 use Rattle.px_exchange.specs.declared.terms.Terms.{Terms}
 use Rattle.px_stream.specs.Bodies.{BodyFound}
+use Rattle.px_exchange.specs.Endings.{shut_server}
 use Rattle.px_exchange.specs.Places.{dialled_for}
 use Rattle.px_chain.specs.Chain.{pass, pass_body, used_more}
 use Rattle.px_chain.specs.Sights.{Sight}
@@ -26,10 +27,12 @@ use Rattle.px_chain.specs.Stages.{At, Stage, busy, connection, given_body, given
 use Rattle.px_stream.specs.Found.{LookedAt}
 use Rattle.px_stream.specs.Looking.{HeadFound, LookFound}
 use Rattle.px_exchange.specs.Bodies.{content_of}
-use Rattle.px_stream.specs.Stands.{Dials, KeepsBehind, IsReady, IsReceiving, IsUpgraded, IsNow, IsPlaced, HasPlace, sent_on}
+use Rattle.px_stream.specs.Stands.{Dials, KeepsBehind, IsReady, IsReceiving, IsUpgraded, IsNow, IsPlaced, HasParked, HasPlace, sent_on, used_in}
+use Rattle.px_stream.specs.declared.link.Link.{Link as KeptLink}
 use Rattle.px_stream.proofs.AnsweringLemmas.{answering_looked}
 use Rattle.px_stream.proofs.LookLemmas.{BodyShown, at_look, body_shown, dial_looked, given_body_looked, given_head_looked, idle_looked, receiving_looked}
 use Rattle.px_stream.proofs.ReturnLemmas.{returning_looked}
+use Rattle.px_stream.proofs.TurnLemmas.{same_parked}
 
 keeps_same : (used : ℕ) (seen : Sight) (old new : State) → new ≡ old → KeepsBehind used seen old → KeepsBehind used seen new
 keeps_same used seen old new same keeps = let P : State → Type 0 = λ s. KeepsBehind used seen s in subst P (sym same) keeps
@@ -61,44 +64,44 @@ abbrev pub Advanced : Terms → Stage → Sight → State → Phase → List Com
 Advanced terms stage seen new is_now before out longer numbers closed =
     LookedAt terms (pass stage seen) seen new is_now before out longer × HasPlace (pass stage seen) seen numbers closed
 
-module _ (terms : Terms) (seen : Sight) (numbers : Numbers) (old new : State) (moment : ℕ) (closed : Bool) (out longer : List Command) (is_now : Phase) (sent : List ReadResponse) where
-  as_ready : (looked known : Wanted) → looked ≡ known → LookFound terms numbers looked old new moment closed out longer is_now → LookFound terms numbers known old new moment closed out longer is_now
-  as_ready looked known is look_found = let P : Wanted → Type 0 = λ r. LookFound terms numbers r old new moment closed out longer is_now in subst P is look_found
+module _ (terms : Terms) (seen : Sight) (numbers : Numbers) (parked : Option KeptLink) (old new : State) (moment : ℕ) (closed : Bool) (out longer : List Command) (is_now : Phase) (sent : List ReadResponse) where
+  as_ready : (looked known : Wanted) → looked ≡ known → LookFound terms numbers (used_in parked) looked old new moment closed out longer is_now → LookFound terms numbers (used_in parked) known old new moment closed out longer is_now
+  as_ready looked known is look_found = let P : Wanted → Type 0 = λ r. LookFound terms numbers (used_in parked) r old new moment closed out longer is_now in subst P is look_found
 
-  pub advanced : (stage : Stage) (looked : Wanted) → IsReady old looked stage seen sent → HasPlace stage seen numbers closed → IsNow stage seen moment → Dials stage →
-      LookFound terms numbers looked old new moment closed out longer is_now → Advanced terms stage seen new is_now (sent_on stage sent) out longer numbers closed
-  advanced (idle at) looked is place now dials look_found =
-      let head : HeadFound terms numbers.flow old new moment closed out longer is_now = as_ready looked ready.Idle is.phase look_found in
+  pub advanced : (stage : Stage) (looked : Wanted) → IsReady old looked stage seen sent → HasPlace stage seen numbers closed → IsNow stage seen moment → Dials stage → HasParked terms.place stage seen parked →
+      LookFound terms numbers (used_in parked) looked old new moment closed out longer is_now → Advanced terms stage seen new is_now (sent_on stage sent) out longer numbers closed
+  advanced (idle at) looked is place now dials is_parked look_found =
+      let head : HeadFound terms numbers.flow old new moment (used_in parked) closed out longer is_now = as_ready looked ready.Idle is.phase look_found in
       let fed : List ℕ = drop at.used seen.client in
-      (idle_looked terms at seen new out longer is_now numbers.flow moment closed place.index now place.client place.used (head.reads fed is.reads) (head.gives fed is.reads) (head.phase fed is.reads), place)
-  advanced (busy at flow (request_body given)) looked is place now dials look_found =
+      (idle_looked terms at seen new out longer is_now numbers.flow moment (used_in parked) closed place.index now (same_parked terms.place at.parked seen parked is_parked) place.client place.used (head.reads fed is.reads) (head.gives fed is.reads) (head.phase fed is.reads), place)
+  advanced (busy at flow (request_body given)) looked is place now dials is_parked look_found =
       let known : Wanted = ready.Receiving flow given (content_of is.marks) in
-      let body : BodyFound flow given (content_of is.marks) old new moment closed out longer is_now = as_ready looked known is.phase look_found in
+      let body : BodyFound flow given (content_of is.marks) old new moment (used_in parked) closed out longer is_now = as_ready looked known is.phase look_found in
       let there : IsReceiving at seen old flow given known = record { head = is.head; marks = is.marks; phase = refl; reads = is.reads } in (
-        receiving_looked terms at flow given seen old new (content_of is.marks) moment closed out longer is_now place.used now place.client there body,
+        receiving_looked terms at flow given seen old new (content_of is.marks) moment (used_in parked) closed out longer is_now place.used now (same_parked terms.place at.parked seen parked is_parked) place.client there body,
         body_place at flow given seen numbers closed body.got is.head new body.body place
             (body_shown body.got is.head is.marks (drop at.used seen.client) old new (content_of is.marks) body.body is.reads refl body.read),
       )
-  advanced (busy at flow connection) looked is place now dials look_found =
+  advanced (busy at flow connection) looked is place now dials is_parked look_found =
       let once = as_ready looked (ready.Dialling flow) is.phase look_found in
       let same : numbers.server ≡ at.dials = place.servers dials in (
-        dial_looked terms seen new out longer is_now at flow (keeps_same at.used seen old new once.same is.keeps)
-            (once.gives ∙ ap (λ n. out ++ commands.Dial n (dialled_for terms.place flow.request) None ∷ []) same) (once.phase ∙ ap (λ n. phase.Asked (asked.Dial flow n)) same),
+        dial_looked terms seen new out longer is_now at flow (used_in parked) (same_parked terms.place at.parked seen parked is_parked) (keeps_same at.used seen old new once.same is.keeps)
+            (once.gives ∙ ap (λ n. out ++ commands.Dial n (dialled_for terms.place flow.request) None ∷ shut_server (used_in parked)) same) (once.phase ∙ ap (λ n. phase.Asked (asked.Dial flow n)) same),
         place,
       )
-  advanced (busy at flow (response_head side how)) looked is place now dials look_found =
+  advanced (busy at flow (response_head side how)) looked is place now dials is_parked look_found =
       let both = as_ready looked (ready.Answering flow is.kept) is.phase look_found in (
         answering_looked terms at flow side how seen new sent is.kept moment closed out longer is_now now place.client
             (record { kept = is.kept; phase = refl; is_link = is.is_link; keeps = keeps_same at.used seen old new both.0 is.keeps }) both.1,
         place,
       )
-  advanced (busy at flow (response_body side how)) looked is place now dials look_found =
+  advanced (busy at flow (response_body side how)) looked is place now dials is_parked look_found =
       let both = as_ready looked (ready.Returning flow is.kept (content_of is.marks)) is.phase look_found in (
         returning_looked terms at flow side how seen new sent is.kept both.1.0 (content_of is.marks) moment closed out longer is_now now place.client
             (record { kept = is.kept; head = is.head; marks = is.marks; phase = refl; final = is.final; is_link = is.is_link; keeps = keeps_same at.used seen old new both.0 is.keeps }) both.1.1,
         place,
       )
-  advanced (busy at flow (upgraded side)) looked is place now dials look_found =
+  advanced (busy at flow (upgraded side)) looked is place now dials is_parked look_found =
       let once = as_ready looked (ready.Upgraded flow is.kept) is.phase look_found in
       let last : IsUpgraded at seen new flow side (ready.Upgraded flow is.kept) = record {
         kept = is.kept;
@@ -110,18 +113,18 @@ module _ (terms : Terms) (seen : Sight) (numbers : Numbers) (old new : State) (m
         keeps = keeps_same at.used seen old new once.same is.keeps;
       } in
       (at_look terms (busy at flow (upgraded side)) seen new is_now [] out longer [] (Ends []) refl once.gives refl (ready.Upgraded flow is.kept, once.phase, last), place)
-  advanced (busy at flow given_head) looked is place now dials look_found =
+  advanced (busy at flow given_head) looked is place now dials is_parked look_found =
       let once = as_ready looked (ready.GivenHead flow) is.phase look_found in
       (given_head_looked terms seen new out longer is_now at flow moment now (keeps_same at.used seen old new once.same is.keeps) once.gives once.phase, place)
-  advanced (busy at flow given_body) looked is place now dials look_found =
+  advanced (busy at flow given_body) looked is place now dials is_parked look_found =
       let once = as_ready looked (ready.GivenBody flow) is.phase look_found in
       (given_body_looked terms seen new out longer is_now at flow moment now (keeps_same at.used seen old new once.same is.keeps) once.gives once.phase, place)
-  advanced (next at) looked is place now dials look_found =
+  advanced (next at) looked is place now dials is_parked look_found =
       let once = as_ready looked ready.Finished is.phase look_found in (
         at_look terms (next at) seen new is_now [] out longer [] (Ends []) refl once.gives refl
             (ready.Finished, once.phase, record { phase = refl; keeps = keeps_same at.used seen old new once.same is.keeps }),
         place,
       )
-  advanced over looked is place now dials look_found =
+  advanced over looked is place now dials is_parked look_found =
       let once = as_ready looked ready.Over is look_found in
       (at_look terms over seen new is_now [] out longer [] (Ends []) refl once.gives refl (ready.Over, once.phase, refl), place)

@@ -1,5 +1,5 @@
 -- A stream that goes on with a flow whose request others have read: it is where the chain is that has such a flow.
-use Rattle.std.proofs.Common.{◌≡◌, ℕ, ◌+◌, ◌<◌, ◌≤◌, Bool, false, List, [], ◌∷◌, ◌++◌, Option, Some, None, refl, ap, sym, ◌∙◌, subst, arith, drop, length}
+use Rattle.std.proofs.Common.{◌≡◌, ℕ, ◌+◌, ◌≤◌, Bool, true, false, List, [], ◌∷◌, ◌++◌, Option, Some, None, refl, ap, sym, ◌∙◌, subst, arith, drop, length}
 use Rattle.px_message.specs.declared.flow.Flow.{Flow}
 use Rattle.px_message.specs.declared.response.Response.{Response}
 use Rattle.px_event.specs.declared.ask.Hook.TheVariants.{ResponseHead}
@@ -7,21 +7,23 @@ use Rattle.px_event.specs.declared.command.Command.{Command}
 use Rattle.px_event.specs.declared.command.Command.TheVariants as commands
 use Rattle.px_event.specs.declared.event.Event.{Event}
 use Rattle.px_event.specs.Chain.{Timed}
-use Rattle.px_event.specs.Layer.{AsksOnly}
-use Rattle.px_event.specs.View.{View}
-use Rattle.px_read.specs.Reader.{State, request, before_all}
+use Rattle.std.specs.List.{flat_map}
+use Rattle.px_event.specs.declared.ask.Ask.TheVariants as asking
+use Rattle.px_event.specs.Layer.{AsksOnly, asks_in}
+use Rattle.px_read.specs.Reader.{State, request}
 use Rattle.px_exchange.specs.declared.terms.Terms.{Terms}
+use Rattle.px_exchange.specs.declared.ending.Used.{Used}
+use Rattle.px_exchange.specs.declared.ending.Used.TheVariants.{NoServer, ByServer}
+use Rattle.px_exchange.specs.Endings.{shut_server}
 use Rattle.px_exchange.specs.Flows.{ask_of, with_start}
 use Rattle.px_exchange.specs.Places.{dialled_for}
 use Rattle.px_chain.specs.Chain.{pass, sequence}
 use Rattle.px_chain.specs.Left.{behind_left}
 use Rattle.px_chain.specs.Sights.{Sight, Standing, sight_over}
-use Rattle.px_chain.specs.Stages.{At, Doing, Stage, busy, connection, given_head}
+use Rattle.px_chain.specs.Stages.{At, Stage, busy}
 use Rattle.px_stream.specs.declared.link.Link.{Link as KeptLink}
 use Rattle.px_stream.specs.declared.numbers.Numbers.{Numbers}
 use Rattle.px_stream.specs.declared.phase.Phase.{Phase}
-use Rattle.px_stream.specs.declared.phase.Wanted.{Wanted}
-use Rattle.px_stream.specs.declared.phase.Wanted.TheVariants as ready
 use Rattle.px_stream.specs.declared.stream.Stream.{Stream}
 use Rattle.px_stream.specs.Anywhere.{BeginsThere, IsNew}
 use Rattle.px_stream.specs.Calls.{LooksOnce}
@@ -29,9 +31,9 @@ use Rattle.px_stream.specs.GoingOn.{GoesOnWith, MayGoOn, doing_by, wanted_by}
 use Rattle.px_stream.specs.Left.{sequence_by, sequence_left}
 use Rattle.px_stream.specs.Looking.{LookFound, MayLook}
 use Rattle.px_stream.specs.Sequence.{IsCounted, IsFew}
-use Rattle.px_stream.specs.Stands.{Dials, HasPlace, IsIn, IsPlaced, IsReady, IsSpare, KeepsBehind, awaited_in, awaits, sent_on}
+use Rattle.px_stream.specs.Stands.{Dials, HasParked, HasPlace, IsIn, IsPlaced, IsReady, KeepsBehind, awaited_in, awaits, sent_on, used_in}
 use Rattle.px_stream.proofs.AdvanceLemmas.{Advanced, advanced}
-use Rattle.px_stream.proofs.TakeLemmas.{same_tail}
+use Rattle.px_stream.proofs.TakeLemmas.{pass_parked, same_tail}
 use Rattle.px_stream.proofs.WalkLemmas.{at_walked, gives_walked}
 
 -- ---- by the response that was given, if one was
@@ -63,8 +65,14 @@ few_there (Some response) ahead at flow few = let f = few.few in let d = few.dia
 
 -- what it gives
 abbrev added_by : Option Response → Stream → ℕ → Flow → List Command
-added_by None before moment flow = commands.Dial before.numbers.server (dialled_for before.terms.place flow.request) None ∷ []
+added_by None before moment flow = commands.Dial before.numbers.server (dialled_for before.terms.place flow.request) None ∷ shut_server (used_in before.parked)
 added_by (Some response) before moment flow = ask_of (with_start flow moment) ResponseHead ∷ []
+
+-- a close asks nothing
+shuts_alone : (used : Used) → flat_map asks_in (shut_server used) ≡ []
+shuts_alone NoServer = refl
+shuts_alone (ByServer number true) = refl
+shuts_alone (ByServer number false) = refl
 
 module _ (before after : Stream) (moment : ℕ) (flow : Flow) (out longer : List Command) (is_new : IsNew before) where
   grows : (given : Option Response) → LooksOnce before after moment (wanted_by given flow) out longer → longer ≡ out ++ added_by given before moment flow
@@ -79,13 +87,13 @@ module _ (before after : Stream) (moment : ℕ) (flow : Flow) (out longer : List
   -- in any sight of which the client's bytes are used
   goes_in : (given : Option Response) → LooksOnce before after moment (wanted_by given flow) out longer → (made : Terms) (at : At) (seen : Sight) → before.terms ≡ made → before.numbers.flow ≡ at.flow →
       before.numbers.server ≡ at.dials → at.used ≤ length seen.client → drop at.used seen.client ≡ [] → seen.closed ≡ false → moment ≡ seen.now → at.dials ≤ 4294967295 →
-      Advanced made (busy at flow (doing_by given)) seen after.requests after.phase [] out longer after.numbers after.client_closed
-  goes_in given once made at seen terms index server used come client now fits =
+      HasParked made.place (busy at flow (doing_by given)) seen before.parked → Advanced made (busy at flow (doing_by given)) seen after.requests after.phase [] out longer after.numbers after.client_closed
+  goes_in given once made at seen terms index server used come client now fits is_parked =
       let stage : Stage = busy at flow (doing_by given) in
       let place : IsPlaced at seen before.numbers before.client_closed = record { index = index; servers = λ _. server; client = is_new.client ∙ sym client; used = used } in
-      let T : Terms → Type 0 = λ t. LookFound t before.numbers (wanted_by given flow) before.requests after.requests moment before.client_closed out longer after.phase in
-      let there = advanced made seen before.numbers before.requests after.requests moment before.client_closed out longer after.phase [] stage (wanted_by given flow)
-      (ready_there given at flow seen before.requests (keeps_nothing at.used seen come)) place now (dials_there given at flow fits) (subst T terms once.looks) in
+      let T : Terms → Type 0 = λ t. LookFound t before.numbers (used_in before.parked) (wanted_by given flow) before.requests after.requests moment before.client_closed out longer after.phase in
+      let there = advanced made seen before.numbers before.parked before.requests after.requests moment before.client_closed out longer after.phase [] stage (wanted_by given flow)
+      (ready_there given at flow seen before.requests (keeps_nothing at.used seen come)) place now (dials_there given at flow fits) is_parked (subst T terms once.looks) in
       let S : List Command → Type 0 = λ l. Advanced made stage seen after.requests after.phase l out longer before.numbers before.client_closed in
       let as_sent = subst S (none_sent given at flow) there in
       let N : Numbers → Type 0 = λ n. HasPlace (pass stage seen) seen n after.client_closed in
@@ -98,19 +106,20 @@ module _ (before after : Stream) (moment : ℕ) (flow : Flow) (out longer : List
       let seen : Sight = sight_over place prefix in
       let fits : may.at.dials ≤ 4294967295 = (let f = may.few.few in let d = may.few.dials in let s = may.small in omega arith) in
       let is_stage : place.stage ≡ busy may.at flow (doing_by given) = may.stage ∙ ap (λ g. busy may.at flow (doing_by g)) (sym same_given) in
+      let H : Stage → Type 0 = λ s. HasParked made.place s seen before.parked in
       let A : Stage → Type 0 = λ s. Advanced made s seen after.requests after.phase [] out longer after.numbers after.client_closed in
-      let there = subst A (sym is_stage) (goes_in given once made may.at seen may.terms may.index may.server may.used may.come may.client may.now fits) in
+      let there = subst A (sym is_stage) (goes_in given once made may.at seen may.terms may.index may.server may.used may.come may.client may.now fits (subst H is_stage may.parked)) in
       let D : Stage → Type 0 = λ s. Dials (pass s seen) in
       let E : Stage → Type 0 = λ s. Dials s in
       let F : Stage → Type 0 = λ s. IsFew ahead (pass s seen) in
       let G : Stage → Type 0 = λ s. IsFew ahead s in
-      let S : Option KeptLink → Type 0 = λ s. IsSpare seen.spare s in
+      let S : Option KeptLink → Type 0 = λ s. HasParked made.place (pass place.stage seen) seen s in
       let is_in : IsIn made after (pass place.stage seen) seen = record {
         terms = once.terms ∙ may.terms;
         place = there.1;
         phase = there.0.phase;
         dials = subst D (sym is_stage) (subst E (sym (stays given may.at flow seen)) (dials_there given may.at flow fits));
-        spare = subst S (sym once.spare) may.spare;
+        parked = subst S (sym once.parked) (pass_parked made.place place.stage seen before.parked may.parked);
       } in
       let same : there.0.more ≡ added_by given before moment flow = same_tail out there.0.more (added_by given before moment flow) (sym there.0.grown ∙ grows given once) in
       record {
@@ -133,7 +142,7 @@ module _ (before after : Stream) (moment : ℕ) (flow : Flow) (out longer : List
   asks_by : (given : Option Response) → LooksOnce before after moment (wanted_by given flow) out longer → AsksOnly (awaits after) out longer
   asks_by None once =
       let P : Phase → Type 0 = λ p. AsksOnly (awaited_in p) out longer in
-      subst P (sym once.looks.phase) (added_by None before moment flow, once.looks.gives, refl)
+      subst P (sym once.looks.phase) (added_by None before moment flow, once.looks.gives, ap (λ l. asking.Dial before.numbers.server ∷ l) (shuts_alone (used_in before.parked)))
   asks_by (Some response) once =
       let P : Phase → Type 0 = λ p. AsksOnly (awaited_in p) out longer in
       subst P (sym once.looks.phase) (added_by (Some response) before moment flow, once.looks.gives, refl)

@@ -17,12 +17,15 @@ use Rattle.px_read.specs.declared.part.Part.{Part}
 use Rattle.px_read.specs.declared.part.Part.TheVariants as given
 use Rattle.px_exchange.specs.declared.asked.Judged.{Judged}
 use Rattle.px_exchange.specs.declared.asked.Judged.TheVariants.{Refused, Accepted, Connects}
+use Rattle.px_exchange.specs.declared.ending.Used.{Used}
 use Rattle.px_exchange.specs.declared.place.Place.{Place}
 use Rattle.px_exchange.specs.declared.terms.Terms.{Terms}
 use Rattle.px_chain.specs.Chain.{connect_by, connect_in}
 use Rattle.px_read.specs.Heads.{asks_tunnel, connect_method}
 use Rattle.px_read.proofs.TunnelLemmas.{connect-whole}
+use Rattle.px_exchange.specs.Endings.{shut_server}
 use Rattle.px_exchange.specs.Finds.{look_head, look_judged, or_leaves}
+use Rattle.px_stream.specs.Looks.{where_left}
 use Rattle.px_stream.specs.Phases.{head_phase, judged_phase}
 use Rattle.px_exchange.specs.Requests.{differs, goal_at, judged, judged_goal, judged_length, judged_method, request_of}
 use Rattle.px_stream.proofs.ReadLemmas.{HeadShown}
@@ -32,23 +35,23 @@ pub always : {A E P : Type 0} (r : Result A E) → P → OnOk r P
 always (Ok a) p = p
 always (Err e) p = tt
 
-found_by : (terms : Terms) (index : ℕ) (head : RequestHead) (made : Judged) (moment : ℕ) (closed shut : Bool) →
-    found (look_judged terms index head made moment closed) ≡ found (or_leaves shut [] (look_judged terms index head made moment closed))
-found_by terms index head (Refused fault) moment closed shut = refl
-found_by terms index head (Accepted message) moment closed shut = refl
-found_by terms index head (Connects address) moment closed shut = refl
+found_by : (terms : Terms) (index : ℕ) (head : RequestHead) (made : Judged) (moment : ℕ) (used : Used) (closed shut : Bool) →
+    found (look_judged terms index head made moment used closed) ≡ found (or_leaves shut (shut_server used) (look_judged terms index head made moment used closed))
+found_by terms index head (Refused fault) moment used closed shut = refl
+found_by terms index head (Accepted message) moment used closed shut = refl
+found_by terms index head (Connects address) moment used closed shut = refl
 
 -- what a head that stands gives
-pub gives_at : (terms : Terms) (index : ℕ) (item : Item RequestHead) (head : RequestHead) (moment : ℕ) (closed : Bool) → head_in item ≡ Some head →
-    found (look_judged terms index head (judged terms.place head) moment closed) ≡ found (or_leaves closed [] (look_head terms index item moment closed))
-gives_at terms index missing head moment closed is = absurd (let e : None ≡ Some head = is in cc)
-gives_at terms index (part own body) head moment closed is =
-    let e : own ≡ head = cc in rw e (found_by terms index head (judged terms.place head) moment closed closed)
-gives_at terms index (complete own body trailers used) head moment closed is =
-    let e : own ≡ head = cc in rw e (found_by terms index head (judged terms.place head) moment closed closed)
-gives_at terms index (bad_head fault) head moment closed is = absurd (let e : None ≡ Some head = is in cc)
-gives_at terms index (bad_body fault own body) head moment closed is =
-    let e : own ≡ head = cc in rw e (found_by terms index head (judged terms.place head) moment closed closed)
+pub gives_at : (terms : Terms) (index : ℕ) (item : Item RequestHead) (head : RequestHead) (moment : ℕ) (used : Used) (closed : Bool) → head_in item ≡ Some head →
+    found (look_judged terms index head (judged terms.place head) moment used closed) ≡ found (or_leaves closed (shut_server used) (look_head terms index item moment used closed))
+gives_at terms index missing head moment used closed is = absurd (let e : None ≡ Some head = is in cc)
+gives_at terms index (part own body) head moment used closed is =
+    let e : own ≡ head = cc in rw e (found_by terms index head (judged terms.place head) moment used closed closed)
+gives_at terms index (complete own body trailers size) head moment used closed is =
+    let e : own ≡ head = cc in rw e (found_by terms index head (judged terms.place head) moment used closed closed)
+gives_at terms index (bad_head fault) head moment used closed is = absurd (let e : None ≡ Some head = is in cc)
+gives_at terms index (bad_body fault own body) head moment used closed is =
+    let e : own ≡ head = cc in rw e (found_by terms index head (judged terms.place head) moment used closed closed)
 
 pub phase_at : (terms : Terms) (index : ℕ) (item : Item RequestHead) (head : RequestHead) (moment : ℕ) (closed : Bool) → head_in item ≡ Some head →
     judged_phase terms index head (judged terms.place head) moment ≡ head_phase terms index item moment closed
@@ -59,10 +62,10 @@ phase_at terms index (bad_head fault) head moment closed is = absurd (let e : No
 phase_at terms index (bad_body fault own body) head moment closed is = let e : own ≡ head = cc in rw e refl
 
 -- where no head is there
-pub gives_missing : (terms : Terms) (index : ℕ) (item : Item RequestHead) (moment : ℕ) (closed : Bool) → item ≡ missing →
-    found (or_leaves closed [] (look_head terms index item moment closed)) ≡ []
-gives_missing terms index item moment true is = rw is refl
-gives_missing terms index item moment false is = rw is refl
+pub gives_missing : (terms : Terms) (index : ℕ) (item : Item RequestHead) (moment : ℕ) (used : Used) (closed : Bool) → item ≡ missing →
+    found (or_leaves closed (shut_server used) (look_head terms index item moment used closed)) ≡ where_left closed (shut_server used)
+gives_missing terms index item moment used true is = rw is refl
+gives_missing terms index item moment used false is = rw is refl
 
 -- a part that is neither a head nor a fault
 pub shows_missing : (got : Part) (item : Item RequestHead) → HeadShown got item → ((head : RequestHead) → got ≡ given.Request head → ⊥) →
@@ -77,13 +80,13 @@ shows_missing (given.End trailers) item is no_head no_fault = (is, refl)
 shows_missing (given.Bad fault) item is no_head no_fault = absurd (no_fault fault refl)
 
 -- what is found, by the head
-pub look_at_head : (terms : Terms) (index : ℕ) (item : Item RequestHead) (head : RequestHead) (moment : ℕ) (closed : Bool) → head_in item ≡ Some head →
-    look_head terms index item moment closed ≡ look_judged terms index head (judged terms.place head) moment closed
-look_at_head terms index missing head moment closed is = absurd (let e : None ≡ Some head = is in cc)
-look_at_head terms index (part own body) head moment closed is = let e : own ≡ head = cc in rw e refl
-look_at_head terms index (complete own body trailers used) head moment closed is = let e : own ≡ head = cc in rw e refl
-look_at_head terms index (bad_head fault) head moment closed is = absurd (let e : None ≡ Some head = is in cc)
-look_at_head terms index (bad_body fault own body) head moment closed is = let e : own ≡ head = cc in rw e refl
+pub look_at_head : (terms : Terms) (index : ℕ) (item : Item RequestHead) (head : RequestHead) (moment : ℕ) (used : Used) (closed : Bool) → head_in item ≡ Some head →
+    look_head terms index item moment used closed ≡ look_judged terms index head (judged terms.place head) moment used closed
+look_at_head terms index missing head moment used closed is = absurd (let e : None ≡ Some head = is in cc)
+look_at_head terms index (part own body) head moment used closed is = let e : own ≡ head = cc in rw e refl
+look_at_head terms index (complete own body trailers size) head moment used closed is = let e : own ≡ head = cc in rw e refl
+look_at_head terms index (bad_head fault) head moment used closed is = absurd (let e : None ≡ Some head = is in cc)
+look_at_head terms index (bad_body fault own body) head moment used closed is = let e : own ≡ head = cc in rw e refl
 
 -- ---- a CONNECT
 

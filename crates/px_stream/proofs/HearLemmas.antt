@@ -7,22 +7,24 @@ use Rattle.px_event.specs.declared.event.Event.TheVariants as events
 use Rattle.px_event.specs.declared.side.Side.TheVariants.{Client, Server}
 use Rattle.px_read.specs.Items.{answer_list}
 use Rattle.px_read.specs.Marks.{Mark, asks, answers}
-use Rattle.px_read.specs.Reader.{Message, request, response, State, Reads}
+use Rattle.px_read.specs.Reader.{Message, request, response, before_all, State, Reads}
 use Rattle.px_read.specs.declared.head.ResponseHead.{ResponseHead}
+use Rattle.px_message.specs.declared.flow.Flow.{Flow}
 use Rattle.px_message.specs.declared.request.Request.{Request}
 use Rattle.px_stream.specs.declared.link.Link.{Link as KeptLink}
 use Rattle.px_stream.specs.declared.phase.Wanted.{Wanted}
 use Rattle.px_stream.specs.declared.numbers.Numbers.{Numbers}
-use Rattle.px_stream.specs.Heard.{feeds, shuts, link_hears, link_closes, link_takes, requests_take, ready_takes, spare_takes, closes_client}
+use Rattle.px_stream.specs.Heard.{feeds, shuts, link_hears, link_closes, link_takes, requests_take, ready_takes, parked_takes, closes_client}
 use Rattle.px_event.specs.Chain.{NotYet, Ends}
 use Rattle.px_exchange.specs.Finds.{or_leaves}
 use Rattle.px_exchange.specs.Requests.{is_head}
+use Rattle.px_exchange.specs.declared.place.Place.{Place}
 use Rattle.px_exchange.specs.declared.terms.Terms.{Terms}
 use Rattle.px_chain.specs.Chain.{look}
-use Rattle.px_chain.specs.Sights.{Sight, Unused, sight_with, unused_with}
-use Rattle.px_chain.specs.Stages.{At, ServerSide, Stage, busy, connection, given_body, given_head, idle, next, over, request_body, response_body, response_head, side_in, side_of, upgraded}
+use Rattle.px_chain.specs.Sights.{Sight, sight_with}
+use Rattle.px_chain.specs.Stages.{At, Doing, Parked, ServerSide, Stage, busy, connection, given_body, given_head, idle, next, over, request_body, response_body, response_head, side_in, side_of, side_parked, upgraded}
 use Rattle.px_event.specs.Sides.{closes, piece_of}
-use Rattle.px_stream.specs.Stands.{Passes, Keeps, IsLink, IsSpare, IsUnused, KeepsBehind, IsReady, IsPlaced, HasPlace}
+use Rattle.px_stream.specs.Stands.{Passes, Keeps, IsLink, IsNoneParked, IsParked, IsUnread, HasParked, HasParkedFor, KeepsBehind, IsReady, IsPlaced, HasPlace}
 use Rattle.px_stream.proofs.ReadLemmas.{fed_on, shut_on}
 
 -- ---- the server's side
@@ -206,7 +208,7 @@ module _ (made : Terms) (seen : Sight) (event : Event) (now : ℕ) where
     reads = reads_on seen event now (asks is.head ∷ is.marks) request at.used requests place.used is.reads;
   }
   ready_on (busy at flow connection) requests looked sent numbers closed place waits is =
-      record { phase = ap (ready_takes event) is.phase; keeps = keeps_on seen event now None at.used requests place.used is.keeps }
+      record { phase = ap (ready_takes event) is.phase; keeps = keeps_on seen event now (side_parked at.parked) at.used requests place.used is.keeps }
   ready_on (busy at flow (response_head side how)) requests looked sent numbers closed place waits is = record {
     kept = link_takes event is.kept;
     phase = ap (ready_takes event) is.phase;
@@ -224,11 +226,11 @@ module _ (made : Terms) (seen : Sight) (event : Event) (now : ℕ) where
   }
   ready_on (busy at flow (upgraded side)) requests looked sent numbers closed place waits is = absurd (ended seen.closed waits)
   ready_on (busy at flow given_head) requests looked sent numbers closed place waits is =
-      record { phase = ap (ready_takes event) is.phase; keeps = keeps_on seen event now None at.used requests place.used is.keeps }
+      record { phase = ap (ready_takes event) is.phase; keeps = keeps_on seen event now (side_parked at.parked) at.used requests place.used is.keeps }
   ready_on (busy at flow given_body) requests looked sent numbers closed place waits is =
-      record { phase = ap (ready_takes event) is.phase; keeps = keeps_on seen event now None at.used requests place.used is.keeps }
+      record { phase = ap (ready_takes event) is.phase; keeps = keeps_on seen event now (side_parked at.parked) at.used requests place.used is.keeps }
   ready_on (next at) requests looked sent numbers closed place waits is =
-      record { phase = ap (ready_takes event) is.phase; keeps = keeps_on seen event now None at.used requests place.used is.keeps }
+      record { phase = ap (ready_takes event) is.phase; keeps = keeps_on seen event now (side_parked at.parked) at.used requests place.used is.keeps }
   ready_on over requests looked sent numbers closed place waits is = ap (ready_takes event) is
 
 closes_by_event : (event : Event) (was : Bool) → closes_client event was ≡ (was || closes Client event)
@@ -258,15 +260,17 @@ placed_on at side seen event now numbers closed place =
 -- and its numbers are the same
 pub place_on : (stage : Stage) (seen : Sight) (event : Event) (now : ℕ) (numbers : Numbers) (closed : Bool) →
     HasPlace stage seen numbers closed → HasPlace stage (sight_with (side_of stage) seen event now) numbers (closes_client event closed)
-place_on (idle at) seen event now numbers closed place = placed_on at None seen event now numbers closed place
-place_on (busy at flow doing) seen event now numbers closed place = placed_on at (side_in doing) seen event now numbers closed place
-place_on (next at) seen event now numbers closed place = placed_on at None seen event now numbers closed place
+place_on (idle at) seen event now numbers closed place = placed_on at (side_parked at.parked) seen event now numbers closed place
+place_on (busy at flow doing) seen event now numbers closed place = placed_on at (side_in at doing) seen event now numbers closed place
+place_on (next at) seen event now numbers closed place = placed_on at (side_parked at.parked) seen event now numbers closed place
 place_on over seen event now numbers closed place = tt
 
--- ---- the spare side
+-- ---- the parked side
 
-abbrev IsFresh : ℕ → List ℕ → Bool → KeptLink → Type 0
-IsFresh number bytes shut kept = IsUnused (record { server = number; bytes = bytes; shut = shut }) kept
+record IsFresh (number : ℕ) (bytes : List ℕ) (shut : Bool) (kept : KeptLink) : Type 0 where
+  server : kept.server ≡ number
+  closed : kept.closed ≡ shut
+  responses : kept.responses ≡ before_all (response false) bytes shut
 
 -- nothing of it
 fresh_same : (number : ℕ) (bytes : List ℕ) (was : Bool) (kept : KeptLink) → IsFresh number bytes was kept → IsFresh number (if was then bytes else (bytes ++ [])) (was || false) kept
@@ -313,13 +317,44 @@ fresh_took number bytes was kept (events.Closed Client) is = fresh_same number b
 fresh_took number bytes was kept (events.Closed (Server server)) is = fresh_shut number bytes was kept server is
 fresh_took number bytes was kept (events.Answered ask reply) is = fresh_same number bytes was kept is
 
-spare_took : (event : Event) (unused : Option Unused) (spare : Option KeptLink) → IsSpare unused spare → IsSpare (unused_with unused event) (spare_takes event spare)
-spare_took event None None is = tt
-spare_took event None (Some spare) is = absurd is
-spare_took event (Some unused) None is = absurd is
-spare_took event (Some unused) (Some spare) is = fresh_took unused.server unused.bytes unused.shut spare event is
+unread_took : (side : ServerSide) (seen : Sight) (event : Event) (moment : ℕ) (kept : KeptLink) → IsUnread side seen kept →
+    IsUnread side (sight_with (Some side) seen event moment) (link_takes event kept)
+unread_took side seen event moment kept is =
+    let more : List ℕ = piece_of (Server side.server) event in
+    let P : List ℕ → Type 0 = λ l. IsFresh side.server l (seen.shut || closes (Server side.server) event) (link_takes event kept) in
+    let fresh = subst P (heard_behind side.used seen.server more seen.shut is.within)
+    (fresh_took side.server (drop side.used seen.server) seen.shut kept event (record { server = is.server; closed = is.closed; responses = is.responses })) in
+    record {
+      server = fresh.server;
+      closed = fresh.closed;
+      within = heard_within side.used seen.server more seen.shut is.within;
+      responses = fresh.responses;
+    }
+
+pub parked_took : (place : Place) (parked : Option Parked) (seen : Sight) (event : Event) (moment : ℕ) (kept : Option KeptLink) → IsParked place parked seen kept →
+    IsParked place parked (sight_with (side_parked parked) seen event moment) (parked_takes event kept)
+parked_took place None seen event moment None is = tt
+parked_took place None seen event moment (Some kept) is = absurd is
+parked_took place (Some parked) seen event moment None is = absurd is
+parked_took place (Some parked) seen event moment (Some kept) is = record { home = is.home; unread = unread_took parked.side seen event moment kept is.unread }
+
+none_took : (at : At) (event : Event) (kept : Option KeptLink) → IsNoneParked at kept → IsNoneParked at (parked_takes event kept)
+none_took at event kept is = record { here = is.here; none = ap (parked_takes event) is.none }
+
+parked_for_on : (place : Place) (at : At) (flow : Flow) (doing : Doing) (seen : Sight) (event : Event) (moment : ℕ) (kept : Option KeptLink) → HasParkedFor place at doing seen kept →
+    HasParkedFor place at doing (sight_with (side_in at doing) seen event moment) (parked_takes event kept)
+parked_for_on place at flow (request_body given) seen event moment kept is = parked_took place at.parked seen event moment kept is
+parked_for_on place at flow connection seen event moment kept is = parked_took place at.parked seen event moment kept is
+parked_for_on place at flow (response_head side how) seen event moment kept is = none_took at event kept is
+parked_for_on place at flow (response_body side how) seen event moment kept is = none_took at event kept is
+parked_for_on place at flow (upgraded side) seen event moment kept is = none_took at event kept is
+parked_for_on place at flow given_head seen event moment kept is = parked_took place at.parked seen event moment kept is
+parked_for_on place at flow given_body seen event moment kept is = parked_took place at.parked seen event moment kept is
 
 -- It has heard the event too.
-pub spare_on : (side : Option ServerSide) (seen : Sight) (event : Event) (moment : ℕ) (spare : Option KeptLink) → IsSpare seen.spare spare →
-    IsSpare (sight_with side seen event moment).spare (spare_takes event spare)
-spare_on side seen event moment spare is = spare_took event seen.spare spare is
+pub parked_on : (place : Place) (stage : Stage) (seen : Sight) (event : Event) (moment : ℕ) (kept : Option KeptLink) → HasParked place stage seen kept →
+    HasParked place stage (sight_with (side_of stage) seen event moment) (parked_takes event kept)
+parked_on place (idle at) seen event moment kept is = parked_took place at.parked seen event moment kept is
+parked_on place (busy at flow doing) seen event moment kept is = parked_for_on place at flow doing seen event moment kept is
+parked_on place (next at) seen event moment kept is = parked_took place at.parked seen event moment kept is
+parked_on place over seen event moment kept is = tt

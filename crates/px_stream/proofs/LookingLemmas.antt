@@ -17,6 +17,7 @@ use Rattle.px_read.specs.Reader.{request, State, Reads}
 use Rattle.px_read.specs.declared.head.RequestHead.{RequestHead}
 use Rattle.px_exchange.specs.declared.asked.Judged.{Judged}
 use Rattle.px_exchange.specs.declared.asked.Judged.TheVariants.{Refused, Accepted, Connects}
+use Rattle.px_exchange.specs.declared.ending.Used.{Used}
 use Rattle.px_exchange.specs.declared.place.Place.{Place}
 use Rattle.px_exchange.specs.Requests.{judged}
 use Rattle.px_stream.specs.declared.link.Link.{Link as KeptLink}
@@ -28,6 +29,7 @@ use Rattle.px_stream.specs.declared.numbers.Numbers.{Numbers}
 use Rattle.px_exchange.specs.declared.terms.Terms.{Terms}
 use Rattle.px_exchange.specs.Bodies.{HasRead}
 use Rattle.px_stream.specs.Bodies.{BodyFound, ReturnFound}
+use Rattle.px_exchange.specs.Endings.{shut_server}
 use Rattle.px_exchange.specs.Finds.{look_head, or_leaves}
 use Rattle.px_chain.specs.Chain.{Connect, connect_in}
 use Rattle.px_stream.specs.Looking.{BehindJudged, HeadFound, HeadRead, FoundAtOnce, LookFound, MayLook}
@@ -74,13 +76,13 @@ missing_kept place fed new is reads = kept_marks place fed None new (ap head_in 
 -- ---- what is found
 
 -- the head of a request
-pub head_looked : {E : Type 0} (result : Result Phase E) (terms : Terms) (index : ℕ) (old new : State) (moment : ℕ) (closed : Bool) (out longer : List Command) →
-    ((fed : List ℕ) → Reads request [] fed false old → OnOk result (longer ≡ out ++ found (or_leaves closed [] (look_head terms index (request_item fed) moment closed)))) →
+pub head_looked : {E : Type 0} (result : Result Phase E) (terms : Terms) (index : ℕ) (old new : State) (moment : ℕ) (parked : Used) (closed : Bool) (out longer : List Command) →
+    ((fed : List ℕ) → Reads request [] fed false old → OnOk result (longer ≡ out ++ found (or_leaves closed (shut_server parked) (look_head terms index (request_item fed) moment parked closed)))) →
     ((fed : List ℕ) → Reads request [] fed false old → IfOk result (λ next. next ≡ head_phase terms index (request_item fed) moment closed)) →
     ((fed : List ℕ) → Reads request [] fed false old → OnOk result (HeadRead (connect_in terms.place (request_item fed)) (request_item fed) fed new)) →
-    IfOk result (λ next. HeadFound terms index old new moment closed out longer next)
-head_looked (Ok next) terms index old new moment closed out longer gives phase reads = record { gives = gives; phase = phase; reads = reads }
-head_looked (Err e) terms index old new moment closed out longer gives phase reads = tt
+    IfOk result (λ next. HeadFound terms index old new moment parked closed out longer next)
+head_looked (Ok next) terms index old new moment parked closed out longer gives phase reads = record { gives = gives; phase = phase; reads = reads }
+head_looked (Err e) terms index old new moment parked closed out longer gives phase reads = tt
 
 -- what is given at once
 pub at_once : {E : Type 0} (result : Result Phase E) (state : State) (given : List Command) (out longer : List Command) (there : Phase) →
@@ -94,10 +96,10 @@ besides (Ok next) state P is = (refl, is)
 besides (Err e) state P is = tt
 
 -- by what is looked for
-pub looked_as : {E : Type 0} (result : Result Phase E) (terms : Terms) (numbers : Numbers) (looks known : Wanted) (old new : State) (moment : ℕ) (closed : Bool) (out longer : List Command) →
-    looks ≡ known → IfOk result (λ next. LookFound terms numbers known old new moment closed out longer next) → IfOk result (λ next. LookFound terms numbers looks old new moment closed out longer next)
-looked_as result terms numbers looks known old new moment closed out longer is looked =
-    let P : Wanted → Type 0 = λ ready. IfOk result (λ next. LookFound terms numbers ready old new moment closed out longer next) in
+pub looked_as : {E : Type 0} (result : Result Phase E) (terms : Terms) (numbers : Numbers) (parked : Used) (looks known : Wanted) (old new : State) (moment : ℕ) (closed : Bool) (out longer : List Command) →
+    looks ≡ known → IfOk result (λ next. LookFound terms numbers parked known old new moment closed out longer next) → IfOk result (λ next. LookFound terms numbers parked looks old new moment closed out longer next)
+looked_as result terms numbers parked looks known old new moment closed out longer is looked =
+    let P : Wanted → Type 0 = λ ready. IfOk result (λ next. LookFound terms numbers parked ready old new moment closed out longer next) in
     subst P (sym is) looked
 
 -- nothing is given
@@ -111,11 +113,11 @@ may_as looks known requests is may =
 
 -- ---- by what the readers have come to
 
-pub body_found : {E : Type 0} (result : Result Phase E) (flow : Flow) (given : Option Response) (content body : List ℕ) (old new : State) (moment : ℕ) (closed : Bool) (out longer : List Command) (got : Progress) →
-    HasRead got old content new body → OnOk result (longer ≡ out ++ body_gives flow given got body moment closed) → IfOk result (λ next. next ≡ body_phase flow given got body moment closed) →
-    IfOk result (λ next. BodyFound flow given content old new moment closed out longer next)
-body_found (Ok next) flow given content body old new moment closed out longer got read gives phase = record { got = got; body = body; read = read; gives = gives; phase = phase }
-body_found (Err e) flow given content body old new moment closed out longer got read gives phase = tt
+pub body_found : {E : Type 0} (result : Result Phase E) (flow : Flow) (given : Option Response) (content body : List ℕ) (old new : State) (moment : ℕ) (parked : Used) (closed : Bool) (out longer : List Command) (got : Progress) →
+    HasRead got old content new body → OnOk result (longer ≡ out ++ body_gives flow given got body moment parked closed) → IfOk result (λ next. next ≡ body_phase flow given got body moment closed) →
+    IfOk result (λ next. BodyFound flow given content old new moment parked closed out longer next)
+body_found (Ok next) flow given content body old new moment parked closed out longer got read gives phase = record { got = got; body = body; read = read; gives = gives; phase = phase }
+body_found (Err e) flow given content body old new moment parked closed out longer got read gives phase = tt
 
 pub return_found : {E : Type 0} (result : Result Phase E) (flow : Flow) (content body : List ℕ) (old : KeptLink) (responses : State) (moment : ℕ) (closed : Bool) (out longer : List Command) (got : Progress) →
     HasRead got old.responses content responses body → OnOk result (longer ≡ out ++ returned_gives flow (record old { responses = responses }) got body moment closed) →

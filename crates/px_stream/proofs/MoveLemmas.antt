@@ -11,7 +11,7 @@ use Rattle.px_event.specs.declared.command.Command.{Command}
 use Rattle.px_event.specs.declared.command.Command.TheVariants as commands
 use Rattle.px_event.specs.declared.event.Event.{Event}
 use Rattle.px_event.specs.declared.reply.Reply.{Reply}
-use Rattle.px_event.specs.Chain.{Timed, Look, NotYet, Asks, Ends, Turn, found}
+use Rattle.px_event.specs.Chain.{Timed, Look, NotYet, Asks, Ends, Turn, found_with}
 use Rattle.px_event.specs.Laws.{owed_over}
 use Rattle.px_event.specs.Layer.{asks_in}
 use Rattle.px_event.specs.View.{questions, Atom, asked, dialled, seen_of}
@@ -34,8 +34,8 @@ use Rattle.px_stream.specs.declared.stream.Stream.{Stream}
 use Rattle.px_stream.specs.declared.numbers.Numbers.{Numbers}
 use Rattle.px_exchange.specs.declared.terms.Terms.{Terms}
 use Rattle.px_exchange.specs.Places.{dialled_for}
-use Rattle.px_chain.specs.Chain.{Connect, connect_in, http_chain, look, pass, pass_body, sequence, so_far, stands, turn}
-use Rattle.px_chain.specs.Sights.{Sight, Standing, answers_in, request_in, server_in, sight_over}
+use Rattle.px_chain.specs.Chain.{Connect, behind, connect_in, http_chain, look, pass, pass_body, sequence, so_far, stands, turn}
+use Rattle.px_chain.specs.Sights.{Sight, Standing, answers_in, request_in, server_in, server_parked, sight_over}
 use Rattle.px_chain.specs.Stages.{At, Stage, busy, connection, given_body, given_head, idle, next, over, place_of, request_body, response_body, response_head, upgraded}
 use Rattle.px_exchange.specs.Flows.{ask_of, response_of, with_answer, with_body, with_end, with_returned, with_start}
 use Rattle.px_exchange.specs.Finds.{look_answer, look_answer_head, look_body, look_head, look_judged, look_returned, or_leaves}
@@ -45,7 +45,7 @@ use Rattle.px_chain.proofs.Quiet.{AllQuiet, LooksQuiet, IsBehind, any_flow}
 use Rattle.px_exchange.specs.Requests.{flow_of}
 use Rattle.px_stream.specs.Sequence.{IsCounted, IsFew}
 use Rattle.px_stream.specs.Stands.{IsAsked, IsIn, IsReady, HasPlace, PhaseAt, IsLast, IsLastAt, IsAt, asked_of, awaited_in, awaits}
-use Rattle.px_chain.proofs.QuietLemmas.{IsGoing, finds_quiet_end, so_far_quiet, turn_behind, turn_quiet}
+use Rattle.px_chain.proofs.QuietLemmas.{IsGoing, behind_quiet, finds_quiet_end, so_far_quiet, turn_behind, turn_quiet}
 use Rattle.px_stream.proofs.HeadLemmas.{look_at_head}
 use Rattle.px_stream.proofs.WalkLemmas.{passed}
 
@@ -74,6 +74,9 @@ quiet_seen (commands.Dial server address inside ∷ rest) (here, all) = absurd h
 quiet_seen (commands.Ask ask flow ∷ rest) (here, all) = absurd here
 quiet_seen (commands.Done flow ∷ rest) (here, all) = quiet_seen rest all
 
+none_asked : (l : List Command) → AllQuiet any_flow l → flat_map asks_in l ≡ []
+none_asked l all = asks_seen l ∙ ap (flat_map ask_atoms) (quiet_seen l all)
+
 -- ---- what is asked is what is awaited
 
 same_answer_look : (flow : Flow) (item : Item ReadResponse) (head : ReadResponse) (moment : ℕ) (used : Used) (closed : Bool) → head_in item ≡ Some head →
@@ -95,13 +98,15 @@ module _ (terms : Terms) (requests : State) (here : Asked) (seen : Sight) (ask :
   asked_here : (stage : Stage) → look terms stage seen ≡ Asks ask → IsAsked terms requests here stage seen → asks_in ask ≡ asked_of here ∷ []
   asked_here (idle at) is there =
       let now : ℕ = seen.now in
-      one_ask seen.closed [] (look_head terms at.flow (request_in at seen) now seen.closed) (ask_of (flow_of terms at.flow there.message now) RequestHead) ask here _
-      (look_at_head terms at.flow (request_in at seen) there.head now seen.closed there.stands ∙ ap (λ j. look_judged terms at.flow there.head j now seen.closed) there.accepts)
+      let used : Used = server_parked at.parked seen in
+      one_ask seen.closed _ (look_head terms at.flow (request_in at seen) now used seen.closed) (ask_of (flow_of terms at.flow there.message now) RequestHead) ask here _
+      (look_at_head terms at.flow (request_in at seen) there.head now used seen.closed there.stands ∙ ap (λ j. look_judged terms at.flow there.head j now used seen.closed) there.accepts)
       is there.phase refl
   asked_here (busy at flow (request_body None)) is there =
       let now : ℕ = seen.now in
-      one_ask seen.closed _ (look_body flow (request_in at seen) now seen.closed) (ask_of (with_body flow there.body.content there.trailers now) RequestBody) ask here _
-      (ap (λ i. look_body flow i now seen.closed) there.stands) is there.phase refl
+      let used : Used = server_parked at.parked seen in
+      one_ask seen.closed _ (look_body flow (request_in at seen) now used seen.closed) (ask_of (with_body flow there.body.content there.trailers now) RequestBody) ask here _
+      (ap (λ i. look_body flow i now used seen.closed) there.stands) is there.phase refl
   asked_here (busy at flow (request_body (Some given))) is there = absurd there
   asked_here (busy at flow connection) is there = one_ask seen.closed [] _ (commands.Dial at.dials (dialled_for terms.place flow.request) None) ask here _ refl is there.phase refl
   asked_here (busy at flow (response_head side how)) is (sent, there) =
@@ -120,10 +125,12 @@ module _ (terms : Terms) (requests : State) (here : Asked) (seen : Sight) (ask :
   asked_here over is there = absurd there
 
 pub asks_by : (l : Look Command) (terms : Terms) (requests : State) (is_now : Phase) (stage : Stage) (seen : Sight) → look terms stage seen ≡ l → PhaseAt l terms requests is_now stage seen →
-    flat_map ask_atoms (seen_of questions (found l)) ≡ option_to_list (awaited_in is_now)
+    flat_map ask_atoms (seen_of questions (found_with (behind stage seen) l)) ≡ option_to_list (awaited_in is_now)
 asks_by NotYet terms requests is_now stage seen is (looked, sent, same, there, gave) = ap (λ p. option_to_list (awaited_in p)) (sym same)
 asks_by (Asks ask) terms requests is_now stage seen is (here, same, there) =
-    sym (asks_seen (ask ∷ [])) ∙ (append-nil (asks_in ask) ∙ (asked_here terms requests here seen ask stage is there ∙ ap (λ p. option_to_list (awaited_in p)) (sym same)))
+    sym (asks_seen (ask ∷ behind stage seen))
+    ∙ (ap (λ l. asks_in ask ++ l) (none_asked (behind stage seen) (behind_quiet any_flow stage seen))
+    ∙ (append-nil (asks_in ask) ∙ (asked_here terms requests here seen ask stage is there ∙ ap (λ p. option_to_list (awaited_in p)) (sym same))))
 asks_by (Ends owed) terms requests is_now stage seen is (last, same, there) =
     let P : Look Command → Type 0 = LooksQuiet any_flow in
     let quiet : AllQuiet any_flow owed = subst P is (finds_quiet_end terms stage seen) in
@@ -131,12 +138,13 @@ asks_by (Ends owed) terms requests is_now stage seen is (last, same, there) =
 
 -- the questions of what is owed over a prefix are those of what is found there
 owes_questions : (onward_to : Stage → Stage) (terms : Terms) (place : Standing) (prefix : List (Timed Event)) →
-    seen_of questions (owed_over (http_chain onward_to terms) place prefix) ≡ seen_of questions (found (look terms (passed place prefix).stage (sight_over (passed place prefix) prefix)))
+    seen_of questions (owed_over (http_chain onward_to terms) place prefix)
+    ≡ seen_of questions (found_with (behind (passed place prefix).stage (sight_over (passed place prefix) prefix)) (look terms (passed place prefix).stage (sight_over (passed place prefix) prefix)))
 owes_questions onward_to terms place prefix =
     let there : Stage = (passed place prefix).stage in
     let seen : Sight = sight_over (passed place prefix) prefix in
-    seen_append questions (so_far there seen) (found (look terms there seen))
-    ∙ ap (λ l. l ++ seen_of questions (found (look terms there seen))) (quiet_seen (so_far there seen) (so_far_quiet any_flow there seen))
+    seen_append questions (so_far there seen) (found_with (behind there seen) (look terms there seen))
+    ∙ ap (λ l. l ++ seen_of questions (found_with (behind there seen) (look terms there seen))) (quiet_seen (so_far there seen) (so_far_quiet any_flow there seen))
 
 module _ (onward_to : Stage → Stage) (made : Terms) (after : Stream) (moment : ℕ) (more : List Command) where
   -- what is asked behind an event

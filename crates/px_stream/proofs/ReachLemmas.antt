@@ -1,5 +1,5 @@
 -- The way to the server of a flow stands, whose dial was awaited: the request goes to it, and what it has sent already is read.
-use Rattle.std.proofs.Common.{◌≡◌, ℕ, ◌+◌, ◌<◌, ◌≤◌, Bool, false, List, [], ◌++◌, length, drop, Option, Some, refl, ap, sym, ◌∙◌, subst, arith, append_assoc}
+use Rattle.std.proofs.Common.{◌≡◌, ℕ, ◌+◌, ◌<◌, ◌≤◌, Bool, false, List, [], ◌++◌, length, drop, Some, None, refl, ap, sym, ◌∙◌, subst, arith, append_assoc}
 use Rattle.std.specs.List.{flat_map}
 use Rattle.std.proofs.lemmas.Bool.{eq-eqb}
 use Rattle.px_message.specs.declared.flow.Flow.{Flow}
@@ -7,7 +7,7 @@ use Rattle.px_event.specs.declared.command.Command.{Command}
 use Rattle.px_event.specs.declared.event.Event.{Event}
 use Rattle.px_event.specs.declared.reply.Reply.TheVariants as reply
 use Rattle.px_event.specs.declared.side.Side.TheVariants.{Server}
-use Rattle.px_event.specs.Chain.{Timed, found}
+use Rattle.px_event.specs.Chain.{Timed, found_with}
 use Rattle.px_event.specs.Laws.{owed_over}
 use Rattle.px_event.specs.Layer.{AsksOnly}
 use Rattle.px_event.specs.View.{questions, seen_of}
@@ -17,9 +17,9 @@ use Rattle.px_exchange.specs.declared.place.Place.{Place}
 use Rattle.px_exchange.specs.declared.terms.Terms.{Terms}
 use Rattle.px_exchange.specs.Dials.{connected_owes}
 use Rattle.px_exchange.specs.Requests.{is_head}
-use Rattle.px_chain.specs.Chain.{http_chain, look, pass, reached, sequence, so_far}
+use Rattle.px_chain.specs.Chain.{behind, http_chain, look, pass, reached, sequence, so_far}
 use Rattle.px_chain.specs.Left.{stages_left}
-use Rattle.px_chain.specs.Sights.{Sight, Spare, Standing, sight_of, sight_over, unused_over}
+use Rattle.px_chain.specs.Sights.{Sight, Standing, sight_of, sight_over}
 use Rattle.px_chain.specs.Stages.{At, ServerSide, Stage, all_sent, busy, connection, response_head, side_of}
 use Rattle.px_chain.specs.Streams.{bytes_of, is_closed}
 use Rattle.px_chain.proofs.Quiet.{any_flow}
@@ -40,9 +40,9 @@ use Rattle.px_stream.specs.Left.{sequence_left}
 use Rattle.px_stream.specs.Looking.{LookFound, MayLook}
 use Rattle.px_stream.specs.Phases.{connected, fresh_link}
 use Rattle.px_stream.specs.Sequence.{IsFew}
-use Rattle.px_stream.specs.Stands.{HasPlace, IsAnswering, IsIn, IsLink, IsPlaced, IsSpare, Keeps, KeepsBehind, awaits}
+use Rattle.px_stream.specs.Stands.{HasPlace, IsAnswering, IsIn, IsLink, IsPlaced, Keeps, KeepsBehind, awaits, used_in}
 use Rattle.px_stream.specs.Through.{IsDialling}
-use Rattle.px_stream.specs.Turns.{asked_leads, asked_owes, behind_asked, behind_ready, behind_spare, one_on}
+use Rattle.px_stream.specs.Turns.{asked_leads, asked_owes, behind_asked, behind_ready, behind_parked, one_on}
 use Rattle.px_stream.proofs.AdvanceLemmas.{advanced}
 use Rattle.px_stream.proofs.MoveLemmas.{ask_atoms, asks_by, asks_seen, at_most, quiet_seen, sequence_measures}
 use Rattle.px_stream.proofs.TakeLemmas.{same_tail}
@@ -69,7 +69,7 @@ link_reached flow side server rest seen same used come unshut =
 
 -- where the flow goes on
 abbrev answering : Terms → At → Flow → ServerSide → Stage
-answering made at flow side = busy (record at { dials = at.dials + 1 }) (reached made.place flow) (response_head side all_sent)
+answering made at flow side = busy (record at { dials = at.dials + 1; parked = None }) (reached made.place flow) (response_head side all_sent)
 
 -- ---- the call
 
@@ -79,7 +79,7 @@ module _ (before turned : Stream) (there : Phase) (moment : ℕ) (here : Asked) 
   leads_is : (made : Terms) (at : At) (flow : Flow) → before.terms ≡ made → here ≡ asked.Dial flow at.dials → leads ≡ connected made.place flow at.dials
   leads_is made at flow terms is =
       turns.leads
-      ∙ (ap (λ a. asked_leads before.terms.place before.numbers.flow before.spare a reply.Dialled) is ∙ ap (λ t. connected t.place flow at.dials) terms)
+      ∙ (ap (λ a. asked_leads before.terms.place before.numbers.flow before.parked a reply.Dialled) is ∙ ap (λ t. connected t.place flow at.dials) terms)
 
   pub reach_agrees : Somewhere before → LinkAgrees leads
   reach_agrees (made, ahead, place, prefix, stands) =
@@ -138,17 +138,17 @@ module _ (before turned : Stream) (there : Phase) (moment : ℕ) (here : Asked) 
       record ReachesIn (made : Terms) (at : At) (flow : Flow) (side : ServerSide) (sees : Sight) : Type 0 where
         more : List Command
         grown : longer ≡ out ++ (connected_owes made.place flow at.dials ++ more)
-        owes : more ≡ so_far (answering made at flow side) sees ++ found (look made (answering made at flow side) sees)
+        owes : more ≡ so_far (answering made at flow side) sees ++ found_with (behind (answering made at flow side) sees) (look made (answering made at flow side) sees)
         is_in : IsIn made after (answering made at flow side) sees
 
       reaches_in : (made : Terms) (at : At) (flow : Flow) (side : ServerSide) (sees : Sight) → Dialled made at flow sees → side.server ≡ at.dials → side.used ≤ length sees.server →
-          drop side.used sees.server ≡ rest → sees.shut ≡ false → moment ≡ sees.now → IsSpare sees.spare before.spare → ReachesIn made at flow side sees
-      reaches_in made at flow side sees is server used come unshut now spare =
+          drop side.used sees.server ≡ rest → sees.shut ≡ false → moment ≡ sees.now → ReachesIn made at flow side sees
+      reaches_in made at flow side sees is server used come unshut now =
           let further : Stage = answering made at flow side in
           let looked : Wanted = ready.Answering (reached made.place flow) (fresh_link at.dials (is_head flow.request.method) rest false) in
           let fed_as : fed ≡ looked = fed_is made at flow is.terms is.dial (is.place.servers is.fits) in
           let K : State → Type 0 = λ s. KeepsBehind at.used sees s in
-          let is_ready : IsAnswering (record at { dials = at.dials + 1 }) sees turned.requests (reached made.place flow) side [] fed = record {
+          let is_ready : IsAnswering (record at { dials = at.dials + 1; parked = None }) sees turned.requests (reached made.place flow) side [] fed = record {
             kept = fresh_link at.dials (is_head flow.request.method) rest false;
             phase = fed_as;
             is_link = link_reached flow side at.dials rest sees server used come unshut;
@@ -157,22 +157,21 @@ module _ (before turned : Stream) (there : Phase) (moment : ℕ) (here : Asked) 
           let counted : Numbers = record before.numbers { server = one_on before.numbers.server } in
           let numbers : turned.numbers ≡ counted =
           turns.numbers
-          ∙ (ap (λ a. behind_ready (behind_asked before.numbers a) (asked_leads before.terms.place before.numbers.flow before.spare a reply.Dialled)) is.dial) in
+          ∙ (ap (λ a. behind_ready (behind_asked before.numbers a) (asked_leads before.terms.place before.numbers.flow before.parked a reply.Dialled)) is.dial) in
           let N : Numbers → Type 0 = λ n. HasPlace further sees n turned.client_closed in
           let C : Bool → Type 0 = λ c. HasPlace further sees counted c in
           let place : HasPlace further sees turned.numbers turned.client_closed =
           subst N (sym numbers) (subst C (sym turns.client) (placed_dialled at sees before.numbers before.client_closed is.place)) in
-          let T : Terms → Type 0 = λ t. LookFound t turned.numbers fed turned.requests after.requests moment turned.client_closed between longer after.phase in
+          let dropped : turned.parked ≡ None = turns.parked ∙ ap (λ a. behind_parked before.terms.place a reply.Dialled before.parked) is.dial in
+          let T : Terms → Type 0 = λ t. LookFound t turned.numbers (used_in turned.parked) fed turned.requests after.requests moment turned.client_closed between longer after.phase in
           let look_found = subst T (turns.terms ∙ is.terms) once.looks in
-          let got = advanced made sees turned.numbers turned.requests after.requests moment turned.client_closed between longer after.phase [] further fed is_ready place now tt look_found in
+          let got = advanced made sees turned.numbers turned.parked turned.requests after.requests moment turned.client_closed between longer after.phase [] further fed is_ready place now tt (record { here = refl; none = dropped }) look_found in
           let owed : between ≡ out ++ connected_owes made.place flow at.dials =
           turns.gives
-          ∙ (ap (λ a. out ++ asked_owes before.terms.place before.numbers.flow before.spare a reply.Dialled moment before.client_closed) is.dial
+          ∙ (ap (λ a. out ++ asked_owes before.terms.place before.numbers.flow before.parked a reply.Dialled moment before.client_closed) is.dial
           ∙ ap (λ t. out ++ connected_owes t.place flow at.dials) is.terms) in
           let A : Numbers → Type 0 = λ n. HasPlace further sees n after.client_closed in
           let B : Bool → Type 0 = λ c. HasPlace further sees turned.numbers c in
-          let S : Option KeptLink → Type 0 = λ s. IsSpare sees.spare s in
-          let left : after.spare ≡ before.spare = once.spare ∙ (turns.spare ∙ ap (λ a. behind_spare before.terms.place a reply.Dialled before.spare) is.dial) in
           record {
             more = got.0.more;
             grown = got.0.grown ∙ (ap (λ l. l ++ got.0.more) owed ∙ append_assoc out (connected_owes made.place flow at.dials) got.0.more);
@@ -182,7 +181,7 @@ module _ (before turned : Stream) (there : Phase) (moment : ℕ) (here : Asked) 
               place = subst A (sym once.numbers) (subst B (sym once.client) got.1);
               phase = got.0.phase;
               dials = tt;
-              spare = subst S (sym left) spare;
+              parked = record { here = refl; none = once.parked ∙ dropped };
             };
           }
 
@@ -195,22 +194,20 @@ module _ (before turned : Stream) (there : Phase) (moment : ℕ) (here : Asked) 
           let side : ServerSide = may.side in
           let further : Stage = answering made at flow side in
           let seen : Sight = sight_over from prefix in
-          let sees : Sight = sight_of (Some side) to.since to.opened to.spare prefix in
-          let same : sight_over to prefix ≡ sees = ap (λ s. sight_of (side_of s) to.since to.opened to.spare prefix) may.stage in
+          let sees : Sight = sight_of (Some side) to.since to.opened prefix in
+          let same : sight_over to prefix ≡ sees = ap (λ s. sight_of (side_of s) to.since to.opened prefix) may.stage in
           let F : Stage → Type 0 = λ s. IsIn made before s seen in
           let was : IsIn made before (busy at flow connection) seen = subst F may.dialling may.there.is_at.is_in in
           let is : Dialled made at flow sees = dialled_in made at flow seen sees (dialled_at made at flow seen was) refl refl in
           let U : ℕ → Type 0 = λ n. side.used ≤ length (bytes_of (Server n) (drop to.opened prefix)) in
           let come : drop side.used sees.server ≡ rest = ap (λ n. drop side.used (bytes_of (Server n) (drop to.opened prefix))) may.server ∙ may.come in
           let unshut : sees.shut ≡ false = ap (λ n. is_closed (Server n) (drop to.opened prefix)) may.server ∙ may.unshut in
-          let S : Option Spare → Type 0 = λ s. IsSpare (unused_over s prefix) before.spare in
-          let spare : IsSpare sees.spare before.spare = subst S (sym may.spare) was.spare in
-          let got = reaches_in made at flow side sees is may.server (subst U (sym may.server) may.used) come unshut may.now spare in
+          let got = reaches_in made at flow side sees is may.server (subst U (sym may.server) may.used) come unshut may.now in
           let parts : more ≡ connected_owes made.place flow at.dials ++ got.more = same_tail out more _ (sym grown ∙ got.grown) in
           let I : Stage → Type 0 = λ s. IsIn made after (pass s sees) sees in
           let W : Stage → Type 0 = λ s. IsFew ahead s in
           let V : Stage → Type 0 = λ s. IsFew ahead (pass s (sight_over to prefix)) in
-          let O : Stage → Type 0 = λ s. got.more ≡ so_far (pass s sees) sees ++ found (look made (pass s sees) sees) in
+          let O : Stage → Type 0 = λ s. got.more ≡ so_far (pass s sees) sees ++ found_with (behind (pass s sees) sees) (look made (pass s sees) sees) in
           let few : IsFew ahead (busy at flow connection) = subst W may.dialling may.there.few in
           let few_there : IsFew ahead further = (let d = few.dials in record { few = few.few; dials = omega arith }) in
           let owed : List Command = connected_owes made.place flow at.dials in
@@ -238,7 +235,7 @@ module _ (before turned : Stream) (there : Phase) (moment : ℕ) (here : Asked) 
           let dial : IsAtDial before.requests here place.stage seen = is_at_dial made before here place.stage seen dials live stands.is_at.is_in in
           let P : Stage → Type 0 = λ s. IsIn made before s seen in
           let was : IsIn made before (busy dial.at dial.flow connection) seen = subst P dial.stage_is stands.is_at.is_in in
-          let sees : Sight = record { client = seen.client; closed = seen.closed; server = rest; shut = false; spare = seen.spare; now = moment } in
+          let sees : Sight = record { client = seen.client; closed = seen.closed; server = rest; shut = false; now = moment } in
           let side : ServerSide = record { server = dial.at.dials; used = 0 } in
           let is : Dialled made dial.at dial.flow sees = dialled_in made dial.at dial.flow seen sees (dialled_at made dial.at dial.flow seen was) refl refl in
           record {
@@ -249,7 +246,7 @@ module _ (before turned : Stream) (there : Phase) (moment : ℕ) (here : Asked) 
             was = was;
             side = side;
             sees = sees;
-            got = reaches_in made dial.at dial.flow side sees is refl (omega arith) refl refl refl was.spare;
+            got = reaches_in made dial.at dial.flow side sees is refl (omega arith) refl refl refl;
           }
 
       pub reach_goes : Somewhere before → Reaches before after moment rest out longer
@@ -264,7 +261,7 @@ module _ (before turned : Stream) (there : Phase) (moment : ℕ) (here : Asked) 
           let is = somehow stands in
           let further : Stage = answering is.made is.at is.flow is.side in
           let owed : List Command = so_far further is.sees in
-          let asked_there : List Command = found (look is.made further is.sees) in (
+          let asked_there : List Command = found_with (behind further is.sees) (look is.made further is.sees) in (
             connected_owes is.made.place is.flow is.at.dials ++ is.got.more,
             is.got.grown,
             asks_seen is.got.more ∙ (ap (λ l. flat_map ask_atoms (seen_of questions l)) is.got.owes

@@ -4,14 +4,15 @@ use Rattle.px_message.specs.declared.flow.Flow.{Flow}
 use Rattle.px_event.specs.declared.command.Command.{Command}
 use Rattle.px_event.specs.declared.event.Event.{Event}
 use Rattle.px_event.specs.declared.reply.Reply.{Reply}
-use Rattle.px_event.specs.Chain.{Timed, Look, NotYet, Asks, Ends, Turn, found}
+use Rattle.px_event.specs.Chain.{Timed, Look, NotYet, Asks, Ends, Turn, found_with}
 use Rattle.px_event.specs.View.{seen_of}
 use Rattle.px_event.proofs.Seen.{seen_append}
 use Rattle.px_event.proofs.Steps.{Resumes}
 use Rattle.px_read.specs.Reader.{State, request, before_all, Reads}
 use Rattle.px_read.specs.declared.head.ResponseHead.{ResponseHead as ReadResponse}
+use Rattle.px_exchange.specs.declared.place.Place.{Place}
 use Rattle.px_exchange.specs.declared.terms.Terms.{Terms}
-use Rattle.px_chain.specs.Chain.{IsOnward, alone, http_chain, look, pass, sequence, so_far, stands, turn}
+use Rattle.px_chain.specs.Chain.{IsOnward, alone, behind as behind_asks, http_chain, look, is_alone, is_sequence, pass, sequence, so_far, stands, turn}
 use Rattle.px_chain.specs.Sights.{Sight, Standing, sight_behind, sight_over}
 use Rattle.px_chain.specs.Stages.{At, Doing, Stage, busy, connection, given_body, given_head, idle, next, over, request_body, response_body, response_head, upgraded}
 use Rattle.px_chain.proofs.SightLaws.{behind_onward, sight_turned, within_stood}
@@ -24,12 +25,12 @@ use Rattle.px_stream.specs.declared.numbers.Numbers.{Numbers}
 use Rattle.px_stream.specs.Led.{Turned}
 use Rattle.px_stream.specs.Looking.{LookFound}
 use Rattle.px_stream.specs.Sequence.{IsFew, ready_onward, requests_onward}
-use Rattle.px_stream.specs.Stands.{Dials, IsNow, IsAsked, IsReady, IsReadyFor, IsIdle, KeepsBehind, HasPlace, PhaseAt, IsAt, IsSpare, sent_on}
-use Rattle.px_stream.specs.Turns.{asked_owes, behind_spare}
+use Rattle.px_stream.specs.Stands.{Dials, IsNow, IsAsked, IsReady, IsReadyFor, IsIdle, KeepsBehind, HasPlace, HasParked, PhaseAt, IsAt, sent_on, used_in}
+use Rattle.px_stream.specs.Turns.{asked_owes, behind_parked}
 use Rattle.px_stream.specs.declared.link.Link.{Link as KeptLink}
 use Rattle.px_stream.proofs.AdvanceLemmas.{advanced}
-use Rattle.px_stream.proofs.TakeLemmas.{pass_dials, same_tail}
-use Rattle.px_stream.proofs.TurnLemmas.{reads_first, spared}
+use Rattle.px_stream.proofs.TakeLemmas.{pass_dials, pass_parked, same_tail}
+use Rattle.px_stream.proofs.TurnLemmas.{parks, reads_first}
 use Rattle.px_stream.proofs.WalkLemmas.{at_walked, gives_walked}
 
 -- a stage that asks knows whether the client has closed
@@ -124,6 +125,19 @@ led_onward ahead turned seen requests owes looked numbers closed moment small fe
   dials = dials_led ahead turned.stage small few is.dials;
 }
 
+-- and the parked side is the same
+parked_onward : (place : Place) (stage : Stage) (seen : Sight) (kept : Option KeptLink) → HasParked place stage seen kept → HasParked place (sequence stage) seen kept
+parked_onward place (idle at) seen kept is = is
+parked_onward place (busy at flow doing) seen kept is = is
+parked_onward place (next at) seen kept is = is
+parked_onward place over seen kept is = tt
+
+pub parked_led : (onward : Stage → Stage) → IsOnward onward → (place : Place) (stage : Stage) (seen : Sight) (kept : Option KeptLink) → HasParked place stage seen kept →
+    HasParked place (onward stage) seen kept
+parked_led onward (is_alone is) place stage seen kept has = let P : (Stage → Stage) → Type 0 = λ f. HasParked place (f stage) seen kept in subst P (sym is) has
+parked_led onward (is_sequence is) place stage seen kept has =
+    let P : (Stage → Stage) → Type 0 = λ f. HasParked place (f stage) seen kept in subst P (sym is) (parked_onward place stage seen kept has)
+
 -- ---- an answer
 
 -- what the walk sees behind a reply
@@ -136,9 +150,9 @@ walked_behind onward goes made place prefix answer =
 
 module _ (onward_to : Stage → Stage) (goes : IsOnward onward_to) (made : Terms) (before after : Stream) (moment : ℕ) (reply : Reply) (asked : Asked) (looked : Wanted) (requests : State) (out between longer more : List Command)
     (live : before.phase ≡ phase.Asked asked) (same_terms : after.terms ≡ before.terms) (same_closed : after.client_closed ≡ before.client_closed)
-    (left : after.spare ≡ behind_spare before.terms.place asked reply before.spare)
-    (owed : between ≡ out ++ asked_owes before.terms.place before.numbers.flow before.spare asked reply moment before.client_closed)
-    (look_found : LookFound before.terms after.numbers looked requests after.requests moment before.client_closed between longer after.phase)
+    (left : after.parked ≡ behind_parked before.terms.place asked reply before.parked)
+    (owed : between ≡ out ++ asked_owes before.terms.place before.numbers.flow before.parked asked reply moment before.client_closed)
+    (look_found : LookFound before.terms after.numbers (used_in after.parked) looked requests after.requests moment before.client_closed between longer after.phase)
     (grown : longer ≡ out ++ more) where
   abbrev answer : Timed Reply
   answer = record { moment = moment; value = reply }
@@ -148,7 +162,7 @@ module _ (onward_to : Stage → Stage) (goes : IsOnward onward_to) (made : Terms
 
   -- where the chain leads it is, in the sight behind the reply
   abbrev pub Led : Stage → Sight → Type 0
-  Led stage seen = Turned (onto onward_to (turn made stage seen answer)) (behind_reply stage seen) requests (asked_owes before.terms.place before.numbers.flow before.spare asked reply moment seen.closed) looked after.numbers before.client_closed moment
+  Led stage seen = Turned (onto onward_to (turn made stage seen answer)) (behind_reply stage seen) requests (asked_owes before.terms.place before.numbers.flow before.parked asked reply moment seen.closed) looked after.numbers before.client_closed moment
 
   -- where it goes, and what it adds
   abbrev pub ResumesHere : Standing → List (Timed Event) → Type 0
@@ -162,22 +176,24 @@ module _ (onward_to : Stage → Stage) (goes : IsOnward onward_to) (made : Terms
       let further : Stage = onward_to turned.stage in
       let behind : Sight = behind_reply place.stage seen in
       let stood : Standing = stands place moment prefix further in
-      let T : Terms → Type 0 = λ t. LookFound t after.numbers looked requests after.requests moment before.client_closed between longer after.phase in
-      let there = advanced made behind after.numbers requests after.requests moment before.client_closed between longer after.phase led.sent further
-      looked led.is_ready led.place led.now led.dials (subst T at.is_in.terms look_found) in
+      let T : Terms → Type 0 = λ t. LookFound t after.numbers (used_in after.parked) looked requests after.requests moment before.client_closed between longer after.phase in
+      let S : Terms → Type 0 = λ t. HasParked made.place turned.stage behind (behind_parked t.place asked reply before.parked) in
+      let L : Option KeptLink → Type 0 = λ s. HasParked made.place further behind s in
+      let is_parked : HasParked made.place further behind after.parked =
+      subst L (sym left) (parked_led onward_to goes made.place turned.stage behind _
+      (subst S (sym at.is_in.terms) (parks made seen before.requests before.parked answer place.stage asked at.is_in.parked is_asked))) in
+      let there = advanced made behind after.numbers after.parked requests after.requests moment before.client_closed between longer after.phase led.sent further
+      looked led.is_ready led.place led.now led.dials is_parked (subst T at.is_in.terms look_found) in
       let shut : before.client_closed ≡ seen.closed = asked_shut made before.requests asked place.stage seen before.numbers before.client_closed is_asked at.is_in.place in
       let owes : between ≡ out ++ turned.owed =
-      owed ∙ (ap (λ b. out ++ asked_owes before.terms.place before.numbers.flow before.spare asked reply moment b) shut ∙ ap (λ l. out ++ l) (sym led.owed)) in
+      owed ∙ (ap (λ b. out ++ asked_owes before.terms.place before.numbers.flow before.parked asked reply moment b) shut ∙ ap (λ l. out ++ l) (sym led.owed)) in
       let all : out ++ more ≡ out ++ (turned.owed ++ there.0.more) =
       sym grown ∙ (there.0.grown ∙ (ap (λ l. l ++ there.0.more) owes ∙ append_assoc out turned.owed there.0.more)) in
       let parts : more ≡ turned.owed ++ there.0.more = same_tail out more _ all in
       let C : Bool → Type 0 = λ c. HasPlace (pass further behind) behind after.numbers c in
-      let none : there.0.more ≡ so_far (pass further behind) behind ++ found (look made (pass further behind) behind) =
+      let none : there.0.more ≡ so_far (pass further behind) behind ++ found_with (behind_asks (pass further behind) behind) (look made (pass further behind) behind) =
       ap (λ l. l ++ there.0.more) (sym led.none_sent) ∙ there.0.owes in
       let sees : sight_over stood prefix ≡ behind = walked_behind onward_to goes made place prefix answer in
-      let S : Terms → Type 0 = λ t. IsSpare behind.spare (behind_spare t.place asked reply before.spare) in
-      let L : Option KeptLink → Type 0 = λ s. IsSpare behind.spare s in
-      let spare : IsSpare behind.spare after.spare = subst L (sym left) (subst S (sym at.is_in.terms) (spared made seen before.requests before.spare answer at.is_in.spare place.stage asked is_asked)) in
       record {
         ask = ask;
         asked = is;
@@ -187,7 +203,7 @@ module _ (onward_to : Stage → Stage) (goes : IsOnward onward_to) (made : Terms
               place = subst C (sym same_closed) there.1;
               phase = there.0.phase;
               dials = pass_dials further behind led.dials;
-              spare = spare;
+              parked = pass_parked made.place further behind after.parked is_parked;
             });
         gives = λ view. ap (seen_of view) parts ∙ (seen_append view turned.owed there.0.more
             ∙ (ap (λ l. seen_of view turned.owed ++ l) (gives_walked made stood prefix behind sees onward_to view [] there.0.more none)

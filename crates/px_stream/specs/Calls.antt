@@ -9,10 +9,10 @@ use Rattle.px_stream.specs.declared.phase.Asked.{Asked}
 use Rattle.px_stream.specs.declared.phase.Phase.TheVariants as phase
 use Rattle.px_stream.specs.declared.phase.Wanted.{Wanted}
 use Rattle.px_stream.specs.declared.stream.Stream.{Stream}
-use Rattle.px_stream.specs.Heard.{LinkAgrees, SpareAgrees, closes_client, ready_takes, requests_take, spare_takes}
+use Rattle.px_stream.specs.Heard.{LinkAgrees, ParkedAgrees, closes_client, ready_takes, requests_take, parked_takes}
 use Rattle.px_stream.specs.Looking.{LookFound, MayLook}
-use Rattle.px_stream.specs.Stands.{is_last}
-use Rattle.px_stream.specs.Turns.{asked_leads, asked_owes, behind_asked, behind_ready, behind_spare}
+use Rattle.px_stream.specs.Stands.{is_last, used_in}
+use Rattle.px_stream.specs.Turns.{asked_leads, asked_owes, behind_asked, behind_ready, behind_parked}
 
 -- something is there
 abbrev pub IsSome : {A : Type 0} → Option A → Type 0
@@ -24,24 +24,24 @@ pub record LooksOnce (before after : Stream) (moment : ℕ) (looked : Wanted) (o
   pub terms : after.terms ≡ before.terms
   pub numbers : after.numbers ≡ before.numbers
   pub client : after.client_closed ≡ before.client_closed
-  pub spare : after.spare ≡ before.spare
-  pub looks : LookFound before.terms before.numbers looked before.requests after.requests moment before.client_closed out longer after.phase
+  pub parked : after.parked ≡ before.parked
+  pub looks : LookFound before.terms before.numbers (used_in before.parked) looked before.requests after.requests moment before.client_closed out longer after.phase
 
 -- it took this answer, and is to look for that
 pub record TurnsTo (before after : Stream) (moment : ℕ) (reply : Reply) (awaits : Asked) (looked : Wanted) (out longer : List Command) : Type 0 where
   pub terms : after.terms ≡ before.terms
   pub requests : after.requests ≡ before.requests
   pub client : after.client_closed ≡ before.client_closed
-  pub spare : after.spare ≡ behind_spare before.terms.place awaits reply before.spare
-  pub numbers : after.numbers ≡ behind_ready (behind_asked before.numbers awaits) (asked_leads before.terms.place before.numbers.flow before.spare awaits reply)
-  pub gives : longer ≡ out ++ asked_owes before.terms.place before.numbers.flow before.spare awaits reply moment before.client_closed
-  pub leads : looked ≡ asked_leads before.terms.place before.numbers.flow before.spare awaits reply
+  pub parked : after.parked ≡ behind_parked before.terms.place awaits reply before.parked
+  pub numbers : after.numbers ≡ behind_ready (behind_asked before.numbers awaits) (asked_leads before.terms.place before.numbers.flow before.parked awaits reply)
+  pub gives : longer ≡ out ++ asked_owes before.terms.place before.numbers.flow before.parked awaits reply moment before.client_closed
+  pub leads : looked ≡ asked_leads before.terms.place before.numbers.flow before.parked awaits reply
 
 -- its readers may hear this event, and then look
-pub record MayHear (event : Event) (requests : State) (spare : Option Link) (looked : Wanted) : Type 0 where
+pub record MayHear (event : Event) (requests : State) (parked : Option Link) (looked : Wanted) : Type 0 where
   pub open_still : requests.closed ≡ false
   pub agrees : LinkAgrees looked
-  pub spare_agrees : SpareAgrees spare
+  pub parked_agrees : ParkedAgrees parked
   pub looks : MayLook (ready_takes event looked) (requests_take event requests)
 
 -- its readers heard this event, and it looked once
@@ -49,8 +49,8 @@ pub record Hears (before after : Stream) (moment : ℕ) (event : Event) (looked 
   pub terms : after.terms ≡ before.terms
   pub numbers : after.numbers ≡ before.numbers
   pub client : after.client_closed ≡ closes_client event before.client_closed
-  pub spare : after.spare ≡ spare_takes event before.spare
-  pub looks : LookFound before.terms before.numbers (ready_takes event looked) (requests_take event before.requests) after.requests moment
+  pub parked : after.parked ≡ parked_takes event before.parked
+  pub looks : LookFound before.terms before.numbers (used_in after.parked) (ready_takes event looked) (requests_take event before.requests) after.requests moment
       (closes_client event before.client_closed) out longer after.phase
 
 -- what it does with an event, where no answer is awaited: nothing, where it has ended
@@ -63,8 +63,8 @@ pub data TakesEvent (before after : Stream) (moment : ℕ) (event : Event) (out 
 pub record Answers (before after : Stream) (moment : ℕ) (reply : Reply) (awaits : Asked) (looked : Wanted) (requests : State) (out longer : List Command) : Type 0 where
   pub terms : after.terms ≡ before.terms
   pub client : after.client_closed ≡ before.client_closed
-  pub spare : after.spare ≡ behind_spare before.terms.place awaits reply before.spare
-  pub numbers : after.numbers ≡ behind_ready (behind_asked before.numbers awaits) (asked_leads before.terms.place before.numbers.flow before.spare awaits reply)
+  pub parked : after.parked ≡ behind_parked before.terms.place awaits reply before.parked
+  pub numbers : after.numbers ≡ behind_ready (behind_asked before.numbers awaits) (asked_leads before.terms.place before.numbers.flow before.parked awaits reply)
   pub between : List Command
-  pub owes : between ≡ out ++ asked_owes before.terms.place before.numbers.flow before.spare awaits reply moment before.client_closed
-  pub looks : LookFound before.terms after.numbers looked requests after.requests moment before.client_closed between longer after.phase
+  pub owes : between ≡ out ++ asked_owes before.terms.place before.numbers.flow before.parked awaits reply moment before.client_closed
+  pub looks : LookFound before.terms after.numbers (used_in after.parked) looked requests after.requests moment before.client_closed between longer after.phase

@@ -7,7 +7,7 @@ use Rattle.px_event.specs.Chain.{Timed}
 use Rattle.px_message.specs.declared.flow.Flow.{Flow}
 use Rattle.px_message.specs.declared.response.Response.{Response}
 use Rattle.px_exchange.specs.declared.terms.Terms.{Terms}
-use Rattle.px_chain.specs.Sights.{IsWithin, Standing, unused_over}
+use Rattle.px_chain.specs.Sights.{IsWithin, Standing, sight_over}
 use Rattle.px_chain.specs.Stages.{At, Doing, busy, connection, given_head}
 use Rattle.px_chain.specs.Streams.{bytes_of, client_closed, now_over}
 use Rattle.px_stream.specs.Anywhere.{BeginsThere}
@@ -15,7 +15,7 @@ use Rattle.px_stream.specs.declared.phase.Wanted.{Wanted}
 use Rattle.px_stream.specs.declared.phase.Wanted.TheVariants as ready
 use Rattle.px_stream.specs.declared.stream.Stream.{Stream}
 use Rattle.px_stream.specs.Sequence.{IsCounted}
-use Rattle.px_stream.specs.Stands.{IsSpare}
+use Rattle.px_stream.specs.Stands.{HasParked}
 
 -- What follows a whole request, by the response that was given in place of the server's, if one was.
 abbrev pub doing_by : Option Response → Doing
@@ -39,8 +39,7 @@ pub record MayGoOn (made : Terms) (ahead : ℕ) (state : Stream) (moment : ℕ) 
   pub used : at.used ≤ length (bytes_of Client prefix)
   pub come : drop at.used (bytes_of Client prefix) ≡ []
   pub client : client_closed prefix ≡ false
-  -- of the spare side nothing was heard
-  pub spare : IsSpare (unused_over place.spare prefix) state.spare
+  pub parked : HasParked made.place place.stage (sight_over place prefix) state.parked
   pub within : IsWithin place prefix
   pub now : moment ≡ now_over place.since prefix
 

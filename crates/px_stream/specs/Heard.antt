@@ -1,5 +1,5 @@
 -- What the reader of a side has heard.
-use Rattle.std.specs.Prelude.{◌≡◌, ℕ, Bool, true, ◌==◌, if◌then◌else◌, List, ◌++◌, Option, Some, None, ⊤}
+use Rattle.std.specs.Prelude.{◌≡◌, ℕ, Bool, true, false, ◌==◌, if◌then◌else◌, List, ◌++◌, Option, Some, None, ⊤}
 use Rattle.px_event.specs.declared.event.Event.{Event}
 use Rattle.px_event.specs.declared.event.Event.TheVariants as events
 use Rattle.px_event.specs.declared.side.Side.TheVariants.{Client, Server}
@@ -48,18 +48,23 @@ ready_takes event (ready.Answering flow link) = ready.Answering flow (link_takes
 ready_takes event (ready.Returning flow link body) = ready.Returning flow (link_takes event link) body
 ready_takes event looked = looked
 
--- the spare side
-abbrev pub spare_takes : Event → Option Link → Option Link
-spare_takes event None = None
-spare_takes event (Some spare) = Some (link_takes event spare)
+-- the parked side
+abbrev pub parked_takes : Event → Option Link → Option Link
+parked_takes event None = None
+parked_takes event (Some parked) = Some (link_takes event parked)
 
-abbrev pub spare_hears : ℕ → List ℕ → Option Link → Option Link
-spare_hears server bytes None = None
-spare_hears server bytes (Some spare) = Some (link_hears server bytes spare)
+abbrev pub parked_hears : ℕ → List ℕ → Option Link → Option Link
+parked_hears server bytes None = None
+parked_hears server bytes (Some parked) = Some (link_hears server bytes parked)
 
-abbrev pub spare_closes : ℕ → Option Link → Option Link
-spare_closes server None = None
-spare_closes server (Some spare) = Some (link_closes server spare)
+-- with bytes that were heard before it was parked
+abbrev pub parked_feeds : List ℕ → Option Link → Option Link
+parked_feeds bytes None = None
+parked_feeds bytes (Some parked) = Some (record parked { responses = feeds bytes parked.responses })
+
+abbrev pub parked_closes : ℕ → Option Link → Option Link
+parked_closes server None = None
+parked_closes server (Some parked) = Some (link_closes server parked)
 
 -- bytes of a server, and its close, where it is looked for
 abbrev pub ready_hears : ℕ → List ℕ → Wanted → Wanted
@@ -76,9 +81,14 @@ ready_closes server looked = looked
 abbrev pub Agrees : Link → Type 0
 Agrees link = link.responses.closed ≡ link.closed
 
-abbrev pub SpareAgrees : Option Link → Type 0
-SpareAgrees None = ⊤
-SpareAgrees (Some spare) = Agrees spare
+abbrev pub ParkedAgrees : Option Link → Type 0
+ParkedAgrees None = ⊤
+ParkedAgrees (Some parked) = Agrees parked
+
+-- its reader was told of no close
+abbrev pub IsUnshut : Option Link → Type 0
+IsUnshut None = ⊤
+IsUnshut (Some parked) = parked.responses.closed ≡ false
 
 abbrev pub LinkAgrees : Wanted → Type 0
 LinkAgrees (ready.Answering flow link) = Agrees link

@@ -1,7 +1,8 @@
 -- How many bytes a flow keeps: the sum over all its fields, of what its readers keep and of the content that has come of a body.
 -- What does not count is the flow itself with its messages (a response that was given in place of the server's among them),
--- addresses, and the bytes that wait behind a message, of which a reader says that it does not keep them.
-use Rattle.std.specs.Prelude.{ℕ, ◌+◌, length, Option, Some, None}
+-- addresses, and the bytes that wait: behind a message, of which a reader says that it does not keep them, and all that was heard of a side
+-- that is parked.
+use Rattle.std.specs.Prelude.{ℕ, ◌+◌, length}
 use Rattle.px_read.specs.Reader.{keeps}
 use Rattle.px_stream.specs.declared.link.Link.{Link}
 use Rattle.px_stream.specs.declared.phase.Asked.{Asked}
@@ -15,11 +16,6 @@ use Rattle.px_stream.specs.declared.stream.Stream.{Stream}
 -- a server's side has no bytes but its reader's
 abbrev pub link_keeps : Link → ℕ
 link_keeps link = keeps link.responses
-
--- and of the spare one, all that was heard of it
-abbrev pub spare_keeps : Option Link → ℕ
-spare_keeps None = 0
-spare_keeps (Some spare) = link_keeps spare
 
 -- of the content and of the server's side
 abbrev pub ready_keeps : Wanted → ℕ
@@ -50,4 +46,4 @@ phase_keeps (phase.Asked awaits) = asked_keeps awaits
 
 -- and of the client's; its terms have addresses alone, and its numbers none
 abbrev pub stream_keeps : Stream → ℕ
-stream_keeps state = keeps state.requests + (spare_keeps state.spare + phase_keeps state.phase)
+stream_keeps state = keeps state.requests + phase_keeps state.phase

@@ -6,7 +6,8 @@ use Rattle.px_message.specs.declared.response.Response.{Response}
 use Rattle.px_event.specs.declared.ask.Hook.TheVariants.{RequestBody, ResponseHead, ResponseBody}
 use Rattle.px_event.specs.declared.command.Command.{Command}
 use Rattle.px_read.specs.declared.head.ResponseHead.{ResponseHead as ReadResponse}
-use Rattle.px_exchange.specs.declared.ending.Used.TheVariants.{NoServer, ByServer}
+use Rattle.px_exchange.specs.declared.ending.Used.{Used}
+use Rattle.px_exchange.specs.declared.ending.Used.TheVariants.{ByServer}
 use Rattle.px_stream.specs.declared.link.Link.{Link as KeptLink}
 use Rattle.px_stream.specs.declared.phase.Asked.TheVariants as asked
 use Rattle.px_stream.specs.declared.phase.Phase.{Phase}
@@ -37,10 +38,10 @@ abbrev pub whole_phase : Flow → Option Response → ℕ → Phase
 whole_phase flow None moment = phase.Asked (asked.Body flow)
 whole_phase flow (Some given) moment = phase.Asked (asked.GivenHead (with_start (record flow { response = Some given }) moment))
 
-abbrev pub body_gives : Flow → Option Response → Progress → List ℕ → ℕ → Bool → List Command
-body_gives flow given (progress.Whole trailers) content moment closed = whole_gives (with_body flow content trailers moment) given moment
-body_gives flow given (progress.Bad fault) content moment closed = ends_by_fault flow fault moment NoServer closed
-body_gives flow given progress.Missing content moment closed = where_left closed (ends_early flow closed_message moment NoServer true)
+abbrev pub body_gives : Flow → Option Response → Progress → List ℕ → ℕ → Used → Bool → List Command
+body_gives flow given (progress.Whole trailers) content moment parked closed = whole_gives (with_body flow content trailers moment) given moment
+body_gives flow given (progress.Bad fault) content moment parked closed = ends_by_fault flow fault moment parked closed
+body_gives flow given progress.Missing content moment parked closed = where_left closed (ends_early flow closed_message moment parked true)
 
 abbrev pub body_phase : Flow → Option Response → Progress → List ℕ → ℕ → Bool → Phase
 body_phase flow given (progress.Whole trailers) content moment closed = whole_phase (with_body flow content trailers moment) given moment

@@ -1,5 +1,6 @@
 -- What is looked for, or asked, behind what was found and behind an answer.
 use Rattle.std.specs.Prelude.{ℕ, ◌==◌, Bool, true, false, List, [], ◌∷◌, Option, Some, None}
+use Rattle.px_message.specs.declared.address.Address.{Address}
 use Rattle.px_message.specs.declared.flow.Flow.{Flow}
 use Rattle.px_message.specs.declared.request.Request.{Request}
 use Rattle.px_message.specs.declared.response.Response.{Response}
@@ -23,14 +24,15 @@ use Rattle.px_exchange.specs.declared.place.Place.{Place}
 use Rattle.px_exchange.specs.declared.place.Place.TheVariants as places
 use Rattle.px_exchange.specs.declared.terms.Terms.{Terms}
 use Rattle.px_exchange.specs.Endings.{connection_goes_on}
-use Rattle.px_exchange.specs.Places.{goes_home}
+use Rattle.px_exchange.specs.Places.{is_same_address, server_for}
 use Rattle.px_exchange.specs.Requests.{expects, flow_of, is_head, judged}
 use Rattle.px_chain.specs.Chain.{reached}
 use Rattle.px_chain.specs.Stages.{At, ServerSide}
+use Rattle.px_stream.specs.Stands.{home_of}
 
 -- a flow of this number; nothing else of where it stands is looked at
 abbrev pub numbered : ℕ → At
-numbered index = record { flow = index; dials = 0; used = 0 }
+numbered index = record { flow = index; dials = 0; used = 0; parked = None }
 
 -- a side; what a reply to the hook of a response's head owes does not look at it
 abbrev pub no_side : ServerSide
@@ -80,31 +82,39 @@ fresh_link server asked_head bytes closed =
 abbrev pub new_link : ℕ → Bool → KeptLink
 new_link server asked_head = fresh_link server asked_head [] false
 
--- the spare side of a place, if it has one
-abbrev pub spare_at : Place → Option KeptLink
-spare_at (places.Fixed address (Some server) inside) = Some (new_link server false)
-spare_at place = None
+-- the parked side of a place, if it has one
+abbrev pub parked_at : Place → Option KeptLink
+parked_at (places.Fixed address (Some server) inside) = Some (new_link server false)
+parked_at place = None
 
--- of the spare side, with all that was heard of it
+-- of the parked side, with all that was heard of it
 abbrev pub link_for : Bool → KeptLink → KeptLink
-link_for asked_head spare = fresh_link spare.server asked_head spare.responses.rest spare.closed
+link_for asked_head parked = fresh_link parked.server asked_head parked.responses.rest parked.closed
 
 abbrev pub connected : Place → Flow → ℕ → Wanted
 connected place flow server = ready.Answering (reached place flow) (new_link server (is_head flow.request.method))
 
--- the spare side, where this request goes there
+-- a request goes where its place stands, and so to the side that is parked there, if one is
+abbrev pub goes_to : Option Address → Address → Bool
+goes_to None server = false
+goes_to (Some address) server = is_same_address address server
+
+abbrev pub goes_home : Place → Request → Bool
+goes_home place message = goes_to (home_of place) (server_for place message)
+
+-- the parked side, where this request goes there
 abbrev pub link_home : Bool → Option KeptLink → Option KeptLink
-link_home true spare = spare
-link_home false spare = None
+link_home true parked = parked
+link_home false parked = None
 
 abbrev pub goes_on_to : Option KeptLink → Place → Flow → Wanted
 goes_on_to None place flow = ready.Dialling flow
-goes_on_to (Some spare) place flow = ready.Answering (reached place flow) (link_for (is_head flow.request.method) spare)
+goes_on_to (Some parked) place flow = ready.Answering (reached place flow) (link_for (is_head flow.request.method) parked)
 
 abbrev pub behind_request : Place → Flow → Option KeptLink → Taken Request → Wanted
-behind_request place flow spare (GoesOn message) = goes_on_to (link_home (goes_home place message) spare) place (record flow { request = message })
-behind_request place flow spare (Responds given) = ready.GivenHead (record flow { response = Some given })
-behind_request place flow spare Kills = ready.Over
+behind_request place flow parked (GoesOn message) = goes_on_to (link_home (goes_home place message) parked) place (record flow { request = message })
+behind_request place flow parked (Responds given) = ready.GivenHead (record flow { response = Some given })
+behind_request place flow parked Kills = ready.Over
 
 abbrev pub behind_dial : Place → Flow → ℕ → Reply → Wanted
 behind_dial place flow server reply.Dialled = connected place flow server

@@ -22,14 +22,14 @@ use Rattle.px_stream.specs.declared.phase.Wanted.TheVariants as ready
 use Rattle.px_stream.specs.declared.numbers.Numbers.{Numbers}
 use Rattle.px_stream.specs.declared.stream.Stream.{Stream}
 use Rattle.px_exchange.specs.declared.terms.Terms.{Terms}
-use Rattle.px_chain.specs.Chain.{Connect, begin_with, connect_in, http_chain, sequence, spare_of}
+use Rattle.px_chain.specs.Chain.{Connect, begin, connect_in, http_chain, sequence}
 use Rattle.px_chain.specs.Sights.{Sight, Standing, request_in, sight_over}
 use Rattle.px_chain.specs.Stages.{At, Doing, Stage, busy, connection, idle, next, over, request_body, upgraded}
 use Rattle.px_stream.specs.Stands.{IsAt, start_of}
 
--- where one starts that was made so: at a flow's head, and a side of its place is spare
+-- where one starts that was made so: at a flow's head, and a side of its place is parked
 abbrev pub first_of : Stream → Standing
-first_of made = begin_with (spare_of made.terms.place) (idle (start_of made.numbers))
+first_of made = begin (idle (start_of made.terms.place made.numbers))
 
 -- what a state stands for, where a finished flow leads so
 abbrev pub Stands : (Stage → Stage) → Stream → Stream → List Move → List Command → Type 0
@@ -129,14 +129,14 @@ abbrev pub asked_tunnel : Phase → Option Address
 asked_tunnel (phase.Ready (ready.Connects address)) = Some address
 asked_tunnel found = None
 
--- the spare side, while its server is connected
+-- the parked side, while its server is connected
 abbrev pub unless_closed : Link → Bool → Option ℕ
-unless_closed spare true = None
-unless_closed spare false = Some spare.server
+unless_closed parked true = None
+unless_closed parked false = Some parked.server
 
-abbrev pub open_spare : Option Link → Option ℕ
-open_spare None = None
-open_spare (Some spare) = unless_closed spare spare.closed
+abbrev pub open_parked : Option Link → Option ℕ
+open_parked None = None
+open_parked (Some parked) = unless_closed parked parked.closed
 
 -- the server's side on which another protocol follows, and whether it closed
 abbrev pub upgraded_side : Phase → Option Used

@@ -1,5 +1,6 @@
 -- Where a flow is: what its fields are at a stage and in a sight.
 use Rattle.std.specs.Prelude.{◌≡◌, ◌≤◌, ◌+◌, ◌++◌, ℕ, Bool, true, false, List, [], ◌∷◌, length, drop, Option, Some, None, ⊤}
+use Rattle.px_message.specs.declared.address.Address.{Address}
 use Rattle.px_message.specs.declared.flow.Flow.{Flow}
 use Rattle.px_message.specs.declared.request.Request.{Request}
 use Rattle.px_message.specs.declared.response.Response.{Response}
@@ -26,14 +27,18 @@ use Rattle.px_stream.specs.declared.phase.Wanted.{Wanted}
 use Rattle.px_stream.specs.declared.phase.Wanted.TheVariants as ready
 use Rattle.px_stream.specs.declared.stream.Stream.{Stream}
 use Rattle.px_stream.specs.declared.numbers.Numbers.{Numbers}
+use Rattle.px_exchange.specs.declared.ending.Used.{Used}
+use Rattle.px_exchange.specs.declared.ending.Used.TheVariants.{NoServer, ByServer}
+use Rattle.px_exchange.specs.declared.place.Place.{Place}
+use Rattle.px_exchange.specs.declared.place.Place.TheVariants as places
 use Rattle.px_exchange.specs.declared.terms.Terms.{Terms}
 use Rattle.px_exchange.specs.Finds.{is_relayed}
 use Rattle.px_exchange.specs.Bodies.{content_of}
 use Rattle.px_exchange.specs.Flows.{hook_of, response_of, with_answer, with_body, with_end, with_returned, with_start}
-use Rattle.px_chain.specs.Chain.{connect_in, look, so_far, Connect}
-use Rattle.px_chain.specs.Sights.{Sight, Standing, Unused, IsWithin, answers_in, request_in, sight_over}
+use Rattle.px_chain.specs.Chain.{connect_in, look, parked_of, so_far, Connect}
+use Rattle.px_chain.specs.Sights.{Sight, Standing, IsWithin, answers_in, request_in, sight_over}
 use Rattle.px_exchange.specs.Requests.{is_head, expects, flow_of, judged}
-use Rattle.px_chain.specs.Stages.{At, Doing, ServerSide, Stage, busy, connection, given_body, given_head, idle, next, over, request_body, response_body, response_head, upgraded}
+use Rattle.px_chain.specs.Stages.{At, Doing, Parked, ServerSide, Stage, busy, connection, given_body, given_head, idle, next, over, request_body, response_body, response_head, upgraded}
 use Rattle.px_exchange.specs.Texts.{interim_commands}
 
 -- ---- the client's reader
@@ -253,18 +258,52 @@ PhaseAt NotYet terms requests found stage seen =
 PhaseAt (Asks ask) terms requests found stage seen = (awaits : Asked) × (found ≡ phase.Asked awaits) × IsAsked terms requests awaits stage seen
 PhaseAt (Ends owed) terms requests found stage seen = (last : Wanted) × (found ≡ phase.Ready last) × IsLast terms stage seen requests last
 
--- ---- the spare side
+-- ---- the parked side
 
--- a reader of no request's response, which was fed what was heard of the side, and nothing of it was read
-pub record IsUnused (unused : Unused) (kept : KeptLink) : Type 0 where
-  pub server : kept.server ≡ unused.server
-  pub closed : kept.closed ≡ unused.shut
-  pub responses : kept.responses ≡ before_all (response false) unused.bytes unused.shut
+-- where all requests go, unless their hooks send them elsewhere
+abbrev pub home_of : Place → Option Address
+home_of (places.Fixed address side inside) = Some address
+home_of place = None
 
-abbrev pub IsSpare : Option Unused → Option KeptLink → Type 0
-IsSpare None None = ⊤
-IsSpare (Some unused) (Some kept) = IsUnused unused kept
-IsSpare unused kept = ⊥
+-- A reader of no request's response, which was fed what was heard of the side behind the bytes that others have used, and nothing of it
+-- was read.
+pub record IsUnread (side : ServerSide) (seen : Sight) (kept : KeptLink) : Type 0 where
+  pub server : kept.server ≡ side.server
+  pub closed : kept.closed ≡ seen.shut
+  pub within : side.used ≤ length seen.server
+  pub responses : kept.responses ≡ before_all (response false) (drop side.used seen.server) seen.shut
+
+-- the side that is parked, which stands at the address of its place
+pub record IsHome (place : Place) (parked : Parked) (seen : Sight) (kept : KeptLink) : Type 0 where
+  pub home : home_of place ≡ Some parked.address
+  pub unread : IsUnread parked.side seen kept
+
+abbrev pub IsParked : Place → Option Parked → Sight → Option KeptLink → Type 0
+IsParked place None seen None = ⊤
+IsParked place (Some parked) seen (Some kept) = IsHome place parked seen kept
+IsParked place parked seen kept = ⊥
+
+-- none is, where a flow uses a side
+pub record IsNoneParked (at : At) (kept : Option KeptLink) : Type 0 where
+  pub here : at.parked ≡ None
+  pub none : kept ≡ None
+
+abbrev pub HasParkedFor : Place → At → Doing → Sight → Option KeptLink → Type 0
+HasParkedFor place at (response_head side how) seen kept = IsNoneParked at kept
+HasParkedFor place at (response_body side how) seen kept = IsNoneParked at kept
+HasParkedFor place at (upgraded side) seen kept = IsNoneParked at kept
+HasParkedFor place at doing seen kept = IsParked place at.parked seen kept
+
+abbrev pub HasParked : Place → Stage → Sight → Option KeptLink → Type 0
+HasParked place (idle at) seen kept = IsParked place at.parked seen kept
+HasParked place (busy at flow doing) seen kept = HasParkedFor place at doing seen kept
+HasParked place (next at) seen kept = IsParked place at.parked seen kept
+HasParked place over seen kept = ⊤
+
+-- the server that is parked, and whether it closed
+abbrev pub used_in : Option KeptLink → Used
+used_in None = NoServer
+used_in (Some kept) = ByServer kept.server kept.closed
 
 -- a server's number fits where it is dialled
 abbrev pub DialsFor : At → Doing → Type 0
@@ -283,7 +322,7 @@ pub record IsIn (made : Terms) (state : Stream) (stage : Stage) (seen : Sight) :
   pub place : HasPlace stage seen state.numbers state.client_closed
   pub phase : PhaseAt (look made stage seen) made state.requests state.phase stage seen
   pub dials : Dials stage
-  pub spare : IsSpare seen.spare state.spare
+  pub parked : HasParked made.place stage seen state.parked
 
 -- where the walk stopped at this stage and over this prefix
 pub record IsAt (made : Terms) (state : Stream) (place : Standing) (prefix : List (Timed Event)) : Type 0 where
@@ -318,6 +357,6 @@ is_last _ = false
 
 -- ---- what a state stands for
 
--- where a flow of this number starts, whose server has that one
-abbrev pub start_of : Numbers → At
-start_of numbers = record { flow = numbers.flow; dials = numbers.server; used = 0 }
+-- where a flow of this number starts, whose server has that one, and a side of its place is parked
+abbrev pub start_of : Place → Numbers → At
+start_of place numbers = record { flow = numbers.flow; dials = numbers.server; used = 0; parked = parked_of place }

@@ -1,6 +1,7 @@
 -- A flow whose server is reached through another proxy: that proxy is dialled for it, and asked for a tunnel to the server.
 use Rattle.std.specs.Prelude.{Option, Some, None, ⊤}
 use Rattle.px_message.specs.declared.address.Address.{Address}
+use Rattle.px_message.specs.declared.flow.Flow.{Flow}
 use Rattle.px_exchange.specs.declared.place.Place.{Place}
 use Rattle.px_exchange.specs.declared.place.Place.TheVariants as places
 use Rattle.px_exchange.specs.Places.{address_of}
@@ -12,6 +13,11 @@ use Rattle.px_stream.specs.declared.phase.Phase.TheVariants as phase
 abbrev pub IsDialling : Phase → Type 0
 IsDialling (phase.Asked (asked.Dial flow server)) = ⊤
 IsDialling found = ⊥
+
+-- the flow whose server is dialled, while that is awaited
+abbrev pub dialled_flow : Phase → Option Flow
+dialled_flow (phase.Asked (asked.Dial flow server)) = Some flow
+dialled_flow found = None
 
 -- where the server of a flow is, while its dial is awaited
 abbrev pub server_dialled : Phase → Option Address

@@ -1,8 +1,8 @@
 //! An event of a side, heard by the reader of that side.
 ghost use Rattle.std.specs.Prelude.{◌≡◌, false, OnOk};
-ghost use Rattle.px_stream.specs.Heard.{LinkAgrees, SpareAgrees, closes_client, ready_closes, ready_hears, ready_takes, requests_take, spare_takes};
+ghost use Rattle.px_stream.specs.Heard.{LinkAgrees, ParkedAgrees, closes_client, ready_closes, ready_hears, ready_takes, requests_take, parked_takes};
 
-use crate::link::{Link, close_spare, hear_spare};
+use crate::link::{Link, close_parked, hear_parked};
 use crate::phase::Wanted;
 use px_event::{Event, Side};
 use px_read::MessageReader;
@@ -12,17 +12,17 @@ use px_text::{Bytes, NoMemory};
 pub(crate) fn hear(
     requests: &mut MessageReader,
     client_closed: &mut bool,
-    spare: &mut Option<Link>,
+    parked: &mut Option<Link>,
     ready: &mut Wanted,
     event: &Event,
 ) -> Result<(), NoMemory>
     requires open_still { requests.old.closed ≡ false }
     requires agrees { LinkAgrees ready.old }
-    requires spare { SpareAgrees spare.old }
+    requires parked { ParkedAgrees parked.old }
     ensures requests { OnOk result (requests.new ≡ requests_take event.now requests.old) }
     ensures client { OnOk result (client_closed.new ≡ closes_client event.now client_closed.old) }
     ensures ready { OnOk result (ready.new ≡ ready_takes event.now ready.old) }
-    ensures spare { OnOk result (spare.new ≡ spare_takes event.now spare.old) }
+    ensures parked { OnOk result (parked.new ≡ parked_takes event.now parked.old) }
 {
     match event {
         Event::Piece {
@@ -33,7 +33,7 @@ pub(crate) fn hear(
             side: Side::Server(server),
             bytes,
         } => {
-            hear_spare(spare, *server, bytes)?;
+            hear_parked(parked, *server, bytes)?;
             hear_server(ready, *server, bytes)
         }
         Event::Closed { side: Side::Client } => {
@@ -43,7 +43,7 @@ pub(crate) fn hear(
         Event::Closed {
             side: Side::Server(server),
         } => {
-            close_spare(spare, *server);
+            close_parked(parked, *server);
             close_server(ready, *server);
             Ok(())
         }

@@ -23,9 +23,10 @@
 //! where `Stream::leads_to` says. Meanwhile the dial is awaited still: `hear_waiting` hears what comes, and gives nothing. At last
 //! the way stands, and `reach` is told what has come behind the proxy's answer; or the dial is answered with a refusal.
 //!
-//! A place may have a server's side that is connected before its first flow: it is spare. Its bytes and its close are heard beside the
-//! others' and not read, until a request goes where it is connected to: that request is sent to it with no dial, and all that was heard
-//! of it is what its responses begin with.
+//! A place may have a server's side that is connected before its first flow: it is parked. Its bytes and its close are heard and not
+//! read, until a request goes where it is connected to: that request is sent to it with no dial, and all that was heard of it is what
+//! its responses begin with. A request that goes elsewhere is dialled for, and the parked side is closed right behind that dial; so it
+//! is where the conversation ends before. One server's side at most is open: the one that a flow uses, or the one that is parked.
 //!
 //! `laws` says that the machine follows the chain, step by step.
 #![tactic(auto)]

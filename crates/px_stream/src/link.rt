@@ -1,9 +1,10 @@
 //! The server's side of a flow: the responses that come on it.
 ghost use Rattle.std.specs.Prelude.{◌≡◌, false, [], OnOk, IfOk};
 ghost use Rattle.px_read.specs.Reader.{before_all, response};
-ghost use Rattle.px_stream.specs.Heard.{SpareAgrees, link_closes, link_hears, spare_closes, spare_hears};
-ghost use Rattle.px_stream.specs.Phases.{link_for, spare_at};
-ghost use Rattle.px_stream.specs.Sequence.{open_spare};
+ghost use Rattle.px_stream.specs.Heard.{IsUnshut, ParkedAgrees, link_closes, link_hears, parked_closes, parked_feeds, parked_hears};
+ghost use Rattle.px_stream.specs.Phases.{link_for, parked_at};
+ghost use Rattle.px_stream.specs.Sequence.{open_parked};
+ghost use Rattle.px_stream.specs.Stands.{used_in};
 
 use px_exchange::Place;
 use px_exchange::ending::Used;
@@ -94,9 +95,9 @@ impl Link {
     }
 }
 
-/// The spare side of a place, of which nothing was heard yet, if it has one.
-pub fn spare_side(alloc: Global, place: &Place) -> Option<Link>
-    ensures { result ≡ spare_at place.now }
+/// The parked side of a place, of which nothing was heard yet, if it has one.
+pub fn parked_side(alloc: Global, place: &Place) -> Option<Link>
+    ensures { result ≡ parked_at place.now }
 {
     match place {
         Place::Fixed {
@@ -107,32 +108,53 @@ pub fn spare_side(alloc: Global, place: &Place) -> Option<Link>
     }
 }
 
-/// Bytes of the server of that number, where it is spare.
-pub fn hear_spare(spare: &mut Option<Link>, server: u32, bytes: &Bytes) -> Result<(), NoMemory>
-    requires { SpareAgrees spare.old }
-    ensures { OnOk result (spare.new ≡ spare_hears server bytes.now spare.old) }
+/// Bytes of the server that is parked, if one is: they were heard before it was parked here.
+pub fn feed_parked(parked: &mut Option<Link>, bytes: &Bytes) -> Result<(), NoMemory>
+    requires { IsUnshut parked.old }
+    ensures { OnOk result (parked.new ≡ parked_feeds bytes.now parked.old) }
 {
-    match spare {
+    match parked {
+        Some(link) => link.responses.feed(bytes),
+        None => Ok(()),
+    }
+}
+
+/// Bytes of the server of that number, where it is parked.
+pub fn hear_parked(parked: &mut Option<Link>, server: u32, bytes: &Bytes) -> Result<(), NoMemory>
+    requires { ParkedAgrees parked.old }
+    ensures { OnOk result (parked.new ≡ parked_hears server bytes.now parked.old) }
+{
+    match parked {
         Some(link) => link.hear(server, bytes),
         None => Ok(()),
     }
 }
 
-/// The close of the server of that number, where it is spare.
-pub fn close_spare(spare: &mut Option<Link>, server: u32)
-    ensures { spare.new ≡ spare_closes server spare.old }
+/// The close of the server of that number, where it is parked.
+pub fn close_parked(parked: &mut Option<Link>, server: u32)
+    ensures { parked.new ≡ parked_closes server parked.old }
 {
-    match spare {
+    match parked {
         Some(link) => link.close(server),
         None => {}
     }
 }
 
-/// The number of a spare side, unless its server has closed.
-pub fn open_number(spare: &Option<Link>) -> Option<u32>
-    ensures { result ≡ open_spare spare.now }
+/// The server that is parked, if one is, and whether it closed.
+pub fn parked_server(parked: &Option<Link>) -> Used
+    ensures { result ≡ used_in parked.now }
 {
-    match spare {
+    match parked {
+        Some(link) => link.used(),
+        None => Used::NoServer,
+    }
+}
+
+/// The number of a parked side, unless its server has closed.
+pub fn open_number(parked: &Option<Link>) -> Option<u32>
+    ensures { result ≡ open_parked parked.now }
+{
+    match parked {
         Some(link) => {
             if link.closed {
                 return None;

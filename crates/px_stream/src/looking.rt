@@ -3,7 +3,7 @@ ghost use Rattle.std.specs.Prelude.{◌≡◌, ◌++◌, ◌∷◌, [], None, If
 ghost use Rattle.px_event.specs.declared.ask.Hook.TheVariants.{ResponseHead as AtHead, ResponseBody as AtBody};
 ghost use Rattle.px_event.specs.declared.command.Command.TheVariants as commands;
 ghost use Rattle.px_exchange.specs.Flows.{ask_of, with_end, with_start};
-ghost use Rattle.px_exchange.specs.Endings.{closed_message, ends_by_fault, ends_early};
+ghost use Rattle.px_exchange.specs.Endings.{closed_message, ends_by_fault, ends_early, shut_server};
 ghost use Rattle.px_exchange.specs.Places.{dialled_for};
 ghost use Rattle.px_stream.specs.Looking.{LookFound, MayLook};
 ghost use Rattle.px_stream.specs.Phases.{is_over};
@@ -13,7 +13,7 @@ use crate::looking::request::{look_for_body, look_for_head};
 use crate::numbers::Numbers;
 use crate::phase::{Asked, Phase, Wanted};
 use px_event::{Command, Hook};
-use px_exchange::ending::{Used, end_by_fault, end_early};
+use px_exchange::ending::{Used, end_by_fault, end_early, part};
 use px_exchange::flows::{self, dialled_for};
 use px_exchange::said::ask;
 use px_exchange::terms::{Now, Terms};
@@ -35,14 +35,14 @@ pub fn look(
     out: &mut Vec<Command>,
 ) -> Result<Phase, NoMemory>
     requires may_look { MayLook ready requests.old }
-    ensures looks { IfOk result (λ next. LookFound terms.now numbers ready requests.old requests.new now.moment now.client_closed out.old.items out.new.items next) }
+    ensures looks { IfOk result (λ next. LookFound terms.now numbers now.parked ready requests.old requests.new now.moment now.client_closed out.old.items out.new.items next) }
 {
     match ready {
         Wanted::Idle => look_for_head(terms, now, numbers.flow, requests, out),
         Wanted::Receiving { flow, given, body } => {
             look_for_body(now, requests, flow, given, body, out)
         }
-        Wanted::Dialling { flow } => dial(&terms.place, numbers.server, flow, out),
+        Wanted::Dialling { flow } => dial(&terms.place, now, numbers.server, flow, out),
         Wanted::Answering { flow, link } => look_for_answer(now, flow, link, out),
         Wanted::Returning { flow, link, body } => look_for_returned(now, flow, link, body, out),
         Wanted::GivenHead { flow } => ask_given_head(now, flow, out),
@@ -54,14 +54,15 @@ pub fn look(
     }
 }
 
-// Dials what the request goes to.
+// Dials what the request goes to, and closes the side that is parked, since no flow takes it any more.
 fn dial(
     place: &Place,
+    now: Now,
     server: u32,
     flow: Boxed<Flow>,
     out: &mut Vec<Command>,
 ) -> Result<Phase, NoMemory>
-    ensures gives { OnOk result (out.new.items ≡ out.old.items ++ commands.Dial server (dialled_for place.now flow.request) None ∷ []) }
+    ensures gives { OnOk result (out.new.items ≡ out.old.items ++ commands.Dial server (dialled_for place.now flow.request) None ∷ shut_server now.parked) }
     ensures phase { IfOk result (λ next. next ≡ Phase.Asked (Asked.Dial flow server)) }
 {
     out.push(Command::Dial {
@@ -69,6 +70,7 @@ fn dial(
         address: dialled_for(place, &flow)?,
         inside: None,
     })?;
+    part(now.parked, out)?;
     Ok(Phase::Asked(Asked::Dial { flow, server }))
 }
 

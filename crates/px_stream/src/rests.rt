@@ -1,6 +1,7 @@
 //! What a flow leaves of its server's side.
 ghost use Rattle.std.specs.Prelude.{◌≡◌, IfOk};
 ghost use Rattle.px_stream.specs.Rests.{asked_rest, phase_flow, phase_rest, ready_rest};
+ghost use Rattle.px_stream.specs.Through.{dialled_flow};
 
 use crate::link::Link;
 use crate::phase::{Asked, Phase, Wanted};
@@ -84,4 +85,17 @@ fn rest_of_link(flow: Boxed<Flow>, link: Boxed<Link>) -> Result<Bytes, NoMemory>
 {
     drop(flow);
     link.into_inner().into_rest()
+}
+
+/// The flow whose server is dialled, where the answer to that is awaited.
+pub(crate) fn dialled_in(phase: Phase) -> Option<Boxed<Flow>>
+    ensures { result ≡ dialled_flow phase }
+{
+    match phase {
+        Phase::Asked(Asked::Dial { flow, .. }) => Some(flow),
+        other => {
+            drop(other);
+            None
+        }
+    }
 }

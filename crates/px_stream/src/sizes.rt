@@ -1,19 +1,8 @@
 //! How much the parts of a stream keep.
 ghost use Rattle.std.specs.Prelude.{◌≡◌, ◌-◌, ◌^◌, min};
-ghost use Rattle.px_stream.specs.Kept.{asked_keeps, phase_keeps, ready_keeps, spare_keeps};
+ghost use Rattle.px_stream.specs.Kept.{asked_keeps, phase_keeps, ready_keeps};
 
-use crate::link::Link;
 use crate::phase::{Asked, Phase, Wanted};
-
-/// How much a spare side keeps.
-pub(crate) fn size_of_spare(spare: &Option<Link>) -> usize
-    ensures { result ≡ min (spare_keeps spare.now) (2 ^ 64 - 1) }
-{
-    match spare {
-        Some(link) => link.responses.kept(),
-        None => 0,
-    }
-}
 
 /// How much a phase keeps.
 pub(crate) fn size_of_phase(phase: &Phase) -> usize

@@ -3,7 +3,8 @@
 //! Each event goes to the reader of its side, and then the flow looks once: where it finds an ask it waits, and where it
 //! finds the end it says what is owed there. A reply leads to what is looked for next.
 //!
-//! A spare side, which is connected and which no flow has used, is heard beside them and not read, until a request goes there.
+//! A parked side, which is connected and which no flow uses, is heard beside them and not read, until a request goes there, or another
+//! server is dialled.
 ghost use Rattle.std.specs.Prelude.{◌≡◌, ◌≤◌, ◌<◌, ◌+◌, ◌-◌, ◌^◌, List, [], false, None, IfOk, OnOk, min, option_map};
 ghost use Rattle.px_event.specs.Layer.{Move, Took, Replied, IsSound, Goes, AsksOnly, MayAnswer};
 ghost use Rattle.px_event.specs.declared.command.Command.{Command as GivenCommand};
@@ -16,23 +17,23 @@ ghost use Rattle.px_stream.specs.Kept.{stream_keeps};
 ghost use Rattle.px_stream.specs.Left.{flow_left, sequence_left};
 ghost use Rattle.px_stream.specs.Looking.{MayLook};
 ghost use Rattle.px_exchange.specs.Places.{terms_of};
-ghost use Rattle.px_stream.specs.Phases.{spare_at};
+ghost use Rattle.px_stream.specs.Phases.{parked_at};
 ghost use Rattle.px_stream.specs.Rests.{LeavesRests, phase_flow, phase_rest};
-ghost use Rattle.px_stream.specs.Sequence.{IsSideBelow, Stands, StandsInSequence, asked_tunnel, is_end, is_idle, open_spare, outcome_at, outcome_in, ready_onward, requests_onward, seen_at, stage_at, upgraded_side};
+ghost use Rattle.px_stream.specs.Sequence.{IsSideBelow, Stands, StandsInSequence, asked_tunnel, is_end, is_idle, open_parked, outcome_at, outcome_in, ready_onward, requests_onward, seen_at, stage_at, upgraded_side};
 ghost use Rattle.px_chain.specs.Stages.{Stage};
-ghost use Rattle.px_stream.specs.Stands.{awaits, is_last};
-ghost use Rattle.px_stream.specs.Through.{IsDialling, led_by, led_to, server_dialled};
+ghost use Rattle.px_stream.specs.Stands.{awaits, is_last, used_in};
+ghost use Rattle.px_stream.specs.Through.{IsDialling, dialled_flow, led_by, led_to, server_dialled};
 ghost use Rattle.px_stream.specs.Turns.{asked_leads, behind_asked, behind_ready};
 ghost use Rattle.px_stream.specs.declared.phase.Wanted.{Wanted as Looked};
 
 use crate::hearing::{hear, hear_server};
 use crate::leaving::{enter, take_asked, take_looked};
-use crate::link::{Link, open_number, spare_side};
+use crate::link::{Link, feed_parked, open_number, parked_server, parked_side};
 use crate::looking::look;
 use crate::numbers::Numbers;
 use crate::phase::{Asked, Phase, Wanted};
-use crate::rests::rests_of;
-use crate::sizes::{size_of_phase, size_of_spare};
+use crate::rests::{dialled_in, rests_of};
+use crate::sizes::size_of_phase;
 use crate::turning::turn;
 use px_event::{Ask, Command, Event, Reply, Rests};
 use px_exchange::ending::Used;
@@ -53,7 +54,7 @@ pub struct Stream {
     numbers: Numbers,
     requests: MessageReader,
     client_closed: bool,
-    spare: Option<Link>,
+    parked: Option<Link>,
     phase: Phase,
 }
 
@@ -75,11 +76,11 @@ impl Stream {
         ensures in_sequence { next_server ≤ id.index + 1 → StandsInSequence result result [] [] }
         ensures terms { result.terms ≡ terms_of id.conv client place }
         ensures numbers { result.numbers ≡ record { flow = id.index; server = next_server } }
-        ensures spare { result.spare ≡ spare_at place }
+        ensures parked { result.parked ≡ parked_at place }
         ensures new { IsNew result }
         ensures free { awaits result ≡ None }
     {
-        let spare = spare_side(alloc, &place);
+        let parked = parked_side(alloc, &place);
         Stream {
             alloc,
             terms: Terms {
@@ -93,7 +94,7 @@ impl Stream {
             },
             requests: MessageReader::request(alloc),
             client_closed: false,
-            spare,
+            parked,
             phase: Phase::Ready(Wanted::Idle),
         }
     }
@@ -157,15 +158,16 @@ impl Stream {
         self.client_closed
     }
 
-    /// The number of the spare side, if there is one and its server has not closed.
-    pub fn spare(&self) -> Option<u32>
-        ensures { result ≡ open_spare self.now.spare }
+    /// The number of the parked side, if there is one and its server has not closed.
+    pub fn parked(&self) -> Option<u32>
+        ensures { result ≡ open_parked self.now.parked }
     {
-        open_number(&self.spare)
+        open_number(&self.parked)
     }
 
-    /// Hears what the client sent behind what others read of it, before the stream was made, and whether it has closed, and looks
-    /// once. A stream that was handed something already may not begin so.
+    /// Hears what the client sent behind what others read of it, before the stream was made, and whether it has closed, and what the
+    /// side that is parked sent behind what others read of that; and looks once. A stream that was handed something already may not
+    /// begin so.
     ///
     /// It is then where the chain of flows in sequence is that begins there, over all events, and gave what is owed there.
     pub fn begin(
@@ -173,15 +175,17 @@ impl Stream {
         moment: u64,
         closed: bool,
         rest: &Bytes,
+        waiting: &Bytes,
         out: &mut Vec<Command>,
     ) -> Result<(), NoMemory>
         requires new { IsNew self.old }
-        ensures begins { OnOk result (Begins self.old self.new moment closed rest.now out.old.items out.new.items) }
+        ensures begins { OnOk result (Begins self.old self.new moment closed rest.now waiting.now out.old.items out.new.items) }
         ensures asks { OnOk result (AsksOnly (awaits self.new) out.old.items out.new.items) }
         ensures left { OnOk result (sequence_left self.new ≤ sequence_left self.old) }
     {
         self.client_closed = closed;
         self.requests.feed(rest)?;
+        feed_parked(&mut self.parked, waiting)?;
         self.advance(moment, Wanted::Idle, out)
     }
 
@@ -272,14 +276,13 @@ impl Stream {
         self.phase.waiting()
     }
 
-    /// How many bytes it keeps, or 2^64 - 1 where that is more: what its readers keep, what was heard of a spare side, and the
-    /// content that has come of the body that it reads. The flow does not count, nor do bytes that wait behind a message.
+    /// How many bytes it keeps, or 2^64 - 1 where that is more: what its readers keep, and the content that has come of the
+    /// body that it reads. The flow does not count, nor do bytes that wait behind a message, or of a side that is parked.
     pub(crate) fn size(&self) -> usize
         ensures { result ≡ min (stream_keeps self.now) (2 ^ 64 - 1) }
     {
         self.requests
             .kept()
-            .saturating_add(size_of_spare(&self.spare))
             .saturating_add(size_of_phase(&self.phase))
     }
 
@@ -291,7 +294,7 @@ impl Stream {
         out: &mut Vec<Command>,
     ) -> Result<(), NoMemory>
         requires free { awaits self.old ≡ None }
-        requires may_hear { (looked : Looked) → self.old.phase ≡ Phase.Ready looked → is_last (Phase.Ready looked) ≡ false → MayHear event.now self.old.requests self.old.spare looked }
+        requires may_hear { (looked : Looked) → self.old.phase ≡ Phase.Ready looked → is_last (Phase.Ready looked) ≡ false → MayHear event.now self.old.requests self.old.parked looked }
         ensures { OnOk result (TakesEvent self.old self.new moment event.now out.old.items out.new.items) }
     {
         if self.has_ended() {
@@ -323,14 +326,14 @@ impl Stream {
         event: &Event,
         out: &mut Vec<Command>,
     ) -> Result<(), NoMemory>
-        requires { MayHear event.now self.old.requests self.old.spare ready }
+        requires { MayHear event.now self.old.requests self.old.parked ready }
         ensures { OnOk result (Hears self.old self.new moment event.now ready out.old.items out.new.items) }
     {
         let mut ready = ready;
         match hear(
             &mut self.requests,
             &mut self.client_closed,
-            &mut self.spare,
+            &mut self.parked,
             &mut ready,
             event,
         ) {
@@ -368,11 +371,13 @@ impl Stream {
     fn now(&self, moment: u64) -> Now
         ensures moment { result.moment ≡ moment }
         ensures client { result.client_closed ≡ self.now.client_closed }
+        ensures parked { result.parked ≡ used_in self.now.parked }
     {
         Now {
             alloc: self.alloc,
             moment,
             client_closed: self.client_closed,
+            parked: parked_server(&self.parked),
         }
     }
 
@@ -422,7 +427,7 @@ impl Stream {
         }
     }
 
-    /// Hears an event while the dial of its server is awaited: the client's bytes and its close, and those of a spare side. Behind
+    /// Hears an event while the dial of its server is awaited: the client's bytes and its close, and those of a parked side. Behind
     /// the client's close nothing is heard.
     pub fn hear_waiting(&mut self, event: &Event) -> Result<(), NoMemory>
         requires waits { IsDialling self.old.phase }
@@ -440,7 +445,7 @@ impl Stream {
         let heard = hear(
             &mut self.requests,
             &mut self.client_closed,
-            &mut self.spare,
+            &mut self.parked,
             &mut looked,
             event,
         );
@@ -499,9 +504,9 @@ impl Stream {
         reply: Reply,
         out: &mut Vec<Command>,
     ) -> Result<(), NoMemory>
-        requires { MayLook (asked_leads self.old.terms.place self.old.numbers.flow self.old.spare asked reply) self.old.requests }
-        ensures { OnOk result (Answers self.old self.new moment reply asked (ready_onward (asked_leads self.old.terms.place self.old.numbers.flow self.old.spare asked reply))
-            (requests_onward (asked_leads self.old.terms.place self.old.numbers.flow self.old.spare asked reply) self.old.requests) out.old.items out.new.items) }
+        requires { MayLook (asked_leads self.old.terms.place self.old.numbers.flow self.old.parked asked reply) self.old.requests }
+        ensures { OnOk result (Answers self.old self.new moment reply asked (ready_onward (asked_leads self.old.terms.place self.old.numbers.flow self.old.parked asked reply))
+            (requests_onward (asked_leads self.old.terms.place self.old.numbers.flow self.old.parked asked reply) self.old.requests) out.old.items out.new.items) }
     {
         let turned = self.turn(moment, asked, reply, out)?;
         let ready = self.go_onward(turned)?;
@@ -515,8 +520,8 @@ impl Stream {
         reply: Reply,
         out: &mut Vec<Command>,
     ) -> Result<(), NoMemory>
-        requires { MayLook (asked_leads self.old.terms.place self.old.numbers.flow self.old.spare asked reply) self.old.requests }
-        ensures { OnOk result (Answers self.old self.new moment reply asked (asked_leads self.old.terms.place self.old.numbers.flow self.old.spare asked reply) self.old.requests out.old.items out.new.items) }
+        requires { MayLook (asked_leads self.old.terms.place self.old.numbers.flow self.old.parked asked reply) self.old.requests }
+        ensures { OnOk result (Answers self.old self.new moment reply asked (asked_leads self.old.terms.place self.old.numbers.flow self.old.parked asked reply) self.old.requests out.old.items out.new.items) }
     {
         let turned = self.turn(moment, asked, reply, out)?;
         self.advance(moment, turned, out)
@@ -539,7 +544,7 @@ impl Stream {
             &self.terms.place,
             now,
             index,
-            &mut self.spare,
+            &mut self.parked,
             asked,
             reply,
             out,
@@ -553,7 +558,7 @@ impl Stream {
         ensures terms { OnOk result (self.new.terms ≡ self.old.terms) }
         ensures numbers { OnOk result (self.new.numbers ≡ self.old.numbers) }
         ensures client { OnOk result (self.new.client_closed ≡ self.old.client_closed) }
-        ensures spare { OnOk result (self.new.spare ≡ self.old.spare) }
+        ensures parked { OnOk result (self.new.parked ≡ self.old.parked) }
         ensures requests { OnOk result (self.new.requests ≡ requests_onward ready self.old.requests) }
         ensures ready { IfOk result (λ next. next ≡ ready_onward ready) }
     {
@@ -587,6 +592,14 @@ impl Stream {
         } = self;
         let (rests, flow) = rests_of(requests, phase)?;
         Ok((rests, flow))
+    }
+
+    /// The flow whose server is dialled, where the answer to that is awaited, for whoever ends it in its place; all else is let go of.
+    pub fn into_dialled(self) -> Option<Boxed<Flow>>
+        ensures { result ≡ dialled_flow self.phase }
+    {
+        let Stream { phase, .. } = self;
+        dialled_in(phase)
     }
 }
 

@@ -1,15 +1,14 @@
 //! What the answer to an ask leads to.
-ghost use Rattle.std.specs.Prelude.{◌≡◌, ◌++◌, ◌==◌, ◌∷◌, [], Some, IfOk, OnOk};
+ghost use Rattle.std.specs.Prelude.{◌≡◌, ◌++◌, ◌==◌, ◌∷◌, [], None, Some, IfOk, OnOk};
 ghost use Rattle.px_exchange.specs.Dials.{connected_owes, dial_owes};
 ghost use Rattle.px_event.specs.declared.command.Command.TheVariants as commands;
 ghost use Rattle.px_event.specs.declared.side.Side.TheVariants.{Client as ToClient};
 ghost use Rattle.px_exchange.specs.Texts.{returned_text as returned};
-ghost use Rattle.px_chain.specs.Chain.{finish as finishes, finish_by, goes_on_by, killed as kills_flow, reached, turn_taken_answer, turn_taken_body, turn_taken_given, turn_taken_head, turn_taken_returned, turn_taken_whole};
-ghost use Rattle.px_chain.specs.Sights.{unless_taken};
+ghost use Rattle.px_chain.specs.Chain.{finish as finishes, finish_by, killed as kills_flow, reached, turn_taken_answer, turn_taken_given, turn_taken_returned, turn_taken_whole};
 ghost use Rattle.px_exchange.specs.Endings.{connection_goes_on};
-ghost use Rattle.px_exchange.specs.Places.{goes_home};
-ghost use Rattle.px_stream.specs.Phases.{behind_dial, behind_flow, behind_given_head, behind_request, behind_request_head, behind_response, behind_response_head, behind_whole, connected, goes_on_to, link_home, no_side, numbered, upgrades_by};
-ghost use Rattle.px_stream.specs.Turns.{answer_leads, answer_owes, asked_leads, asked_owes, behind_spare, given_leads, given_owes, read_whole_leads, read_whole_owes, request_spares, unused_in, whole_leads, whole_owes};
+ghost use Rattle.px_stream.specs.Phases.{behind_dial, behind_flow, behind_given_head, behind_request, behind_request_head, behind_response, behind_response_head, behind_whole, connected, goes_home, goes_on_to, link_home, no_side, numbered, upgrades_by};
+ghost use Rattle.px_stream.specs.Turns.{answer_leads, answer_owes, asked_leads, asked_owes, behind_parked, given_leads, given_owes, head_owes, read_whole_leads, read_whole_owes, request_owes, request_parks, request_to, unless_taken, whole_leads, whole_owes};
+ghost use Rattle.px_stream.specs.Stands.{used_in};
 ghost use Rattle.px_exchange.specs.Replies.{taken_at_body_of, taken_at_head_of, taken_at_request_body, taken_at_request_head};
 
 use crate::link::Link;
@@ -29,29 +28,40 @@ use px_exchange::{Boxed, Place};
 use px_message::{Flow, Request, Response, Shared};
 use px_text::NoMemory;
 
-/// Takes the answer to what was asked of the flow of this number, whose requests go to this place, where this side may be spare.
+/// Takes the answer to what was asked of the flow of this number, whose requests go to this place, where this side may be parked.
 pub fn turn(
     place: &Place,
     now: Now,
     index: u32,
-    spare: &mut Option<Link>,
+    parked: &mut Option<Link>,
     asked: Asked,
     reply: Reply,
     out: &mut Vec<Command>,
 ) -> Result<Wanted, NoMemory>
-    ensures gives { OnOk result (out.new.items ≡ out.old.items ++ asked_owes place.now index spare.old asked reply now.moment now.client_closed) }
-    ensures ready { IfOk result (λ next. next ≡ asked_leads place.now index spare.old asked reply) }
-    ensures spare { OnOk result (spare.new ≡ behind_spare place.now asked reply spare.old) }
+    requires parked { now.parked ≡ used_in parked.old }
+    ensures gives { OnOk result (out.new.items ≡ out.old.items ++ asked_owes place.now index parked.old asked reply now.moment now.client_closed) }
+    ensures ready { IfOk result (λ next. next ≡ asked_leads place.now index parked.old asked reply) }
+    ensures parked { OnOk result (parked.new ≡ behind_parked place.now asked reply parked.old) }
 {
     match asked {
         Asked::Head { flow, expects } => turn_head(now, flow, expects, reply, out),
-        Asked::Body { flow } => turn_body(place, now, flow, spare, reply, out),
-        Asked::Dial { flow, server } => turn_dial(place, now, flow, server, reply, out),
+        Asked::Body { flow } => turn_body(place, now, flow, parked, reply, out),
+        Asked::Dial { flow, server } => {
+            forget(parked);
+            turn_dial(place, now, flow, server, reply, out)
+        }
         Asked::Answer { flow, link } => turn_answer(now, flow, link, reply, out),
         Asked::Returned { flow, link } => turn_returned(now, index, flow, link, reply, out),
         Asked::GivenHead { flow } => turn_given_head(now, flow, reply, out),
         Asked::GivenBody { flow } => turn_given_body(now, index, flow, reply, out),
     }
+}
+
+// No flow takes the parked side any more.
+fn forget(parked: &mut Option<Link>)
+    ensures { parked.new ≡ None }
+{
+    *parked = None;
 }
 
 // A flow that lacks the response that its hook is about.
@@ -79,7 +89,7 @@ fn turn_head(
     reply: Reply,
     out: &mut Vec<Command>,
 ) -> Result<Wanted, NoMemory>
-    ensures gives { OnOk result (out.new.items ≡ out.old.items ++ (turn_taken_head (numbered 0) flow expected (taken_at_request_head flow.request reply) now.moment now.client_closed).owed) }
+    ensures gives { OnOk result (out.new.items ≡ out.old.items ++ head_owes flow expected (taken_at_request_head flow.request reply) now.moment now.parked now.client_closed) }
     ensures ready { IfOk result (λ next. next ≡ behind_request_head flow (taken_at_request_head flow.request reply)) }
 {
     let taken = take_at_request_head(now.alloc, &flow.request, reply)?;
@@ -94,7 +104,7 @@ fn receive(
     taken: Taken<Shared<Request>>,
     out: &mut Vec<Command>,
 ) -> Result<Wanted, NoMemory>
-    ensures gives { OnOk result (out.new.items ≡ out.old.items ++ (turn_taken_head (numbered 0) flow expected taken now.moment now.client_closed).owed) }
+    ensures gives { OnOk result (out.new.items ≡ out.old.items ++ head_owes flow expected taken now.moment now.parked now.client_closed) }
     ensures ready { IfOk result (λ next. next ≡ behind_request_head flow taken) }
 {
     match taken {
@@ -114,7 +124,7 @@ fn receive(
                 body: Content::new(now.alloc),
             })
         }
-        Taken::Kills => kill(now, flow, Used::NoServer, out),
+        Taken::Kills => kill(now, flow, now.parked, out),
     }
 }
 
@@ -123,16 +133,16 @@ fn turn_body(
     place: &Place,
     now: Now,
     flow: Boxed<Flow>,
-    spare: &mut Option<Link>,
+    parked: &mut Option<Link>,
     reply: Reply,
     out: &mut Vec<Command>,
 ) -> Result<Wanted, NoMemory>
-    ensures gives { OnOk result (out.new.items ≡ out.old.items ++ (turn_taken_body place.now (numbered 0) flow (unused_in spare.old) (taken_at_request_body flow.request reply) now.moment now.client_closed).owed) }
-    ensures ready { IfOk result (λ next. next ≡ behind_request place.now flow spare.old (taken_at_request_body flow.request reply)) }
-    ensures spare { OnOk result (spare.new ≡ request_spares place.now (taken_at_request_body flow.request reply) spare.old) }
+    ensures gives { OnOk result (out.new.items ≡ out.old.items ++ request_owes place.now flow parked.old (taken_at_request_body flow.request reply) now.moment now.parked now.client_closed) }
+    ensures ready { IfOk result (λ next. next ≡ behind_request place.now flow parked.old (taken_at_request_body flow.request reply)) }
+    ensures parked { OnOk result (parked.new ≡ request_parks place.now (taken_at_request_body flow.request reply) parked.old) }
 {
     let taken = take_at_request_body(now.alloc, &flow.request, reply)?;
-    send_onward(place, now, flow, spare, taken, out)
+    send_onward(place, now, flow, parked, taken, out)
 }
 
 // The request goes on, unless a response is given in its server's place or the flow is killed.
@@ -140,39 +150,50 @@ fn send_onward(
     place: &Place,
     now: Now,
     flow: Boxed<Flow>,
-    spare: &mut Option<Link>,
+    parked: &mut Option<Link>,
     taken: Taken<Shared<Request>>,
     out: &mut Vec<Command>,
 ) -> Result<Wanted, NoMemory>
-    ensures gives { OnOk result (out.new.items ≡ out.old.items ++ (turn_taken_body place.now (numbered 0) flow (unused_in spare.old) taken now.moment now.client_closed).owed) }
-    ensures ready { IfOk result (λ next. next ≡ behind_request place.now flow spare.old taken) }
-    ensures spare { OnOk result (spare.new ≡ request_spares place.now taken spare.old) }
+    ensures gives { OnOk result (out.new.items ≡ out.old.items ++ request_owes place.now flow parked.old taken now.moment now.parked now.client_closed) }
+    ensures ready { IfOk result (λ next. next ≡ behind_request place.now flow parked.old taken) }
+    ensures parked { OnOk result (parked.new ≡ request_parks place.now taken parked.old) }
 {
     match taken {
         Taken::GoesOn(request) => {
             let flow = flows::with_request(flow, request);
-            let link = take_home(place, flow.request.get(), spare);
+            let link = take_home(place, flow.request.get(), parked);
             go_on(place, now, flow, link, out)
         }
         Taken::Responds(response) => Ok(Wanted::GivenHead {
             flow: flows::with_response(flow, response),
         }),
-        Taken::Kills => kill(now, flow, Used::NoServer, out),
+        Taken::Kills => kill(now, flow, now.parked, out),
     }
 }
 
-// Takes the spare side, where this request goes there.
-fn take_home(place: &Place, request: &Request, spare: &mut Option<Link>) -> Option<Link>
-    ensures taken { result ≡ link_home (goes_home place.now request.now) spare.old }
-    ensures left { spare.new ≡ unless_taken (goes_home place.now request.now) spare.old }
+// Takes the parked side, where this request goes there.
+fn take_home(place: &Place, request: &Request, parked: &mut Option<Link>) -> Option<Link>
+    ensures taken { result ≡ link_home (goes_home place.now request.now) parked.old }
+    ensures left { parked.new ≡ unless_taken (goes_home place.now request.now) parked.old }
 {
-    if place.is_home(request) {
-        return spare.take();
+    if goes_home(place, request) {
+        return parked.take();
     }
     None
 }
 
-// The request goes to this side, which was spare; else the server is to be dialled.
+// Whether a request goes where its place stands.
+fn goes_home(place: &Place, request: &Request) -> bool
+    ensures { result ≡ goes_home place.now request.now }
+{
+    match place {
+        Place::Fixed { address, .. } => place.goes_to(address, request),
+        Place::Regular => false,
+        Place::Upstream(_) => false,
+    }
+}
+
+// The request goes to this side, which was parked; else the server is to be dialled.
 fn go_on(
     place: &Place,
     now: Now,
@@ -180,7 +201,7 @@ fn go_on(
     link: Option<Link>,
     out: &mut Vec<Command>,
 ) -> Result<Wanted, NoMemory>
-    ensures gives { OnOk result (out.new.items ≡ out.old.items ++ (goes_on_by (unused_in link) place.now (numbered 0) flow).owed) }
+    ensures gives { OnOk result (out.new.items ≡ out.old.items ++ request_to link place.now flow) }
     ensures ready { IfOk result (λ next. next ≡ goes_on_to link place.now flow) }
 {
     match link {
@@ -189,7 +210,7 @@ fn go_on(
     }
 }
 
-// The request goes to a side that was spare.
+// The request goes to a side that was parked.
 fn go_home(
     place: &Place,
     now: Now,
@@ -317,7 +338,7 @@ fn turn_given_head(
     reply: Reply,
     out: &mut Vec<Command>,
 ) -> Result<Wanted, NoMemory>
-    ensures gives { OnOk result (out.new.items ≡ out.old.items ++ given_owes flow (taken_at_head_of flow.response reply) now.moment now.client_closed) }
+    ensures gives { OnOk result (out.new.items ≡ out.old.items ++ given_owes flow (taken_at_head_of flow.response reply) now.moment now.parked now.client_closed) }
     ensures ready { IfOk result (λ next. next ≡ given_leads flow (taken_at_head_of flow.response reply)) }
 {
     match take_at_head_of(now.alloc, &flow, reply)? {
@@ -333,14 +354,14 @@ fn give_body(
     taken: Taken<Shared<Response>>,
     out: &mut Vec<Command>,
 ) -> Result<Wanted, NoMemory>
-    ensures gives { OnOk result (out.new.items ≡ out.old.items ++ (turn_taken_given (numbered 0) flow taken now.moment now.client_closed).owed) }
+    ensures gives { OnOk result (out.new.items ≡ out.old.items ++ (turn_taken_given (numbered 0) flow taken now.moment now.parked now.client_closed).owed) }
     ensures ready { IfOk result (λ next. next ≡ behind_given_head flow taken) }
 {
     match taken {
         Taken::GoesOn(response) => Ok(Wanted::GivenBody {
             flow: flows::with_response(flow, response),
         }),
-        _ => kill(now, flows::without_response(flow), Used::NoServer, out),
+        _ => kill(now, flows::without_response(flow), now.parked, out),
     }
 }
 
@@ -395,7 +416,7 @@ fn answer_client(
     if response.get().status.code() == 101 {
         return upgrade(now, flow, link, response, out);
     }
-    finish_flow(now, index, flow, response, link.used(), out)
+    finish_flow(now, index, flow, response, link.used(), Used::NoServer, out)
 }
 
 // Sends a response of code 101: what follows on both sides is of another protocol, and the flow is not finished.
@@ -429,7 +450,7 @@ fn turn_given_body(
     reply: Reply,
     out: &mut Vec<Command>,
 ) -> Result<Wanted, NoMemory>
-    ensures gives { OnOk result (out.new.items ≡ out.old.items ++ whole_owes index flow (taken_at_body_of flow.response reply) now.moment Used.NoServer now.client_closed) }
+    ensures gives { OnOk result (out.new.items ≡ out.old.items ++ whole_owes index flow (taken_at_body_of flow.response reply) now.moment now.parked now.client_closed) }
     ensures ready { IfOk result (λ next. next ≡ whole_leads index flow (taken_at_body_of flow.response reply)) }
 {
     match take_at_body_of(now.alloc, &flow, reply)? {
@@ -446,12 +467,14 @@ fn end_flow(
     taken: Taken<Shared<Response>>,
     out: &mut Vec<Command>,
 ) -> Result<Wanted, NoMemory>
-    ensures gives { OnOk result (out.new.items ≡ out.old.items ++ (turn_taken_returned (numbered index) flow taken now.moment Used.NoServer now.client_closed).owed) }
+    ensures gives { OnOk result (out.new.items ≡ out.old.items ++ (turn_taken_returned (numbered index) flow taken now.moment now.parked now.client_closed).owed) }
     ensures ready { IfOk result (λ next. next ≡ behind_response index flow taken) }
 {
     match taken {
-        Taken::GoesOn(response) => finish_flow(now, index, flow, response, Used::NoServer, out),
-        _ => kill(now, flow, Used::NoServer, out),
+        Taken::GoesOn(response) => {
+            finish_flow(now, index, flow, response, Used::NoServer, now.parked, out)
+        }
+        _ => kill(now, flow, now.parked, out),
     }
 }
 
@@ -462,12 +485,13 @@ fn finish_flow(
     flow: Boxed<Flow>,
     response: Shared<Response>,
     used: Used,
+    parked: Used,
     out: &mut Vec<Command>,
 ) -> Result<Wanted, NoMemory>
-    ensures gives { OnOk result (out.new.items ≡ out.old.items ++ (finishes (numbered index) flow response used now.client_closed).owed) }
+    ensures gives { OnOk result (out.new.items ≡ out.old.items ++ (finishes (numbered index) flow response used parked now.client_closed).owed) }
     ensures ready { IfOk result (λ next. next ≡ behind_flow (connection_goes_on index flow.request response)) }
 {
-    let stays = finish(now, index, flow, response, used, out)?;
+    let stays = finish(now, index, flow, response, used, parked, out)?;
     Ok(next_of(stays))
 }
 

@@ -91,4 +91,4 @@ turn Over prefix reply = record { owed = []; stage = Over }
 
 -- the chain
 abbrev pub echo_chain : Flow → Chain EchoStage Event Reply Command
-echo_chain flow = record { pass = pass; look = look flow; so_far = λ stage prefix. []; turn = turn }
+echo_chain flow = record { pass = pass; look = look flow; so_far = λ stage prefix. []; behind = λ stage prefix. []; turn = turn }

@@ -59,4 +59,4 @@ turns conv (Reading used) prefix reply = turn_line_named conv (first_line (unrea
 turns conv Over prefix reply = tt
 
 pub echo_names : (made : LineEcho) (moves : List Move) → AllNamed made.flow.id.conv (due_by (echo_chain made.flow) (Reading 0) moves)
-echo_names made = all_named made.flow.id.conv (echo_chain made.flow) (Reading 0) (record { pass = passes made.flow.id.conv; look = looks made.flow; so_far = λ stage prefix. tt; turn = turns made.flow.id.conv })
+echo_names made = all_named made.flow.id.conv (echo_chain made.flow) (Reading 0) (record { pass = passes made.flow.id.conv; look = looks made.flow; so_far = λ stage prefix. tt; behind = λ stage prefix. tt; turn = turns made.flow.id.conv })

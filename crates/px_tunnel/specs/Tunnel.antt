@@ -108,5 +108,6 @@ tunnel_chain server rests = record {
   pass = pass server rests;
   look = look;
   so_far = so_far server rests;
+  behind = λ stage prefix. [];
   turn = λ stage prefix reply. record { owed = []; stage = stage };
 }

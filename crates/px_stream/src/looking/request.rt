@@ -9,10 +9,10 @@ ghost use Rattle.px_exchange.specs.Bodies.{IsReading};
 ghost use Rattle.px_stream.specs.Bodies.{BodyFound};
 ghost use Rattle.px_chain.specs.Chain.{connect_in};
 ghost use Rattle.px_stream.specs.Looking.{BehindJudged, GaveNext, HeadRead};
-ghost use Rattle.px_stream.specs.Looks.{body_gives, body_phase, whole_gives, whole_phase};
+ghost use Rattle.px_stream.specs.Looks.{body_gives, body_phase, where_left, whole_gives, whole_phase};
 ghost use Rattle.px_exchange.specs.Flows.{ask_of};
 ghost use Rattle.px_exchange.specs.Finds.{look_head, look_judged, or_leaves};
-ghost use Rattle.px_exchange.specs.Endings.{refuses};
+ghost use Rattle.px_exchange.specs.Endings.{refuses, shut_server};
 ghost use Rattle.px_stream.specs.Phases.{head_phase, is_over, judged_phase, unless_left};
 ghost use Rattle.px_exchange.specs.Requests.{expects as expecting, flow_of, judged, is_head as asks_head};
 
@@ -22,7 +22,7 @@ use px_event::{Command, Hook};
 use px_exchange::asked::{Judged, expects, is_head, judge};
 use px_exchange::body::{Progress, read_body};
 use px_exchange::content::Content;
-use px_exchange::ending::{Used, refuse};
+use px_exchange::ending::{part, refuse};
 use px_exchange::said::ask;
 use px_exchange::terms::{Now, Terms};
 use px_exchange::{Boxed, flows};
@@ -38,26 +38,27 @@ pub fn look_for_head(
     requests: &mut MessageReader,
     out: &mut Vec<Command>,
 ) -> Result<Phase, NoMemory>
-    ensures gives { (fed : List ℕ) → Reads OfRequest [] fed false requests.old → OnOk result (out.new.items ≡ out.old.items ++ found (or_leaves now.client_closed [] (look_head terms.now index (request_item fed) now.moment now.client_closed))) }
+    ensures gives { (fed : List ℕ) → Reads OfRequest [] fed false requests.old → OnOk result (out.new.items ≡ out.old.items ++ found (or_leaves now.client_closed (shut_server now.parked) (look_head terms.now index (request_item fed) now.moment now.parked now.client_closed))) }
     ensures phase { (fed : List ℕ) → Reads OfRequest [] fed false requests.old → IfOk result (λ next. next ≡ head_phase terms.now index (request_item fed) now.moment now.client_closed) }
     ensures reads { (fed : List ℕ) → Reads OfRequest [] fed false requests.old → OnOk result (HeadRead (connect_in terms.now.place (request_item fed)) (request_item fed) fed requests.new) }
 {
     match requests.next()? {
         Part::Request(head) => look_at_head(terms, now, index, requests, head, out),
         Part::Bad(fault) => refuse_head(now, fault, false, out),
-        _ => Ok(wait_for_head(now)),
+        _ => wait_for_head(now, out),
     }
 }
 
 // No head is there.
-fn wait_for_head(now: Now) -> Phase
-    ensures { result ≡ unless_left now.client_closed Wanted.Idle }
+fn wait_for_head(now: Now, out: &mut Vec<Command>) -> Result<Phase, NoMemory>
+    ensures gives { OnOk result (out.new.items ≡ out.old.items ++ where_left now.client_closed (shut_server now.parked)) }
+    ensures phase { IfOk result (λ next. next ≡ unless_left now.client_closed Wanted.Idle) }
 {
     if now.client_closed {
-        Phase::Ready(Wanted::Over)
-    } else {
-        Phase::Ready(Wanted::Idle)
+        part(now.parked, out)?;
+        return Ok(Phase::Ready(Wanted::Over));
     }
+    Ok(Phase::Ready(Wanted::Idle))
 }
 
 // Ends the conversation by a head that makes no flow.
@@ -67,10 +68,10 @@ fn refuse_head(
     asked_head: bool,
     out: &mut Vec<Command>,
 ) -> Result<Phase, NoMemory>
-    ensures gives { OnOk result (out.new.items ≡ out.old.items ++ refuses fault asked_head now.client_closed) }
+    ensures gives { OnOk result (out.new.items ≡ out.old.items ++ refuses fault asked_head now.parked now.client_closed) }
     ensures phase { IfOk result (λ next. next ≡ is_over) }
 {
-    refuse(now, fault, asked_head, out)?;
+    refuse(now, fault, asked_head, now.parked, out)?;
     Ok(Phase::Ready(Wanted::Over))
 }
 
@@ -83,7 +84,7 @@ fn look_at_head(
     head: RequestHead,
     out: &mut Vec<Command>,
 ) -> Result<Phase, NoMemory>
-    ensures gives { OnOk result (out.new.items ≡ out.old.items ++ found (look_judged terms.now index head (judged terms.now.place head) now.moment now.client_closed)) }
+    ensures gives { OnOk result (out.new.items ≡ out.old.items ++ found (look_judged terms.now index head (judged terms.now.place head) now.moment now.parked now.client_closed)) }
     ensures phase { IfOk result (λ next. next ≡ judged_phase terms.now index head (judged terms.now.place head) now.moment) }
     ensures reads { OnOk result (BehindJudged (judged terms.now.place head) requests.old requests.new) }
 {
@@ -106,7 +107,7 @@ fn begin_flow(
     expected: bool,
     out: &mut Vec<Command>,
 ) -> Result<Phase, NoMemory>
-    ensures gives { (head : ReadHead) → asked_head ≡ asks_head head.method → OnOk result (out.new.items ≡ out.old.items ++ found (look_judged terms.now index head made now.moment now.client_closed)) }
+    ensures gives { (head : ReadHead) → asked_head ≡ asks_head head.method → OnOk result (out.new.items ≡ out.old.items ++ found (look_judged terms.now index head made now.moment now.parked now.client_closed)) }
     ensures phase { (head : ReadHead) → expected ≡ expecting head → IfOk result (λ next. next ≡ judged_phase terms.now index head made now.moment) }
     ensures reads { OnOk result (BehindJudged made requests.old requests.new) }
 {
@@ -156,7 +157,7 @@ pub fn look_for_body(
     out: &mut Vec<Command>,
 ) -> Result<Phase, NoMemory>
     requires reads { IsReading requests.old }
-    ensures looks { IfOk result (λ next. BodyFound flow given body requests.old requests.new now.moment now.client_closed out.old.items out.new.items next) }
+    ensures looks { IfOk result (λ next. BodyFound flow given body requests.old requests.new now.moment now.parked now.client_closed out.old.items out.new.items next) }
 {
     let mut body = body;
     let progress = read_body(requests, &mut body)?;
@@ -172,7 +173,7 @@ fn look_at_body(
     body: Content,
     out: &mut Vec<Command>,
 ) -> Result<Phase, NoMemory>
-    ensures gives { OnOk result (out.new.items ≡ out.old.items ++ body_gives flow given progress body now.moment now.client_closed) }
+    ensures gives { OnOk result (out.new.items ≡ out.old.items ++ body_gives flow given progress body now.moment now.parked now.client_closed) }
     ensures phase { IfOk result (λ next. next ≡ body_phase flow given progress body now.moment now.client_closed) }
 {
     match progress {
@@ -183,13 +184,13 @@ fn look_at_body(
         Progress::Bad(fault) => {
             drop(body);
             drop(given);
-            fail(now, flow, fault, Used::NoServer, out)
+            fail(now, flow, fault, now.parked, out)
         }
         Progress::Missing => {
             if now.client_closed {
                 drop(body);
                 drop(given);
-                return leave(now, flow, Used::NoServer, out);
+                return leave(now, flow, now.parked, out);
             }
             Ok(Phase::Ready(Wanted::Receiving { flow, given, body }))
         }

@@ -8,10 +8,10 @@ pub returns-clause-fault : goal.returns-clause-fault
 returns-clause-fault c = λ flow fault moment used closed. fault_ends flow fault moment used closed
 
 pub returns-clause-refused : goal.returns-clause-refused
-returns-clause-refused c = λ fault asked_head closed. refuses_ends fault asked_head closed
+returns-clause-refused c = λ fault asked_head parked closed. refuses_ends fault asked_head parked closed
 
 pub returns-clause-finished : goal.returns-clause-finished
-returns-clause-finished c = λ flow response used stays closed. finished_ends flow response used stays closed
+returns-clause-finished c = λ flow response used parked stays closed. finished_ends flow response used parked stays closed
 
 pub returns-clause-dial : goal.returns-clause-dial
 returns-clause-dial c = λ flow server answer moment closed. dial_ends flow server answer moment closed

@@ -1,13 +1,8 @@
-use Rattle.std.proofs.Common.{◌≡◌, List, [], ◌++◌, refl, ap, sym, ◌∙◌, subst}
+use Rattle.std.proofs.Common.{[], refl, ap, sym, ◌∙◌}
 use Rattle.std.proofs.lemmas.List.{append-nil}
 use Rattle.rand_chacha.specs.ChaCha.{key_of}
-use Rattle.px_event.specs.declared.command.Command.{Command}
-use Rattle.px_stream.specs.Sequence.{open_spare, outcome_in}
-use Rattle.px_stack.specs.Kept.{shut_open}
-use Rattle.px_stack.specs.Steps.{Adds, Follows}
-use Rattle.px_stack.specs.declared.child.Child.{Child}
-use Rattle.px_stack.specs.declared.child.Child.TheVariants as children
-use Rattle.px_stack.proofs.FollowLemmas.{both_ok, ends_with, goes_on, with_one_key}
+use Rattle.px_stream.specs.Sequence.{outcome_in}
+use Rattle.px_stack.proofs.FollowLemmas.{ends_asks, ends_with, goes_on, with_one_key}
 use Rattle.px_stack.proofs.following.follow.Goals as goal
 
 pub returns-in-Going-clause-follows : goal.returns-in-Going-clause-follows
@@ -19,17 +14,15 @@ returns-in-Going-clause-follows c = record {
 }
 
 pub returns-in-Next-clause-follows : goal.returns-in-Next-clause-follows
-returns-in-Next-clause-follows c =
-    let more : List Command = shut_open (open_spare c.args.http.value.stream.spare) in
-    let out : List Command = c.args.out.now.items in
-    let longer : List Command = c.end.new.out.items in
-    let P : Child → Type 0 = λ child. Adds (Follows (key_of c.args.means.mask_key) c.args.moment c.args.http.value child) out longer in
-    both_ok c.end.result (λ child. child ≡ children.Over) P (longer ≡ out ++ more) c.end.ensures.over c.end.ensures.gives
-    (λ child is grown. subst P (sym is) (record {
-      more = more;
-      grown = grown;
-      holds = ends_with c.args.http.value c.outcome.result (c.outcome.ensures.phase ∙ ap (λ h. outcome_in h.stream.phase) c.deref.ensures) c.in-Next.is (key_of c.args.means.mask_key) c.args.moment;
-    }))
+returns-in-Next-clause-follows c = record {
+  more = [];
+  grown = sym (append-nil c.args.out.now.items);
+  holds = ends_with c.args.http.value c.outcome.result (c.outcome.ensures.phase ∙ ap (λ h. outcome_in h.stream.phase) c.deref.ensures) c.in-Next.is (key_of c.args.means.mask_key) c.args.moment;
+}
+
+pub returns-in-Next-clause-asks : goal.returns-in-Next-clause-asks
+returns-in-Next-clause-asks c =
+    ends_asks c.args.http.value c.outcome.result (c.outcome.ensures.phase ∙ ap (λ h. outcome_in h.stream.phase) c.deref.ensures) c.in-Next.is c.args.out.now.items
 
 pub returns-in-Connects-clause-follows : goal.returns-in-Connects-clause-follows
 returns-in-Connects-clause-follows c =

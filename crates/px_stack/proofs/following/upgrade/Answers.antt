@@ -5,7 +5,7 @@ use Rattle.px_event.specs.declared.command.Command.{Command}
 use Rattle.px_event.specs.declared.event.Rests.{Rests}
 use Rattle.px_http.specs.declared.conversation.HttpConv.{HttpConv}
 use Rattle.px_stream.specs.Rests.{phase_flow, phase_rest}
-use Rattle.px_stream.specs.Sequence.{open_spare, upgraded_side}
+use Rattle.px_stream.specs.Sequence.{upgraded_side}
 use Rattle.px_stack.specs.declared.closing.Sides.{Sides}
 use Rattle.px_stack.specs.Kept.{left_by, most_asked}
 use Rattle.px_stack.specs.Steps.{Adds, Follows, GoesOnAs}
@@ -19,21 +19,19 @@ returns-clause-follows c =
     let rests : Rests = c.in_ok-rests.rests in
     let out : List Command = c.args.out.now.items in
     let longer : List Command = c.go_on_as.new.out.items in
-    let spare = c.spare-spare.result in
     let flow : Flow = c.in-Some.flow in
     let key = key_of c.args.means.mask_key in
-    two_ok c.go_on_as.result (λ child. Adds (GoesOnAs key c.args.moment sides rests flow spare child) out longer) (λ child. left_by child ≤ most_asked)
+    two_ok c.go_on_as.result (λ child. Adds (GoesOnAs key c.args.moment sides rests flow child) out longer) (λ child. left_by child ≤ most_asked)
     (λ child. Adds (Follows key c.args.moment flows child) out longer) c.go_on_as.ensures.follows c.go_on_as.ensures.left
     (λ child adds few. record {
       more = adds.more;
       grown = adds.grown;
-      holds = upgrades key c.args.moment flows sides rests flow spare child adds.more c.requires
+      holds = upgrades key c.args.moment flows sides rests flow child adds.more c.requires
           (ap (λ (h : HttpConv). upgraded_side h.stream.phase) (sym c.deref.ensures) ∙ c.read_sides-sides.ensures.server)
           (c.read_sides-sides.ensures.closed ∙ ap (λ (h : HttpConv). h.stream.client_closed) c.deref.ensures)
           (c.in_ok-rests.ensures.client ∙ ap (λ (h : HttpConv). h.stream.requests.rest) c.into_inner.ensures)
           (c.in_ok-rests.ensures.server ∙ ap (λ (h : HttpConv). phase_rest h.stream.phase) c.into_inner.ensures)
           (sym c.in-Some.is ∙ (c.in_ok-rests.ensures.flow ∙ ap (λ (h : HttpConv). phase_flow h.stream.phase) c.into_inner.ensures))
-          (c.spare-spare.ensures ∙ ap (λ (h : HttpConv). open_spare h.stream.spare) c.deref-2.ensures)
           few adds.holds;
     })
 

@@ -4,7 +4,7 @@ use Rattle.px_stack.proofs.relay.begin_relay.Goals as goal
 
 pub returns-then-sides-clause-relays : goal.returns-then-sides-clause-relays
 returns-then-sides-clause-relays c =
-    begins_over c.args.sides c.args.rests c.args.flow c.args.spare c.in_ok-tunnel.tunnel c.args.out.now.items c.go_on.new.out.items
+    begins_over c.args.sides c.args.rests c.args.flow c.in_ok-tunnel.tunnel c.args.out.now.items c.go_on.new.out.items
     c.in_ok-tunnel.ensures.server c.in_ok-tunnel.ensures.rests c.in_ok-go_on.ensures.gives c.end_relay.new.out.items c.end_relay.result
     c.end_relay.ensures.over c.end_relay.ensures.gives
     (elim c.then-sides.branch [
@@ -14,6 +14,6 @@ returns-then-sides-clause-relays c =
 
 pub returns-clause-relays : goal.returns-clause-relays
 returns-clause-relays c =
-    begins_raw c.args.sides c.args.rests c.args.flow c.args.spare c.in_ok-tunnel.tunnel c.args.out.now.items c.go_on.new.out.items
+    begins_raw c.args.sides c.args.rests c.args.flow c.in_ok-tunnel.tunnel c.args.out.now.items c.go_on.new.out.items
     c.in_ok-tunnel.ensures.server c.in_ok-tunnel.ensures.rests c.in_ok-go_on.ensures.gives c.go_on.new.self
     c.go_on.ensures.server c.in_ok-go_on.ensures.rests c.in_ok-go_on.ensures.closed c.if-sides.false c.if-sides-2.false

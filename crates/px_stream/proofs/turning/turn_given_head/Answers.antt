@@ -10,7 +10,7 @@ use Rattle.px_stream.proofs.turning.turn_given_head.Goals as goal
 
 pub returns-in-Some-clause-gives : goal.returns-in-Some-clause-gives
 returns-in-Some-clause-gives c =
-    owes_by c.give_body.result (λ (t : Option (Taken Response)). given_owes c.args.flow t c.args.now.moment c.args.now.client_closed) (taken_at_head_of c.args.flow.response c.args.reply) (Some c.in-Some.taken) c.args.out.now.items c.give_body.new.out.items
+    owes_by c.give_body.result (λ (t : Option (Taken Response)). given_owes c.args.flow t c.args.now.moment c.args.now.parked c.args.now.client_closed) (taken_at_head_of c.args.flow.response c.args.reply) (Some c.in-Some.taken) c.args.out.now.items c.give_body.new.out.items
     (sym (c.in_ok-taken.ensures ∙ ap (λ (f : Flow). taken_at_head_of f.response c.args.reply) c.deref.ensures) ∙ c.in-Some.is) c.give_body.ensures.gives
 
 pub returns-in-Some-clause-ready : goal.returns-in-Some-clause-ready
@@ -21,6 +21,6 @@ pub returns-in-None : goal.returns-in-None
 returns-in-None c =
     let none : (taken_at_head_of c.args.flow.response c.args.reply) ≡ None = sym (c.in_ok-taken.ensures ∙ ap (λ (f : Flow). taken_at_head_of f.response c.args.reply) c.deref.ensures) ∙ c.in-None.is in
     record {
-      gives = sym (ap (λ (t : Option (Taken Response)). c.args.out.now.items ++ given_owes c.args.flow t c.args.now.moment c.args.now.client_closed) none ∙ append-nil c.args.out.now.items);
+      gives = sym (ap (λ (t : Option (Taken Response)). c.args.out.now.items ++ given_owes c.args.flow t c.args.now.moment c.args.now.parked c.args.now.client_closed) none ∙ append-nil c.args.out.now.items);
       ready = c.give_up.ensures ∙ sym (ap (λ (t : Option (Taken Response)). given_leads c.args.flow t) none);
     }

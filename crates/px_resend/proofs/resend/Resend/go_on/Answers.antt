@@ -9,7 +9,7 @@ returns-clause-goes_on c =
     goes_on_there c.args.self.now.conv c.args.self.now.proxy c.args.self.now.request c.args.flow c.args.moment c.new-stream.result c.in_ok-new.field-0 c.go_on_with.new.out.items c.go_on_with.new.self _
     c.args.out.now.items c.pass_on.new.out.items c.in_ok-new.ensures.ok c.new-given.ensures.items
     (made_for c.args.self.now.conv c.args.self.now.proxy c.in_ok-place_of.field-0 c.new-stream.result c.in_ok-place_of.ensures c.new-stream.ensures.terms c.new-stream.ensures.numbers
-    c.new-stream.ensures.spare c.new-stream.ensures.new) c.in_ok-go_on_with.ensures.goes_on c.in_ok-pass_on.ensures
+    c.new-stream.ensures.parked c.new-stream.ensures.new) c.in_ok-go_on_with.ensures.goes_on c.in_ok-pass_on.ensures
 
 pub returns-clause-asks : goal.returns-clause-asks
 returns-clause-asks c =
@@ -20,4 +20,4 @@ pub returns-clause-left : goal.returns-clause-left
 returns-clause-left c =
     left_there c.args.self.now.conv c.args.self.now.proxy c.new-stream.result c.go_on_with.new.self c.in_ok-new.field-0 c.in_ok-new.ensures.ok
     (made_for c.args.self.now.conv c.args.self.now.proxy c.in_ok-place_of.field-0 c.new-stream.result c.in_ok-place_of.ensures c.new-stream.ensures.terms c.new-stream.ensures.numbers
-    c.new-stream.ensures.spare c.new-stream.ensures.new) c.in_ok-go_on_with.ensures.left
+    c.new-stream.ensures.parked c.new-stream.ensures.new) c.in_ok-go_on_with.ensures.left

@@ -4,6 +4,7 @@ use Rattle.px_stream.specs.Anywhere.{Somewhere}
 use Rattle.px_stream.specs.Stands.{awaits}
 use Rattle.px_resend.specs.Stands.{terms_in}
 use Rattle.px_resend.proofs.GoingLemmas.{asks_all, somewhere, takes_all, takes_left}
+use Rattle.px_resend.proofs.ParkedLemmas.{has_no_home}
 use Rattle.px_resend.proofs.resend.Resend.take_going.Goals as goal
 
 pub take_anywhere-requires-clause-somewhere : goal.take_anywhere-requires-clause-somewhere
@@ -15,7 +16,7 @@ take_anywhere-requires-clause-free c = ap awaits c.deref_mut.ensures.value ∙ c
 
 pub returns-clause-takes : goal.returns-clause-takes
 returns-clause-takes c =
-    takes_all (terms_in c.args.self.now) c.args.self.now.request c.args.stream (with_value c.args.stream c.take_anywhere.new.self) _ c.take_anywhere.new.out.items c.args.out.now.items
+    takes_all (terms_in c.args.self.now) c.args.self.now.request (has_no_home c.args.self.now.conv c.args.self.now.proxy) c.args.stream (with_value c.args.stream c.take_anywhere.new.self) _ c.take_anywhere.new.out.items c.args.out.now.items
     c.pass_on.new.out.items c.follow.new.out.items c.new-given.ensures.items c.in_ok-pass_on.ensures c.follow.result c.args.moment c.args.event c.of_servers.result _ c.of_servers.ensures
     c.deref_mut.ensures.value c.in_ok-take_anywhere.ensures.takes c.follow.ensures.follows
 

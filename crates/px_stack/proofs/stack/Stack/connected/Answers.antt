@@ -11,4 +11,4 @@ returns-then-is_some-clause-resumes c =
 pub returns-clause-resumes : goal.returns-clause-resumes
 returns-clause-resumes c =
     told_resumed c.args.self.now.conv (visitor_of c.args.self.now) c.args.opening c.args.closed c.args.moment c.args.out.now.items c.tell.new.out.items
-    (sym c.is_some.ensures ∙ c.if-is_some.false) c.tell.result c.tell.ensures.tells
+    c.empty.result c.empty.ensures (sym c.is_some.ensures ∙ c.if-is_some.false) c.tell.result c.tell.ensures.tells

@@ -11,7 +11,7 @@ pub returns-in_ok-opening-in-Client-clause-takes : goal.returns-in_ok-opening-in
 returns-in_ok-opening-in-Client-clause-takes c =
     client_taken c.args.self.now.conv (visitor_of c.args.self.now) c.args.opening c.args.server c.args.moment (Piece c.args.side c.args.bytes.now)
     c.args.out.now.items c.decide.new.out.items c.args.bytes.now (ap (λ side. Piece side c.args.bytes.now) c.in-Client.is)
-    c.in_ok-opening-in-Client.opening c.in_ok-opening-in-Client.ensures c.decide.result c.decide.ensures.decides
+    c.in_ok-opening-in-Client.opening c.in_ok-opening-in-Client.ensures c.empty.result c.empty.ensures c.decide.result c.decide.ensures.decides
 
 pub returns-in_ok-try_clone-in-Server-clause-takes : goal.returns-in_ok-try_clone-in-Server-clause-takes
 returns-in_ok-try_clone-in-Server-clause-takes c =

@@ -13,7 +13,7 @@ returns-clause-gives c =
     let made : c.in_ok-judged.judged ≡ judged c.args.terms.now.place c.args.head = c.in_ok-judged.ensures in
     let asked : c.is_head-asked_head.result ≡ is_head c.args.head.method = search rules in
     let P : Judged → Type 0 = λ m. OnOk c.begin_flow.result (c.begin_flow.new.out.items
-    ≡ c.args.out.now.items ++ found (look_judged c.args.terms.now c.args.index c.args.head m c.args.now.moment c.args.now.client_closed)) in
+    ≡ c.args.out.now.items ++ found (look_judged c.args.terms.now c.args.index c.args.head m c.args.now.moment c.args.now.parked c.args.now.client_closed)) in
     subst P made (c.begin_flow.ensures.gives c.args.head asked)
 
 pub returns-clause-phase : goal.returns-clause-phase

@@ -9,5 +9,5 @@ advance-requires c = may_look_begun c.in_ok-turned.turned c.in_ok-ready.ready c.
 pub returns : goal.returns
 returns c = on_ok_weaker c.advance.result
     (answers_onward c.args.self.now c.turn.new.self c.go_onward.new.self c.advance.new.self c.args.moment c.args.reply c.args.asked c.in_ok-turned.turned c.in_ok-ready.ready
-    c.args.out.now.items c.turn.new.out.items c.advance.new.out.items c.in_ok-turned.ensures c.in_ok-ready.ensures.terms c.in_ok-ready.ensures.numbers c.in_ok-ready.ensures.client c.in_ok-ready.ensures.spare
+    c.args.out.now.items c.turn.new.out.items c.advance.new.out.items c.in_ok-turned.ensures c.in_ok-ready.ensures.terms c.in_ok-ready.ensures.numbers c.in_ok-ready.ensures.client c.in_ok-ready.ensures.parked
     c.in_ok-ready.ensures.requests c.in_ok-ready.ensures.ready) c.advance.ensures

@@ -7,9 +7,9 @@ returns-then-self-clause-hears c = hears_past c.args.self.now c.args.event.now c
 pub hear-heard-requires-clause-open_still : goal.hear-heard-requires-clause-open_still
 hear-heard-requires-clause-open_still c = waits_open c.args.self.now c.requires.waits c.requires.somewhere
 
-pub hear-heard-requires-clause-spare : goal.hear-heard-requires-clause-spare
-hear-heard-requires-clause-spare c = waits_agree c.args.self.now c.requires.somewhere
+pub hear-heard-requires-clause-parked : goal.hear-heard-requires-clause-parked
+hear-heard-requires-clause-parked c = waits_agree c.args.self.now c.requires.waits c.requires.somewhere
 
 pub returns-clause-hears : goal.returns-clause-hears
-returns-clause-hears c = hears_where c.hear-heard.result c.args.self.now c.args.event.now c.hear-heard.new.requests c.hear-heard.new.client_closed c.hear-heard.new.spare c.if-self.false
-    c.hear-heard.ensures.requests c.hear-heard.ensures.client c.hear-heard.ensures.spare
+returns-clause-hears c = hears_where c.hear-heard.result c.args.self.now c.args.event.now c.hear-heard.new.requests c.hear-heard.new.client_closed c.hear-heard.new.parked c.if-self.false
+    c.hear-heard.ensures.requests c.hear-heard.ensures.client c.hear-heard.ensures.parked
