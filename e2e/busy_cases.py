@@ -2,14 +2,13 @@
 standard output who goes away."""
 import os
 import re
-import resource
 import select
 import socket
 import struct
 import threading
 import time
 
-from tools import ORIGIN, PROXY, Mitm, curl, get, line, read_all, read_answers, same, talk, url, wait_for
+from tools import ORIGIN, PROXY, Mitm, curl, get, line, read_all, same, talk, url, wait_for
 
 CLIENTS = 500
 TRIES = 20
@@ -144,23 +143,6 @@ def case_server_answers_the_head_and_resets():
         same(mitm.new_lines(TRIES), [line("POST", "/unread", 413, 9)] * TRIES)
 
 
-def case_waits_at_the_door_without_a_descriptor():
-    """With no descriptor left a client waits; once a server's socket is closed it is let in, though nothing else happens."""
-    with socket.create_server(("127.0.0.1", RESETTING)) as server, Mitm(mode=f'mode = "reverse:http://127.0.0.1:{RESETTING}"\n') as mitm:
-        server.settimeout(20)
-        most = mitm.sockets() + 2
-        resource.prlimit(mitm.process.pid, resource.RLIMIT_NOFILE, (most, most))
-        with socket.create_connection(PROXY, timeout=20) as first:
-            first.sendall(get("/first"))
-            dialled, _ = server.accept()
-            with dialled, socket.create_connection(PROXY, timeout=20) as second:
-                second.sendall(get("/second", "Connection: close"))
-                time.sleep(0.3)
-                dialled.sendall(b"HTTP/1.1 200 OK\r\nContent-Length: 2\r\n\r\nok")
-                same([body for _, body in read_answers(first, 1)], [b"ok"])
-                assert read_all(second).endswith(b"cannot connect\n"), "the second was not answered"
-
-
 def read_line(descriptor):
     got = b""
     while not got.endswith(b"\n"):
@@ -206,5 +188,5 @@ def spend_events(mitm):
 
 BUSY_CASES = [
     case_answered_beside_an_upload, case_five_hundred_connect_at_once, case_server_answers_and_resets_at_once,
-    case_server_answers_the_head_and_resets, case_waits_at_the_door_without_a_descriptor, case_reader_of_standard_output_goes_away,
+    case_server_answers_the_head_and_resets, case_reader_of_standard_output_goes_away,
 ]

@@ -12,9 +12,12 @@ import threading
 import time
 
 from busy_cases import BUSY_CASES
+from door_cases import DOOR_CASES
 from example_cases import examples
 from export_cases import EXPORT_CASES
+from file_cases import FILE_CASES
 from mode_cases import MODE_CASES
+from name_cases import NAME_CASES
 from operator_cases import OPERATOR_CASES
 from option_cases import OPTION_CASES
 from page_cases import PAGE_CASES
@@ -30,6 +33,7 @@ from tunnel_cases import TUNNEL_CASES
 from upstream_cases import UPSTREAM_CASES
 from view_cases import VIEW_CASES
 from websocket_cases import WEBSOCKET_CASES
+from word_cases import WORD_CASES
 
 BIG = 10 * 1024 * 1024
 SOME = 600_000
@@ -209,7 +213,8 @@ CASES = [
 # The cases that have a run of their own.
 OWN_CASES = [
     *BUSY_CASES, *OPTION_CASES, *MODE_CASES, *TUNNEL_CASES, *UPSTREAM_CASES, *WEBSOCKET_CASES, *PAGE_CASES, *SAVING_CASES, *EXPORT_CASES, *REPLAY_CASES,
-    *RESEND_CASES, *OPERATOR_CASES, *VIEW_CASES, *START_CASES, *ROWS_CASES,
+    *RESEND_CASES, *OPERATOR_CASES, *VIEW_CASES, *START_CASES, *DOOR_CASES, *NAME_CASES, *FILE_CASES,
+    *WORD_CASES, *ROWS_CASES,
 ]
 
 # The cases whose lines come in no order.

@@ -6,7 +6,7 @@ import subprocess
 import tempfile
 import time
 
-from saving_cases import content, put, saves_to, saved, shows, three_flows, whole_flows
+from saving_cases import ABSENT, DIRECTORY, content, put, saves_to, saved, shows, three_flows, whole_flows
 from tools import MITM, TOP, Mitm, curl, run_program, same, url
 
 WRITTEN = os.path.join(TOP, "examples", "written.flows")
@@ -57,8 +57,8 @@ def case_convert_what_is_none():
         put(path, data[:-5])
         put(to, b"kept")
         same(run_program("convert", path, to), (4, [f"bad flow file {path} at {places[2]}"], []))
-        same(run_program("convert", path + ".none", to), (3, [f"cannot read {path}.none"], []))
-        same(run_program("convert", folder.name, to), (3, [f"cannot read {folder.name}"], []))
+        same(run_program("convert", path + ".none", to), (3, [f"cannot read {path}.none"], ABSENT))
+        same(run_program("convert", folder.name, to), (3, [f"cannot read {folder.name}"], DIRECTORY))
         same(content(to), b"kept")
 
 
@@ -133,7 +133,7 @@ def case_har_of_what_is_none():
         data, _, places = three_flows(path)
         put(path, data[:-5])
         same(har(path, "~all"), (4, f"bad flow file {path} at {places[2]}\n", ""))
-        same(har(path + ".none", "~all"), (3, f"cannot read {path}.none\n", ""))
+        same(har(path + ".none", "~all"), (3, f"cannot read {path}.none\n", ABSENT[0] + "\n"))
         status, text, notes = har(path, "~x")
         same((status, text), (2, "bad filter at 0\n"))
         assert notes, "the filter is shown"

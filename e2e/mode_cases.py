@@ -1,5 +1,5 @@
 """Cases of the modes: where requests go by their targets, and through another proxy. `mitm` itself is the proxy above."""
-from tools import ORIGIN, PROXY, Mitm, Origin, curl, line, same, talk, url, wait_for
+from tools import ORIGIN, PROXY, Mitm, Origin, curl, line, same, talk, url
 
 OTHER = 9001
 ABOVE = 8081
@@ -84,25 +84,6 @@ def case_browser_pointed_at_the_proxy_itself():
         same(mitm.lines(), [])
 
 
-def case_regular_proxy_asked_for_itself():
-    """It dials itself once, and what it then asks itself for is in origin form."""
-    with regular() as mitm:
-        same(curl(*THROUGH, "-w", "%{http_code}", url("/a")), b"bad target\n400")
-        same(mitm.new_lines(1), [line("GET", "/a", 400, 11, port=PROXY[1])])
-
-
-def case_proxies_of_themselves():
-    """A reverse proxy whose server is itself, and one that is its own proxy above, go on until descriptors run out, and then all of it ends."""
-    few = ("bash", "-c", 'ulimit -n 80; exec "$@"', "-")
-    for kind in ("reverse", "upstream"):
-        with Mitm(mode=f'mode = "{kind}:http://127.0.0.1:{PROXY[1]}"\n', in_front=few) as mitm:
-            before = mitm.sockets()
-            same(curl(*THROUGH, "-w", "%{http_code}", url("/a")), b"cannot connect\n502")
-            wait_for(lambda: mitm.sockets() == before, "all sockets to be let go of")
-            shown = mitm.lines()
-            assert len(shown) > 10 and all("502" in one or "cannot connect" in one for one in shown), shown
-
-
 def case_server_that_nobody_listens_at():
     with regular() as mitm:
         same(curl(*THROUGH, "-w", "%{http_code}", at("/a", NOBODY)), b"cannot connect\n502")
@@ -155,7 +136,6 @@ def case_absolute_form_in_reverse_mode():
 MODE_CASES = [
     case_empty_file_is_a_regular_proxy, case_regular_mode_by_its_name, case_two_servers_through_one_proxy, case_server_by_name_in_regular_mode,
     case_targets_without_a_path, case_bodies_in_regular_mode, case_rules_in_regular_mode, case_browser_pointed_at_the_proxy_itself,
-    case_regular_proxy_asked_for_itself, case_proxies_of_themselves, case_server_that_nobody_listens_at, case_through_another_proxy,
-    case_bodies_through_another_proxy, case_rules_through_another_proxy, case_proxy_above_that_nobody_listens_at, case_origin_form_in_upstream_mode,
-    case_absolute_form_in_reverse_mode,
+    case_server_that_nobody_listens_at, case_through_another_proxy, case_bodies_through_another_proxy, case_rules_through_another_proxy,
+    case_proxy_above_that_nobody_listens_at, case_origin_form_in_upstream_mode, case_absolute_form_in_reverse_mode,
 ]

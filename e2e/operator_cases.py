@@ -575,14 +575,17 @@ def case_line_without_end():
 
 
 def case_page_that_posts_to_the_door():
-    """What the documents warn of: a browser's request is lines too, and those of its body are obeyed."""
+    """A browser's request is shut out: neither its head nor its body is lines."""
     with Operated(REQUESTS) as mitm, Operator() as operator, sender(get("/held")) as client:
         name, = operator.held()
         body = f"kill {name}\n"
         head = f"POST / HTTP/1.1\r\nHost: 127.0.0.1:8081\r\nContent-Type: text/plain\r\nContent-Length: {len(body)}\r\n\r\n"
-        same(talk_at_the_door(head + body), b"unknown command\n" * 5 + b"ok\n")
-        same(read_all(client), b"")
-        same(mitm.new_lines(1), [line("GET", "/held", "-", "-", "killed")])
+        with Operator() as page:
+            page.say(head + body)
+            same(ended(page.socket), b"")
+        same(operator.ask(f"resume {name}"), "ok")
+        same(body_of(client), b"/held\n")
+        same(mitm.new_lines(1), [line("GET", "/held", 200, 6)])
 
 
 def case_held_message_of_a_websocket():
@@ -629,17 +632,23 @@ def browser_here(home):
     return browser
 
 
-def case_page_in_a_browser_ends_the_run():
-    """What the documents warn of, from a page of whatever server."""
-    page = b"<!doctype html><script>fetch('http://127.0.0.1:8081/', {method: 'POST', mode: 'no-cors', body: 'quit\\n'})</script>"
+def case_page_in_a_browser_says_nothing():
+    """From whatever server it is, its script is refused at the door, and the run goes on."""
+    page = b"""<!doctype html><p id="said">nothing</p><script>
+        fetch('http://127.0.0.1:8081/', {method: 'POST', mode: 'no-cors', body: 'quit\\n'}).catch(() => {
+          document.getElementById('said').textContent = 'refused';
+        });
+        </script>"""
 
     def serve(connection):
         read_head(connection)
         connection.sendall(b"HTTP/1.1 200 OK\r\nContent-Type: text/html\r\nConnection: close\r\nContent-Length: %d\r\n\r\n" % len(page) + page)
 
     with tempfile.TemporaryDirectory() as home, Peer(serve, PEER), Operated() as mitm:
-        shown_by(browser_here(home), home, f"http://127.0.0.1:{PEER}/", "--no-proxy-server", "--virtual-time-budget=3000")
-        same(mitm.process.wait(20), 0)
+        shown = shown_by(browser_here(home), home, f"http://127.0.0.1:{PEER}/", "--no-proxy-server", "--virtual-time-budget=3000")
+        assert '<p id="said">refused</p>' in shown, shown
+        goes_through()
+        assert mitm.process.poll() is None, f"it ended with {mitm.process.returncode}"
 
 
 def case_browser_is_held_and_let_go():
@@ -660,5 +669,5 @@ OPERATOR_CASES = [
     case_lines_that_are_no_orders, case_dropped_addon, case_longest_line, case_lines_in_any_pieces, case_operator_closes_its_side, case_operators_leave,
     case_client_leaves_while_its_flow_is_held, case_operator_ends_the_run, case_operator_who_never_reads, case_operator_who_never_reads_and_leaves,
     case_a_thousand_operators, case_line_without_end, case_page_that_posts_to_the_door, case_held_message_of_a_websocket,
-    case_library_whose_messages_are_held, case_page_in_a_browser_ends_the_run, case_browser_is_held_and_let_go,
+    case_library_whose_messages_are_held, case_page_in_a_browser_says_nothing, case_browser_is_held_and_let_go,
 ]

@@ -117,8 +117,8 @@ def case_local_file_absent():
 
 def case_local_file_that_is_a_directory():
     with Mitm('map_local = ["|/s/|files/"]\n', files={"files/sub/index.html": b"<p>"}) as mitm:
-        same(code_of("/s/sub"), "500")
-        same(mitm.new_lines(1), [line("GET", "/s/sub", 500, 0)])
+        same(code_of("/s/sub"), "404")
+        same(mitm.new_lines(1), [line("GET", "/s/sub", 404, 0)])
 
 
 def case_local_file_that_may_not_be_read():

@@ -2,7 +2,7 @@
 import os
 import socket
 
-from saving_cases import content, put, save_file, saved, saves_to, whole_flows
+from saving_cases import ABSENT, content, put, save_file, saved, saves_to, whole_flows
 from tools import MODE, ORIGIN, PROXY, Mitm, curl, get, line, read_answers, run_program, same, talk, url
 
 DEAD_PORT = 9099
@@ -91,20 +91,20 @@ def case_replayed_flows_are_saved():
             same(whole(ASKED[0]), b"")
 
 
-def refused(options):
-    """The status of a `serve` that ends before it listens, and what it prints."""
-    status, lines, notes = run_program("serve", "options", options=MODE + options)
-    same(notes, [])
+def refused(options, notes=()):
+    """The status of a `serve` that ends before it listens, with these notes on standard error, and what it prints."""
+    status, lines, told = run_program("serve", "options", options=MODE + options)
+    same(told, [*notes])
     return status, lines
 
 
 def case_replay_file_that_is_absent():
     with save_file() as path, save_file() as other:
-        same(refused(replays(path)), (3, [f"cannot read {path}"]))
+        same(refused(replays(path), ABSENT), (3, [f"cannot read {path}"]))
         recorded(path)
-        same(refused(replays(path, other)), (3, [f"cannot read {other}"]))
+        same(refused(replays(path, other), ABSENT), (3, [f"cannot read {other}"]))
         os.mkdir(other)
-        same(refused(replays(path, other)), (3, [f"cannot read {other}"]))
+        same(refused(replays(path, other), ["it is a directory"]), (3, [f"cannot read {other}"]))
 
 
 def case_replay_file_that_is_bad():

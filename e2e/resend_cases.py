@@ -5,7 +5,7 @@ import threading
 from mode_cases import ABOVE, UPSTREAM, regular
 from operator_cases import Operated, Operator
 from replay_cases import refused
-from saving_cases import content, put, save_file, saved, saves_to, whole_flows
+from saving_cases import ABSENT, content, put, save_file, saved, saves_to, whole_flows
 from tools import ORIGIN, Mitm, curl, get, line, same, talk, url, wait_for
 from tunnel_cases import NOBODY, PEER, Peer, read_head
 from websocket_cases import AGREES, ASKS, REVERSE, read_exactly
@@ -247,9 +247,9 @@ def case_websocket_that_is_sent_again():
 def case_resend_file_that_is_absent_or_bad():
     """They are read before it listens, behind those of server replay."""
     with save_file() as path, save_file() as other:
-        same(refused(sends(path)), (3, [f"cannot read {path}"]))
+        same(refused(sends(path), ABSENT), (3, [f"cannot read {path}"]))
         put(path, flow_of("/a"))
-        same(refused(sends(path, other)), (3, [f"cannot read {other}"]))
+        same(refused(sends(path, other), ABSENT), (3, [f"cannot read {other}"]))
         put(other, flow_of("/b")[:-1])
         same(refused(sends(path, other)), (4, [f"bad flow file {other} at 0"]))
         same(refused(sends("absent") + f"server_replay = ['{other}']\n"), (4, [f"bad flow file {other} at 0"]))

@@ -85,9 +85,13 @@ def saved(path, count):
     return whole_flows(content(path))[0]
 
 
-def shows(path, chosen, lines, status=0):
-    """`mitm flows` prints these lines of the file, for this filter."""
-    same(run_program("flows", path, chosen), (status, lines, []))
+ABSENT = ["No such file or directory (os error 2)"]
+DIRECTORY = ["Is a directory (os error 21)"]
+
+
+def shows(path, chosen, lines, status=0, notes=()):
+    """`mitm flows` prints these lines of the file, for this filter, and these notes on standard error."""
+    same(run_program("flows", path, chosen), (status, lines, [*notes]))
 
 
 def shows_cut(path, lines, offset):
@@ -431,9 +435,9 @@ def case_flows_of_what_is_no_flow_file():
 
 def case_flows_without_a_file():
     with save_file() as path:
-        shows(path, "~all", [f"cannot read {path}"], 3)
+        shows(path, "~all", [f"cannot read {path}"], 3, ABSENT)
         os.mkdir(path)
-        shows(path, "~all", [f"cannot read {path}"], 3)
+        shows(path, "~all", [f"cannot read {path}"], 3, DIRECTORY)
 
 
 def case_flows_with_a_bad_filter():

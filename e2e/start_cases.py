@@ -2,6 +2,7 @@
 import os
 import subprocess
 
+from file_cases import is_told
 from saving_cases import content, saves_to
 from tools import MITM, TOP, Mitm, Skipped, curl, line, same, url
 
@@ -58,6 +59,7 @@ def case_file_that_grows_beyond_the_limit():
             same(curl("--data-binary", "@-", url("/echo"), data=body), body)
         same(mitm.new_lines(1), [line("POST", "/echo", 200, len(body))])
         same(len(content(mitm.path("flows"))), LARGEST)
+        is_told(mitm, "flows", "large")
         same(curl(url("/a")), b"/a\n")
 
 

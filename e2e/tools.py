@@ -43,9 +43,9 @@ def raise_limit():
     resource.setrlimit(resource.RLIMIT_NOFILE, (most, most))
 
 
-def listens(port):
-    """Whether a socket listens at this port of 127.0.0.1, by the system's list."""
-    return count_sockets(port, "0A") > 0
+def listens(port, host="127.0.0.1"):
+    """Whether a socket listens at this port of an address, by the system's list."""
+    return count_sockets(port, "0A", host) > 0
 
 
 def connected(port):
@@ -53,9 +53,11 @@ def connected(port):
     return count_sockets(port, "01")
 
 
-def count_sockets(port, state):
-    wanted = "0100007F:%04X" % port
-    with open("/proc/net/tcp") as table:
+def count_sockets(port, state, host="127.0.0.1"):
+    family, name = (socket.AF_INET6, "tcp6") if ":" in host else (socket.AF_INET, "tcp")
+    words = struct.unpack("<%dI" % (4 if ":" in host else 1), socket.inet_pton(family, host))
+    wanted = "".join("%08X" % word for word in words) + ":%04X" % port
+    with open(f"/proc/net/{name}") as table:
         rows = [line.split() for line in table]
     return sum(row[1] == wanted and row[3] == state for row in rows)
 
@@ -99,9 +101,9 @@ class Mitm(Started):
     """`mitm serve FILE`, in a folder of its own in which FILE has these options. Words in front of the program's name run it. Its
     standard output is a file, or the descriptor that is given."""
 
-    def __init__(self, options="", port=PROXY[1], files=(), user=None, in_front=(), mode=MODE, out=None):
+    def __init__(self, options="", port=PROXY[1], files=(), user=None, in_front=(), mode=MODE, out=None, at=PROXY[0]):
         self.options, self.port, self.files, self.user, self.in_front = mode + options, port, dict(files), user, in_front
-        self.out = out
+        self.out, self.at = out, at
 
     def start(self):
         self.folder = tempfile.TemporaryDirectory()
@@ -117,7 +119,7 @@ class Mitm(Started):
             fcntl.fcntl(file, fcntl.F_SETFL, fcntl.fcntl(file, fcntl.F_GETFL) | os.O_APPEND)
         self.process = start_program(["serve", "options"], home, self.user, self.out or self.printed, self.noted, self.in_front)
         self.seen = 0
-        wait_for(lambda: listens(self.port) or self.process.poll() is not None, "mitm")
+        wait_for(lambda: listens(self.port, self.at) or self.process.poll() is not None, "mitm")
         if self.process.poll() is not None:
             raise AssertionError(f"mitm ended with {self.process.returncode}: {self.lines() + self.notes()}")
 

@@ -1,33 +1,38 @@
-//! Files of the system.
-ghost use Rattle.std.specs.Prelude.{None};
-
+//! The files of a run.
+use crate::named::Named;
+use crate::system_files::SystemFiles;
 use px_outside::{FileError, Files};
-use std::fs::{self, OpenOptions};
-use std::io::{self, ErrorKind, Write};
 use std::rt::Files as HostFiles;
 
 /// Reads and appends to files of the system. It tells neither their contents nor its calls.
 #[derive(Drop)]
-pub struct RealFiles<R: HostFiles + AllocGlobal + Drop> {
-    rt: R,
+pub struct RealFiles<R: HostFiles + AllocGlobal + Eprint + Drop> {
+    system: SystemFiles<R>,
     misses: u64,
     faults: u64,
     losses: u64,
 }
 
-impl<R: HostFiles + AllocGlobal + Drop> RealFiles<R> {
-    /// The files that this runtime reaches.
-    pub fn new(rt: R) -> RealFiles<R> {
+impl<R: HostFiles + AllocGlobal + Eprint + Drop> RealFiles<R> {
+    /// The files that this runtime reaches, and the one that the words name.
+    pub fn new(rt: R, named: Named) -> RealFiles<R> {
         RealFiles {
-            rt,
+            system: SystemFiles::new(rt, named),
             misses: 0,
             faults: 0,
             losses: 0,
         }
     }
+
+    /// The files of the system, for what people are told of them.
+    pub fn system(&self) -> &SystemFiles<R> {
+        &self.system
+    }
 }
 
-impl<R: HostFiles + AllocGlobal + Drop> Files for RealFiles<R> {
+impl<R: HostFiles + AllocGlobal + Eprint + Drop> Files for RealFiles<R> {
+    ghost use Rattle.std.specs.Prelude.{None};
+
     ghost contents = { λ _. None };
 
     ghost calls = { λ _. None };
@@ -39,19 +44,17 @@ impl<R: HostFiles + AllocGlobal + Drop> Files for RealFiles<R> {
     ghost losses = { λ f. f.losses };
 
     fn read(&mut self, path: &str) -> Result<Vec<u8>, FileError> {
-        match fs::read(&self.rt, path) {
+        match self.system.read(path) {
             Ok(bytes) => Ok(bytes),
-            Err(error) => match error.kind() {
-                ErrorKind::OutOfMemory => Err(FileError::NoMemory),
-                ErrorKind::NotFound => {
-                    self.misses = self.misses.saturating_add(1);
-                    Err(FileError::Absent)
-                }
-                _ => {
-                    self.faults = self.faults.saturating_add(1);
-                    Err(FileError::Failed)
-                }
-            },
+            Err(FileError::NoMemory) => Err(FileError::NoMemory),
+            Err(FileError::Absent) => {
+                self.misses = self.misses.saturating_add(1);
+                Err(FileError::Absent)
+            }
+            Err(FileError::Failed) => {
+                self.faults = self.faults.saturating_add(1);
+                Err(FileError::Failed)
+            }
         }
     }
 
@@ -59,23 +62,13 @@ impl<R: HostFiles + AllocGlobal + Drop> Files for RealFiles<R> {
         if bytes.is_empty() {
             return Ok(());
         }
-        match append_to(&self.rt, path, bytes) {
+        match self.system.append(path, bytes) {
             Ok(()) => Ok(()),
-            Err(error) if error.kind() == ErrorKind::OutOfMemory => Err(FileError::NoMemory),
-            Err(_) => {
+            Err(FileError::NoMemory) => Err(FileError::NoMemory),
+            Err(FileError::Absent | FileError::Failed) => {
                 self.losses = self.losses.saturating_add(1);
                 Err(FileError::Failed)
             }
         }
     }
-}
-
-// Opens the file for appending, which is made where it is absent, and writes the bytes. What follows is relied on, and neither proved nor
-// told: each write goes to the end that the file has then (`O_APPEND`), whoever else writes to it; and `write_all` is one call of the
-// system's `write`, as long as that takes all bytes. For a regular file it takes up to 2,147,479,552 at once, unless the disk or a
-// limit is full, or the program is killed: then it takes a front of them. After such a front `write_all` goes on with the rest, and where
-// that fails, so does the append, with the front in the file. No byte is waited for to reach the disk.
-fn append_to<R: HostFiles>(rt: &R, path: &str, bytes: &[u8]) -> io::Result<()> {
-    let mut file = OpenOptions::new().append(true).create(true).open(rt, path)?;
-    file.write_all(bytes)
 }

@@ -1,1 +1,3 @@
 pub mod Listening
+pub mod Opening
+pub mod Own

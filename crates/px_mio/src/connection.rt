@@ -1,8 +1,9 @@
 //! Bytes to and from a socket.
-ghost use Rattle.std.specs.Prelude.{◌≡◌, length};
+ghost use Rattle.std.specs.Prelude.{◌≡◌, ℕ, IfSome, length};
 ghost use Rattle.px_wire.specs.Calls.{GotWithin, PutWithin};
 
 use crate::notice::Way;
+use crate::opening::{is_request, line_len, may_be_request};
 use crate::share::Share;
 use mio::net::TcpStream;
 use px_event::Door;
@@ -10,8 +11,13 @@ use px_wire::{Got, Put, Ready};
 use std::io::{ErrorKind, Read, Write};
 use std::net::Shutdown;
 
-// How often a socket is read between two polls, a room at a time.
+// How often a socket is read between two polls, a room at a time, and that of an operator, a line at a time.
 const READS: u32 = 4;
+
+const LINES: u32 = 1;
+
+// So many bytes of an operator are looked at for the end of a line.
+const MOST_LINE: usize = 1024;
 
 // What a socket that was shut is read by, and how often between two polls.
 const SCRAP: usize = 4096;
@@ -51,6 +57,8 @@ pub(crate) struct Connection {
     is_blocked: bool,
     // Bytes were put, and none of the peer's were read since.
     is_put_last: bool,
+    // An operator's first bytes are none of HTTP.
+    is_operators: bool,
     // Its bytes have ended, or it failed.
     is_over: bool,
 }
@@ -87,6 +95,7 @@ impl Connection {
             reads_on: false,
             is_blocked,
             is_put_last: false,
+            is_operators: false,
             is_over: false,
         }
     }
@@ -110,7 +119,7 @@ impl Connection {
         put
     }
 
-    /// Takes bytes of the socket, unless it has none as far as was told, or is held.
+    /// Takes bytes of the socket, unless it has none as far as was told, or is held. Those of an operator are at most a line.
     pub(crate) fn get(&mut self, room: &mut [u8]) -> Got
         ensures within { GotWithin (length room.old) result }
         ensures room { length room.new ≡ length room.old }
@@ -118,9 +127,64 @@ impl Connection {
         if self.reading != Reading::Open {
             return Got::Blocked;
         }
+        match self.begun {
+            Begun::ByPeer(Door::Control) => self.get_line(room),
+            Begun::ByPeer(Door::Proxy) | Begun::Here => self.get_any(room),
+        }
+    }
+
+    // Takes what the socket has.
+    fn get_any(&mut self, room: &mut [u8]) -> Got
+        ensures within { GotWithin (length room.old) result }
+        ensures room { length room.new ≡ length room.old }
+    {
         let got = get_from(&self.stream, room);
         self.after_get(got, room.len());
         got
+    }
+
+    // Takes what an operator sent, up to the end of its first line. A peer that begins with a request of HTTP is no operator: what it
+    // sent is not taken, and it counts as ended.
+    fn get_line(&mut self, room: &mut [u8]) -> Got
+        ensures within { GotWithin (length room.old) result }
+        ensures room { length room.new ≡ length room.old }
+    {
+        let mut front = [0; MOST_LINE];
+        let there = match peek_at(&self.stream, &mut front) {
+            Got::Gave(count) => count,
+            none => {
+                self.after_get(none, MOST_LINE);
+                return none;
+            }
+        };
+        if let Some(none) = self.refuse_request(&front[..there]) {
+            self.after_get(none, MOST_LINE);
+            return none;
+        }
+        let count = line_len(&front[..there]).min(room.len());
+        let got = get_from(&self.stream, &mut room[..count]);
+        // What stands behind the line is taken later.
+        let filled = if count < there { 0 } else { MOST_LINE };
+        self.after_get(got, filled);
+        got
+    }
+
+    // Whether the first bytes at the door for operators are taken: not where a request begins with them, and not yet where one may and
+    // more can come.
+    fn refuse_request(&mut self, front: &[u8]) -> Option<Got>
+        ensures none { (most : ℕ) → IfSome result (λ got. GotWithin most got) }
+    {
+        if self.is_operators {
+            return None;
+        }
+        if is_request(front) {
+            return Some(Got::Ended);
+        }
+        if may_be_request(front) && !self.reads_on {
+            return Some(Got::Blocked);
+        }
+        self.is_operators = true;
+        None
     }
 
     // What a read of a room of so many bytes gave says of the next.
@@ -142,7 +206,16 @@ impl Connection {
 
     /// Whether it may be read once more in this turn; this counts.
     pub(crate) fn may_get(&mut self, turn: u64) -> bool {
-        self.reading != Reading::Open || self.share.take(turn, READS)
+        let most = self.reads();
+        self.reading != Reading::Open || self.share.take(turn, most)
+    }
+
+    // How often it may be read between two polls.
+    fn reads(&self) -> u32 {
+        match self.begun {
+            Begun::ByPeer(Door::Control) => LINES,
+            Begun::ByPeer(Door::Proxy) | Begun::Here => READS,
+        }
     }
 
     /// It gives nothing until it is told again that it may be read.
@@ -203,6 +276,17 @@ impl Connection {
             Err(_) => Finished::Closed,
         }
     }
+
+    /// Ends what is sent to the peer, and closes the socket at once. What stands there is read before: were bytes left that nobody read, the
+    /// system would reset the connection, and so take from the peer what it has not got yet.
+    pub(crate) fn part(self) {
+        match self.finish() {
+            Finished::Parting(stream, _) => {
+                let _ = drain(&stream);
+            }
+            Finished::Closed => {}
+        }
+    }
 }
 
 // Hands bytes to a socket. Where a peer that is heard out takes no more, the socket's end is told by reading it.
@@ -244,15 +328,29 @@ fn get_from(mut stream: &TcpStream, room: &mut [u8]) -> Got
     }
 }
 
-/// Reads a socket whose bytes nobody wants.
-pub(crate) fn drain(stream: &TcpStream) -> Drained {
+// Looks at bytes of a socket, which stay for the next read.
+fn peek_at(stream: &TcpStream, room: &mut [u8]) -> Got
+    ensures within { GotWithin (length room.old) result }
+    ensures room { length room.new ≡ length room.old }
+{
+    match stream.peek(room) {
+        Ok(count) if count > 0 => Got::Gave(count),
+        Ok(_) => Got::Ended,
+        Err(error) if error.kind() == ErrorKind::WouldBlock => Got::Blocked,
+        Err(_) => Got::Broken,
+    }
+}
+
+/// Reads a socket whose bytes nobody wants, and tells whether it had some.
+pub(crate) fn drain(stream: &TcpStream) -> (Drained, bool) {
     let mut scrap = [0; SCRAP];
+    let mut is_heard = false;
     for _ in 0..TURNS {
         match get_from(stream, &mut scrap) {
-            Got::Gave(_) => {}
-            Got::Blocked => return Drained::Blocked,
-            Got::Ended | Got::Broken => return Drained::Over,
+            Got::Gave(_) => is_heard = true,
+            Got::Blocked => return (Drained::Blocked, is_heard),
+            Got::Ended | Got::Broken => return (Drained::Over, is_heard),
         }
     }
-    Drained::More
+    (Drained::More, is_heard)
 }

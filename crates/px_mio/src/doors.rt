@@ -1,9 +1,10 @@
 //! The doors at which connections come.
+use crate::own_door::leads_to;
 use crate::share::Share;
 use mio::net::{TcpListener, TcpStream};
 use px_event::Door;
 use std::io::ErrorKind;
-use std::net::SocketAddr;
+use std::net::{Net, SocketAddr};
 
 // How many connections are accepted at a door between two polls.
 const ACCEPTS: u32 = 64;
@@ -15,10 +16,11 @@ pub(crate) struct Doors {
     control: Option<Entrance>,
 }
 
-// A socket that listens, and how many were accepted there.
+// A socket that listens, where it does, and how many were accepted there.
 #[derive(Drop)]
 struct Entrance {
     listener: TcpListener,
+    address: SocketAddr,
     share: Share,
 }
 
@@ -46,14 +48,23 @@ impl Doors {
         }
     }
 
-    /// Has the door listen by this socket.
-    pub(crate) fn set(&mut self, door: Door, listener: TcpListener) {
+    /// Has the door listen by this socket, which is bound there.
+    pub(crate) fn set(&mut self, door: Door, listener: TcpListener, address: SocketAddr) {
         let share = Share::new();
-        let entrance = Some(Entrance { listener, share });
+        let entrance = Some(Entrance {
+            listener,
+            address,
+            share,
+        });
         match door {
             Door::Proxy => self.proxy = entrance,
             Door::Control => self.control = entrance,
         }
+    }
+
+    /// Whether a connection to the address comes to one of these doors.
+    pub(crate) fn have<R: Net>(&self, rt: &R, to: SocketAddr) -> bool {
+        is_entrance(rt, &self.proxy, to) || is_entrance(rt, &self.control, to)
     }
 
     /// Accepts a connection at the door.
@@ -78,6 +89,14 @@ impl Entrance {
                 _ => Came::Refused,
             },
         }
+    }
+}
+
+// Whether a connection to the address comes to this door.
+fn is_entrance<R: Net>(rt: &R, entrance: &Option<Entrance>, to: SocketAddr) -> bool {
+    match entrance {
+        Some(entrance) => leads_to(rt, to, entrance.address),
+        None => false,
     }
 }
 

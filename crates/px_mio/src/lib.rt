@@ -12,11 +12,16 @@
 #![tactic(auto)]
 
 mod connection;
+mod descriptors;
 mod doors;
 mod listen_fault;
 mod listening;
 mod name;
+mod names;
 mod notice;
+mod opening;
+mod own_door;
+mod parting;
 mod share;
 mod socket;
 mod sockets;

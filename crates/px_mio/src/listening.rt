@@ -1,6 +1,8 @@
 //! Where a wire listens or was refused to, and how often it failed.
-ghost use Rattle.std.specs.Prelude.{◌≡◌, ◌≤◌, IfOk, Some};
+ghost use Rattle.std.specs.Prelude.{◌≡◌, ◌≤◌, IfOk, None, Some, option_copied};
 ghost use Rattle.px_outside.specs.Count.{Rose};
+ghost use Rattle.px_outside.specs.Net.{at};
+ghost use Rattle.px_mio.specs.Listening.{listening_of, refused_of};
 
 use crate::ListenFault;
 use px_message::Address;
@@ -30,6 +32,27 @@ pub(crate) fn refusal_at(address: &Address, why: ListenFault) -> Result<Option<R
 {
     let address = address.try_clone()?;
     Ok(Some(Refused { address, why }))
+}
+
+/// That it listens at these addresses.
+pub(crate) fn listening_at(
+    proxy: &Address,
+    control: Option<&Address>,
+) -> Result<Listening, NoMemory>
+    ensures listens { IfOk result (λ found. listening_of found ≡ at proxy.now (option_copied control.entry)) }
+    ensures not_refused { IfOk result (λ found. refused_of found ≡ None) }
+{
+    let proxy = proxy.try_clone()?;
+    match control {
+        Some(address) => {
+            let control = Some(address.try_clone()?);
+            Ok(Listening::At { proxy, control })
+        }
+        None => Ok(Listening::At {
+            proxy,
+            control: None,
+        }),
+    }
 }
 
 /// A count further by one, which stands still at its type's end.

@@ -4,6 +4,7 @@ ghost use Rattle.px_wire.specs.Calls.{GotWithin, PutWithin};
 
 use crate::connection::{Begun, Connection, Finished};
 use crate::notice::Way;
+use crate::parting::Parted;
 use mio::net::TcpStream;
 use mio::{Interest, Registry, Token};
 use px_wire::{Got, Put};
@@ -21,7 +22,7 @@ pub(crate) enum Socket {
     /// No address could be connected to.
     Failed,
     /// It was shut. What its peer still sends is read and dropped until the peer ends, or for a while.
-    Parting(TcpStream),
+    Parting(Parted),
 }
 
 /// A connection that begins, and the further addresses of its name.
@@ -128,9 +129,12 @@ impl Socket {
         matches!(self, Socket::Failed)
     }
 
-    /// Whether it was shut.
-    pub(crate) fn is_parting(&self) -> bool {
-        matches!(self, Socket::Parting(_))
+    /// Where it was shut, whether its peer sent something since this was asked last.
+    pub(crate) fn take_heard(&mut self) -> Option<bool> {
+        match self {
+            Socket::Parting(parted) => Some(parted.take_heard()),
+            Socket::Connected(_) | Socket::Connecting(_) | Socket::Failed => None,
+        }
     }
 
     /// Hands bytes to the socket. One whose dial has not ended, as far as was told, takes none yet.
@@ -183,6 +187,15 @@ impl Socket {
             Socket::Connecting(_) => Finished::Closed,
             Socket::Failed => Finished::Closed,
             Socket::Parting(_) => Finished::Closed,
+        }
+    }
+
+    /// Closes the socket at once, behind what was put, and behind what stands there to be read.
+    pub(crate) fn part(self) {
+        match self {
+            Socket::Connected(connection) => connection.part(),
+            Socket::Connecting(_) | Socket::Failed => {}
+            Socket::Parting(parted) => parted.part(),
         }
     }
 }

@@ -7,11 +7,14 @@ ghost use Rattle.std.specs.Prelude.{◌≡◌, ◌⊎◌, IfOk, IfSome, Some, le
 ghost use Rattle.px_wire.specs.Calls.{GotWithin, PutWithin};
 
 use crate::ListenFault;
-use crate::connection::{Begun, Connection, Drained, Finished, drain};
+use crate::connection::{Begun, Connection, Drained, Finished};
+use crate::descriptors::{lets_in, most_descriptors};
 use crate::doors::{Came, Doors};
 use crate::listening::{Refused, refusal_at};
-use crate::name::{Names, look_up, peer_address};
+use crate::name::{look_up, peer_address};
+use crate::names::Names;
 use crate::notice::{CONTROL, Notice, PROXY, Way, door_of, reading_of, slot_of, writing_of};
+use crate::parting::{Kept, Parted};
 use crate::socket::{Attempt, Attempted, Socket, connect, look_at, register};
 use mio::event::Event;
 use mio::net::{TcpListener, TcpStream};
@@ -26,15 +29,13 @@ use std::alloc::Global;
 use std::collections::VecDeque;
 use std::mem;
 use std::net::{Net, SocketAddr};
+use std::os::fd::AsRawFd;
 use std::time::{Clock, Duration, Instant, SystemTime, UNIX_EPOCH};
 
 // How many events one poll tells at most.
 const EVENTS: usize = 1024;
 
-// So many seconds a socket that was shut is kept for a peer that does not end.
-const PARTING: u64 = 10;
-
-// While sockets are kept so, the system is asked again after so many seconds.
+// While sockets that were shut are kept, the system is asked again after so many seconds, and they are looked at as often.
 const LOOK_AGAIN: u64 = 1;
 
 /// Sockets by their slots, and the doors.
@@ -54,8 +55,11 @@ pub(crate) struct Sockets<R> {
     turn: u64,
     // The stamp of the last socket that was given a slot.
     stamp: u64,
-    // The sockets that were shut and are kept, in the order of their moments.
+    // The sockets that were shut and are kept, and when they were looked at.
     parting: VecDeque<Kept>,
+    looked: Option<Instant>,
+    // How many descriptors were used when the doors were opened.
+    used: u64,
     // A door could not accept a connection that may wait; and a slot's socket was closed since.
     is_refused: bool,
     is_closed_since: bool,
@@ -70,12 +74,12 @@ struct Slot {
     socket: Socket,
 }
 
-// A socket that was shut, and until when it is kept.
-#[derive(Clone, Copy)]
-struct Kept {
-    until: Instant,
-    slot: u32,
-    stamp: u64,
+impl Slot {
+    // Closes its socket at once.
+    fn part(self) {
+        let Slot { socket, .. } = self;
+        socket.part();
+    }
 }
 
 impl<R: Net + Clock + Alloc<A = Global> + Drop> Sockets<R> {
@@ -101,6 +105,8 @@ impl<R: Net + Clock + Alloc<A = Global> + Drop> Sockets<R> {
             turn: 0,
             stamp: 0,
             parting: VecDeque::new(alloc),
+            looked: None,
+            used: 0,
             is_refused: false,
             is_closed_since: false,
             moment: 0,
@@ -116,41 +122,53 @@ impl<R: Net + Clock + Alloc<A = Global> + Drop> Sockets<R> {
         ensures asked { IfOk result (λ found. IfSome found (λ r. (r.address ≡ proxy.now) ⊎ (Some r.address ≡ option_copied control.entry))) }
     {
         match self.bind(proxy, PROXY)? {
-            Ok(listener) => self.doors.set(Door::Proxy, listener),
+            Ok((listener, at)) => self.open_door(Door::Proxy, listener, at),
             Err(why) => return refusal_at(proxy, why),
         }
         let Some(control) = control else {
             return Ok(None);
         };
         match self.bind(control, CONTROL)? {
-            Ok(listener) => self.doors.set(Door::Control, listener),
+            Ok((listener, at)) => self.open_door(Door::Control, listener, at),
             Err(why) => return refusal_at(control, why),
         }
         Ok(None)
     }
 
-    // A listener at the first of the address's addresses where that can be had. Else why it can't at the last of them.
+    // Has the door listen by this socket, which is bound there. Its descriptor is the lowest that was free, so all below it are used.
+    fn open_door(&mut self, door: Door, listener: TcpListener, at: SocketAddr) {
+        let highest = u64::try_from(listener.as_raw_fd()).unwrap_or(0);
+        self.used = highest.saturating_add(1);
+        self.doors.set(door, listener, at);
+    }
+
+    // A listener at the first of the address's addresses where that can be had, and which that is. Else why it can't at the last of them.
     fn bind(
         &self,
         address: &Address,
         token: Token,
-    ) -> Result<Result<TcpListener, ListenFault>, NoMemory> {
+    ) -> Result<Result<(TcpListener, SocketAddr), ListenFault>, NoMemory> {
         let mut addresses = look_up(&self.rt, self.alloc, address)?;
         let mut why = ListenFault::NoSuchName;
         while let Some(address) = addresses.pop_front() {
             match TcpListener::bind(&self.rt, address) {
-                Ok(listener) => return Ok(self.watch(listener, token)),
+                Ok(listener) => return Ok(self.watch(listener, address, token)),
                 Err(error) => why = ListenFault::of_kind(error.kind()),
             }
         }
         Ok(Err(why))
     }
 
-    // The listener, once the system tells its readiness.
-    fn watch(&self, mut listener: TcpListener, token: Token) -> Result<TcpListener, ListenFault> {
+    // The listener and its address, once the system tells its readiness.
+    fn watch(
+        &self,
+        mut listener: TcpListener,
+        address: SocketAddr,
+        token: Token,
+    ) -> Result<(TcpListener, SocketAddr), ListenFault> {
         let registry = self.poll.registry();
         match registry.register(&mut listener, token, Interest::READABLE) {
-            Ok(()) => Ok(listener),
+            Ok(()) => Ok((listener, address)),
             Err(_) => Err(ListenFault::Other),
         }
     }
@@ -245,10 +263,15 @@ impl<R: Net + Clock + Alloc<A = Global> + Drop> Sockets<R> {
         Ok(())
     }
 
-    // Accepts a connection at the door. Where the door can't accept for another cause than that none waits, as where no
-    // descriptor is left, it is tried again when the system tells something or a socket was closed.
+    // Accepts a connection at the door. Where the door can't accept for another cause than that none waits, as where few
+    // descriptors are left, it is tried again when the system tells something or a socket was closed.
     fn accept(&mut self, door: Door) -> Result<Option<Ready>, NoMemory> {
-        match self.doors.accept(door, self.turn) {
+        let came = if self.lets_in(door) {
+            self.doors.accept(door, self.turn)
+        } else {
+            Came::Refused
+        };
+        match came {
             Came::Peer(stream, peer) => self.take_in(door, stream, peer),
             Came::Aborted => {
                 self.notices.push_back(Notice::Door(door))?;
@@ -264,6 +287,17 @@ impl<R: Net + Clock + Alloc<A = Global> + Drop> Sockets<R> {
                 Ok(None)
             }
             Came::Nobody => Ok(None),
+        }
+    }
+
+    // Whether one more may come in at the door: an operator always, and a client while enough descriptors are free.
+    fn lets_in(&self, door: Door) -> bool {
+        match door {
+            Door::Control => true,
+            Door::Proxy => {
+                let used = self.used.saturating_add(self.slots.len() as u64);
+                lets_in(used, most_descriptors())
+            }
         }
     }
 
@@ -316,9 +350,16 @@ impl<R: Net + Clock + Alloc<A = Global> + Drop> Sockets<R> {
         self.stamp
     }
 
+    // The addresses that are connected to for this one, without those of the program's own doors.
+    fn addresses(&mut self, address: &Address) -> Result<VecDeque<SocketAddr>, NoMemory> {
+        let mut addresses = self.names.find(&self.rt, self.alloc, address)?;
+        addresses.retain(|to| !self.doors.have(&self.rt, *to));
+        Ok(addresses)
+    }
+
     /// Begins to connect to the address, and gives the slot. How that ends is told.
     pub(crate) fn dial(&mut self, address: &Address) -> Result<u32, NoMemory> {
-        let addresses = self.names.find(&self.rt, self.alloc, address)?;
+        let addresses = self.addresses(address)?;
         let Some(slot) = self.new_slot()? else {
             return Err(NoMemory);
         };
@@ -356,8 +397,8 @@ impl<R: Net + Clock + Alloc<A = Global> + Drop> Sockets<R> {
             }
             Some(Socket::Connecting(attempt)) => self.go_on_connecting(slot, attempt, way),
             Some(Socket::Failed) => Ok(Some(Ready::Dialled(slot, false))),
-            Some(Socket::Parting(stream)) => {
-                self.go_on_parting(slot, stream, way);
+            Some(Socket::Parting(parted)) => {
+                self.go_on_parting(slot, parted, way);
                 Ok(None)
             }
             None => Ok(None),
@@ -394,17 +435,17 @@ impl<R: Net + Clock + Alloc<A = Global> + Drop> Sockets<R> {
     }
 
     // Reads what the peer still sends to a slot that was shut.
-    fn go_on_parting(&mut self, slot: u32, stream: TcpStream, way: Way) {
+    fn go_on_parting(&mut self, slot: u32, mut parted: Parted, way: Way) {
         let keeps = match way {
             Way::Write => true,
-            Way::Read | Way::ReadOn | Way::ReadMore | Way::Settle => match drain(&stream) {
+            Way::Read | Way::ReadOn | Way::ReadMore | Way::Settle => match parted.drain() {
                 Drained::Blocked => true,
                 Drained::More => self.tell_later(slot).is_ok(),
                 Drained::Over => false,
             },
         };
         if keeps {
-            self.put_back(slot, Socket::Parting(stream));
+            self.put_back(slot, Socket::Parting(parted));
         } else {
             self.free(slot);
         }
@@ -463,13 +504,25 @@ impl<R: Net + Clock + Alloc<A = Global> + Drop> Sockets<R> {
             return;
         };
         match socket.finish() {
-            Finished::Parting(stream, left) if self.keep(slot) => match left {
-                Drained::Blocked => self.put_back(slot, Socket::Parting(stream)),
-                Drained::More | Drained::Over => {
-                    self.go_on_parting(slot, stream, Way::ReadMore);
+            Finished::Parting(stream, left) if self.keep(slot) => {
+                let parted = Parted::new(stream);
+                match left {
+                    Drained::Blocked => self.put_back(slot, Socket::Parting(parted)),
+                    Drained::More | Drained::Over => {
+                        self.go_on_parting(slot, parted, Way::ReadMore);
+                    }
                 }
-            },
+            }
             Finished::Parting(..) | Finished::Closed => self.free(slot),
+        }
+    }
+
+    /// Closes all sockets at once, where nothing more is told of them: each behind what was put, and behind what stands there to be read.
+    pub(crate) fn part(&mut self) {
+        for key in 0..self.slots.capacity() {
+            if let Some(place) = self.slots.try_remove(key) {
+                place.part();
+            }
         }
     }
 
@@ -478,14 +531,17 @@ impl<R: Net + Clock + Alloc<A = Global> + Drop> Sockets<R> {
         let Ok(now) = Instant::now(&self.rt) else {
             return false;
         };
-        let Some(until) = now.checked_add(Duration::from_secs(PARTING)) else {
-            return false;
-        };
         let stamp = self.stamp_of(slot);
-        self.parting.push_back(Kept { until, slot, stamp }).is_ok()
+        let kept = Kept {
+            slot,
+            stamp,
+            shut: now,
+            heard: now,
+        };
+        self.parting.push_back(kept).is_ok()
     }
 
-    // Closes the sockets that were kept long enough.
+    // Closes the sockets that were kept long enough, once a second.
     fn part_with_late(&mut self) {
         if self.parting.is_empty() {
             return;
@@ -493,30 +549,48 @@ impl<R: Net + Clock + Alloc<A = Global> + Drop> Sockets<R> {
         let Ok(now) = Instant::now(&self.rt) else {
             return;
         };
+        if !self.is_time(now) {
+            return;
+        }
         for _ in 0..self.parting.len() {
-            let Some(kept) = self.pop_late(now) else {
+            let Some(kept) = self.parting.pop_front() else {
                 return;
             };
-            if self.is_kept(kept) {
-                self.free(kept.slot);
+            self.look_at_kept(kept, now);
+        }
+    }
+
+    // Whether the kept sockets were not looked at within the last second; they count as looked at now.
+    fn is_time(&mut self, now: Instant) -> bool {
+        if let Some(looked) = self.looked {
+            if now.duration_since(looked).as_secs() < LOOK_AGAIN {
+                return false;
             }
         }
+        self.looked = Some(now);
+        true
     }
 
-    // The first socket of those that are kept, where it was kept long enough or is closed.
-    fn pop_late(&mut self, now: Instant) -> Option<Kept> {
-        let kept = *self.parting.front()?;
-        if kept.until > now && self.is_kept(kept) {
+    // Closes a kept socket where that was long enough.
+    fn look_at_kept(&mut self, mut kept: Kept, now: Instant) {
+        let Some(is_heard) = self.take_heard(kept) else {
+            return;
+        };
+        if is_heard {
+            kept.heard = now;
+        }
+        if kept.is_late(now) || self.parting.push_back(kept).is_err() {
+            self.free(kept.slot);
+        }
+    }
+
+    // Where a kept socket is still there, whether its peer sent something since that was asked last.
+    fn take_heard(&mut self, kept: Kept) -> Option<bool> {
+        let place = self.slots.get_mut(kept.slot as usize)?;
+        if place.stamp != kept.stamp {
             return None;
         }
-        self.parting.pop_front()
-    }
-
-    fn is_kept(&self, kept: Kept) -> bool {
-        match self.slots.get(kept.slot as usize) {
-            Some(place) => place.stamp == kept.stamp && place.socket.is_parting(),
-            None => false,
-        }
+        place.socket.take_heard()
     }
 
     // The slot's socket, which is put back or whose slot is freed.

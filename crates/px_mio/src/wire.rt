@@ -5,7 +5,7 @@ ghost use Rattle.px_outside.specs.Net.{idle, failed, at};
 ghost use Rattle.px_mio.specs.Listening.{listening_of, refused_of};
 
 use crate::ListenFault;
-use crate::listening::{Listening, one_more};
+use crate::listening::{Listening, listening_at, one_more};
 use crate::sockets::Sockets;
 use px_event::Step;
 use px_message::Address;
@@ -61,6 +61,13 @@ impl<R: Net + Wait + Clock + Alloc<A = Global> + Drop> MioWire<R> {
             Listening::Failed(None) | Listening::Idle | Listening::At { .. } => None,
         }
     }
+
+    /// Closes all sockets, as the end of a run does, and waits for nothing. What was put is ended by the end of the connection, also where its
+    /// peer sent bytes that nobody read: those that stand there are read before, up to 64 kB for each socket.
+    pub fn part(self) {
+        let MioWire { mut sockets, .. } = self;
+        sockets.part();
+    }
 }
 
 impl<R: Net + Wait + Clock + Alloc<A = Global> + Drop> Wire for MioWire<R> {
@@ -98,18 +105,17 @@ impl<R: Net + Wait + Clock + Alloc<A = Global> + Drop> Wire for MioWire<R> {
         ensures asked { IfSome (refused_of self.new.listening) (λ r. (r.address ≡ proxy.now) ⊎ (Some r.address ≡ option_copied control.entry)) }
     {
         self.listening = Listening::Failed(None);
-        if let Some(refused) = self.sockets.listen(proxy, control)? {
-            self.faults = one_more(self.faults);
-            self.listening = Listening::Failed(Some(refused));
-            return Err(NetError::Fault);
+        match self.sockets.listen(proxy, control)? {
+            Some(refused) => {
+                self.faults = one_more(self.faults);
+                self.listening = Listening::Failed(Some(refused));
+                Err(NetError::Fault)
+            }
+            None => {
+                self.listening = listening_at(proxy, control)?;
+                Ok(())
+            }
         }
-        let proxy = proxy.try_clone()?;
-        let control = match control {
-            Some(address) => Some(address.try_clone()?),
-            None => None,
-        };
-        self.listening = Listening::At { proxy, control };
-        Ok(())
     }
 
     fn ready(&mut self) -> Result<(u64, Ready), NetError> {

@@ -1,4 +1,4 @@
-//! A test of `px_mio`: its wire of real sockets against sockets of std, on loopback. It stands by itself, since a crate with tests is proved
+//! Tests of `px_mio`: its wire of real sockets against sockets of std, on loopback. They stand by themselves, since a crate with tests is proved
 //! twice.
 #![tactic(auto)]
 

@@ -1,4 +1,4 @@
-//! A client that connects, is read and is answered.
+//! A client that connects, is read and is answered; and one that nobody read.
 use px_message::{Address, Host};
 use px_mio::MioWire;
 use px_wire::{Got, Put, Ready, Wire};
@@ -88,6 +88,20 @@ fn talks<R: Net + Wait + Clock + Alloc<A = Global> + Drop, S: Read + Write>(
     Ok(answered && room == *b"world" && client.read(&mut room)? == 0)
 }
 
+// Whether a client that nobody read has what was put, and its end, where the wire parts with its sockets.
+fn parts<R: Net + Wait + Clock + Alloc<A = Global> + Drop, S: Read + Write>(
+    mut wire: MioWire<R>,
+    client: &mut S,
+) -> Result<bool, Fail> {
+    let slot = accepted(&mut wire)?;
+    client.write_all(b"hello")?;
+    let put = wire.put(slot, b"world");
+    wire.part();
+    let mut room = [0; 5];
+    client.read_exact(&mut room)?;
+    Ok(put == Put::Took(5) && room == *b"world" && client.read(&mut room)? == 0)
+}
+
 #[test]
 fn a_client_is_read_and_answered(rt: HostRuntime) -> Result<(), Fail> {
     let port = free_port(&rt)?;
@@ -99,5 +113,18 @@ fn a_client_is_read_and_answered(rt: HostRuntime) -> Result<(), Fail> {
     drop(client);
     drop(wire);
     assert!(rt; talked?);
+    Ok(())
+}
+
+#[test]
+fn a_client_that_nobody_read_is_not_reset(rt: HostRuntime) -> Result<(), Fail> {
+    let port = free_port(&rt)?;
+    let address = address(rt.alloc(), port)?;
+    let mut wire = MioWire::new(rt)?;
+    wire.listen(&address, None)?;
+    let mut client = TcpStream::connect(&rt, local(port))?;
+    let parted = parts(wire, &mut client);
+    drop(client);
+    assert!(rt; parted?);
     Ok(())
 }

@@ -88,6 +88,14 @@ impl<W: Wire> Lines<W> {
         &self.wire
     }
 
+    /// The wire, for whoever parts with its sockets behind a run; what waits for them is let go of.
+    pub fn into_wire(self) -> W
+        ensures wire { result ≡ self.wire }
+    {
+        let Lines { wire, .. } = self;
+        wire
+    }
+
     /// Puts what waits for the slot until nothing is left, or the wire takes no more.
     pub fn flush(&mut self, slot: u32) -> Flushed
         ensures steps { W.steps self.new.wire ≡ W.steps self.old.wire }
