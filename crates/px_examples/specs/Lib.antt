@@ -1,8 +1,10 @@
 pub mod Fields
 pub mod Har
+pub mod Kept
 pub mod Lengths
 pub mod Messages
 pub mod Parts
+pub mod Refreshed
 pub mod Rows
 pub mod Settled
 pub mod Shown

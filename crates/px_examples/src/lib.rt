@@ -1,12 +1,13 @@
 //! Examples: tables of texts, each with what a definition says of it.
 //!
-//! The calls of px_message, px_write, px_filter, px_rule and px_har that these are about equal their definitions. So what these definitions say of a text is what a call does with it, and an example
+//! The calls of px_message, px_write, px_filter, px_rule, px_har and px_refresh that these are about equal their definitions. So what these definitions say of a text is what a call does with it, and an example
 //! needs no run. The tables are in `specs/`, a row a line; each function here does nothing, and what it ensures is that a definition says each row's
 //! answer. What only a run shows, since its definition is a relation or the grammar of another library, is in the rows of `crates/rows/data/`.
 #![tactic(auto)]
 
 mod fields;
 mod har;
+mod kept;
 mod lengths;
 mod rules;
 mod settled;
@@ -21,6 +22,11 @@ pub use fields::{
 pub use har::{
     contents_are_exported, flows_are_exported, other_requests_are_exported, queries_are_exported,
     requests_are_exported, responses_are_exported, times_are_exported,
+};
+pub use kept::{
+    authorizations_are_given, cookies_are_sent, cookies_are_set, dates_are_moved,
+    dates_are_moved_over_ends, dates_stay_in_their_years, fields_are_moved, other_texts_stay,
+    shifts_are_rounded_down,
 };
 pub use lengths::{lengths_by_code, lengths_of_requests, lengths_of_responses};
 pub use rules::{

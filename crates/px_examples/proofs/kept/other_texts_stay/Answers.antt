@@ -1,0 +1,8 @@
+use Rattle.std.proofs.Common.{refl}
+use Rattle.httpdate.proofs.OnLiterals.{httpdate_on_literals}
+use Rattle.px_refresh.specs.Date.{days_after}
+use Rattle.px_examples.proofs.kept.other_texts_stay.Goals as goal
+
+pub returns : goal.returns
+unfolding httpdate_on_literals days_after
+returns c = refl

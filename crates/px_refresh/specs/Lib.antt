@@ -1,0 +1,10 @@
+pub mod Text
+pub mod Site
+pub mod Kept
+pub mod Fields
+pub mod Cookies
+pub mod Authorized
+pub mod Index
+pub mod Date
+pub mod Refresh
+pub mod Laws
