@@ -9,7 +9,7 @@ use Rattle.toml.specs.Data.{Data, Members, member, get_member}
 use Rattle.toml.specs.View.{view, members_view}
 use Rattle.toml.proofs.Views.{Entry}
 use Rattle.px_options.specs.Gathered.{and_then, gathered}
-use Rattle.px_options.specs.Keys.{key_of, later_key_of, name_of, replay_key_of}
+use Rattle.px_options.specs.Keys.{key_of, later_key_of, name_of, replay_key_of, sticky_key_of}
 use Rattle.px_options.specs.Lines as lines
 use Rattle.px_options.specs.Lines.{Line}
 use Rattle.px_options.specs.Options.{Settings, defaults, first_refusal, options_by, options_of, or_others, refusal_of_key, value_or, why}
@@ -42,8 +42,11 @@ settings_from s table = record {
   server_replay_ignore_host = value_or lines.server_replay_ignore_host s.server_replay_ignore_host (get_member (name_of key.ServerReplayIgnoreHost) table);
   server_replay_ignore_params = value_or lines.server_replay_ignore_params s.server_replay_ignore_params (get_member (name_of key.ServerReplayIgnoreParams) table);
   server_replay_ignore_port = value_or lines.server_replay_ignore_port s.server_replay_ignore_port (get_member (name_of key.ServerReplayIgnorePort) table);
+  server_replay_refresh = value_or lines.server_replay_refresh s.server_replay_refresh (get_member (name_of key.ServerReplayRefresh) table);
   server_replay_reuse = value_or lines.server_replay_reuse s.server_replay_reuse (get_member (name_of key.ServerReplayReuse) table);
   server_replay_use_headers = value_or lines.server_replay_use_headers s.server_replay_use_headers (get_member (name_of key.ServerReplayUseHeaders) table);
+  stickyauth = value_or lines.stickyauth s.stickyauth (get_member (name_of key.Stickyauth) table);
+  stickycookie = value_or lines.stickycookie s.stickycookie (get_member (name_of key.Stickycookie) table);
 }
 
 -- what is gathered from these members is what they say
@@ -72,7 +75,14 @@ or_named false k found name others same e next = next e
 nothing : {A : Type 0} (a : A) → ¬ (None ≡ Some a)
 nothing a e = absurd (cc)
 
--- a key of server replay has its name
+-- a key that keeps something has its name
+named_sticky : (name : List ℕ) (found : Key) → sticky_key_of name ≡ Some found → name ≡ name_of found
+named_sticky name found is =
+    or_named (bytes_eq name (name_of key.Stickyauth)) key.Stickyauth found name _ (λ same. (bytes_eq-Decides _ _).0 same) is (λ e.
+    or_named (bytes_eq name (name_of key.Stickycookie)) key.Stickycookie found name _ (λ same. (bytes_eq-Decides _ _).0 same) e (λ e.
+    absurd (nothing found e)))
+
+-- a key from `server_replay` on has its name
 named_replay : (name : List ℕ) (found : Key) → replay_key_of name ≡ Some found → name ≡ name_of found
 named_replay name found is =
     or_named (bytes_eq name (name_of key.ServerReplay)) key.ServerReplay found name _ (λ same. (bytes_eq-Decides _ _).0 same) is (λ e.
@@ -81,9 +91,10 @@ named_replay name found is =
     or_named (bytes_eq name (name_of key.ServerReplayIgnoreHost)) key.ServerReplayIgnoreHost found name _ (λ same. (bytes_eq-Decides _ _).0 same) e (λ e.
     or_named (bytes_eq name (name_of key.ServerReplayIgnoreParams)) key.ServerReplayIgnoreParams found name _ (λ same. (bytes_eq-Decides _ _).0 same) e (λ e.
     or_named (bytes_eq name (name_of key.ServerReplayIgnorePort)) key.ServerReplayIgnorePort found name _ (λ same. (bytes_eq-Decides _ _).0 same) e (λ e.
+    or_named (bytes_eq name (name_of key.ServerReplayRefresh)) key.ServerReplayRefresh found name _ (λ same. (bytes_eq-Decides _ _).0 same) e (λ e.
     or_named (bytes_eq name (name_of key.ServerReplayReuse)) key.ServerReplayReuse found name _ (λ same. (bytes_eq-Decides _ _).0 same) e (λ e.
     or_named (bytes_eq name (name_of key.ServerReplayUseHeaders)) key.ServerReplayUseHeaders found name _ (λ same. (bytes_eq-Decides _ _).0 same) e (λ e.
-    absurd (nothing found e)))))))))
+    named_sticky name found e)))))))))
 
 -- a key from `listen` on has its name
 named_later : (name : List ℕ) (found : Key) → later_key_of name ≡ Some found → name ≡ name_of found
@@ -181,12 +192,21 @@ by_key (Some key.ServerReplayIgnoreParams) name d ms s is ih =
 by_key (Some key.ServerReplayIgnorePort) name d ms s is ih =
     subst (More (Some key.ServerReplayIgnorePort) ms d s) (sym (named name key.ServerReplayIgnorePort is)) (λ none.
     line_gathered lines.server_replay_ignore_port (λ a s. record s { server_replay_ignore_port = a }) s.server_replay_ignore_port (name_of key.ServerReplayIgnorePort) d ms s (lines.server_replay_ignore_port.reads d) refl none ih (λ a. refl) refl)
+by_key (Some key.ServerReplayRefresh) name d ms s is ih =
+    subst (More (Some key.ServerReplayRefresh) ms d s) (sym (named name key.ServerReplayRefresh is)) (λ none.
+    line_gathered lines.server_replay_refresh (λ a s. record s { server_replay_refresh = a }) s.server_replay_refresh (name_of key.ServerReplayRefresh) d ms s (lines.server_replay_refresh.reads d) refl none ih (λ a. refl) refl)
 by_key (Some key.ServerReplayReuse) name d ms s is ih =
     subst (More (Some key.ServerReplayReuse) ms d s) (sym (named name key.ServerReplayReuse is)) (λ none.
     line_gathered lines.server_replay_reuse (λ a s. record s { server_replay_reuse = a }) s.server_replay_reuse (name_of key.ServerReplayReuse) d ms s (lines.server_replay_reuse.reads d) refl none ih (λ a. refl) refl)
 by_key (Some key.ServerReplayUseHeaders) name d ms s is ih =
     subst (More (Some key.ServerReplayUseHeaders) ms d s) (sym (named name key.ServerReplayUseHeaders is)) (λ none.
     line_gathered lines.server_replay_use_headers (λ a s. record s { server_replay_use_headers = a }) s.server_replay_use_headers (name_of key.ServerReplayUseHeaders) d ms s (lines.server_replay_use_headers.reads d) refl none ih (λ a. refl) refl)
+by_key (Some key.Stickyauth) name d ms s is ih =
+    subst (More (Some key.Stickyauth) ms d s) (sym (named name key.Stickyauth is)) (λ none.
+    line_gathered lines.stickyauth (λ a s. record s { stickyauth = a }) s.stickyauth (name_of key.Stickyauth) d ms s (lines.stickyauth.reads d) refl none ih (λ a. refl) refl)
+by_key (Some key.Stickycookie) name d ms s is ih =
+    subst (More (Some key.Stickycookie) ms d s) (sym (named name key.Stickycookie is)) (λ none.
+    line_gathered lines.stickycookie (λ a s. record s { stickycookie = a }) s.stickycookie (name_of key.Stickycookie) d ms s (lines.stickycookie.reads d) refl none ih (λ a. refl) refl)
 
 -- a key that is below others is none of them
 no_key : (k : String Global) (es : List Entry) → AllByRecursion (λ y. string_cmp k y ≡ Less) (keys_of es) → get_member (string_bytes k) (members_view es) ≡ None

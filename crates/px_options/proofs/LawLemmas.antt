@@ -174,8 +174,11 @@ at_of_table key.ServerReplayIgnoreContent d = why_of_table (lines.server_replay_
 at_of_table key.ServerReplayIgnoreHost d = why_of_table (lines.server_replay_ignore_host.reads d) (wrong_of_table key.ServerReplayIgnoreHost (as_bool d))
 at_of_table key.ServerReplayIgnoreParams d = why_of_table (lines.server_replay_ignore_params.reads d) (wrong_of_table key.ServerReplayIgnoreParams (texts_of (as_array d)))
 at_of_table key.ServerReplayIgnorePort d = why_of_table (lines.server_replay_ignore_port.reads d) (wrong_of_table key.ServerReplayIgnorePort (as_bool d))
+at_of_table key.ServerReplayRefresh d = why_of_table (lines.server_replay_refresh.reads d) (wrong_of_table key.ServerReplayRefresh (as_bool d))
 at_of_table key.ServerReplayReuse d = why_of_table (lines.server_replay_reuse.reads d) (wrong_of_table key.ServerReplayReuse (as_bool d))
 at_of_table key.ServerReplayUseHeaders d = why_of_table (lines.server_replay_use_headers.reads d) (wrong_of_table key.ServerReplayUseHeaders (texts_of (as_array d)))
+at_of_table key.Stickyauth d = why_of_table (lines.stickyauth.reads d) (filter_in_of_table key.Stickyauth (as_str d))
+at_of_table key.Stickycookie d = why_of_table (lines.stickycookie.reads d) (filter_in_of_table key.Stickycookie (as_str d))
 
 key_of_table : (k : Option Key) (name : List ℕ) (d : Data) → IfSome (refusal_of_key k name d) OfTable
 key_of_table None name d = refl

@@ -25,14 +25,24 @@ name_of key.ServerReplayIgnoreContent = codes "server_replay_ignore_content"
 name_of key.ServerReplayIgnoreHost = codes "server_replay_ignore_host"
 name_of key.ServerReplayIgnoreParams = codes "server_replay_ignore_params"
 name_of key.ServerReplayIgnorePort = codes "server_replay_ignore_port"
+name_of key.ServerReplayRefresh = codes "server_replay_refresh"
 name_of key.ServerReplayReuse = codes "server_replay_reuse"
 name_of key.ServerReplayUseHeaders = codes "server_replay_use_headers"
+name_of key.Stickyauth = codes "stickyauth"
+name_of key.Stickycookie = codes "stickycookie"
 
 -- the key, if it has that name, else what others say
 abbrev pub or_key : Key → List ℕ → Option Key → Option Key
 or_key key name others = if bytes_eq name (name_of key) then Some key else others
 
--- the key of server replay of that name
+-- the key of that name, of those that keep something for later requests
+abbrev pub sticky_key_of : List ℕ → Option Key
+sticky_key_of name =
+    or_key key.Stickyauth name
+    (or_key key.Stickycookie name
+    None)
+
+-- the key of that name, of those from `server_replay` on
 abbrev pub replay_key_of : List ℕ → Option Key
 replay_key_of name =
     or_key key.ServerReplay name
@@ -41,9 +51,10 @@ replay_key_of name =
     (or_key key.ServerReplayIgnoreHost name
     (or_key key.ServerReplayIgnoreParams name
     (or_key key.ServerReplayIgnorePort name
+    (or_key key.ServerReplayRefresh name
     (or_key key.ServerReplayReuse name
     (or_key key.ServerReplayUseHeaders name
-    None)))))))
+    (sticky_key_of name)))))))))
 
 -- the key of that name, of those from `listen` on
 abbrev pub later_key_of : List ℕ → Option Key

@@ -96,8 +96,20 @@ server_replay_ignore_params = line key.ServerReplayIgnoreParams texts []
 abbrev pub server_replay_ignore_port : Line Bool
 server_replay_ignore_port = line key.ServerReplayIgnorePort truth false
 
+-- without its key recorded responses keep their dates
+abbrev pub server_replay_refresh : Line Bool
+server_replay_refresh = line key.ServerReplayRefresh truth false
+
 abbrev pub server_replay_reuse : Line Bool
 server_replay_reuse = line key.ServerReplayReuse truth false
 
 abbrev pub server_replay_use_headers : Line (List (List ℕ))
 server_replay_use_headers = line key.ServerReplayUseHeaders texts []
+
+-- without its key no authorization is kept
+abbrev pub stickyauth : Line (Option Expression)
+stickyauth = line key.Stickyauth flow_filter None
+
+-- without its key no cookie is kept
+abbrev pub stickycookie : Line (Option Expression)
+stickycookie = line key.Stickycookie flow_filter None

@@ -40,8 +40,11 @@ pub record Settings : Type 0 where
   pub server_replay_ignore_host : Bool
   pub server_replay_ignore_params : List (List ℕ)
   pub server_replay_ignore_port : Bool
+  pub server_replay_refresh : Bool
   pub server_replay_reuse : Bool
   pub server_replay_use_headers : List (List ℕ)
+  pub stickyauth : Option Expression
+  pub stickycookie : Option Expression
 
 -- every option is its default
 abbrev pub defaults : Settings
@@ -67,8 +70,11 @@ defaults = record {
   server_replay_ignore_host = lines.server_replay_ignore_host.default;
   server_replay_ignore_params = lines.server_replay_ignore_params.default;
   server_replay_ignore_port = lines.server_replay_ignore_port.default;
+  server_replay_refresh = lines.server_replay_refresh.default;
   server_replay_reuse = lines.server_replay_reuse.default;
   server_replay_use_headers = lines.server_replay_use_headers.default;
+  stickyauth = lines.stickyauth.default;
+  stickycookie = lines.stickycookie.default;
 }
 
 -- why a line refuses a value
@@ -98,8 +104,11 @@ refusal_at key.ServerReplayIgnoreContent d = why (lines.server_replay_ignore_con
 refusal_at key.ServerReplayIgnoreHost d = why (lines.server_replay_ignore_host.reads d)
 refusal_at key.ServerReplayIgnoreParams d = why (lines.server_replay_ignore_params.reads d)
 refusal_at key.ServerReplayIgnorePort d = why (lines.server_replay_ignore_port.reads d)
+refusal_at key.ServerReplayRefresh d = why (lines.server_replay_refresh.reads d)
 refusal_at key.ServerReplayReuse d = why (lines.server_replay_reuse.reads d)
 refusal_at key.ServerReplayUseHeaders d = why (lines.server_replay_use_headers.reads d)
+refusal_at key.Stickyauth d = why (lines.stickyauth.reads d)
+refusal_at key.Stickycookie d = why (lines.stickycookie.reads d)
 
 abbrev pub refusal_of_key : Option Key → List ℕ → Data → Option OptionsError
 refusal_of_key None name d = Some (error.UnknownOption name)
@@ -155,8 +164,11 @@ settings_of table = record {
   server_replay_ignore_host = option_at lines.server_replay_ignore_host table;
   server_replay_ignore_params = option_at lines.server_replay_ignore_params table;
   server_replay_ignore_port = option_at lines.server_replay_ignore_port table;
+  server_replay_refresh = option_at lines.server_replay_refresh table;
   server_replay_reuse = option_at lines.server_replay_reuse table;
   server_replay_use_headers = option_at lines.server_replay_use_headers table;
+  stickyauth = option_at lines.stickyauth table;
+  stickycookie = option_at lines.stickycookie table;
 }
 
 abbrev pub options_by : Option OptionsError → Settings → Result Settings OptionsError

@@ -1,4 +1,4 @@
--- Where flows are saved, and which of them: a path, and a filter.
+-- Where flows are saved, and which of them: a path, and a filter. Which flows wait for an operator, and which are given what was kept, is a filter too.
 use Rattle.std.specs.Prelude.{ℕ, List, [], ◌∷◌, Option, Some, None, Result, Ok, Err}
 use Rattle.px_filter.specs.Expression.{Expression}
 use Rattle.px_filter.specs.Parsing.{parse}

@@ -36,8 +36,11 @@ put key.ServerReplayIgnoreContent d s = put_by (λ a. record s { server_replay_i
 put key.ServerReplayIgnoreHost d s = put_by (λ a. record s { server_replay_ignore_host = a }) (lines.server_replay_ignore_host.reads d)
 put key.ServerReplayIgnoreParams d s = put_by (λ a. record s { server_replay_ignore_params = a }) (lines.server_replay_ignore_params.reads d)
 put key.ServerReplayIgnorePort d s = put_by (λ a. record s { server_replay_ignore_port = a }) (lines.server_replay_ignore_port.reads d)
+put key.ServerReplayRefresh d s = put_by (λ a. record s { server_replay_refresh = a }) (lines.server_replay_refresh.reads d)
 put key.ServerReplayReuse d s = put_by (λ a. record s { server_replay_reuse = a }) (lines.server_replay_reuse.reads d)
 put key.ServerReplayUseHeaders d s = put_by (λ a. record s { server_replay_use_headers = a }) (lines.server_replay_use_headers.reads d)
+put key.Stickyauth d s = put_by (λ a. record s { stickyauth = a }) (lines.stickyauth.reads d)
+put key.Stickycookie d s = put_by (λ a. record s { stickycookie = a }) (lines.stickycookie.reads d)
 
 abbrev pub put_at : Option Key → List ℕ → Data → Settings → Result Settings OptionsError
 put_at None name d s = Err (error.UnknownOption name)

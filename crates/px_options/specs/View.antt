@@ -50,6 +50,9 @@ settings o = record {
   server_replay_ignore_host = o.server_replay_ignore_host;
   server_replay_ignore_params = o.server_replay_ignore_params;
   server_replay_ignore_port = o.server_replay_ignore_port;
+  server_replay_refresh = o.server_replay_refresh;
   server_replay_reuse = o.server_replay_reuse;
   server_replay_use_headers = o.server_replay_use_headers;
+  stickyauth = option_map expression o.stickyauth;
+  stickycookie = option_map expression o.stickycookie;
 }

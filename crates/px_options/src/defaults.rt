@@ -40,7 +40,10 @@ pub(crate) fn defaults(alloc: Global) -> Result<Options, OptionsError>
         server_replay_ignore_host: false,
         server_replay_ignore_params: Names::new(Vec::new(alloc)),
         server_replay_ignore_port: false,
+        server_replay_refresh: false,
         server_replay_reuse: false,
         server_replay_use_headers: Names::new(Vec::new(alloc)),
+        stickyauth: None,
+        stickycookie: None,
     })
 }

@@ -1,6 +1,6 @@
 //! The keys of an options file.
 ghost use Rattle.std.specs.Prelude.{◌≡◌};
-ghost use Rattle.px_options.specs.Keys.{key_of, later_key_of, name_of, replay_key_of};
+ghost use Rattle.px_options.specs.Keys.{key_of, later_key_of, name_of, replay_key_of, sticky_key_of};
 
 /// A key of an options file.
 #[derive(Clone, Copy, Debug, PartialEq, Eq)]
@@ -26,8 +26,11 @@ pub(crate) enum Key {
     ServerReplayIgnoreHost,
     ServerReplayIgnoreParams,
     ServerReplayIgnorePort,
+    ServerReplayRefresh,
     ServerReplayReuse,
     ServerReplayUseHeaders,
+    Stickyauth,
+    Stickycookie,
 }
 
 /// The key's name in a file.
@@ -56,8 +59,11 @@ pub(crate) fn name_of(key: Key) -> &'static [u8]
         Key::ServerReplayIgnoreHost => b"server_replay_ignore_host",
         Key::ServerReplayIgnoreParams => b"server_replay_ignore_params",
         Key::ServerReplayIgnorePort => b"server_replay_ignore_port",
+        Key::ServerReplayRefresh => b"server_replay_refresh",
         Key::ServerReplayReuse => b"server_replay_reuse",
         Key::ServerReplayUseHeaders => b"server_replay_use_headers",
+        Key::Stickyauth => b"stickyauth",
+        Key::Stickycookie => b"stickycookie",
     }
 }
 
@@ -120,7 +126,7 @@ fn later_key_of(name: &[u8]) -> Option<Key>
     replay_key_of(name)
 }
 
-// The key of server replay of that name.
+// The key of that name, of those from `server_replay` on.
 fn replay_key_of(name: &[u8]) -> Option<Key>
     ensures { result ≡ replay_key_of name.now }
 {
@@ -142,11 +148,27 @@ fn replay_key_of(name: &[u8]) -> Option<Key>
     if name == b"server_replay_ignore_port".as_slice() {
         return Some(Key::ServerReplayIgnorePort);
     }
+    if name == b"server_replay_refresh".as_slice() {
+        return Some(Key::ServerReplayRefresh);
+    }
     if name == b"server_replay_reuse".as_slice() {
         return Some(Key::ServerReplayReuse);
     }
     if name == b"server_replay_use_headers".as_slice() {
         return Some(Key::ServerReplayUseHeaders);
+    }
+    sticky_key_of(name)
+}
+
+// The key of that name, of those that keep something for later requests.
+fn sticky_key_of(name: &[u8]) -> Option<Key>
+    ensures { result ≡ sticky_key_of name.now }
+{
+    if name == b"stickyauth".as_slice() {
+        return Some(Key::Stickyauth);
+    }
+    if name == b"stickycookie".as_slice() {
+        return Some(Key::Stickycookie);
     }
     None
 }

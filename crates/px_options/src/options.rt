@@ -60,10 +60,18 @@ pub struct Options {
     pub server_replay_ignore_params: Names,
     /// Whether a recorded request is the same whatever its port (mitmproxy's option `server_replay_ignore_port`).
     pub server_replay_ignore_port: bool,
+    /// Whether the dates of a recorded response are moved to when it is asked for (mitmproxy's option `server_replay_refresh`, which is on
+    /// without its key).
+    pub server_replay_refresh: bool,
     /// Whether a recorded response may answer again and again (mitmproxy's option `server_replay_reuse`).
     pub server_replay_reuse: bool,
     /// The fields that count (mitmproxy's option `server_replay_use_headers`).
     pub server_replay_use_headers: Names,
+    /// Which requests without an authorization are given the one that was kept for their host; none says that nothing is kept (mitmproxy's
+    /// option `stickyauth`).
+    pub stickyauth: Option<Filter>,
+    /// Which requests are given the kept cookies that are for them; none says that nothing is kept (mitmproxy's option `stickycookie`).
+    pub stickycookie: Option<Filter>,
 }
 
 /// The options that the bytes of a file are: one TOML table, an option a key. A key that is not there has its default, so no bytes at

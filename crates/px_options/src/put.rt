@@ -63,8 +63,11 @@ fn put(alloc: Global, options: &mut Options, key: Key, value: &Value) -> Result<
         Key::ServerReplayIgnoreHost => put_server_replay_ignore_host(alloc, options, value),
         Key::ServerReplayIgnoreParams => put_server_replay_ignore_params(alloc, options, value),
         Key::ServerReplayIgnorePort => put_server_replay_ignore_port(alloc, options, value),
+        Key::ServerReplayRefresh => put_server_replay_refresh(alloc, options, value),
         Key::ServerReplayReuse => put_server_replay_reuse(alloc, options, value),
         Key::ServerReplayUseHeaders => put_server_replay_use_headers(alloc, options, value),
+        Key::Stickyauth => put_stickyauth(alloc, options, value),
+        Key::Stickycookie => put_stickycookie(alloc, options, value),
     }
 }
 
@@ -280,6 +283,18 @@ fn put_server_replay_ignore_port(
     Ok(())
 }
 
+fn put_server_replay_refresh(
+    alloc: Global,
+    options: &mut Options,
+    value: &Value,
+) -> Result<(), OptionsError>
+    ensures ok { OnOk result (put keys.ServerReplayRefresh (view value.now) (settings options.old) ≡ Ok (settings options.new)) }
+    ensures err { IfErr result (λ e. (e ≡ error.NoMemory) ⊎ (put keys.ServerReplayRefresh (view value.now) (settings options.old) ≡ Err e)) }
+{
+    options.server_replay_refresh = read_truth(alloc, Key::ServerReplayRefresh, value)?;
+    Ok(())
+}
+
 fn put_server_replay_reuse(
     alloc: Global,
     options: &mut Options,
@@ -301,5 +316,21 @@ fn put_server_replay_use_headers(
     ensures err { IfErr result (λ e. (e ≡ error.NoMemory) ⊎ (put keys.ServerReplayUseHeaders (view value.now) (settings options.old) ≡ Err e)) }
 {
     options.server_replay_use_headers = read_names(alloc, Key::ServerReplayUseHeaders, value)?;
+    Ok(())
+}
+
+fn put_stickyauth(alloc: Global, options: &mut Options, value: &Value) -> Result<(), OptionsError>
+    ensures ok { OnOk result (put keys.Stickyauth (view value.now) (settings options.old) ≡ Ok (settings options.new)) }
+    ensures err { IfErr result (λ e. (e ≡ error.NoMemory) ⊎ (put keys.Stickyauth (view value.now) (settings options.old) ≡ Err e)) }
+{
+    options.stickyauth = Some(read_filter(alloc, Key::Stickyauth, value)?);
+    Ok(())
+}
+
+fn put_stickycookie(alloc: Global, options: &mut Options, value: &Value) -> Result<(), OptionsError>
+    ensures ok { OnOk result (put keys.Stickycookie (view value.now) (settings options.old) ≡ Ok (settings options.new)) }
+    ensures err { IfErr result (λ e. (e ≡ error.NoMemory) ⊎ (put keys.Stickycookie (view value.now) (settings options.old) ≡ Err e)) }
+{
+    options.stickycookie = Some(read_filter(alloc, Key::Stickycookie, value)?);
     Ok(())
 }

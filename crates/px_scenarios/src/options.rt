@@ -39,11 +39,17 @@ fn show_options(out: &mut String, options: &Options, is_full: bool) -> Result<()
         out.push_str("; save_stream_file ")?;
         out.push_str(path.as_str())?;
     }
-    show_if(
-        out,
-        options.save_stream_filter.is_some(),
-        "; save_stream_filter",
-    )
+    let saves = options.save_stream_filter.is_some();
+    show_if(out, saves, "; save_stream_filter")?;
+    show_kept(out, options)
+}
+
+// What recorded responses and later requests are given.
+fn show_kept(out: &mut String, options: &Options) -> Result<(), RowError> {
+    let refreshes = options.server_replay_refresh;
+    show_if(out, refreshes, "; server_replay_refresh")?;
+    show_if(out, options.stickyauth.is_some(), "; stickyauth")?;
+    show_if(out, options.stickycookie.is_some(), "; stickycookie")
 }
 
 fn show_if(out: &mut String, holds: bool, text: &str) -> Result<(), RowError> {
