@@ -15,6 +15,8 @@ pub(crate) struct Outside {
     pub(crate) file_fails: Vec<u64>,
     pub(crate) sink_fails: Vec<u64>,
     pub(crate) note_fails: Vec<u64>,
+    /// The moment behind which all is heard.
+    pub(crate) moment: u64,
 }
 
 /// The words `serve o`, an options file with a mode alone, and calls that do not fail.
@@ -30,6 +32,7 @@ pub(crate) fn new_outside(alloc: Global) -> Result<Outside, RowError> {
         file_fails: Vec::new(alloc),
         sink_fails: Vec::new(alloc),
         note_fails: Vec::new(alloc),
+        moment: 0,
     })
 }
 
@@ -72,6 +75,10 @@ pub(crate) fn read_outside(
     if read_options(alloc, &mut outside.options, text)? {
         return Ok(true);
     }
+    if let Some(moment) = text.strip_prefix("begins at moment ") {
+        outside.moment = read_moment(moment)?;
+        return Ok(true);
+    }
     read_fails(outside, text)
 }
 
@@ -111,6 +118,13 @@ fn add_file(
     let bytes = unescape(alloc, text)?;
     files.push((String::from_str(alloc, path)?, bytes))?;
     Ok(true)
+}
+
+fn read_moment(text: &str) -> Result<u64, RowError> {
+    match text.parse::<u64>() {
+        Ok(moment) => Ok(moment),
+        Err(_) => Err(RowError::Bad),
+    }
 }
 
 fn read_fails(outside: &mut Outside, text: &str) -> Result<bool, RowError> {

@@ -10,6 +10,8 @@ use std::alloc::Global;
 /// What is heard, each with the line that it begins, if any.
 #[derive(Drop)]
 struct Script {
+    /// The moment behind which all is heard.
+    moment: u64,
     heard: Vec<(u64, Heard)>,
     begins: Vec<Option<usize>>,
 }
@@ -26,8 +28,9 @@ struct Came<'a> {
 
 /// What comes of the diagram.
 pub(crate) fn play_run(alloc: Global, diagram: &Diagram, cut: Cut) -> Result<String, RowError> {
-    let Script { heard, begins } = make_script(alloc, diagram.script.as_slice(), cut)?;
     let outside = &diagram.outside;
+    let script = make_script(alloc, diagram.script.as_slice(), outside.moment, cut)?;
+    let Script { heard, begins, .. } = script;
     let net_fails = copy_calls(alloc, &outside.net_fails)?;
     let sink_fails = copy_calls(alloc, &outside.sink_fails)?;
     let note_fails = copy_calls(alloc, &outside.note_fails)?;
@@ -109,9 +112,10 @@ fn copy_calls(alloc: Global, calls: &[u64]) -> Result<Vec<u64>, RowError> {
     Ok(Vec::from_slice(alloc, calls)?)
 }
 
-// The script, cut, each line a microsecond behind the one before it.
-fn make_script(alloc: Global, lines: &[Heed], cut: Cut) -> Result<Script, RowError> {
+// The script, cut, each line a microsecond behind the one before it, and the first one behind that moment.
+fn make_script(alloc: Global, lines: &[Heed], moment: u64, cut: Cut) -> Result<Script, RowError> {
     let mut script = Script {
+        moment,
         heard: Vec::new(alloc),
         begins: Vec::new(alloc),
     };
@@ -166,7 +170,8 @@ fn add_heard(
     begins: Option<usize>,
     heard: Heard,
 ) -> Result<(), RowError> {
-    script.heard.push((number as u64, heard))?;
+    let moment = script.moment.saturating_add(number as u64);
+    script.heard.push((moment, heard))?;
     script.begins.push(begins)?;
     Ok(())
 }
