@@ -16,6 +16,7 @@ from door_cases import DOOR_CASES
 from example_cases import examples
 from export_cases import EXPORT_CASES
 from file_cases import FILE_CASES
+from kept_cases import KEPT_CASES
 from mode_cases import MODE_CASES
 from name_cases import NAME_CASES
 from operator_cases import OPERATOR_CASES
@@ -213,7 +214,7 @@ CASES = [
 # The cases that have a run of their own.
 OWN_CASES = [
     *BUSY_CASES, *OPTION_CASES, *MODE_CASES, *TUNNEL_CASES, *UPSTREAM_CASES, *WEBSOCKET_CASES, *PAGE_CASES, *SAVING_CASES, *EXPORT_CASES, *REPLAY_CASES,
-    *RESEND_CASES, *OPERATOR_CASES, *VIEW_CASES, *START_CASES, *DOOR_CASES, *NAME_CASES, *FILE_CASES,
+    *KEPT_CASES, *RESEND_CASES, *OPERATOR_CASES, *VIEW_CASES, *START_CASES, *DOOR_CASES, *NAME_CASES, *FILE_CASES,
     *WORD_CASES, *ROWS_CASES,
 ]
 

@@ -85,6 +85,8 @@ def reply(connection, method, target, head, body):
         connection.sendall(answer("200 OK", body, "Content-Type: application/octet-stream"))
     elif path == "/head":
         connection.sendall(answer("200 OK", head, "Content-Type: text/plain", "X-Server: the origin"))
+    elif path == "/set":
+        connection.sendall(answer("200 OK", b"set\n", *(f"Set-Cookie: {one}" for one in target.split("?")[1].split("&"))))
     elif path == "/page":
         connection.sendall(answer("200 OK", PAGE, "Content-Type: text/html"))
     elif path == "/page.css":

@@ -39,7 +39,8 @@ def case_options_that_are_refused():
         ("modify_body = ['/a']", "three parts between separators are wanted"), ("modify_body = ['']", "three parts between separators are wanted"),
         ("block_list = ['']", "a status is wanted"), ("block_list = ['/~q/abc']", "a status is wanted"), ("modify_body = ['/(/x']", "no regular expression"),
         ("modify_headers = ['/a b/x']", "no name of a field"), ("intercept = '~zz'", "no operator has these letters"), ("intercept = '~c x'", "one to three digits"),
-        ("intercept = '(~q'", "is not closed"),
+        ("intercept = '(~q'", "is not closed"), ("stickyauth = true", "a filter"), ("stickycookie = '~zz'", "no operator has these letters"),
+        ("server_replay_refresh = 'x'", "true or false"),
     )
     for options, cause in causes:
         status, _, told = run_program("serve", "options", options=options + "\n")
