@@ -26,7 +26,7 @@ use Rattle.px_addons.proofs.WaitLemmas.{ended_replies}
 abbrev pub block_reply : ℕ → Reply
 block_reply status = if status == 444 then replies.Kill else replies.Respond (short_response status)
 
-blocks : (status : ℕ) → is_going (blocked_with status) ≡ false
+pub blocks : (status : ℕ) → is_going (blocked_with status) ≡ false
 blocks status = by_test (status == 444)
   where
     by_test : (t : Bool) → is_going (if t then verdicts.Kill else verdicts.Respond (short_response status)) ≡ false

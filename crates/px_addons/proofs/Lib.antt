@@ -4,5 +4,8 @@ pub mod NameLemmas
 pub mod SameLemmas
 pub mod FilesLemmas
 pub mod BlockLemmas
+pub mod StillLemmas
 pub mod ReplayLemmas
+pub mod RefreshLemmas
+pub mod StickyLemmas
 pub mod RunLemmas

@@ -1,5 +1,6 @@
 -- What an answer makes of the recorded list, and what answers one behind the other say by it.
-use Rattle.std.proofs.Common.{◌≡◌, ◌≢◌, ◌∙◌, ℕ, Bool, true, false, zero, suc, List, [], ◌∷◌, ◌++◌, map, Option, None, Some, refl, sym, ap, subst}
+use Rattle.std.proofs.Common.{◌≡◌, ◌≢◌, ◌∙◌, ◌<◌, arith, length, ℕ, Bool, true, false, zero, suc, List, [], ◌∷◌, ◌++◌, map, Option, None, Some, refl, sym, ap, subst}
+use Rattle.std.specs.Option.{unwrap_or}
 use Rattle.std.specs.Prelude.{slice_get}
 use Rattle.std.proofs.lemmas.List.{append-nil}
 use Rattle.std.proofs.lemmas.List.Concat.{flat_map-append}
@@ -8,10 +9,12 @@ use Rattle.px_message.specs.declared.request.Request.{Request}
 use Rattle.px_message.specs.declared.response.Response.{Response}
 use Rattle.px_event.specs.declared.ask.Hook.{Hook}
 use Rattle.px_event.specs.declared.ask.Hook.TheVariants as hooks
+use Rattle.px_event.specs.declared.reply.Reply.TheVariants as replies
 use Rattle.px_core.specs.Answers.{FilesMeaning}
 use Rattle.px_core.specs.declared.answerer.Answer.{Answer}
 use Rattle.px_core.specs.declared.answerer.Answer.TheVariants as answers
 use Rattle.px_core.specs.declared.answerer.Draft.{Draft}
+use Rattle.px_core.specs.declared.answerer.Verdict.TheVariants as verdicts
 use Rattle.px_replay.proofs.RunLemmas.{replayed}
 use Rattle.px_replay.specs.Replayed.{after_all, places}
 use Rattle.px_replay.specs.Replaying as replaying
@@ -24,13 +27,16 @@ use Rattle.px_replay.specs.declared.replay.Replay.{Replay}
 use Rattle.px_replay.specs.declared.replay.Replay.TheVariants as replays
 use Rattle.px_addons.specs.Moving.{Moves}
 use Rattle.px_core.specs.Drafts.{reply_of}
-use Rattle.px_addons.specs.Chain.{Movers, movers_of, PartMoves, PartInTurn, by_part, past_part, PartsMove, no_part, next_part, ChainAnswers, answer_by, begun, is_going}
-use Rattle.px_addons.specs.Replays.{AsksRecorded, Replays, replayed_by}
-use Rattle.px_addons.specs.ReplayRuns.{AreOfPlaces, AreOfRecorded, Given, InTurn, IsExtra, IsOfPlace, next_given, none_given, of_whole_request, their_answers, whole_requests}
+use Rattle.px_addons.specs.Chain.{Movers, PartsMove, ChainAnswers, answer_by, begun, is_going}
+use Rattle.px_addons.specs.Parts.{parts}
+use Rattle.px_addons.specs.Replays.{AsksRecorded, Replays, moment_at, replayed_by, sent_as, unmatched}
+use Rattle.px_addons.specs.ReplayRuns.{AreOfPlaces, AreOfRecorded, IsExtra, IsOfPlace, of_whole_requests, whole_requests}
+use Rattle.px_addons.specs.Turns.{Given, InTurn, next_given, none_given, of_whole_request}
 use Rattle.px_addons.specs.declared.parts.Part.{Part}
 use Rattle.px_addons.specs.declared.parts.Part.TheVariants as part
 use Rattle.px_addons.specs.declared.rules.Rules.{Rules}
 use Rattle.px_addons.proofs.BlockLemmas.{all_passed}
+use Rattle.px_addons.proofs.StillLemmas.{IsNone, first_of, parts_still, replay_moved}
 use Rattle.px_addons.proofs.WaitLemmas.{ended_replies}
 
 -- ---- one request more
@@ -46,19 +52,20 @@ one_place_more [] request s = refl
 one_place_more (first ∷ earlier) request s =
     ap (λ l. place_of s first ∷ l) (one_place_more earlier request (replaying.after s (place_of s first)))
 
-requests_with : (earlier : List Given) (given : Given) →
-    whole_requests (earlier ++ given ∷ []) ≡ whole_requests earlier ++ of_whole_request given.hook given.flow.request
-requests_with earlier given =
-    flat_map-append (λ (g : Given). of_whole_request g.hook g.flow.request) earlier (given ∷ [])
-    ∙ ap (λ l. whole_requests earlier ++ l) (append-nil (of_whole_request given.hook given.flow.request))
+asks_with : (earlier : List Given) (given : Given) →
+    of_whole_requests (earlier ++ given ∷ []) ≡ of_whole_requests earlier ++ of_whole_request given.hook (given ∷ [])
+asks_with earlier given =
+    flat_map-append (λ (g : Given). of_whole_request g.hook (g ∷ [])) earlier (given ∷ [])
+    ∙ ap (λ l. of_whole_requests earlier ++ l) (append-nil (of_whole_request given.hook (given ∷ [])))
 
-answers_with : (earlier : List Given) (given : Given) →
-    their_answers (earlier ++ given ∷ []) ≡ their_answers earlier ++ of_whole_request given.hook given.answer
-answers_with earlier given =
-    flat_map-append (λ (g : Given). of_whole_request g.hook g.answer) earlier (given ∷ [])
-    ∙ ap (λ l. their_answers earlier ++ l) (append-nil (of_whole_request given.hook given.answer))
+abbrev requests_in : List Given → List Request
+requests_in asks = map (λ (g : Given). g.flow.request) asks
 
--- ---- responses and the extra answer stay
+requests_more : (asks : List Given) (given : Given) → requests_in (asks ++ given ∷ []) ≡ requests_in asks ++ given.flow.request ∷ []
+requests_more [] given = refl
+requests_more (ask ∷ asks) given = ap (λ l. ask.flow.request ∷ l) (requests_more asks given)
+
+-- ---- responses, moments and the extra answer stay
 
 abbrev responses_of : Replaying → List Response
 responses_of s = map (λ (r : Recording). r.response) s.recordings
@@ -72,6 +79,22 @@ responses_stay : (s : Replaying) (place : Option ℕ) → responses_of (replayin
 responses_stay s None = refl
 responses_stay s (Some place) = same_responses place s.recordings
 
+abbrev moments_of : Replaying → List ℕ
+moments_of s = map (λ (r : Recording). r.moment) s.recordings
+
+same_moments : (place : ℕ) (rs : List Recording) → map (λ (r : Recording). r.moment) (use_at place rs) ≡ map (λ (r : Recording). r.moment) rs
+same_moments place [] = refl
+same_moments zero (r ∷ rs) = refl
+same_moments (suc place) (r ∷ rs) = ap (λ l. r.moment ∷ l) (same_moments place rs)
+
+pub moments_stay : (s : Replaying) (place : Option ℕ) → moments_of (replaying.after s place) ≡ moments_of s
+moments_stay s None = refl
+moments_stay s (Some place) = same_moments place s.recordings
+
+all_moments_stay : (asked : List Request) (s : Replaying) → moments_of (after_all s asked) ≡ moments_of s
+all_moments_stay [] s = refl
+all_moments_stay (request ∷ requests) s = all_moments_stay requests (replaying.after s (place_of s request)) ∙ moments_stay s (place_of s request)
+
 extra_stays : (s : Replaying) (place : Option ℕ) → (replaying.after s place).extra ≡ s.extra
 extra_stays s None = refl
 extra_stays s (Some place) = refl
@@ -84,15 +107,64 @@ all_extra_stays : (asked : List Request) (s : Replaying) → (after_all s asked)
 all_extra_stays [] s = refl
 all_extra_stays (request ∷ requests) s = all_extra_stays requests (replaying.after s (place_of s request)) ∙ extra_stays s (place_of s request)
 
+-- ---- what one ask makes
+
+pub got_within : {A B : Type 0} (of : A → B) (list : List A) (place : ℕ) (there : B) → slice_get (map of list) place ≡ Some there → place < length list
+got_within of [] zero there is = absurd cc
+got_within of [] (suc place) there is = absurd cc
+got_within of (x ∷ xs) zero there is = omega arith
+got_within of (x ∷ xs) (suc place) there is = omega (arith, got_within of xs place there is)
+
+pub is_within : (s now : Replaying) (place : ℕ) (response : Response) → slice_get (responses_of s) place ≡ Some response → now ≡ replaying.after s (Some place) →
+    place < length now.recordings
+is_within s now place response there is =
+    got_within (λ (r : Recording). r.response) now.recordings place response
+    (subst (λ l. slice_get l place ≡ Some response) (sym (ap responses_of is ∙ responses_stay s (Some place))) there)
+
+told_moment : (s now : Replaying) (place moment : ℕ) → now ≡ replaying.after s (Some place) → slice_get (moments_of now) place ≡ Some moment → moment ≡ moment_at s place
+told_moment s now place moment is told =
+    sym (ap (λ l. unwrap_or (slice_get l place) 0) (sym (ap moments_of is ∙ moments_stay s (Some place))) ∙ ap (λ m. unwrap_or m 0) told)
+
+abbrev replied_with : Draft → Response → Draft
+replied_with draft response = record draft { verdict = verdicts.Respond response }
+
+pub found_within : (s now : Replaying) (request : Request) (answer : Replay) (place : ℕ) (response : Response) → answer ≡ replays.Found place response →
+    IsAnswer s request answer → now ≡ replaying.after s (got answer) → place < length now.recordings
+found_within s now request answer place response found is used =
+    is_within s now place response (subst (λ a. IsAnswer s request a) found is).1 (used ∙ ap (λ a. replaying.after s (got a)) found)
+
+pub asks_found : (refresh : Bool) (s now : Replaying) (request : Request) (answer : Replay) (draft left : Draft) (place moment : ℕ) (response : Response) →
+    answer ≡ replays.Found place response → request ≡ draft.flow.request → IsAnswer s request answer → now ≡ replaying.after s (got answer) →
+    slice_get (moments_of now) place ≡ Some moment → left ≡ replied_with draft (sent_as refresh draft.flow moment response) → AsksRecorded refresh draft s left (Some now)
+asks_found refresh s now request answer draft left place moment response found same is used told made =
+    let used_so : now ≡ replaying.after s (Some place) = used ∙ ap (λ a. replaying.after s (got a)) found in
+    record {
+      answer = replays.Found place response;
+      answers = subst (λ r. IsAnswer s r (replays.Found place response)) same (subst (λ a. IsAnswer s request a) found is);
+      drafted = made ∙ ap (λ m. replied_with draft (sent_as refresh draft.flow m response)) (told_moment s now place moment used_so told);
+      used = ap Some used_so;
+    }
+
+pub asks_extra : (refresh : Bool) (s now : Replaying) (request : Request) (answer : Replay) (draft left : Draft) (extra : Extra) →
+    answer ≡ replays.Extra extra → request ≡ draft.flow.request → IsAnswer s request answer → now ≡ replaying.after s (got answer) → left ≡ unmatched extra draft →
+    AsksRecorded refresh draft s left (Some now)
+asks_extra refresh s now request answer draft left extra found same is used made = record {
+  answer = replays.Extra extra;
+  answers = subst (λ r. IsAnswer s r (replays.Extra extra)) same (subst (λ a. IsAnswer s request a) found is);
+  drafted = made;
+  used = ap Some (used ∙ ap (λ a. replaying.after s (got a)) found);
+}
+
 -- ---- what a request got, and the answer
 
 got_place : (s : Replaying) (request : Request) (replay : Replay) → IsAnswer s request replay → got replay ≡ place_of s request
 got_place s request (replays.Found place response) is = sym is.0
 got_place s request (replays.Extra extra) is = sym is.0
 
-found_ends : (replay : Replay) (place : ℕ) (draft left : Draft) → got replay ≡ Some place → left ≡ replayed_by replay draft → is_going left.verdict ≡ false
-found_ends (replays.Found other response) place draft left is drafted = ap (λ (d : Draft). is_going d.verdict) drafted
-found_ends (replays.Extra extra) place draft left is drafted = absurd cc
+found_ends : (refresh : Bool) (s : Replaying) (replay : Replay) (place : ℕ) (draft left : Draft) → got replay ≡ Some place → left ≡ replayed_by refresh s replay draft →
+    is_going left.verdict ≡ false
+found_ends refresh s (replays.Found other response) place draft left is drafted = ap (λ (d : Draft). is_going d.verdict) drafted
+found_ends refresh s (replays.Extra extra) place draft left is drafted = absurd cc
 
 -- what a draft says that ended the order
 abbrev SaysAtEnd : Draft → Answer → Type 0
@@ -102,136 +174,105 @@ ends_so : (made left : Draft) (answer : Answer) → left ≡ made → is_going m
 ends_so made left answer drafted over says =
     says (ap (λ (d : Draft). is_going d.verdict) drafted ∙ over) ∙ ap (λ d. answers.Reply (reply_of d)) drafted
 
-of_extra : (extra : Extra) (draft left : Draft) (answer : Answer) → left ≡ replayed_by (replays.Extra extra) draft → SaysAtEnd left answer → IsExtra extra answer
+of_extra : (extra : Extra) (draft left : Draft) (answer : Answer) → left ≡ unmatched extra draft → SaysAtEnd left answer → IsExtra extra answer
 of_extra extras.Forward draft left answer drafted says = tt
 of_extra extras.Kill draft left answer drafted says = ends_so _ left answer drafted refl says
 of_extra (extras.Code status) draft left answer drafted says = ends_so _ left answer drafted refl says
 
-of_place : (s : Replaying) (request : Request) (replay : Replay) (draft left : Draft) (answer : Answer) → IsAnswer s request replay → left ≡ replayed_by replay draft →
-    SaysAtEnd left answer → IsOfPlace s (got replay) answer
-of_place s request (replays.Found place response) draft left answer is drafted says = (response, is.1, ends_so _ left answer drafted refl says)
-of_place s request (replays.Extra extra) draft left answer is drafted says =
-    subst (λ e. IsExtra e answer) is.1 (of_extra extra draft left answer drafted says)
+of_place : (refresh : Bool) (s : Replaying) (replay : Replay) (draft left : Draft) (given : Given) → draft.flow ≡ given.flow → IsAnswer s given.flow.request replay →
+    left ≡ replayed_by refresh s replay draft → SaysAtEnd left given.answer → IsOfPlace refresh s (got replay) given
+of_place refresh s (replays.Found place response) draft left given same is drafted says = (
+  response,
+  is.1,
+  ends_so _ left given.answer drafted refl says
+      ∙ ap (λ flow. answers.Reply (replies.Respond (sent_as refresh flow (moment_at s place) response))) same,
+)
+of_place refresh s (replays.Extra extra) draft left given same is drafted says =
+    subst (λ e. IsExtra e given.answer) is.1 (of_extra extra draft left given.answer drafted says)
 
-same_place : (s now : Replaying) (place : Option ℕ) (answer : Answer) → now.extra ≡ s.extra → responses_of now ≡ responses_of s →
-    IsOfPlace now place answer → IsOfPlace s place answer
-same_place s now None answer extra same is = subst (λ e. IsExtra e answer) extra is
-same_place s now (Some place) answer extra same is = (is.0, subst (λ l. slice_get l place ≡ Some is.0) same is.1, is.2)
+same_place : (refresh : Bool) (s now : Replaying) (place : Option ℕ) (given : Given) → now.extra ≡ s.extra → responses_of now ≡ responses_of s → moments_of now ≡ moments_of s →
+    IsOfPlace refresh now place given → IsOfPlace refresh s place given
+same_place refresh s now None given extra same moments is = subst (λ e. IsExtra e given.answer) extra is
+same_place refresh s now (Some place) given extra same moments is = (
+  is.0,
+  subst (λ l. slice_get l place ≡ Some is.0) same is.1,
+  is.2 ∙ ap (λ l. answers.Reply (replies.Respond (sent_as refresh given.flow (unwrap_or (slice_get l place) 0) is.0))) moments,
+)
 
-one_answer_more : (s : Replaying) (got_places : List (Option ℕ)) (given : List Answer) (place : Option ℕ) (answer : Answer) → AreOfPlaces s got_places given →
-    IsOfPlace s place answer → AreOfPlaces s (got_places ++ place ∷ []) (given ++ answer ∷ [])
-one_answer_more s [] [] place answer all is = (is, tt)
-one_answer_more s [] (other ∷ others) place answer all is = absurd all
-one_answer_more s (other ∷ others) [] place answer all is = absurd all
-one_answer_more s (p ∷ ps) (a ∷ given) place answer all is = (all.0, one_answer_more s ps given place answer all.1 is)
-
--- ---- the parts that are not server replay
-
-abbrev IsOther : Part → Type 0
-IsOther part.Block = Unit {0}
-IsOther part.MapLocal = Unit {0}
-IsOther part.MapRemote = Unit {0}
-IsOther part.ModifyHeaders = Unit {0}
-IsOther part.Anticache = Unit {0}
-IsOther part.Anticomp = Unit {0}
-IsOther part.ServerReplay = ⊥
-IsOther part.ModifyBody = Unit {0}
-IsOther part.Addons = Unit {0}
-
-abbrev AreOthers : List Part → Type 0
-AreOthers [] = Unit {0}
-AreOthers (one ∷ others) = IsOther one × AreOthers others
+one_answer_more : (refresh : Bool) (s : Replaying) (got_places : List (Option ℕ)) (asks : List Given) (place : Option ℕ) (given : Given) → AreOfPlaces refresh s got_places asks →
+    IsOfPlace refresh s place given → AreOfPlaces refresh s (got_places ++ place ∷ []) (asks ++ given ∷ [])
+one_answer_more refresh s [] [] place given all is = (is, tt)
+one_answer_more refresh s [] (other ∷ others) place given all is = absurd all
+one_answer_more refresh s (other ∷ others) [] place given all is = absurd all
+one_answer_more refresh s (p ∷ ps) (a ∷ asks) place given all is = (all.0, one_answer_more refresh s ps asks place given all.1 is)
 
 module _ {B : Type 0} (title state : B → List ℕ) (moves : B → Moves) where
-  same_replay : (old new : Movers B) → new ≡ old → new.replay ≡ old.replay
-  same_replay old new same = ap (λ (m : Movers B). m.replay) same
-
-  asked_keeps : (rules : Rules) (hook : Hook) (one : Part) (draft after : Draft) (old new : Movers B) (files new_files : FilesMeaning) → IsOther one →
-      PartMoves title state moves rules hook one draft old files after new new_files → new.replay ≡ old.replay
-  asked_keeps rules hook part.Block draft after old new files new_files other moved = same_replay old new moved.1
-  asked_keeps rules hook part.MapLocal draft after old new files new_files other moved = same_replay old new moved.1
-  asked_keeps rules hook part.MapRemote draft after old new files new_files other moved = same_replay old new moved.1
-  asked_keeps rules hook part.ModifyHeaders draft after old new files new_files other moved = same_replay old new moved.1
-  asked_keeps rules hook part.Anticache draft after old new files new_files other moved = same_replay old new moved.1
-  asked_keeps rules hook part.Anticomp draft after old new files new_files other moved = same_replay old new moved.1
-  asked_keeps rules hook part.ServerReplay draft after old new files new_files other moved = absurd other
-  asked_keeps rules hook part.ModifyBody draft after old new files new_files other moved = same_replay old new moved.1
-  asked_keeps rules hook part.Addons draft after old new files new_files other moved = moved.1
-
-  part_keeps : (rules : Rules) (hook : Hook) (one : Part) (draft after : Draft) (old new : Movers B) (files new_files : FilesMeaning) → IsOther one →
-      PartInTurn title state moves rules hook one draft old files after new new_files → new.replay ≡ old.replay
-  part_keeps rules hook one draft after old new files new_files other (by_part _ _ _ _ _ _ going moved) =
-      asked_keeps rules hook one draft after old new files new_files other moved
-  part_keeps rules hook one draft after old new files new_files other (past_part _ _ _ ended) = refl
-
-  parts_keep : (rules : Rules) (hook : Hook) (list : List Part) (draft end : Draft) (old new : Movers B) (files new_files : FilesMeaning) → AreOthers list →
-      PartsMove title state moves rules hook list draft old files end new new_files → new.replay ≡ old.replay
-  parts_keep rules hook list draft end old new files new_files are (no_part _ _ _) = refl
-  parts_keep rules hook list draft end old new files new_files are (next_part one others _ after _ _ mid _ _ mid_files _ moved behind) =
-      parts_keep rules hook others after end mid new mid_files new_files are.1 behind ∙ part_keeps rules hook one draft after old mid files mid_files are.0 moved
-
   -- ---- one answer
 
   pub stays_elsewhere : (hook : Hook) (flow : Flow) (rules new_rules : Rules) (old new : Movers B) (files new_files : FilesMeaning) (answer : Answer) →
       hook ≢ hooks.RequestBody → ChainAnswers title state moves hook flow rules old files new_rules new new_files answer → new.replay ≡ old.replay
   stays_elsewhere hooks.RequestHead flow rules new_rules old new files new_files answer other given =
-      parts_keep rules hooks.RequestHead _ (begun flow rules.stream) given.end old new files new_files (tt, (tt, (tt, (tt, (tt, (tt, (tt, tt))))))) given.moved
+      parts_still title state moves part.ServerReplay (λ m. m.replay) replay_moved rules hooks.RequestHead (parts hooks.RequestHead) (begun flow rules.stream) given.end old new files new_files
+      ((λ e. cc), ((λ e. cc), ((λ e. cc), ((λ e. cc), ((λ e. cc), ((λ e. cc), ((λ e. cc), ((λ e. cc), ((λ e. cc), tt))))))))) given.moved
   stays_elsewhere hooks.RequestBody flow rules new_rules old new files new_files answer other given = absurd (other refl)
   stays_elsewhere hooks.ResponseHead flow rules new_rules old new files new_files answer other given =
-      parts_keep rules hooks.ResponseHead _ (begun flow rules.stream) given.end old new files new_files (tt, (tt, tt)) given.moved
+      parts_still title state moves part.ServerReplay (λ m. m.replay) replay_moved rules hooks.ResponseHead (parts hooks.ResponseHead) (begun flow rules.stream) given.end old new files new_files
+      ((λ e. cc), ((λ e. cc), ((λ e. cc), tt))) given.moved
   stays_elsewhere hooks.ResponseBody flow rules new_rules old new files new_files answer other given =
-      parts_keep rules hooks.ResponseBody _ (begun flow rules.stream) given.end old new files new_files (tt, (tt, tt)) given.moved
+      parts_still title state moves part.ServerReplay (λ m. m.replay) replay_moved rules hooks.ResponseBody (parts hooks.ResponseBody) (begun flow rules.stream) given.end old new files new_files
+      ((λ e. cc), ((λ e. cc), tt)) given.moved
   stays_elsewhere (hooks.WsMessage side) flow rules new_rules old new files new_files answer other given =
-      parts_keep rules (hooks.WsMessage side) _ (begun flow rules.stream) given.end old new files new_files (tt, (tt, tt)) given.moved
+      parts_still title state moves part.ServerReplay (λ m. m.replay) replay_moved rules (hooks.WsMessage side) (parts (hooks.WsMessage side)) (begun flow rules.stream) given.end old new files new_files
+      ((λ e. cc), ((λ e. cc), tt)) given.moved
 
   -- what came of it that a whole request was asked of the recorded list
-  pub record WasAsked (recorded : Replaying) (request : Request) (old new : Movers B) (files new_files : FilesMeaning) (answer : Answer) : Type 0 where
+  pub record WasAsked (refresh : Bool) (recorded : Replaying) (given : Given) (old new : Movers B) (files new_files : FilesMeaning) : Type 0 where
     pub replay : Replay
-    pub is : IsAnswer recorded request replay
+    pub is : IsAnswer recorded given.flow.request replay
     pub used : new.replay ≡ Some (replaying.after recorded (got replay))
-    pub said : IsOfPlace recorded (got replay) answer
+    pub said : IsOfPlace refresh recorded (got replay) given
     pub alone : (place : ℕ) → got replay ≡ Some place → (new.addons ≡ old.addons) × (new_files ≡ files)
 
-  part_asked : (rules : Rules) (hook : Hook) (recorded : Replaying) (draft left : Draft) (old mid : Movers B) (files mid_files : FilesMeaning) →
-      is_going draft.verdict ≡ true → old.replay ≡ Some recorded → PartInTurn title state moves rules hook part.ServerReplay draft old files left mid mid_files →
-      AsksRecorded draft recorded left mid.replay × (mid.addons ≡ old.addons) × (mid_files ≡ files)
-  part_asked rules hook recorded draft left old mid files mid_files going has (by_part _ _ _ _ _ _ _ moved) =
-      (subst (λ r. Replays draft r left mid.replay) has moved.0, moved.1, moved.2)
-  part_asked rules hook recorded draft left old mid files mid_files going has (past_part _ _ _ over) = absurd (let no : true ≡ false = sym going ∙ over in cc)
-
-  parts_asked : (rules : Rules) (hook : Hook) (recorded : Replaying) (others : List Part) (draft end : Draft) (old new : Movers B) (files new_files : FilesMeaning) (answer : Answer) →
-      is_going draft.verdict ≡ true → old.replay ≡ Some recorded → AreOthers others → answer ≡ answer_by rules hook end →
+  parts_asked : (rules : Rules) (hook : Hook) (recorded : Replaying) (others : List Part) (draft end : Draft) (old new : Movers B) (files new_files : FilesMeaning) (given : Given) →
+      is_going draft.verdict ≡ true → draft.flow ≡ given.flow → old.replay ≡ Some recorded → IsNone part.ServerReplay others → given.answer ≡ answer_by rules hook end →
       PartsMove title state moves rules hook (part.ServerReplay ∷ others) draft old files end new new_files →
-      WasAsked recorded draft.flow.request old new files new_files answer
-  parts_asked rules hook recorded others draft end old new files new_files answer going has are answered (next_part _ _ _ left _ _ mid _ _ mid_files _ moved behind) =
-      let first = part_asked rules hook recorded draft left old mid files mid_files going has moved in
-      let passed = λ (over : is_going left.verdict ≡ false). all_passed title state moves rules hook others left end mid new mid_files new_files behind over in
+      WasAsked rules.refresh recorded given old new files new_files
+  parts_asked rules hook recorded others draft end old new files new_files given going same has are answered parted =
+      let first = first_of title state moves rules hook part.ServerReplay others draft end old new files new_files parted in
+      let moved = first.moved going in
+      let asked : AsksRecorded rules.refresh draft recorded first.after first.mid.replay = subst (λ r. Replays rules.refresh draft r first.after first.mid.replay) has moved.0 in
+      let passed = λ (over : is_going first.after.verdict ≡ false).
+      all_passed title state moves rules hook others first.after end first.mid new first.mid_files new_files first.behind over in
+      let is : IsAnswer recorded given.flow.request asked.answer = subst (λ (f : Flow). IsAnswer recorded f.request asked.answer) same asked.answers in
       record {
-        replay = first.0.answer;
-        is = first.0.answers;
-        used = parts_keep rules hook others left end mid new mid_files new_files are behind ∙ first.0.used;
-        said = of_place recorded draft.flow.request first.0.answer draft left answer first.0.answers first.0.drafted
-            (λ over. answered ∙ ap (λ d. answer_by rules hook d) (passed over).0 ∙ ended_replies rules hook left over);
+        replay = asked.answer;
+        is = is;
+        used = parts_still title state moves part.ServerReplay (λ m. m.replay) replay_moved rules hook others first.after end first.mid new first.mid_files new_files are first.behind ∙ asked.used;
+        said = of_place rules.refresh recorded asked.answer draft first.after given same is asked.drafted
+            (λ over. answered ∙ ap (λ d. answer_by rules hook d) (passed over).0 ∙ ended_replies rules hook first.after over);
         alone = λ place found.
-            let last = passed (found_ends first.0.answer place draft left found first.0.drafted) in
-            (ap (λ (m : Movers B). m.addons) last.1 ∙ first.1, last.2 ∙ first.2);
+            let last = passed (found_ends rules.refresh recorded asked.answer place draft first.after found asked.drafted) in
+            (ap (λ (m : Movers B). m.addons) (last.1 ∙ moved.1), last.2 ∙ moved.2);
       }
 
   pub whole_asked : (flow : Flow) (rules new_rules : Rules) (old new : Movers B) (files new_files : FilesMeaning) (recorded : Replaying) (answer : Answer) →
       old.replay ≡ Some recorded → ChainAnswers title state moves hooks.RequestBody flow rules old files new_rules new new_files answer →
-      WasAsked recorded flow.request old new files new_files answer
+      WasAsked rules.refresh recorded (record { hook = hooks.RequestBody; flow = flow; answer = answer }) old new files new_files
   whole_asked flow rules new_rules old new files new_files recorded answer has given =
-      parts_asked rules hooks.RequestBody recorded _ (begun flow rules.stream) given.end old new files new_files answer refl has (tt, (tt, tt)) given.answered given.moved
+      parts_asked rules hooks.RequestBody recorded (part.ModifyBody ∷ part.Addons ∷ []) (begun flow rules.stream) given.end old new files new_files
+      (record { hook = hooks.RequestBody; flow = flow; answer = answer }) refl refl has ((λ e. cc), ((λ e. cc), tt)) given.answered given.moved
 
   pub found_answers : (flow : Flow) (rules new_rules : Rules) (old new : Movers B) (files new_files : FilesMeaning) (recorded : Replaying) (place : ℕ) (answer : Answer) →
       old.replay ≡ Some recorded → place_of recorded flow.request ≡ Some place →
       ChainAnswers title state moves hooks.RequestBody flow rules old files new_rules new new_files answer →
-      IsOfPlace recorded (Some place) answer × (new.replay ≡ Some (replaying.after recorded (Some place))) × (new.addons ≡ old.addons) × (new_files ≡ files)
+      IsOfPlace rules.refresh recorded (Some place) (record { hook = hooks.RequestBody; flow = flow; answer = answer })
+      × (new.replay ≡ Some (replaying.after recorded (Some place))) × (new.addons ≡ old.addons) × (new_files ≡ files)
   found_answers flow rules new_rules old new files new_files recorded place answer has found given =
+      let this : Given = record { hook = hooks.RequestBody; flow = flow; answer = answer } in
       let asked = whole_asked flow rules new_rules old new files new_files recorded answer has given in
       let is : got asked.replay ≡ Some place = got_place recorded flow.request asked.replay asked.is ∙ found in
       let alone = asked.alone place is in (
-        subst (λ p. IsOfPlace recorded p answer) is asked.said,
+        subst (λ p. IsOfPlace rules.refresh recorded p this) is asked.said,
         asked.used ∙ ap (λ p. Some (replaying.after recorded p)) is,
         alone.0,
         alone.1,
@@ -239,60 +280,61 @@ module _ {B : Type 0} (title state : B → List ℕ) (moves : B → Moves) where
 
   -- ---- answers one behind the other
 
-  record Stands (s : Replaying) (requests : List Request) (given : List Answer) (last : Option Replaying) : Type 0 where
-    is : last ≡ Some (after_all s requests)
-    said : AreOfPlaces s (places s requests) given
+  record Stands (refresh : Bool) (s : Replaying) (asks : List Given) (last : Option Replaying) : Type 0 where
+    is : last ≡ Some (after_all s (requests_in asks))
+    said : AreOfPlaces refresh s (places s (requests_in asks)) asks
 
-  stays : (s : Replaying) (requests : List Request) (given : List Answer) (replay new_replay : Option Replaying) → Stands s requests given replay → new_replay ≡ replay →
-      Stands s (requests ++ []) (given ++ []) new_replay
-  stays s requests given replay new_replay so same =
-      subst (λ l. Stands s l (given ++ []) new_replay) (sym (append-nil requests))
-      (subst (λ l. Stands s requests l new_replay) (sym (append-nil given)) (record { is = same ∙ so.is; said = so.said }))
+  stays : (refresh : Bool) (s : Replaying) (asks : List Given) (replay new_replay : Option Replaying) → Stands refresh s asks replay → new_replay ≡ replay →
+      Stands refresh s (asks ++ []) new_replay
+  stays refresh s asks replay new_replay so same =
+      subst (λ l. Stands refresh s l new_replay) (sym (append-nil asks)) (record { is = same ∙ so.is; said = so.said })
 
-  grows : (s : Replaying) (requests : List Request) (given : List Answer) (replay : Option Replaying) (request : Request) (old new : Movers B) (files new_files : FilesMeaning)
-      (answer : Answer) → Stands s requests given replay → WasAsked (after_all s requests) request old new files new_files answer →
-      Stands s (requests ++ request ∷ []) (given ++ answer ∷ []) new.replay
-  grows s requests given replay request old new files new_files answer so asked =
+  grows : (refresh : Bool) (s : Replaying) (asks : List Given) (replay : Option Replaying) (given : Given) (old new : Movers B) (files new_files : FilesMeaning) →
+      Stands refresh s asks replay → WasAsked refresh (after_all s (requests_in asks)) given old new files new_files →
+      Stands refresh s (asks ++ given ∷ []) new.replay
+  grows refresh s asks replay given old new files new_files so asked =
+      let requests = requests_in asks in
       let now = after_all s requests in
-      let place : got asked.replay ≡ place_of now request = got_place now request asked.replay asked.is in
+      let place : got asked.replay ≡ place_of now given.flow.request = got_place now given.flow.request asked.replay asked.is in
       record {
-        is = asked.used ∙ ap (λ p. Some (replaying.after now p)) place ∙ ap Some (sym (all_after requests request s));
-        said = subst (λ l. AreOfPlaces s l (given ++ answer ∷ [])) (sym (one_place_more requests request s))
-            (one_answer_more s (places s requests) given (place_of now request) answer so.said
-            (same_place s now (place_of now request) answer (all_extra_stays requests s) (all_responses_stay requests s)
-            (subst (λ p. IsOfPlace now p answer) place asked.said)));
+        is = asked.used ∙ ap (λ p. Some (replaying.after now p)) place ∙ ap Some (sym (all_after requests given.flow.request s))
+            ∙ ap (λ l. Some (after_all s l)) (sym (requests_more asks given));
+        said = subst (λ l. AreOfPlaces refresh s l (asks ++ given ∷ [])) (sym (ap (places s) (requests_more asks given) ∙ one_place_more requests given.flow.request s))
+            (one_answer_more refresh s (places s requests) asks (place_of now given.flow.request) given so.said
+            (same_place refresh s now (place_of now given.flow.request) given (all_extra_stays requests s) (all_responses_stay requests s) (all_moments_stay requests s)
+            (subst (λ p. IsOfPlace refresh now p given) place asked.said)));
       }
 
-  next_stands : (s : Replaying) (requests : List Request) (given : List Answer) (hook : Hook) (flow : Flow) (rules new_rules : Rules) (old new : Movers B)
-      (files new_files : FilesMeaning) (answer : Answer) → Stands s requests given old.replay →
+  next_stands : (s : Replaying) (asks : List Given) (hook : Hook) (flow : Flow) (rules new_rules : Rules) (old new : Movers B)
+      (files new_files : FilesMeaning) (answer : Answer) → Stands rules.refresh s asks old.replay →
       ChainAnswers title state moves hook flow rules old files new_rules new new_files answer →
-      Stands s (requests ++ of_whole_request hook flow.request) (given ++ of_whole_request hook answer) new.replay
-  next_stands s requests given hooks.RequestHead flow rules new_rules old new files new_files answer so by =
-      stays s requests given old.replay new.replay so (stays_elsewhere hooks.RequestHead flow rules new_rules old new files new_files answer (λ e. cc) by)
-  next_stands s requests given hooks.RequestBody flow rules new_rules old new files new_files answer so by =
-      grows s requests given old.replay flow.request old new files new_files answer so
-      (whole_asked flow rules new_rules old new files new_files (after_all s requests) answer so.is by)
-  next_stands s requests given hooks.ResponseHead flow rules new_rules old new files new_files answer so by =
-      stays s requests given old.replay new.replay so (stays_elsewhere hooks.ResponseHead flow rules new_rules old new files new_files answer (λ e. cc) by)
-  next_stands s requests given hooks.ResponseBody flow rules new_rules old new files new_files answer so by =
-      stays s requests given old.replay new.replay so (stays_elsewhere hooks.ResponseBody flow rules new_rules old new files new_files answer (λ e. cc) by)
-  next_stands s requests given (hooks.WsMessage side) flow rules new_rules old new files new_files answer so by =
-      stays s requests given old.replay new.replay so (stays_elsewhere (hooks.WsMessage side) flow rules new_rules old new files new_files answer (λ e. cc) by)
+      Stands rules.refresh s (asks ++ of_whole_request hook ((record { hook = hook; flow = flow; answer = answer }) ∷ [])) new.replay
+  next_stands s asks hooks.RequestHead flow rules new_rules old new files new_files answer so by =
+      stays rules.refresh s asks old.replay new.replay so (stays_elsewhere hooks.RequestHead flow rules new_rules old new files new_files answer (λ e. cc) by)
+  next_stands s asks hooks.RequestBody flow rules new_rules old new files new_files answer so by =
+      grows rules.refresh s asks old.replay (record { hook = hooks.RequestBody; flow = flow; answer = answer }) old new files new_files so
+      (whole_asked flow rules new_rules old new files new_files (after_all s (requests_in asks)) answer so.is by)
+  next_stands s asks hooks.ResponseHead flow rules new_rules old new files new_files answer so by =
+      stays rules.refresh s asks old.replay new.replay so (stays_elsewhere hooks.ResponseHead flow rules new_rules old new files new_files answer (λ e. cc) by)
+  next_stands s asks hooks.ResponseBody flow rules new_rules old new files new_files answer so by =
+      stays rules.refresh s asks old.replay new.replay so (stays_elsewhere hooks.ResponseBody flow rules new_rules old new files new_files answer (λ e. cc) by)
+  next_stands s asks (hooks.WsMessage side) flow rules new_rules old new files new_files answer so by =
+      stays rules.refresh s asks old.replay new.replay so (stays_elsewhere (hooks.WsMessage side) flow rules new_rules old new files new_files answer (λ e. cc) by)
 
-  all_stand : (s : Replaying) (made : List Given) (last : Option Replaying) → InTurn title state moves (Some s) made last → Stands s (whole_requests made) (their_answers made) last
-  all_stand s made last none_given = record { is = refl; said = tt }
-  all_stand s made last (next_given earlier _ hook flow rules new_rules replay new_replay addons new_addons files new_files answer before by split) =
+  all_stand : (s : Replaying) (rules : Rules) (first last : Movers B) (made : List Given) → first.replay ≡ Some s → InTurn title state moves rules first made last →
+      Stands rules.refresh s (of_whole_requests made) last.replay
+  all_stand s rules first last made has none_given = record { is = has; said = tt }
+  all_stand s rules first last made has (next_given earlier _ hook flow new_rules old _ addons files new_files answer before by split) =
       let given : Given = record { hook = hook; flow = flow; answer = answer } in
-      let next = next_stands s (whole_requests earlier) (their_answers earlier) hook flow rules new_rules (movers_of replay addons) (movers_of new_replay new_addons) files new_files answer
-      (all_stand s earlier replay before) by in
-      subst (λ l. Stands s (whole_requests l) (their_answers l) new_replay) (sym split)
-      (subst (λ l. Stands s l (their_answers (earlier ++ given ∷ [])) new_replay) (sym (requests_with earlier given))
-      (subst (λ l. Stands s (whole_requests earlier ++ of_whole_request hook flow.request) l new_replay) (sym (answers_with earlier given)) next))
+      let next = next_stands s (of_whole_requests earlier) hook flow rules new_rules (record old { addons = addons }) last files new_files answer
+      (all_stand s rules first old earlier has before) by in
+      subst (λ l. Stands rules.refresh s (of_whole_requests l) last.replay) (sym split)
+      (subst (λ l. Stands rules.refresh s l last.replay) (sym (asks_with earlier given)) next)
 
-  pub least_places : (how : KeyOptions) (reuse : Bool) (extra : Extra) (flows : List Flow) (made : List Given) (last : Option Replaying) →
-      InTurn title state moves (Some (started how reuse extra flows)) made last → AreOfRecorded (started how reuse extra flows) made
-  least_places how reuse extra flows made last by = record {
+  pub least_places : (how : KeyOptions) (reuse : Bool) (extra : Extra) (flows : List Flow) (rules : Rules) (first last : Movers B) (made : List Given) →
+      first.replay ≡ Some (started how reuse extra flows) → InTurn title state moves rules first made last → AreOfRecorded rules.refresh (started how reuse extra flows) made
+  least_places how reuse extra flows rules first last made has by = record {
     places = places (started how reuse extra flows) (whole_requests made);
     least = replayed how reuse extra flows (whole_requests made);
-    answered = (all_stand (started how reuse extra flows) made last by).said;
+    answered = (all_stand (started how reuse extra flows) rules first last made has by).said;
   }

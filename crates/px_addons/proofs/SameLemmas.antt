@@ -43,6 +43,10 @@ module _ {B : Type 0} (title state : B → List ℕ) (moves : B → Moves) where
   still_same : (old new : Movers B) → new ≡ old → SameAddons title state moves old.addons new.addons
   still_same old new same = subst (λ (l : Movers B). SameAddons title state moves old.addons l.addons) (sym same) (all_themselves old.addons)
 
+  -- what moved is other than the addons
+  other_same : (old new moved : Movers B) → new ≡ moved → moved.addons ≡ old.addons → SameAddons title state moves old.addons new.addons
+  other_same old new moved same addons = subst (λ l. SameAddons title state moves old.addons l) (sym (ap (λ (m : Movers B). m.addons) same ∙ addons)) (all_themselves old.addons)
+
   asked_same : (rules : Rules) (hook : Hook) (one : Part) (draft after : Draft) (old new : Movers B) (files new_files : FilesMeaning) →
       PartMoves title state moves rules hook one draft old files after new new_files → SameAddons title state moves old.addons new.addons
   asked_same rules hook part.Block draft after old new files new_files moved = still_same old new moved.1
@@ -51,7 +55,10 @@ module _ {B : Type 0} (title state : B → List ℕ) (moves : B → Moves) where
   asked_same rules hook part.ModifyHeaders draft after old new files new_files moved = still_same old new moved.1
   asked_same rules hook part.Anticache draft after old new files new_files moved = still_same old new moved.1
   asked_same rules hook part.Anticomp draft after old new files new_files moved = still_same old new moved.1
-  asked_same rules hook part.ServerReplay draft after old new files new_files moved = subst (λ l. SameAddons title state moves old.addons l) (sym moved.1) (all_themselves old.addons)
+  asked_same rules hook part.StickyCookies draft after old new files new_files moved = still_same old new moved.1
+  asked_same rules hook part.StickyAuth draft after old new files new_files moved = other_same old new _ moved.1 refl
+  asked_same rules hook part.KeepCookies draft after old new files new_files moved = other_same old new _ moved.1 refl
+  asked_same rules hook part.ServerReplay draft after old new files new_files moved = other_same old new _ moved.1 refl
   asked_same rules hook part.ModifyBody draft after old new files new_files moved = still_same old new moved.1
   asked_same rules hook part.Addons draft after old new files new_files moved = addons_same hook draft after old.addons new.addons moved.0
 

@@ -5,9 +5,12 @@ use Rattle.px_event.specs.declared.ask.Hook.{Hook}
 use Rattle.px_core.specs.declared.answerer.Draft.{Draft}
 use Rattle.px_addons.specs.Moving.{Moves}
 use Rattle.px_addons.specs.Chain.{Movers, movers_of, AddonMoves, AddonsMove, no_addon, next_addon, PartMoves, PartInTurn, by_part, PartsMove, no_part, next_part, PartFails, PartsFail, fails_here, fails_later, is_going, begun, ChainAnswers, ChainFails, part_failed, judging_failed, answer_by, intercept_of, is_judged}
+use Rattle.px_refresh.specs.declared.authorization.StickyAuth.{StickyAuth}
+use Rattle.px_refresh.specs.declared.cookies.StickyCookies.{StickyCookies}
 use Rattle.px_replay.specs.Replaying.{Replaying}
 use Rattle.px_addons.specs.Mapped.{MapsLocal}
 use Rattle.px_addons.specs.Replays.{Replays}
+use Rattle.px_addons.specs.Sticky.{Authorizes, KeepsCookies, sent_cookies}
 use Rattle.px_addons.specs.Parts.{made_by, parts}
 use Rattle.px_core.specs.Answers.{FilesMeaning}
 use Rattle.px_core.specs.declared.answerer.Answer.{Answer}
@@ -140,6 +143,9 @@ module _ {B : Type 0} (title state : B → List ℕ) (moves : B → Moves) where
   IsFunction part.ModifyHeaders = Unit {0}
   IsFunction part.Anticache = Unit {0}
   IsFunction part.Anticomp = Unit {0}
+  IsFunction part.StickyCookies = ⊥
+  IsFunction part.StickyAuth = ⊥
+  IsFunction part.KeepCookies = ⊥
   IsFunction part.ServerReplay = ⊥
   IsFunction part.ModifyBody = Unit {0}
   IsFunction part.Addons = ⊥
@@ -152,6 +158,9 @@ module _ {B : Type 0} (title state : B → List ℕ) (moves : B → Moves) where
   by_function rules hook part.ModifyHeaders draft after movers files is made = (made, refl, refl)
   by_function rules hook part.Anticache draft after movers files is made = (made, refl, refl)
   by_function rules hook part.Anticomp draft after movers files is made = (made, refl, refl)
+  by_function rules hook part.StickyCookies draft after movers files is made = absurd is
+  by_function rules hook part.StickyAuth draft after movers files is made = absurd is
+  by_function rules hook part.KeepCookies draft after movers files is made = absurd is
   by_function rules hook part.ServerReplay draft after movers files is made = absurd is
   by_function rules hook part.ModifyBody draft after movers files is made = (made, refl, refl)
   by_function rules hook part.Addons draft after movers files is made = absurd is
@@ -168,57 +177,85 @@ module _ {B : Type 0} (title state : B → List ℕ) (moves : B → Moves) where
       subst (λ p. PartInTurn title state moves rules hook p draft movers files after movers new_files) (sym same)
       (by_part draft after movers movers files new_files going (maps, refl))
 
-  pub by_replay : (rules : Rules) (hook : Hook) (one : Part) (draft after : Draft) (old new : Option Replaying) (addons : List B) (files : FilesMeaning) → one ≡ part.ServerReplay →
-      is_going draft.verdict ≡ true → Replays draft old after new →
-      PartInTurn title state moves rules hook one draft (movers_of old addons) files after (movers_of new addons) files
-  by_replay rules hook one draft after old new addons files same going replays =
-      let before : Movers B = movers_of old addons in
-      let behind : Movers B = movers_of new addons in
+  pub by_cookies : (rules : Rules) (hook : Hook) (one : Part) (draft after : Draft) (movers : Movers B) (files : FilesMeaning) → one ≡ part.StickyCookies →
+      is_going draft.verdict ≡ true → after ≡ the_draft (sent_cookies movers.cookies draft.flow) draft →
+      PartInTurn title state moves rules hook one draft movers files after movers files
+  by_cookies rules hook one draft after movers files same going sent =
+      subst (λ p. PartInTurn title state moves rules hook p draft movers files after movers files) (sym same)
+      (by_part draft after movers movers files files going (sent, refl, refl))
+
+  pub by_auth : (rules : Rules) (hook : Hook) (one : Part) (draft after : Draft) (replay : Option Replaying) (cookies : Option StickyCookies) (old new : Option StickyAuth)
+      (addons : List B) (files : FilesMeaning) → one ≡ part.StickyAuth → is_going draft.verdict ≡ true → Authorizes draft old after new →
+      PartInTurn title state moves rules hook one draft (movers_of replay cookies old addons) files after (movers_of replay cookies new addons) files
+  by_auth rules hook one draft after replay cookies old new addons files same going kept =
+      let before : Movers B = movers_of replay cookies old addons in
+      let behind : Movers B = movers_of replay cookies new addons in
+      subst (λ p. PartInTurn title state moves rules hook p draft before files after behind files) (sym same)
+      (by_part draft after before behind files files going (kept, refl, refl))
+
+  pub by_keeping : (rules : Rules) (hook : Hook) (one : Part) (draft : Draft) (replay : Option Replaying) (old new : Option StickyCookies) (auth : Option StickyAuth)
+      (addons : List B) (files : FilesMeaning) → one ≡ part.KeepCookies → is_going draft.verdict ≡ true → KeepsCookies draft old draft new →
+      PartInTurn title state moves rules hook one draft (movers_of replay old auth addons) files draft (movers_of replay new auth addons) files
+  by_keeping rules hook one draft replay old new auth addons files same going kept =
+      let before : Movers B = movers_of replay old auth addons in
+      let behind : Movers B = movers_of replay new auth addons in
+      subst (λ p. PartInTurn title state moves rules hook p draft before files draft behind files) (sym same)
+      (by_part draft draft before behind files files going (kept, refl, refl))
+
+  pub by_replay : (rules : Rules) (hook : Hook) (one : Part) (draft after : Draft) (old new : Option Replaying) (cookies : Option StickyCookies) (auth : Option StickyAuth)
+      (addons : List B) (files : FilesMeaning) → one ≡ part.ServerReplay → is_going draft.verdict ≡ true → Replays rules.refresh draft old after new →
+      PartInTurn title state moves rules hook one draft (movers_of old cookies auth addons) files after (movers_of new cookies auth addons) files
+  by_replay rules hook one draft after old new cookies auth addons files same going replays =
+      let before : Movers B = movers_of old cookies auth addons in
+      let behind : Movers B = movers_of new cookies auth addons in
       subst (λ p. PartInTurn title state moves rules hook p draft before files after behind files) (sym same)
       (by_part draft after before behind files files going (replays, refl, refl))
 
-  pub by_addons : (rules : Rules) (hook : Hook) (one : Part) (draft after : Draft) (replay : Option Replaying) (old new : List B) (files : FilesMeaning) → one ≡ part.Addons →
-      is_going draft.verdict ≡ true → AddonsMove title state moves hook draft old after new →
-      PartInTurn title state moves rules hook one draft (movers_of replay old) files after (movers_of replay new) files
-  by_addons rules hook one draft after replay old new files same going moved =
-      let before : Movers B = movers_of replay old in
-      let behind : Movers B = movers_of replay new in
+  pub by_addons : (rules : Rules) (hook : Hook) (one : Part) (draft after : Draft) (replay : Option Replaying) (cookies : Option StickyCookies) (auth : Option StickyAuth)
+      (old new : List B) (files : FilesMeaning) → one ≡ part.Addons → is_going draft.verdict ≡ true → AddonsMove title state moves hook draft old after new →
+      PartInTurn title state moves rules hook one draft (movers_of replay cookies auth old) files after (movers_of replay cookies auth new) files
+  by_addons rules hook one draft after replay cookies auth old new files same going moved =
+      let before : Movers B = movers_of replay cookies auth old in
+      let behind : Movers B = movers_of replay cookies auth new in
       subst (λ p. PartInTurn title state moves rules hook p draft before files after behind files) (sym same)
       (by_part draft after before behind files files going (moved, refl, refl))
 
   -- what a chain answers, from what its parts made of a lent list
-  pub answered : (rules : Rules) (hook : Hook) (flow : Flow) (files new_files : FilesMeaning) (replay new_replay : Option Replaying) (addons lent : List B) (asked : List Part)
+  pub answered : (rules : Rules) (hook : Hook) (flow : Flow) (files new_files : FilesMeaning) (replay new_replay : Option Replaying) (cookies new_cookies : Option StickyCookies)
+      (auth new_auth : Option StickyAuth) (addons lent : List B) (asked : List Part)
       (end : Draft) (new : List B) (len : ℕ) (answer : Answer) →
-      PartsMove title state moves rules hook asked (begun flow rules.stream) (movers_of replay lent) files end (movers_of new_replay new) new_files →
+      PartsMove title state moves rules hook asked (begun flow rules.stream) (movers_of replay cookies auth lent) files end (movers_of new_replay new_cookies new_auth new) new_files →
       asked ≡ parts hook → lent ≡ addons → length new ≡ len → answer ≡ answer_by rules hook end →
-      ChainAnswers title state moves hook flow rules (movers_of replay addons) files rules
-      (movers_of new_replay (take len (new ++ drop (length new) addons))) new_files answer
-  answered rules hook flow files new_files replay new_replay addons lent asked end new len answer moved table same counted is =
+      ChainAnswers title state moves hook flow rules (movers_of replay cookies auth addons) files rules
+      (movers_of new_replay new_cookies new_auth (take len (new ++ drop (length new) addons))) new_files answer
+  answered rules hook flow files new_files replay new_replay cookies new_cookies auth new_auth addons lent asked end new len answer moved table same counted is =
       record {
         end = end;
-        moved = subst (λ l. PartsMove title state moves rules hook (parts hook) (begun flow rules.stream) (movers_of replay addons) files end (movers_of new_replay l) new_files)
+        moved = subst (λ l. PartsMove title state moves rules hook (parts hook) (begun flow rules.stream) (movers_of replay cookies auth addons) files end (movers_of new_replay new_cookies new_auth l) new_files)
             (sym (written_back new addons len counted))
-            (subst (λ l. PartsMove title state moves rules hook (parts hook) (begun flow rules.stream) (movers_of replay l) files end (movers_of new_replay new) new_files) same
-            (subst (λ l. PartsMove title state moves rules hook l (begun flow rules.stream) (movers_of replay lent) files end (movers_of new_replay new) new_files) table moved));
+            (subst (λ l. PartsMove title state moves rules hook (parts hook) (begun flow rules.stream) (movers_of replay cookies auth l) files end (movers_of new_replay new_cookies new_auth new) new_files) same
+            (subst (λ l. PartsMove title state moves rules hook l (begun flow rules.stream) (movers_of replay cookies auth lent) files end (movers_of new_replay new_cookies new_auth new) new_files) table moved));
         answered = is;
         rules = refl;
       }
 
   -- and what it did to files where one of them ran out of memory
-  pub failed : (rules : Rules) (hook : Hook) (flow : Flow) (files new_files : FilesMeaning) (replay : Option Replaying) (addons lent : List B) (asked : List Part) →
-      PartsFail title state moves rules hook asked (begun flow rules.stream) (movers_of replay lent) files new_files → asked ≡ parts hook → lent ≡ addons →
-      ChainFails title state moves hook flow rules (movers_of replay addons) files new_files
-  failed rules hook flow files new_files replay addons lent asked ran_out table same =
-      part_failed (subst (λ l. PartsFail title state moves rules hook (parts hook) (begun flow rules.stream) (movers_of replay l) files new_files) same
-      (subst (λ l. PartsFail title state moves rules hook l (begun flow rules.stream) (movers_of replay lent) files new_files) table ran_out))
+  pub failed : (rules : Rules) (hook : Hook) (flow : Flow) (files new_files : FilesMeaning) (replay : Option Replaying) (cookies : Option StickyCookies)
+      (auth : Option StickyAuth) (addons lent : List B) (asked : List Part) →
+      PartsFail title state moves rules hook asked (begun flow rules.stream) (movers_of replay cookies auth lent) files new_files → asked ≡ parts hook → lent ≡ addons →
+      ChainFails title state moves hook flow rules (movers_of replay cookies auth addons) files new_files
+  failed rules hook flow files new_files replay cookies auth addons lent asked ran_out table same =
+      part_failed (subst (λ l. PartsFail title state moves rules hook (parts hook) (begun flow rules.stream) (movers_of replay cookies auth l) files new_files) same
+      (subst (λ l. PartsFail title state moves rules hook l (begun flow rules.stream) (movers_of replay cookies auth lent) files new_files) table ran_out))
 
   -- or where judging the filter of the flows that wait did
-  pub judging : (rules : Rules) (hook : Hook) (flow : Flow) (files new_files : FilesMeaning) (replay : Option Replaying) (addons lent : List B) (asked : List Part)
-      (end : Draft) (new : Movers B) → PartsMove title state moves rules hook asked (begun flow rules.stream) (movers_of replay lent) files end new new_files →
+  pub judging : (rules : Rules) (hook : Hook) (flow : Flow) (files new_files : FilesMeaning) (replay : Option Replaying) (cookies : Option StickyCookies)
+      (auth : Option StickyAuth) (addons lent : List B) (asked : List Part)
+      (end : Draft) (new : Movers B) → PartsMove title state moves rules hook asked (begun flow rules.stream) (movers_of replay cookies auth lent) files end new new_files →
       asked ≡ parts hook → lent ≡ addons → is_judged (intercept_of rules) hook end ≡ true →
-      ChainFails title state moves hook flow rules (movers_of replay addons) files new_files
-  judging rules hook flow files new_files replay addons lent asked end new moved table same judged =
+      ChainFails title state moves hook flow rules (movers_of replay cookies auth addons) files new_files
+  judging rules hook flow files new_files replay cookies auth addons lent asked end new moved table same judged =
       judging_failed end new
-      (subst (λ l. PartsMove title state moves rules hook (parts hook) (begun flow rules.stream) (movers_of replay l) files end new new_files) same
-      (subst (λ l. PartsMove title state moves rules hook l (begun flow rules.stream) (movers_of replay lent) files end new new_files) table moved))
+      (subst (λ l. PartsMove title state moves rules hook (parts hook) (begun flow rules.stream) (movers_of replay cookies auth l) files end new new_files) same
+      (subst (λ l. PartsMove title state moves rules hook l (begun flow rules.stream) (movers_of replay cookies auth lent) files end new new_files) table moved))
       judged

@@ -16,11 +16,14 @@ use Rattle.px_core.specs.declared.answerer.Answer.TheVariants as answers
 use Rattle.px_core.specs.declared.answerer.Draft.{Draft}
 use Rattle.px_core.specs.declared.answerer.Verdict.{Verdict}
 use Rattle.px_core.specs.declared.answerer.Verdict.TheVariants as verdicts
+use Rattle.px_refresh.specs.declared.authorization.StickyAuth.{StickyAuth}
+use Rattle.px_refresh.specs.declared.cookies.StickyCookies.{StickyCookies}
 use Rattle.px_replay.specs.Replaying.{Replaying}
 use Rattle.px_addons.specs.Mapped.{LocalFails, MapsLocal}
 use Rattle.px_addons.specs.Moving.{Moves, SameMoves}
 use Rattle.px_addons.specs.Parts.{made_by, parts}
 use Rattle.px_addons.specs.Replays.{Replays}
+use Rattle.px_addons.specs.Sticky.{Authorizes, KeepsCookies, sent_cookies}
 use Rattle.px_addons.specs.declared.parts.Part.{Part}
 use Rattle.px_addons.specs.declared.parts.Part.TheVariants as part
 use Rattle.px_addons.specs.declared.rules.Rules.{Rules}
@@ -77,17 +80,23 @@ PartFails rules part.MapRemote draft files new_files = new_files ≡ files
 PartFails rules part.ModifyHeaders draft files new_files = new_files ≡ files
 PartFails rules part.Anticache draft files new_files = new_files ≡ files
 PartFails rules part.Anticomp draft files new_files = new_files ≡ files
+PartFails rules part.StickyCookies draft files new_files = new_files ≡ files
+PartFails rules part.StickyAuth draft files new_files = new_files ≡ files
+PartFails rules part.KeepCookies draft files new_files = new_files ≡ files
 PartFails rules part.ServerReplay draft files new_files = new_files ≡ files
 PartFails rules part.ModifyBody draft files new_files = new_files ≡ files
 PartFails rules part.Addons draft files new_files = new_files ≡ files
 
--- who moves at a hook beside the draft and files: the recorded list of server replay, if there is one, and the addons
+-- who moves at a hook beside the draft and files: the recorded list of server replay, the kept cookies and the kept authorizations, if there are such, and
+-- the addons
 pub record Movers (B : Type 0) : Type 0 where
   pub replay : Option Replaying
+  pub cookies : Option StickyCookies
+  pub auth : Option StickyAuth
   pub addons : List B
 
-abbrev pub movers_of : {B : Type 0} → Option Replaying → List B → Movers B
-movers_of replay addons = record { replay = replay; addons = addons }
+abbrev pub movers_of : {B : Type 0} → Option Replaying → Option StickyCookies → Option StickyAuth → List B → Movers B
+movers_of replay cookies auth addons = record { replay = replay; cookies = cookies; auth = auth; addons = addons }
 
 module _ {B : Type 0} (title state : B → List ℕ) (moves : B → Moves) where
   -- the same addon, with a state of its own
@@ -124,11 +133,11 @@ module _ {B : Type 0} (title state : B → List ℕ) (moves : B → Moves) where
     pub second : AddonMoves hook left other end new_other
     pub news : addons ≡ new_one ∷ new_other ∷ []
 
-  -- a part whose meaning is a function of the draft leaves recorded list, addons and files as they are
+  -- a part whose meaning is a function of the draft leaves all that moves, and files, as they are
   abbrev pub ByRules : Rules → Hook → Part → Draft → Movers B → FilesMeaning → Draft → Movers B → FilesMeaning → Type 0
   ByRules rules hook one draft old files after new new_files = (after ≡ made_by rules hook one draft) × (new ≡ old) × (new_files ≡ files)
 
-  -- what a part that is asked makes of the draft, of recorded list and addons, and of files
+  -- what a part that is asked makes of the draft, of what moves, and of files
   abbrev pub PartMoves : Rules → Hook → Part → Draft → Movers B → FilesMeaning → Draft → Movers B → FilesMeaning → Type 0
   PartMoves rules hook part.Block draft old files after new new_files = ByRules rules hook part.Block draft old files after new new_files
   PartMoves rules hook part.MapLocal draft old files after new new_files = MapsLocal rules draft files after new_files × (new ≡ old)
@@ -136,9 +145,17 @@ module _ {B : Type 0} (title state : B → List ℕ) (moves : B → Moves) where
   PartMoves rules hook part.ModifyHeaders draft old files after new new_files = ByRules rules hook part.ModifyHeaders draft old files after new new_files
   PartMoves rules hook part.Anticache draft old files after new new_files = ByRules rules hook part.Anticache draft old files after new new_files
   PartMoves rules hook part.Anticomp draft old files after new new_files = ByRules rules hook part.Anticomp draft old files after new new_files
-  PartMoves rules hook part.ServerReplay draft old files after new new_files = Replays draft old.replay after new.replay × (new.addons ≡ old.addons) × (new_files ≡ files)
+  PartMoves rules hook part.StickyCookies draft old files after new new_files =
+      (after ≡ record draft { flow = sent_cookies old.cookies draft.flow }) × (new ≡ old) × (new_files ≡ files)
+  PartMoves rules hook part.StickyAuth draft old files after new new_files =
+      Authorizes draft old.auth after new.auth × (new ≡ record old { auth = new.auth }) × (new_files ≡ files)
+  PartMoves rules hook part.KeepCookies draft old files after new new_files =
+      KeepsCookies draft old.cookies after new.cookies × (new ≡ record old { cookies = new.cookies }) × (new_files ≡ files)
+  PartMoves rules hook part.ServerReplay draft old files after new new_files =
+      Replays rules.refresh draft old.replay after new.replay × (new ≡ record old { replay = new.replay }) × (new_files ≡ files)
   PartMoves rules hook part.ModifyBody draft old files after new new_files = ByRules rules hook part.ModifyBody draft old files after new new_files
-  PartMoves rules hook part.Addons draft old files after new new_files = AddonsMove hook draft old.addons after new.addons × (new.replay ≡ old.replay) × (new_files ≡ files)
+  PartMoves rules hook part.Addons draft old files after new new_files =
+      AddonsMove hook draft old.addons after new.addons × (new ≡ record old { addons = new.addons }) × (new_files ≡ files)
 
   -- one part in its turn; behind a verdict that is not Go it is passed over
   pub data PartInTurn (rules : Rules) (hook : Hook) (one : Part) : Draft → Movers B → FilesMeaning → Draft → Movers B → FilesMeaning → Type 0 where
@@ -153,7 +170,7 @@ module _ {B : Type 0} (title state : B → List ℕ) (moves : B → Moves) where
         PartInTurn rules hook one draft old files after mid mid_files → PartsMove rules hook others after mid mid_files end new new_files →
         PartsMove rules hook (one ∷ others) draft old files end new new_files
 
-  -- The answer to a hook about a flow, by rules, recorded list, addons and files before and after: what the draft is when all parts of the
+  -- The answer to a hook about a flow, by rules, what moves and files before and after: what the draft is when all parts of the
   -- hook were asked, or one ended the order; or that the hook waits with that draft.
   pub record ChainAnswers (hook : Hook) (flow : Flow) (old_rules : Rules) (old : Movers B) (old_files : FilesMeaning)
       (new_rules : Rules) (new : Movers B) (new_files : FilesMeaning) (answer : Answer) : Type 0 where
@@ -183,6 +200,8 @@ module _ {B : Type 0} (title : B → List ℕ) where
     pub named : has_name_by title name old.addons ≡ true
     pub dropped : new.addons ≡ without_first_by title name old.addons
     pub replay : new.replay ≡ old.replay
+    pub cookies : new.cookies ≡ old.cookies
+    pub auth : new.auth ≡ old.auth
     pub rules : new_rules ≡ old_rules
 
   -- at that place is the first addon of the name

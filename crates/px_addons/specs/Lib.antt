@@ -3,8 +3,11 @@ pub mod Blocked
 pub mod Mapped
 pub mod Parts
 pub mod Replays
+pub mod Sticky
 pub mod Chain
+pub mod Turns
 pub mod ReplayRuns
+pub mod StickyRuns
 pub mod Counter
 pub mod Quiet
 pub mod QuietLaws

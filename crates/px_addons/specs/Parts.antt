@@ -21,9 +21,10 @@ use Rattle.px_addons.specs.declared.rules.Rules.{Rules}
 -- the parts at a hook, one line each
 abbrev pub parts : Hook → List Part
 parts hooks.RequestHead =
-    part.Block ∷ part.MapLocal ∷ part.MapRemote ∷ part.ModifyHeaders ∷ part.Anticache ∷ part.Anticomp ∷ part.Addons ∷ []
+    part.Block ∷ part.MapLocal ∷ part.MapRemote ∷ part.ModifyHeaders ∷ part.Anticache ∷ part.Anticomp
+    ∷ part.StickyCookies ∷ part.StickyAuth ∷ part.Addons ∷ []
 parts hooks.RequestBody = part.ServerReplay ∷ part.ModifyBody ∷ part.Addons ∷ []
-parts hooks.ResponseHead = part.ModifyHeaders ∷ part.Addons ∷ []
+parts hooks.ResponseHead = part.ModifyHeaders ∷ part.KeepCookies ∷ part.Addons ∷ []
 parts hooks.ResponseBody = part.ModifyBody ∷ part.Addons ∷ []
 parts (hooks.WsMessage _) = part.ModifyBody ∷ part.Addons ∷ []
 
@@ -43,7 +44,8 @@ content_of hooks.ResponseHead = contents.Response
 content_of hooks.ResponseBody = contents.Response
 content_of (hooks.WsMessage _) = contents.Message
 
--- the draft as a part leaves it that is a function of rules, hook and draft; what map local, server replay and the addons make of it is a relation
+-- the draft as a part leaves it that is a function of rules, hook and draft; what map local, the
+-- sticky parts, server replay and the addons make of it is a relation
 abbrev pub made_by : Rules → Hook → Part → Draft → Draft
 made_by rules hook part.Block draft = blocked (block_status (block_views rules.block) draft.flow) draft
 made_by rules hook part.MapLocal draft = draft
@@ -51,6 +53,9 @@ made_by rules hook part.MapRemote draft = moved (remote_rules (remote_views rule
 made_by rules hook part.ModifyHeaders draft = record draft { flow = header_rules (is_of_response hook) (header_views rules.headers) draft.flow }
 made_by rules hook part.Anticache draft = record draft { flow = if rules.anticache then with_fields false uncached draft.flow else draft.flow }
 made_by rules hook part.Anticomp draft = record draft { flow = if rules.anticomp then with_fields false uncoded draft.flow else draft.flow }
+made_by rules hook part.StickyCookies draft = draft
+made_by rules hook part.StickyAuth draft = draft
+made_by rules hook part.KeepCookies draft = draft
 made_by rules hook part.ServerReplay draft = draft
 made_by rules hook part.ModifyBody draft = record draft { flow = body_rules (content_of hook) (body_views rules.bodies) draft.flow }
 made_by rules hook part.Addons draft = draft

@@ -1,4 +1,4 @@
--- Chains that change nothing: no rule, no recorded flow, no flow that waits, and each addon's relation leaves every draft as it is.
+-- Chains that change nothing: no rule, no recorded flow, nothing that is kept for later requests, no flow that waits, and each addon's relation leaves every draft as it is.
 use Rattle.std.specs.Prelude.{◌≡◌, false, List, [], ◌∷◌, None}
 use Rattle.px_message.specs.declared.flow.Flow.{Flow}
 use Rattle.px_event.specs.declared.ask.Hook.{Hook}
@@ -11,7 +11,7 @@ use Rattle.px_addons.specs.Chain.{Movers}
 use Rattle.px_addons.specs.Moving.{KeepsDrafts, Moves}
 use Rattle.px_addons.specs.declared.rules.Rules.{Rules}
 
--- no rule, no wish, no recorded flow, nothing is streamed, and no flow waits
+-- no rule, no wish, no recorded flow, nothing is kept or streamed, and no flow waits
 pub record NoRules (rules : Rules) : Type 0 where
   pub block : block_views rules.block ≡ []
   pub local : local_views rules.local ≡ []
@@ -21,6 +21,9 @@ pub record NoRules (rules : Rules) : Type 0 where
   pub anticache : rules.anticache ≡ false
   pub anticomp : rules.anticomp ≡ false
   pub replay : rules.replay ≡ None
+  pub refresh : rules.refresh ≡ false
+  pub cookies : rules.cookies ≡ None
+  pub auth : rules.auth ≡ None
   pub stream : rules.stream ≡ None
   pub intercept : rules.intercept ≡ None
 
@@ -29,12 +32,14 @@ abbrev pub AllKeepDrafts : {B : Type 0} → (B → Moves) → List B → Type 0
 AllKeepDrafts moves [] = Unit {0}
 AllKeepDrafts moves (addon ∷ others) = KeepsDrafts (moves addon) × AllKeepDrafts moves others
 
--- there is no recorded list, and each addon leaves every draft as it is
+-- there is no recorded list, no cookies and no authorizations are kept, and each addon leaves every draft as it is
 pub record AreQuiet {B : Type 0} (moves : B → Moves) (movers : Movers B) : Type 0 where
   pub unrecorded : movers.replay ≡ None
+  pub no_cookies : movers.cookies ≡ None
+  pub no_auth : movers.auth ≡ None
   pub keep : AllKeepDrafts moves movers.addons
 
--- a chain of these rules, and of this recorded list and these addons, changes nothing
+-- a chain of these rules, and of what moves, changes nothing
 pub record ChangesNothing {B : Type 0} (moves : B → Moves) (rules : Rules) (movers : Movers B) : Type 0 where
   pub no_rules : NoRules rules
   pub quiet : AreQuiet moves movers

@@ -1,5 +1,5 @@
 -- A chain that changes nothing answers so, leaves files as they are, and stays such a chain. One without map local rules reads nothing.
-use Rattle.std.proofs.Common.{◌≡◌, ℕ, option_map, List, [], Option, Some, None, refl, sym, ap, subst, ◌∙◌}
+use Rattle.std.proofs.Common.{◌≡◌, ℕ, Bool, option_map, List, [], Option, Some, None, refl, sym, ap, subst, ◌∙◌}
 use Rattle.std.proofs.lemmas.List.Elements.{All-nil}
 use Rattle.px_message.specs.declared.flow.Flow.{Flow}
 use Rattle.px_message.specs.declared.response.Response.{Response}
@@ -18,6 +18,8 @@ use Rattle.px_map.specs.Reads.{IsAnswer}
 use Rattle.px_map.specs.Remote.{remote_rules}
 use Rattle.px_map.specs.Served.{local_names}
 use Rattle.px_map.specs.View.{local_views}
+use Rattle.px_refresh.specs.declared.authorization.StickyAuth.{StickyAuth}
+use Rattle.px_refresh.specs.declared.cookies.StickyCookies.{StickyCookies}
 use Rattle.px_replay.specs.Replaying.{Replaying}
 use Rattle.px_addons.specs.Blocked.{blocked}
 use Rattle.px_addons.specs.Mapped.{MapsLocal, answered_by, moved, names_for}
@@ -27,6 +29,7 @@ use Rattle.px_core.specs.Drafts.{reply_of}
 use Rattle.px_addons.specs.Chain.{Movers, AddonMoves, by_addon, past_addon, AddonsMove, no_addon, next_addon, ByRules, PartMoves, PartInTurn, by_part, past_part, PartsMove, no_part, next_part, PartFails, PartsFail, fails_here, fails_later, ChainFails, part_failed, judging_failed, begun, ChainAnswers, answer_by, answer_if, waits}
 use Rattle.px_addons.specs.Quiet.{AllKeepDrafts, AreQuiet, ChangesNothing, NoRules, goes_on_unchanged}
 use Rattle.px_addons.specs.Replays.{Replays}
+use Rattle.px_addons.specs.Sticky.{Authorizes, KeepsCookies, sent_cookies}
 use Rattle.px_addons.specs.declared.parts.Part.{Part}
 use Rattle.px_addons.specs.declared.parts.Part.TheVariants as part
 use Rattle.px_addons.specs.declared.rules.Rules.{Rules}
@@ -44,6 +47,9 @@ no_rule_changes rules hook part.ModifyHeaders draft none =
     ∙ ap (λ flow. with_flow draft flow) (headers_hold_nowhere (is_of_response hook) [] draft.flow (All-nil _))
 no_rule_changes rules hook part.Anticache draft none = rw none.anticache refl
 no_rule_changes rules hook part.Anticomp draft none = rw none.anticomp refl
+no_rule_changes rules hook part.StickyCookies draft none = refl
+no_rule_changes rules hook part.StickyAuth draft none = refl
+no_rule_changes rules hook part.KeepCookies draft none = refl
 no_rule_changes rules hook part.ServerReplay draft none = refl
 no_rule_changes rules hook part.ModifyBody draft none = ap (λ list. with_flow draft (body_rules (content_of hook) list draft.flow)) none.bodies
 no_rule_changes rules hook part.Addons draft none = refl
@@ -69,9 +75,21 @@ pub no_local_changes : (rules : Rules) (draft after : Draft) (files new_files : 
 no_local_changes rules draft after files new_files none maps = answers_nothing rules draft after maps.made maps.answer none maps.answers maps.drafted
 
 -- without a recorded list server replay leaves the draft as it is
-no_replay_changes : (draft after : Draft) (old new : Option Replaying) → old ≡ None → Replays draft old after new → (after ≡ draft) × (new ≡ None)
-no_replay_changes draft after None new none replays = replays
-no_replay_changes draft after (Some recorded) new none replays = absurd cc
+no_replay_changes : (refresh : Bool) (draft after : Draft) (old new : Option Replaying) → old ≡ None → Replays refresh draft old after new → (after ≡ draft) × (new ≡ None)
+no_replay_changes refresh draft after None new none replays = replays
+no_replay_changes refresh draft after (Some recorded) new none replays = absurd cc
+
+-- where nothing is kept, the sticky parts leave it so
+no_cookies_sent : (cookies : Option StickyCookies) (draft : Draft) → cookies ≡ None → with_flow draft (sent_cookies cookies draft.flow) ≡ draft
+no_cookies_sent cookies draft none = ap (λ c. with_flow draft (sent_cookies c draft.flow)) none
+
+no_cookies_kept : (draft after : Draft) (old new : Option StickyCookies) → old ≡ None → KeepsCookies draft old after new → (after ≡ draft) × (new ≡ None)
+no_cookies_kept draft after None new none keeps = keeps
+no_cookies_kept draft after (Some cookies) new none keeps = absurd cc
+
+no_auth_kept : (draft after : Draft) (old new : Option StickyAuth) → old ≡ None → Authorizes draft old after new → (after ≡ draft) × (new ≡ None)
+no_auth_kept draft after None new none keeps = keeps
+no_auth_kept draft after (Some auth) new none keeps = absurd cc
 
 module _ {B : Type 0} (title state : B → List ℕ) (moves : B → Moves) where
   one_keeps : (hook : Hook) (draft after : Draft) (old new : B) → AddonMoves title state moves hook draft old after new → KeepsDrafts (moves old) →
@@ -102,13 +120,21 @@ module _ {B : Type 0} (title state : B → List ℕ) (moves : B → Moves) where
   asked_keeps rules hook part.ModifyHeaders draft after old new files new_files moved none keep = made_keeps rules hook part.ModifyHeaders draft after old new files new_files moved none keep
   asked_keeps rules hook part.Anticache draft after old new files new_files moved none keep = made_keeps rules hook part.Anticache draft after old new files new_files moved none keep
   asked_keeps rules hook part.Anticomp draft after old new files new_files moved none keep = made_keeps rules hook part.Anticomp draft after old new files new_files moved none keep
+  asked_keeps rules hook part.StickyCookies draft after old new files new_files moved none keep =
+      (moved.0 ∙ no_cookies_sent old.cookies draft keep.no_cookies, subst (λ m. AreQuiet moves m) (sym moved.1) keep)
+  asked_keeps rules hook part.StickyAuth draft after old new files new_files moved none keep =
+      let still = no_auth_kept draft after old.auth new.auth keep.no_auth moved.0 in
+      (still.0, subst (λ m. AreQuiet moves m) (sym moved.1) (record { unrecorded = keep.unrecorded; no_cookies = keep.no_cookies; no_auth = still.1; keep = keep.keep }))
+  asked_keeps rules hook part.KeepCookies draft after old new files new_files moved none keep =
+      let still = no_cookies_kept draft after old.cookies new.cookies keep.no_cookies moved.0 in
+      (still.0, subst (λ m. AreQuiet moves m) (sym moved.1) (record { unrecorded = keep.unrecorded; no_cookies = still.1; no_auth = keep.no_auth; keep = keep.keep }))
   asked_keeps rules hook part.ServerReplay draft after old new files new_files moved none keep =
-      let still = no_replay_changes draft after old.replay new.replay keep.unrecorded moved.0 in
-      (still.0, record { unrecorded = still.1; keep = subst (λ l. AllKeepDrafts moves l) (sym moved.1) keep.keep })
+      let still = no_replay_changes rules.refresh draft after old.replay new.replay keep.unrecorded moved.0 in
+      (still.0, subst (λ m. AreQuiet moves m) (sym moved.1) (record { unrecorded = still.1; no_cookies = keep.no_cookies; no_auth = keep.no_auth; keep = keep.keep }))
   asked_keeps rules hook part.ModifyBody draft after old new files new_files moved none keep = made_keeps rules hook part.ModifyBody draft after old new files new_files moved none keep
   asked_keeps rules hook part.Addons draft after old new files new_files moved none keep =
       let all = all_keep hook draft after old.addons new.addons moved.0 keep.keep in
-      (all.0, record { unrecorded = moved.1 ∙ keep.unrecorded; keep = all.1 })
+      (all.0, subst (λ m. AreQuiet moves m) (sym moved.1) (record { unrecorded = keep.unrecorded; no_cookies = keep.no_cookies; no_auth = keep.no_auth; keep = all.1 }))
 
   part_keeps : (rules : Rules) (hook : Hook) (one : Part) (draft after : Draft) (old new : Movers B) (files new_files : FilesMeaning) →
       PartInTurn title state moves rules hook one draft old files after new new_files → NoRules rules → AreQuiet moves old → (after ≡ draft) × AreQuiet moves new
@@ -134,6 +160,9 @@ module _ {B : Type 0} (title state : B → List ℕ) (moves : B → Moves) where
   asked_leaves rules hook part.ModifyHeaders draft after old new files new_files moved none = moved.2
   asked_leaves rules hook part.Anticache draft after old new files new_files moved none = moved.2
   asked_leaves rules hook part.Anticomp draft after old new files new_files moved none = moved.2
+  asked_leaves rules hook part.StickyCookies draft after old new files new_files moved none = moved.2
+  asked_leaves rules hook part.StickyAuth draft after old new files new_files moved none = moved.2
+  asked_leaves rules hook part.KeepCookies draft after old new files new_files moved none = moved.2
   asked_leaves rules hook part.ServerReplay draft after old new files new_files moved none = moved.2
   asked_leaves rules hook part.ModifyBody draft after old new files new_files moved none = moved.2
   asked_leaves rules hook part.Addons draft after old new files new_files moved none = moved.2
@@ -157,6 +186,9 @@ module _ {B : Type 0} (title state : B → List ℕ) (moves : B → Moves) where
   failed_leaves rules part.ModifyHeaders draft files new_files failed none = failed
   failed_leaves rules part.Anticache draft files new_files failed none = failed
   failed_leaves rules part.Anticomp draft files new_files failed none = failed
+  failed_leaves rules part.StickyCookies draft files new_files failed none = failed
+  failed_leaves rules part.StickyAuth draft files new_files failed none = failed
+  failed_leaves rules part.KeepCookies draft files new_files failed none = failed
   failed_leaves rules part.ServerReplay draft files new_files failed none = failed
   failed_leaves rules part.ModifyBody draft files new_files failed none = failed
   failed_leaves rules part.Addons draft files new_files failed none = failed

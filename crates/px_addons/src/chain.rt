@@ -10,11 +10,13 @@ ghost use Rattle.px_core.specs.Answers.{files_meaning};
 
 use crate::parts::parts;
 use crate::replaying::ask_replay;
+use crate::sticking::{authorize, keep_cookies, send_cookies};
 use crate::{Addon, Part, Rules};
 use px_core::{Answer, Answerer, Draft, Kind, NoSuchAddon, Verdict};
 use px_event::Hook;
 use px_message::Flow;
 use px_outside::Files;
+use px_refresh::{StickyAuth, StickyCookies};
 use px_replay::Recorded;
 use px_text::NoMemory;
 use std::alloc::Global;
@@ -24,28 +26,38 @@ use std::alloc::Global;
 /// request, a response or a WebSocket's message is whole, the parts let the flow go on, and the rules' `intercept` holds on the flow as they left
 /// it, the answer waits with the draft (`answer_by`). Files are read for map local rules that match the flow, and for nothing else.
 ///
-/// The rules never change. The recorded list is none of them here, since each whole request is asked of it and may use a place.
+/// The rules never change. The recorded list is none of them here, since each whole request is asked of it and may use a place; nor are the kept
+/// cookies, which each response's head may change, and the kept authorizations, which each request's head may.
 #[derive(Drop)]
 pub struct Chain {
     rules: Rules,
     replay: Option<Recorded>,
+    cookies: Option<StickyCookies>,
+    auth: Option<StickyAuth>,
     addons: Vec<Box<dyn Addon>>,
 }
 
 impl Chain {
-    /// A chain of these rules and addons, the addons in the order of their list. Two may have one name. The recorded list of the rules is
-    /// taken out of them. Without rules, recorded list and filter of what waits, and where each addon leaves every draft as it is, it changes nothing.
+    /// A chain of these rules and addons, the addons in the order of their list. Two may have one name. The recorded list of the rules, their cookies and
+    /// their authorizations are taken out of them. Without rules, these three and filter of what waits, and where each addon leaves every draft as it is, it
+    /// changes nothing.
     pub fn new(rules: Rules, addons: Vec<Box<dyn Addon>>) -> Chain
-        ensures rules { result.rules ≡ record rules { replay = None } }
+        ensures rules { result.rules ≡ record rules { replay = None; cookies = None; auth = None } }
         ensures replay { result.replay ≡ rules.replay }
+        ensures cookies { result.cookies ≡ rules.cookies }
+        ensures auth { result.auth ≡ rules.auth }
         ensures addons { result.addons ≡ addons }
         ensures quiet { NoRules rules → AllKeepDrafts moves addons.items → ⟦<Chain as Kind>⟧.is_so result }
     {
         let mut rules = rules;
         let replay = rules.replay.take();
+        let cookies = rules.cookies.take();
+        let auth = rules.auth.take();
         Chain {
             rules,
             replay,
+            cookies,
+            auth,
             addons,
         }
     }
@@ -61,16 +73,16 @@ impl Answerer for Chain {
 
     ghost answers = { λ hook flow old old_files new new_files answer.
         ChainAnswers (λ b. (Addon-box b).title b.value) (λ b. (Addon-box b).state b.value) (λ b. (Addon-box b).moves b.value)
-        hook flow old.rules (movers_of old.replay old.addons.items) old_files new.rules (movers_of new.replay new.addons.items) new_files answer };
+        hook flow old.rules (movers_of old.replay old.cookies old.auth old.addons.items) old_files new.rules (movers_of new.replay new.cookies new.auth new.addons.items) new_files answer };
 
     ghost fails = { λ hook flow old old_files new_files.
         ChainFails (λ b. (Addon-box b).title b.value) (λ b. (Addon-box b).state b.value) (λ b. (Addon-box b).moves b.value)
-        hook flow old.rules (movers_of old.replay old.addons.items) old_files new_files };
+        hook flow old.rules (movers_of old.replay old.cookies old.auth old.addons.items) old_files new_files };
 
     ghost names = { λ c. map (λ b. (Addon-box b).title b.value) c.addons.items };
 
     ghost drops = { λ name old new. ChainDrops (λ b. (Addon-box b).title b.value) name
-        old.rules (movers_of old.replay old.addons.items) new.rules (movers_of new.replay new.addons.items) };
+        old.rules (movers_of old.replay old.cookies old.auth old.addons.items) new.rules (movers_of new.replay new.cookies new.auth new.addons.items) };
 
     fn answer<F: Files>(
         &mut self,
@@ -88,6 +100,8 @@ impl Answerer for Chain {
             alloc,
             &self.rules,
             &mut self.replay,
+            &mut self.cookies,
+            &mut self.auth,
             &mut self.addons,
             parts(hook),
             hook,
@@ -123,19 +137,19 @@ impl Kind for Chain {
 
     ghost answers = { λ hook flow old old_files new new_files answer.
         ChainAnswers (λ b. (Addon-box b).title b.value) (λ b. (Addon-box b).state b.value) (λ b. (Addon-box b).moves b.value)
-        hook flow old.rules (movers_of old.replay old.addons.items) old_files new.rules (movers_of new.replay new.addons.items) new_files answer };
+        hook flow old.rules (movers_of old.replay old.cookies old.auth old.addons.items) old_files new.rules (movers_of new.replay new.cookies new.auth new.addons.items) new_files answer };
 
-    ghost is_so = { λ c. ChangesNothing (λ b. (Addon-box b).moves b.value) c.rules (movers_of c.replay c.addons.items) };
+    ghost is_so = { λ c. ChangesNothing (λ b. (Addon-box b).moves b.value) c.rules (movers_of c.replay c.cookies c.auth c.addons.items) };
 
     ghost gives = { goes_on_unchanged };
 
     ghost keeps = { record {
       stays = λ hook flow old old_files new new_files given quiet by.
           stays_quiet (λ b. (Addon-box b).title b.value) (λ b. (Addon-box b).state b.value) (λ b. (Addon-box b).moves b.value)
-          hook flow old.rules (movers_of old.replay old.addons.items) old_files new.rules (movers_of new.replay new.addons.items) new_files given quiet by;
+          hook flow old.rules (movers_of old.replay old.cookies old.auth old.addons.items) old_files new.rules (movers_of new.replay new.cookies new.auth new.addons.items) new_files given quiet by;
       gives_so = λ hook flow old old_files new new_files given quiet by.
           answers_unchanged (λ b. (Addon-box b).title b.value) (λ b. (Addon-box b).state b.value) (λ b. (Addon-box b).moves b.value)
-          hook flow old.rules (movers_of old.replay old.addons.items) old_files new.rules (movers_of new.replay new.addons.items) new_files given quiet by;
+          hook flow old.rules (movers_of old.replay old.cookies old.auth old.addons.items) old_files new.rules (movers_of new.replay new.cookies new.auth new.addons.items) new_files given quiet by;
     } };
 }
 
@@ -144,6 +158,8 @@ fn ask_parts<F: Files>(
     alloc: Global,
     rules: &Rules,
     replay: &mut Option<Recorded>,
+    cookies: &mut Option<StickyCookies>,
+    auth: &mut Option<StickyAuth>,
     addons: &mut [Box<dyn Addon>],
     parts: &[Part],
     hook: Hook,
@@ -151,14 +167,16 @@ fn ask_parts<F: Files>(
     files: &mut F,
 ) -> Result<(), NoMemory>
     ensures moved { OnOk result (PartsMove title state moves rules.now hook parts.now
-        draft.old (movers_of replay.old addons.old) (files_meaning F.contents F.calls F.misses F.faults F.losses files.old)
-        draft.new (movers_of replay.new addons.new) (files_meaning F.contents F.calls F.misses F.faults F.losses files.new)) }
-    ensures failed { OnErr result (PartsFail title state moves rules.now hook parts.now draft.old (movers_of replay.old addons.old)
+        draft.old (movers_of replay.old cookies.old auth.old addons.old) (files_meaning F.contents F.calls F.misses F.faults F.losses files.old)
+        draft.new (movers_of replay.new cookies.new auth.new addons.new) (files_meaning F.contents F.calls F.misses F.faults F.losses files.new)) }
+    ensures failed { OnErr result (PartsFail title state moves rules.now hook parts.now draft.old (movers_of replay.old cookies.old auth.old addons.old)
         (files_meaning F.contents F.calls F.misses F.faults F.losses files.old)
         (files_meaning F.contents F.calls F.misses F.faults F.losses files.new)) }
 {
     for i in 0..parts.len() {
-        ask_part(alloc, rules, replay, addons, parts[i], hook, draft, files)?;
+        ask_part(
+            alloc, rules, replay, cookies, auth, addons, parts[i], hook, draft, files,
+        )?;
     }
     Ok(())
 }
@@ -168,6 +186,8 @@ fn ask_part<F: Files>(
     alloc: Global,
     rules: &Rules,
     replay: &mut Option<Recorded>,
+    cookies: &mut Option<StickyCookies>,
+    auth: &mut Option<StickyAuth>,
     addons: &mut [Box<dyn Addon>],
     part: Part,
     hook: Hook,
@@ -175,8 +195,8 @@ fn ask_part<F: Files>(
     files: &mut F,
 ) -> Result<(), NoMemory>
     ensures moved { OnOk result (PartInTurn title state moves rules.now hook part
-        draft.old (movers_of replay.old addons.old) (files_meaning F.contents F.calls F.misses F.faults F.losses files.old)
-        draft.new (movers_of replay.new addons.new) (files_meaning F.contents F.calls F.misses F.faults F.losses files.new)) }
+        draft.old (movers_of replay.old cookies.old auth.old addons.old) (files_meaning F.contents F.calls F.misses F.faults F.losses files.old)
+        draft.new (movers_of replay.new cookies.new auth.new addons.new) (files_meaning F.contents F.calls F.misses F.faults F.losses files.new)) }
     ensures failed { OnErr result ((is_going draft.old.verdict ≡ true) × PartFails rules.now part draft.old
         (files_meaning F.contents F.calls F.misses F.faults F.losses files.old)
         (files_meaning F.contents F.calls F.misses F.faults F.losses files.new)) }
@@ -191,7 +211,10 @@ fn ask_part<F: Files>(
         Part::ModifyHeaders => rules.modify_headers(hook, &mut draft.flow),
         Part::Anticache => rules.put_uncached(alloc, &mut draft.flow),
         Part::Anticomp => rules.put_uncoded(alloc, &mut draft.flow),
-        Part::ServerReplay => ask_replay(alloc, replay, draft),
+        Part::StickyCookies => send_cookies(cookies, &mut draft.flow),
+        Part::StickyAuth => authorize(auth, draft),
+        Part::KeepCookies => keep_cookies(cookies, draft),
+        Part::ServerReplay => ask_replay(alloc, rules.refresh, replay, draft),
         Part::ModifyBody => rules.modify_body(hook, &mut draft.flow),
         Part::Addons => ask_addons(addons, hook, draft),
     }

@@ -5,7 +5,10 @@ ghost use Rattle.px_addons.specs.Counter.{counted, counts};
 ghost use Rattle.px_addons.specs.Mapped.{ReadsOfRules};
 ghost use Rattle.px_addons.specs.Moving.{KeepsDrafts};
 ghost use Rattle.px_addons.specs.Quiet.{NoRules};
-ghost use Rattle.px_addons.specs.ReplayRuns.{AreOfRecorded, Given, InTurn};
+ghost use Rattle.px_addons.specs.ReplayRuns.{AreOfRecorded};
+ghost use Rattle.px_addons.specs.Replays.{moment_at, sent_as};
+ghost use Rattle.px_addons.specs.StickyRuns.{HasKeptSet, HasKeptShown, all_shown, cookies_set};
+ghost use Rattle.px_addons.specs.Turns.{Given, InTurn};
 ghost use Rattle.px_addons.specs.declared.rules.Rules.{Rules};
 ghost use Rattle.px_core.specs.Answers.{AnswererState, FilesAfter, FilesMeaning};
 ghost use Rattle.px_core.specs.declared.answerer.Answer.{Answer};
@@ -22,6 +25,13 @@ ghost use Rattle.px_map.specs.Responses.{internal_error, not_found};
 ghost use Rattle.px_map.specs.View.{block_views, local_views};
 ghost use Rattle.px_message.specs.declared.flow.Flow.{Flow};
 ghost use Rattle.px_message.specs.declared.response.Response.{Response};
+ghost use Rattle.px_refresh.specs.Authorized.{authorizations, value_for};
+ghost use Rattle.px_refresh.specs.Cookies.{Cookie, jar};
+ghost use Rattle.px_refresh.specs.Kept.{firsts, latest};
+ghost use Rattle.px_refresh.specs.Site.{is_same_cookie};
+ghost use Rattle.px_refresh.specs.declared.authorization.StickyAuth.{StickyAuth};
+ghost use Rattle.px_refresh.specs.declared.cookies.StickyCookies.{StickyCookies};
+ghost use Rattle.px_refresh.specs.declared.key.CookieKey.{CookieKey};
 ghost use Rattle.px_replay.specs.Replaying as replaying;
 ghost use Rattle.px_replay.specs.Replaying.{Replaying, place_of, started};
 ghost use Rattle.px_replay.specs.declared.options.KeyOptions.{KeyOptions};
@@ -31,14 +41,15 @@ ghost use Rattle.px_write.specs.Short.{short_response};
 use crate::{Addon, Chain};
 use px_core::Answerer;
 
-/// A chain without rules and recorded list that has this addon alone, which leaves every draft as it is, answers every hook with the flow
-/// as it was asked about, streams nothing and leaves files as they are; and it is such a chain still, without rules and recorded list and with
-/// the same addon alone. Of chains of many addons, or of none, px_core's law `answers_are_of_their_kind` says it, at `Chain`, and of files the next law.
+/// A chain without rules, recorded list, kept cookies and kept authorizations that has this addon alone, which leaves every draft as it is, answers every
+/// hook with the flow as it was asked about, streams nothing and leaves files as they are; and it is such a chain still, without these and with the same
+/// addon alone. Of chains of many addons, or of none, px_core's law `answers_are_of_their_kind` says it, at `Chain`, and of files the next law.
 pub fn a_chain_that_changes_nothing(addon: &Box<dyn Addon>)
     ensures { (hook : AskedHook) (flow : Flow) (rules new_rules : Rules) (files new_files : FilesMeaning) (new : Movers _) (answer : Answer) →
         NoRules rules → KeepsDrafts (moves addon.now) →
-        ChainAnswers title state moves hook flow rules (movers_of None (addon.now ∷ [])) files new_rules new new_files answer →
-        (answer ≡ answers.Reply (replies.Go flow None)) × NoRules new_rules × (new.replay ≡ None) × SameAddons title state moves (addon.now ∷ []) new.addons × (new_files ≡ files) }
+        ChainAnswers title state moves hook flow rules (movers_of None None None (addon.now ∷ [])) files new_rules new new_files answer →
+        (answer ≡ answers.Reply (replies.Go flow None)) × NoRules new_rules × (new.replay ≡ None) × (new.cookies ≡ None) × (new.auth ≡ None)
+        × SameAddons title state moves (addon.now ∷ []) new.addons × (new_files ≡ files) }
 {}
 
 /// A chain without map local rules leaves files as they are, whatever its other rules and its addons: in each answer, where memory ran
@@ -91,24 +102,64 @@ pub fn an_answer_keeps_its_addons(addon: &Box<dyn Addon>)
         ChainAnswers title state moves hook flow rules old files new_rules new new_files answer → map title new.addons ≡ map title old.addons }
 {}
 
-/// Recorded flows are asked first about a whole request. Where one of them has the request's key and may answer, the answer is its response,
-/// the first such place is used from then on, no addon is asked and no file is read. At any other hook the recorded list stays as it is.
+/// Recorded flows are asked first about a whole request. Where one of them has the request's key and may answer, the answer is its response, with its dates
+/// moved where the rules wish it; the first such place is used from then on, no addon is asked and no file is read. At any other hook the recorded list stays
+/// as it is.
 pub fn recorded_flows_come_first_at_a_whole_request(addon: &Box<dyn Addon>)
     ensures found { (flow : Flow) (rules new_rules : Rules) (files new_files : FilesMeaning) (old new : Movers _) (recorded : Replaying) (place : ℕ) (answer : Answer) →
         old.replay ≡ Some recorded → place_of recorded flow.request ≡ Some place →
         ChainAnswers title state moves hooks.RequestBody flow rules old files new_rules new new_files answer →
-        (response : Response) × (slice_get (map (λ r. r.response) recorded.recordings) place ≡ Some response) × (answer ≡ answers.Reply (replies.Respond response))
+        (response : Response) × (slice_get (map (λ r. r.response) recorded.recordings) place ≡ Some response)
+        × (answer ≡ answers.Reply (replies.Respond (sent_as rules.refresh flow (moment_at recorded place) response)))
         × (new.replay ≡ Some (replaying.after recorded (Some place))) × (new.addons ≡ old.addons) × (new_files ≡ files) }
     ensures elsewhere { (hook : AskedHook) (flow : Flow) (rules new_rules : Rules) (files new_files : FilesMeaning) (old new : Movers _) (answer : Answer) →
         hook ≢ hooks.RequestBody → ChainAnswers title state moves hook flow rules old files new_rules new new_files answer → new.replay ≡ old.replay }
 {}
 
 /// Over any number of answers one behind the other, each whole request gets the least recorded place with its key that no whole request
-/// before it got, with reuse the least with its key, and is answered by the response there. Where it gets none, it is answered by the
-/// extra answer; of a request that goes on, the parts behind decide.
+/// before it got, with reuse the least with its key, and is answered by the response there, with its dates moved where the rules wish it. Where it gets none,
+/// it is answered by the extra answer; of a request that goes on, the parts behind decide.
 pub fn each_whole_request_gets_the_least_place(addon: &Box<dyn Addon>)
-    ensures { (how : KeyOptions) (reuse : Bool) (extra : Extra) (flows : List Flow) (made : List Given) (last : Option Replaying) →
-        InTurn title state moves (Some (started how reuse extra flows)) made last → AreOfRecorded (started how reuse extra flows) made }
+    ensures { (how : KeyOptions) (reuse : Bool) (extra : Extra) (flows : List Flow) (rules : Rules) (first last : Movers _) (made : List Given) →
+        first.replay ≡ Some (started how reuse extra flows) → InTurn title state moves rules first made last →
+        AreOfRecorded rules.refresh (started how reuse extra flows) made }
+{}
+
+/// Moving dates is a matter of recorded responses alone: a chain without a recorded list answers in the same way whether it is wished or not.
+pub fn without_recorded_flows_no_date_is_moved(addon: &Box<dyn Addon>)
+    ensures { (hook : AskedHook) (flow : Flow) (rules new_rules : Rules) (files new_files : FilesMeaning) (old new : Movers _) (answer : Answer) (refresh : Bool) →
+        old.replay ≡ None → ChainAnswers title state moves hook flow rules old files new_rules new new_files answer →
+        ChainAnswers title state moves hook flow (record rules { refresh = refresh }) old files (record new_rules { refresh = refresh }) new new_files answer }
+{}
+
+/// Over any number of answers one behind the other, what a chain keeps is what comes of all cookies that were set by responses whose heads were asked about,
+/// each as the header rules leave it, in the order of the asks: so each cookie has the value that it was set to last, and they stand in the order in which
+/// they were first set. Which cookies a request is sent is told by that list and the filter, which stays. At any other hook nothing is kept or let go.
+pub fn a_chain_keeps_the_cookies_of_all_responses(addon: &Box<dyn Addon>)
+    ensures kept { (rules : Rules) (first last : Movers _) (cookies : StickyCookies) (made : List Given) → first.cookies ≡ Some cookies → cookies.jar ≡ [] →
+        InTurn title state moves rules first made last → HasKeptSet cookies (cookies_set rules made) last.cookies }
+    ensures value { (rules : Rules) (made : List Given) (key : CookieKey) →
+        latest is_same_cookie key (jar (cookies_set rules made)) ≡ latest is_same_cookie key (cookies_set rules made) }
+    ensures order { (rules : Rules) (made : List Given) →
+        map (λ cookie. cookie.0) (jar (cookies_set rules made)) ≡ firsts is_same_cookie (map (λ cookie. cookie.0) (cookies_set rules made)) }
+    ensures elsewhere { (hook : AskedHook) (flow : Flow) (rules new_rules : Rules) (files new_files : FilesMeaning) (old new : Movers _) (answer : Answer) →
+        hook ≢ hooks.ResponseHead → ChainAnswers title state moves hook flow rules old files new_rules new new_files answer → new.cookies ≡ old.cookies }
+    ensures none { (rules : Rules) (first last : Movers _) (made : List Given) → first.cookies ≡ None → InTurn title state moves rules first made last →
+        last.cookies ≡ None }
+{}
+
+/// Over any number of answers one behind the other, what a chain keeps is what comes of all authorizations that were shown by requests whose heads were asked
+/// about and that no block rule, map local rule or failure of map remote answered, each as the rules in front leave it, in the order of the asks: so each
+/// host has the value that it was shown last, whether the filter held or not. The filter stays. At any other hook nothing is kept or let go.
+pub fn a_chain_keeps_what_all_requests_showed(addon: &Box<dyn Addon>)
+    ensures kept { (rules : Rules) (first last : Movers _) (auth : StickyAuth) (made : List Given) → first.auth ≡ Some auth → auth.shown ≡ [] →
+        InTurn title state moves rules first made last → HasKeptShown auth (all_shown rules made) last.auth }
+    ensures value { (rules : Rules) (made : List Given) (host : List ℕ) →
+        value_for host (authorizations (all_shown rules made)) ≡ value_for host (all_shown rules made) }
+    ensures elsewhere { (hook : AskedHook) (flow : Flow) (rules new_rules : Rules) (files new_files : FilesMeaning) (old new : Movers _) (answer : Answer) →
+        hook ≢ hooks.RequestHead → ChainAnswers title state moves hook flow rules old files new_rules new new_files answer → new.auth ≡ old.auth }
+    ensures none { (rules : Rules) (first last : Movers _) (made : List Given) → first.auth ≡ None → InTurn title state moves rules first made last →
+        last.auth ≡ None }
 {}
 
 /// Where a request, a response or a WebSocket's message is whole, all parts let the flow go on, and the filter of the flows that wait holds on the

@@ -19,6 +19,12 @@ pub enum Part {
     Anticache,
     /// The wish for an answer in no coding.
     Anticomp,
+    /// Kept cookies are sent to requests.
+    StickyCookies,
+    /// Authorizations that requests show are kept, and given to others.
+    StickyAuth,
+    /// The cookies that responses set are kept.
+    KeepCookies,
     /// Server replay.
     ServerReplay,
     /// The body rules.
@@ -39,10 +45,12 @@ pub(crate) fn parts(hook: Hook) -> &'static [Part]
             Part::ModifyHeaders,
             Part::Anticache,
             Part::Anticomp,
+            Part::StickyCookies,
+            Part::StickyAuth,
             Part::Addons,
         ],
         Hook::RequestBody => &[Part::ServerReplay, Part::ModifyBody, Part::Addons],
-        Hook::ResponseHead => &[Part::ModifyHeaders, Part::Addons],
+        Hook::ResponseHead => &[Part::ModifyHeaders, Part::KeepCookies, Part::Addons],
         Hook::ResponseBody => &[Part::ModifyBody, Part::Addons],
         Hook::WsMessage(_) => &[Part::ModifyBody, Part::Addons],
     }

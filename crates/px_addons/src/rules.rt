@@ -12,6 +12,7 @@ use px_event::Hook;
 use px_filter::Filter;
 use px_map::{BlockRules, LocalRules, RemoteRules};
 use px_message::{Fields, Flow, Request, Shared};
+use px_refresh::{StickyAuth, StickyCookies};
 use px_replay::Recorded;
 use px_rule::{BodyRules, HeaderRules, anticache, anticomp};
 use px_text::NoMemory;
@@ -36,6 +37,16 @@ pub struct Rules {
     pub anticomp: bool,
     /// Recorded flows that answer whole requests in place of a server, if there are some (mitmproxy's option `server_replay`).
     pub replay: Option<Recorded>,
+    /// Whether the dates of a recorded response are moved from the moment of its flow to the end of the request that it answers (mitmproxy's option
+    /// `server_replay_refresh`): of its fields `Date`, `Expires` and `Last-Modified`, and of no other. Without a recorded list it changes nothing.
+    pub refresh: bool,
+    /// Cookies that responses set, which later requests are sent where the filter holds (mitmproxy's option `stickycookie`). Which request a cookie is for,
+    /// is told by host, in any case, port and path. A cookie's domain, its expiry and all other attributes are dropped: it is sent to no other host, and
+    /// until the program ends.
+    pub cookies: Option<StickyCookies>,
+    /// Authorizations that requests showed, which later requests of the same host, byte by byte, are given where the filter holds and they show none
+    /// (mitmproxy's option `stickyauth`). The port plays no part.
+    pub auth: Option<StickyAuth>,
     /// Above how many bytes a body may be streamed; an addon may change it for one flow (mitmproxy's option `stream_large_bodies`).
     pub stream: Option<u64>,
     /// Which flows wait for an operator where all else lets them go on; none says no flow (mitmproxy's option `intercept`).
@@ -43,7 +54,7 @@ pub struct Rules {
 }
 
 impl Rules {
-    /// No rule, no recorded flow, nothing is streamed, and no flow waits. It takes no memory.
+    /// No rule, no recorded flow, nothing is kept for later requests, nothing is streamed, and no flow waits. It takes no memory.
     pub fn none(alloc: Global) -> Rules
         ensures block { block_views result.block ≡ [] }
         ensures local { local_views result.local ≡ [] }
@@ -53,6 +64,9 @@ impl Rules {
         ensures anticache { result.anticache ≡ false }
         ensures anticomp { result.anticomp ≡ false }
         ensures replay { result.replay ≡ None }
+        ensures refresh { result.refresh ≡ false }
+        ensures cookies { result.cookies ≡ None }
+        ensures auth { result.auth ≡ None }
         ensures stream { result.stream ≡ None }
         ensures intercept { result.intercept ≡ None }
         ensures none { NoRules result }
@@ -66,6 +80,9 @@ impl Rules {
             anticache: false,
             anticomp: false,
             replay: None,
+            refresh: false,
+            cookies: None,
+            auth: None,
             stream: None,
             intercept: None,
         }

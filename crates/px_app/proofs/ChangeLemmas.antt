@@ -160,6 +160,8 @@ drops_stay_quiet title moves name rules old new_rules new quiet dropped = record
   no_rules = subst (λ r. NoRules r) (sym dropped.rules) quiet.no_rules;
   quiet = record {
     unrecorded = dropped.replay ∙ quiet.quiet.unrecorded;
+    no_cookies = dropped.cookies ∙ quiet.quiet.no_cookies;
+    no_auth = dropped.auth ∙ quiet.quiet.no_auth;
     keep = subst (λ l. AllKeepDrafts moves l) (sym dropped.dropped) (without_one title moves name old.addons quiet.quiet.keep);
   };
 }

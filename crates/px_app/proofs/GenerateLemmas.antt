@@ -78,8 +78,8 @@ module _ {S : Type 0} {answers : Answering S} {drops : List ℕ → S → S → 
   pub generates_at : {count other : ℕ} {before after : Outside} {status : ℕ} → count ≡ other → Generates answers drops names fails key IsChain out count before after status → Generates answers drops names fails key IsChain out other before after status
   generates_at {before = before} {after = after} {status = status} same h = subst (λ n. Generates answers drops names fails key IsChain out n before after status) same h
 
--- the rules of a chain, whose recorded list stands beside them
-pub rules_alone : (settings : Settings) (rules : Rules) → AreRulesOf settings rules → AreRulesOf settings (record rules { replay = None })
+-- the rules of a chain, beside which the recorded list and what is kept stand
+pub rules_alone : (settings : Settings) (rules : Rules) → AreRulesOf settings rules → AreRulesOf settings (record rules { replay = None; cookies = None; auth = None })
 rules_alone settings rules are = record {
   block = are.block;
   local = are.local;
@@ -90,6 +90,9 @@ rules_alone settings rules are = record {
   anticomp = are.anticomp;
   intercept = are.intercept;
   replay = refl;
+  refresh = are.refresh;
+  cookies = refl;
+  auth = refl;
   stream = are.stream;
 }
 

@@ -49,8 +49,11 @@ generator_settings = record {
   server_replay_ignore_host = lines.server_replay_ignore_host.default;
   server_replay_ignore_params = lines.server_replay_ignore_params.default;
   server_replay_ignore_port = lines.server_replay_ignore_port.default;
+  server_replay_refresh = lines.server_replay_refresh.default;
   server_replay_reuse = lines.server_replay_reuse.default;
   server_replay_use_headers = lines.server_replay_use_headers.default;
+  stickyauth = lines.stickyauth.default;
+  stickycookie = lines.stickycookie.default;
 }
 
 -- no change appended anything, so each left all as it was

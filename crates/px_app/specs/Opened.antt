@@ -1,5 +1,6 @@
 -- What came of the start of a run: of its options file, and of the flow files that it names.
 use Rattle.std.specs.Prelude.{◌≡◌, ◌⊎◌, ℕ, List, [], ◌∷◌, Option, Some, None, option_map}
+use Rattle.px_filter.specs.Expression.{Expression}
 use Rattle.px_filter.specs.View.{expression}
 use Rattle.px_message.specs.declared.flow.Flow.{Flow}
 use Rattle.px_outside.specs.declared.files.FileCall.{FileCall}
@@ -7,6 +8,10 @@ use Rattle.px_outside.specs.declared.files.FileCall.TheVariants.{Read, Missed, R
 use Rattle.px_addons.specs.declared.rules.Rules.{Rules}
 use Rattle.px_map.specs.Reads.{Made, Seen}
 use Rattle.px_map.specs.View.{block_views, local_views, remote_views}
+use Rattle.px_refresh.specs.Authorized.{Authorization}
+use Rattle.px_refresh.specs.Cookies.{Cookie}
+use Rattle.px_refresh.specs.declared.authorization.StickyAuth.{StickyAuth}
+use Rattle.px_refresh.specs.declared.cookies.StickyCookies.{StickyCookies}
 use Rattle.px_replay.specs.Replaying.{Replaying, started}
 use Rattle.px_replay.specs.declared.options.KeyOptions.{KeyOptions}
 use Rattle.px_rule.specs.View.{body_views, header_views}
@@ -42,7 +47,7 @@ reads_of path (unjudged bytes) = Read path bytes ∷ []
 reads_of path (refused bytes why) = Read path bytes ∷ []
 reads_of path (says bytes settings calls recorded resent) = Read path bytes ∷ calls
 
--- the rules of a chain are those of the options; its recorded list stands beside them
+-- the rules of a chain are those of the options; its recorded list, and what it keeps for later requests, stand beside them
 pub record AreRulesOf (settings : Settings) (rules : Rules) : Type 0 where
   pub block : block_views rules.block ≡ settings.block_list
   pub local : local_views rules.local ≡ settings.map_local
@@ -53,6 +58,9 @@ pub record AreRulesOf (settings : Settings) (rules : Rules) : Type 0 where
   pub anticomp : rules.anticomp ≡ settings.anticomp
   pub intercept : option_map expression rules.intercept ≡ settings.intercept
   pub replay : rules.replay ≡ None
+  pub refresh : rules.refresh ≡ settings.server_replay_refresh
+  pub cookies : rules.cookies ≡ None
+  pub auth : rules.auth ≡ None
   pub stream : rules.stream ≡ None
 
 -- what counts of a request where a recorded one is looked for
@@ -73,6 +81,24 @@ recorded_at (path ∷ others) recorded = Some recorded
 -- the recorded list of a chain by the options, with these flows of the files that they name
 abbrev pub replay_of : Settings → List Flow → Option Replaying
 replay_of settings flows = recorded_at settings.server_replay (started (what_counts settings) settings.server_replay_reuse settings.server_replay_extra flows)
+
+-- cookies and authorizations that are kept, by their filter
+abbrev pub cookies_view : StickyCookies → Expression × List Cookie
+cookies_view cookies = (expression cookies.filter, cookies.jar)
+
+abbrev pub auth_view : StickyAuth → Expression × List Authorization
+auth_view auth = (expression auth.filter, auth.shown)
+
+-- under this filter nothing is kept yet
+abbrev pub nothing_kept : {T : Type 0} → Expression → Expression × List T
+nothing_kept filter = (filter, [])
+
+-- What a chain has beside its rules and addons when it begins, by the options and the flows of the files that they name: the recorded list; and where an option
+-- names a filter for them, cookies and authorizations of which nothing is kept yet.
+pub record BeginsWith (settings : Settings) (flows : List Flow) (recorded : Option Replaying) (cookies : Option StickyCookies) (auth : Option StickyAuth) : Type 0 where
+  pub replay : recorded ≡ replay_of settings flows
+  pub sent : option_map cookies_view cookies ≡ option_map nothing_kept settings.stickycookie
+  pub given : option_map auth_view auth ≡ option_map nothing_kept settings.stickyauth
 
 -- why bytes are no options: they are refused so, or memory ran out
 abbrev pub IsNoOptions : List ℕ → OpenError → Type 0

@@ -14,7 +14,7 @@ ghost use Rattle.px_gen.specs.Noted.{HasGrownByFront, noted, with_steps};
 ghost use Rattle.px_resend.specs.Due.{most_replayed};
 ghost use Rattle.px_app.specs.Dues.{run_due};
 ghost use Rattle.px_app.specs.Generates.{Generates, generator_mode, generator_settings};
-ghost use Rattle.px_app.specs.Opened.{AreRulesOf};
+ghost use Rattle.px_app.specs.Opened.{AreRulesOf, BeginsWith};
 ghost use Rattle.px_words.specs.Outside.{outside};
 ghost use Rattle.px_app.specs.Over.{LeavesBehind};
 ghost use Rattle.px_app.specs.Run.{Told};
@@ -50,7 +50,7 @@ pub(crate) fn generate<N: Net, F: Files, S: Sink, T: Sink>(
     mask_key: [u8; 32],
 ) -> u8
     requires small { count ≤ 10000 }
-    ensures { Generates ⟦<Chain as Answerer>⟧.answers ⟦<Chain as Answerer>⟧.drops ⟦<Chain as Answerer>⟧.names ⟦<Chain as Answerer>⟧.fails (key_of mask_key) (λ settings chain. AreRulesOf settings chain.rules × (chain.replay ≡ None) × (chain.addons.items ≡ [])) (Rose (S.faults out.old) (S.faults out.new)) count
+    ensures { Generates ⟦<Chain as Answerer>⟧.answers ⟦<Chain as Answerer>⟧.drops ⟦<Chain as Answerer>⟧.names ⟦<Chain as Answerer>⟧.fails (key_of mask_key) (λ settings chain. AreRulesOf settings chain.rules × BeginsWith settings [] chain.replay chain.cookies chain.auth × (chain.addons.items ≡ [])) (Rose (S.faults out.old) (S.faults out.new)) count
         (outside N.trace N.listening F.contents F.calls F.misses F.faults F.losses S.written T.written net.old files.old out.old notes.now)
         (outside N.trace N.listening F.contents F.calls F.misses F.faults F.losses S.written T.written net.new files.new out.new notes.now) result }
 {

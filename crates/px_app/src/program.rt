@@ -30,7 +30,7 @@ ghost use Rattle.px_words.specs.Flows.{Fetched, ListsFile};
 ghost use Rattle.px_app.specs.Generates.{Generates};
 ghost use Rattle.px_app.specs.Lines.{line_of, usage};
 ghost use Rattle.px_app.specs.Loaded.{Loaded, LoadsBoth, LoadsFiles, loaded, unloaded};
-ghost use Rattle.px_app.specs.Opened.{Opened, AreRulesOf, replay_of};
+ghost use Rattle.px_app.specs.Opened.{Opened, AreRulesOf, BeginsWith};
 ghost use Rattle.px_words.specs.Outside.{IsTold, outside};
 ghost use Rattle.px_app.specs.Printed.{Has, Ends, at_end};
 ghost use Rattle.px_app.specs.Opened.{error_code, error_line, error_note};
@@ -94,7 +94,7 @@ pub fn run<N: Net, F: Files, S: Sink, T: Sink>(
 
     // With the words `serve OPTIONS`: the files are read, and the run is as what came of that says.
     ensures serves { (path : List ℕ) → IsServe (map string_bytes words.now) path → (opened : Opened) × ServesFile ⟦<Chain as Answerer>⟧.answers ⟦<Chain as Answerer>⟧.drops ⟦<Chain as Answerer>⟧.names ⟦<Chain as Answerer>⟧.fails (key_of mask_key)
-        (λ settings flows chain. AreRulesOf settings chain.rules × (chain.replay ≡ replay_of settings flows) × (chain.addons ≡ addons)) (net.new ≡ net.old) (Rose (N.faults net.old) (N.faults net.new)) (Rose (S.faults out.old) (S.faults out.new)) (Rose (F.losses files.old) (F.losses files.new)) (Rose (T.faults notes.old) (T.faults notes.new)) path opened
+        (λ settings flows chain. AreRulesOf settings chain.rules × BeginsWith settings flows chain.replay chain.cookies chain.auth × (chain.addons ≡ addons)) (net.new ≡ net.old) (Rose (N.faults net.old) (N.faults net.new)) (Rose (S.faults out.old) (S.faults out.new)) (Rose (F.losses files.old) (F.losses files.new)) (Rose (T.faults notes.old) (T.faults notes.new)) path opened
         (outside N.trace N.listening F.contents F.calls F.misses F.faults F.losses S.written T.written net.old files.old out.old notes.old)
         (outside N.trace N.listening F.contents F.calls F.misses F.faults F.losses S.written T.written net.new files.new out.new notes.new) result }
 
@@ -115,7 +115,7 @@ pub fn run<N: Net, F: Files, S: Sink, T: Sink>(
 
     // With the words `gen N`: the run of so many generated flows.
     ensures generates { (count : ℕ) → IsGen (map string_bytes words.now) count → Generates ⟦<Chain as Answerer>⟧.answers ⟦<Chain as Answerer>⟧.drops ⟦<Chain as Answerer>⟧.names ⟦<Chain as Answerer>⟧.fails (key_of mask_key)
-        (λ settings chain. AreRulesOf settings chain.rules × (chain.replay ≡ None) × (chain.addons.items ≡ [])) (Rose (S.faults out.old) (S.faults out.new)) count
+        (λ settings chain. AreRulesOf settings chain.rules × BeginsWith settings [] chain.replay chain.cookies chain.auth × (chain.addons.items ≡ [])) (Rose (S.faults out.old) (S.faults out.new)) count
         (outside N.trace N.listening F.contents F.calls F.misses F.faults F.losses S.written T.written net.old files.old out.old notes.old)
         (outside N.trace N.listening F.contents F.calls F.misses F.faults F.losses S.written T.written net.new files.new out.new notes.new) result }
 
@@ -160,7 +160,7 @@ fn serve_file<N: Net, F: Files, S: Sink, T: Sink>(
 ) -> u8
     requires idle { N.listening net.old ≡ idle }
     ensures { (opened : Opened) × ServesFile ⟦<Chain as Answerer>⟧.answers ⟦<Chain as Answerer>⟧.drops ⟦<Chain as Answerer>⟧.names ⟦<Chain as Answerer>⟧.fails (key_of mask_key)
-        (λ settings flows chain. AreRulesOf settings chain.rules × (chain.replay ≡ replay_of settings flows) × (chain.addons ≡ addons)) (net.new ≡ net.old) (Rose (N.faults net.old) (N.faults net.new)) (Rose (S.faults out.old) (S.faults out.new)) (Rose (F.losses files.old) (F.losses files.new)) (Rose (T.faults notes.old) (T.faults notes.new)) path.now opened
+        (λ settings flows chain. AreRulesOf settings chain.rules × BeginsWith settings flows chain.replay chain.cookies chain.auth × (chain.addons ≡ addons)) (net.new ≡ net.old) (Rose (N.faults net.old) (N.faults net.new)) (Rose (S.faults out.old) (S.faults out.new)) (Rose (F.losses files.old) (F.losses files.new)) (Rose (T.faults notes.old) (T.faults notes.new)) path.now opened
         (outside N.trace N.listening F.contents F.calls F.misses F.faults F.losses S.written T.written net.old files.old out.old notes.old)
         (outside N.trace N.listening F.contents F.calls F.misses F.faults F.losses S.written T.written net.new files.new out.new notes.new) result }
 {
@@ -232,7 +232,7 @@ fn serve_options<N: Net, F: Files, S: Sink, T: Sink>(
     ensures { (calls : List FileCall) × (recorded : Loaded) × (resent : Loaded) × (read : FilesMeaning) × LoadsBoth (settings options).server_replay (settings options).client_replay calls recorded resent
         × Made calls (seen F.contents F.calls F.misses F.faults F.losses files.old) (seen_of read)
         × RunsWith ⟦<Chain as Answerer>⟧.answers ⟦<Chain as Answerer>⟧.drops ⟦<Chain as Answerer>⟧.names ⟦<Chain as Answerer>⟧.fails (key_of mask_key)
-        (λ settings flows chain. AreRulesOf settings chain.rules × (chain.replay ≡ replay_of settings flows) × (chain.addons ≡ addons)) (net.new ≡ net.old) (Rose (N.faults net.old) (N.faults net.new)) (Rose (S.faults out.old) (S.faults out.new)) (Rose (F.losses files.old) (F.losses files.new)) (Rose (T.faults notes.old) (T.faults notes.new)) (settings options) recorded resent read
+        (λ settings flows chain. AreRulesOf settings chain.rules × BeginsWith settings flows chain.replay chain.cookies chain.auth × (chain.addons ≡ addons)) (net.new ≡ net.old) (Rose (N.faults net.old) (N.faults net.new)) (Rose (S.faults out.old) (S.faults out.new)) (Rose (F.losses files.old) (F.losses files.new)) (Rose (T.faults notes.old) (T.faults notes.new)) (settings options) recorded resent read
         (outside N.trace N.listening F.contents F.calls F.misses F.faults F.losses S.written T.written net.old files.old out.old notes.old)
         (outside N.trace N.listening F.contents F.calls F.misses F.faults F.losses S.written T.written net.new files.new out.new notes.new) result }
 {
@@ -265,7 +265,7 @@ fn serve_recorded<N: Net, F: Files, S: Sink, T: Sink>(
     ensures { (calls : List FileCall) × (resent : Loaded) × (read : FilesMeaning) × LoadsFiles (settings options).client_replay calls resent
         × Made calls (seen F.contents F.calls F.misses F.faults F.losses files.old) (seen_of read)
         × RunsWith ⟦<Chain as Answerer>⟧.answers ⟦<Chain as Answerer>⟧.drops ⟦<Chain as Answerer>⟧.names ⟦<Chain as Answerer>⟧.fails (key_of mask_key)
-        (λ settings flows chain. AreRulesOf settings chain.rules × (chain.replay ≡ replay_of settings flows) × (chain.addons ≡ addons)) (net.new ≡ net.old) (Rose (N.faults net.old) (N.faults net.new)) (Rose (S.faults out.old) (S.faults out.new)) (Rose (F.losses files.old) (F.losses files.new)) (Rose (T.faults notes.old) (T.faults notes.new)) (settings options) (loaded flows.items) resent read
+        (λ settings flows chain. AreRulesOf settings chain.rules × BeginsWith settings flows chain.replay chain.cookies chain.auth × (chain.addons ≡ addons)) (net.new ≡ net.old) (Rose (N.faults net.old) (N.faults net.new)) (Rose (S.faults out.old) (S.faults out.new)) (Rose (F.losses files.old) (F.losses files.new)) (Rose (T.faults notes.old) (T.faults notes.new)) (settings options) (loaded flows.items) resent read
         (outside N.trace N.listening F.contents F.calls F.misses F.faults F.losses S.written T.written net.old files.old out.old notes.old)
         (outside N.trace N.listening F.contents F.calls F.misses F.faults F.losses S.written T.written net.new files.new out.new notes.new) result }
 {
@@ -298,7 +298,7 @@ fn serve_flows<N: Net, F: Files, S: Sink, T: Sink>(
 ) -> u8
     requires idle { N.listening net.old ≡ idle }
     ensures { (what : Loaded) × ((what ≡ loaded resent.items) ⊎ (what ≡ unloaded)) × RunsWith ⟦<Chain as Answerer>⟧.answers ⟦<Chain as Answerer>⟧.drops ⟦<Chain as Answerer>⟧.names ⟦<Chain as Answerer>⟧.fails (key_of mask_key)
-        (λ settings flows chain. AreRulesOf settings chain.rules × (chain.replay ≡ replay_of settings flows) × (chain.addons ≡ addons)) (net.new ≡ net.old) (Rose (N.faults net.old) (N.faults net.new)) (Rose (S.faults out.old) (S.faults out.new)) (Rose (F.losses files.old) (F.losses files.new)) (Rose (T.faults notes.old) (T.faults notes.new)) (settings options) (loaded flows.items) what (files_meaning F.contents F.calls F.misses F.faults F.losses files.old)
+        (λ settings flows chain. AreRulesOf settings chain.rules × BeginsWith settings flows chain.replay chain.cookies chain.auth × (chain.addons ≡ addons)) (net.new ≡ net.old) (Rose (N.faults net.old) (N.faults net.new)) (Rose (S.faults out.old) (S.faults out.new)) (Rose (F.losses files.old) (F.losses files.new)) (Rose (T.faults notes.old) (T.faults notes.new)) (settings options) (loaded flows.items) what (files_meaning F.contents F.calls F.misses F.faults F.losses files.old)
         (outside N.trace N.listening F.contents F.calls F.misses F.faults F.losses S.written T.written net.old files.old out.old notes.old)
         (outside N.trace N.listening F.contents F.calls F.misses F.faults F.losses S.written T.written net.new files.new out.new notes.new) result }
 {
@@ -328,7 +328,7 @@ fn serve_setup<N: Net, F: Files, S: Sink, T: Sink>(
 ) -> u8
     requires idle { N.listening net.old ≡ idle }
     ensures { (settings : Settings) (flows : List RecordedFlow) → IsSetupOf settings flows setup → (chain : ⟦<Chain as Answerer>⟧.State)
-        × (AreRulesOf settings chain.rules × (chain.replay ≡ replay_of settings flows) × (chain.addons ≡ addons)) × Serves ⟦<Chain as Answerer>⟧.answers ⟦<Chain as Answerer>⟧.drops ⟦<Chain as Answerer>⟧.names ⟦<Chain as Answerer>⟧.fails (key_of mask_key)
+        × (AreRulesOf settings chain.rules × BeginsWith settings flows chain.replay chain.cookies chain.auth × (chain.addons ≡ addons)) × Serves ⟦<Chain as Answerer>⟧.answers ⟦<Chain as Answerer>⟧.drops ⟦<Chain as Answerer>⟧.names ⟦<Chain as Answerer>⟧.fails (key_of mask_key)
         (Rose (N.faults net.old) (N.faults net.new)) (Rose (S.faults out.old) (S.faults out.new)) (Rose (F.losses files.old) (F.losses files.new)) (Rose (T.faults notes.old) (T.faults notes.new)) settings chain resent.items (files_meaning F.contents F.calls F.misses F.faults F.losses files.old)
         (outside N.trace N.listening F.contents F.calls F.misses F.faults F.losses S.written T.written net.old files.old out.old notes.old)
         (outside N.trace N.listening F.contents F.calls F.misses F.faults F.losses S.written T.written net.new files.new out.new notes.new) result }

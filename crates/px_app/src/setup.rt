@@ -3,7 +3,7 @@ ghost use Rattle.std.specs.Prelude.{◌≡◌, IfOk, option_map};
 ghost use Rattle.px_filter.specs.View.{expression};
 ghost use Rattle.px_options.specs.View.{path_view, paths_view, settings};
 ghost use Rattle.px_replay.specs.Replaying.{started};
-ghost use Rattle.px_app.specs.Opened.{recorded_at};
+ghost use Rattle.px_app.specs.Opened.{auth_view, cookies_view, nothing_kept, recorded_at};
 ghost use Rattle.px_app.specs.Saved.{saves_to_of};
 ghost use Rattle.px_app.specs.Serves.{saves_at};
 ghost use Rattle.px_app.specs.Setup.{IsSetupOf};
@@ -13,6 +13,7 @@ use px_addons::Rules;
 use px_filter::Filter;
 use px_message::{Address, Flow};
 use px_options::{FilePath, FilePaths, Options};
+use px_refresh::{StickyAuth, StickyCookies};
 use px_replay::{Extra, KeyOptions, Recorded};
 use px_stack::Mode;
 use px_text::NoMemory;
@@ -62,8 +63,11 @@ pub(crate) fn setup_of(alloc: Global, options: Options, flows: Vec<Flow>) -> Res
         server_replay_ignore_host,
         server_replay_ignore_params,
         server_replay_ignore_port,
+        server_replay_refresh,
         server_replay_reuse,
         server_replay_use_headers,
+        stickyauth,
+        stickycookie,
     } = options;
     drop(client_replay);
     let how = KeyOptions {
@@ -90,6 +94,9 @@ pub(crate) fn setup_of(alloc: Global, options: Options, flows: Vec<Flow>) -> Res
         anticache,
         anticomp,
         replay,
+        refresh: server_replay_refresh,
+        cookies: cookies_by(alloc, stickycookie),
+        auth: auth_by(alloc, stickyauth),
         intercept,
         stream: None,
     };
@@ -122,6 +129,26 @@ fn recorded(
             Ok(None)
         }
         [_, ..] => Ok(Some(Recorded::new(alloc, flows, how, reuse, extra)?)),
+    }
+}
+
+// Cookies of which nothing is kept yet, under the filter for them, if there is one.
+fn cookies_by(alloc: Global, filter: Option<Filter>) -> Option<StickyCookies>
+    ensures { option_map cookies_view result ≡ option_map nothing_kept (option_map expression filter) }
+{
+    match filter {
+        None => None,
+        Some(filter) => Some(StickyCookies::new(alloc, filter)),
+    }
+}
+
+// Authorizations of which nothing is kept yet, likewise.
+fn auth_by(alloc: Global, filter: Option<Filter>) -> Option<StickyAuth>
+    ensures { option_map auth_view result ≡ option_map nothing_kept (option_map expression filter) }
+{
+    match filter {
+        None => None,
+        Some(filter) => Some(StickyAuth::new(alloc, filter)),
     }
 }
 

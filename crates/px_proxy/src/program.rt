@@ -8,7 +8,7 @@ ghost use Rattle.px_core.specs.Answers.{files_meaning};
 ghost use Rattle.px_words.specs.Flows.{Fetched, ListsFile};
 ghost use Rattle.px_app.specs.Generates.{Generates};
 ghost use Rattle.px_app.specs.Lines.{usage};
-ghost use Rattle.px_app.specs.Opened.{AreRulesOf, Opened, replay_of};
+ghost use Rattle.px_app.specs.Opened.{AreRulesOf, BeginsWith, Opened};
 ghost use Rattle.px_words.specs.Outside.{outside};
 ghost use Rattle.px_app.specs.Serves.{ServesFile};
 ghost use Rattle.px_words.specs.Stops.{Stops};
@@ -44,7 +44,7 @@ pub fn run<W: Wire, F: Files, S: Sink, T: Sink>(
     // With the words `serve OPTIONS`: the files are read, and the run is as what came of that says. What the wire took for each side begins
     // what was sent to it and, but for operators, what is due to it, after each of its calls; and the run is ended by an operator's order alone.
     ensures serves { (path : List ℕ) → IsServe (map string_bytes words.now) path → (opened : Opened) × ServesFile ⟦<Chain as Answerer>⟧.answers ⟦<Chain as Answerer>⟧.drops ⟦<Chain as Answerer>⟧.names ⟦<Chain as Answerer>⟧.fails (key_of mask_key)
-        (λ settings flows chain. AreRulesOf settings chain.rules × (chain.replay ≡ replay_of settings flows) × (chain.addons ≡ addons)) (lines.new ≡ lines.old) (LinesFailed (W.faults lines.old.wire) lines.old.faults (W.faults lines.new.wire) lines.new.faults (W.calls lines.new.wire)) (Rose (S.faults out.old) (S.faults out.new)) (Rose (F.losses files.old) (F.losses files.new)) (Rose (T.faults notes.old) (T.faults notes.new)) path opened
+        (λ settings flows chain. AreRulesOf settings chain.rules × BeginsWith settings flows chain.replay chain.cookies chain.auth × (chain.addons ≡ addons)) (lines.new ≡ lines.old) (LinesFailed (W.faults lines.old.wire) lines.old.faults (W.faults lines.new.wire) lines.new.faults (W.calls lines.new.wire)) (Rose (S.faults out.old) (S.faults out.new)) (Rose (F.losses files.old) (F.losses files.new)) (Rose (T.faults notes.old) (T.faults notes.new)) path opened
         (outside W.steps W.listening F.contents F.calls F.misses F.faults F.losses S.written T.written lines.old.wire files.old out.old notes.old)
         (outside W.steps W.listening F.contents F.calls F.misses F.faults F.losses S.written T.written lines.new.wire files.new out.new notes.new) result
         × IsWiredBy (key_of mask_key) opened result (W.steps lines.old.wire) (W.calls lines.new.wire) }
@@ -66,7 +66,7 @@ pub fn run<W: Wire, F: Files, S: Sink, T: Sink>(
 
     // With the words `gen N`: the run of so many generated flows.
     ensures generates { (count : ℕ) → IsGen (map string_bytes words.now) count → Generates ⟦<Chain as Answerer>⟧.answers ⟦<Chain as Answerer>⟧.drops ⟦<Chain as Answerer>⟧.names ⟦<Chain as Answerer>⟧.fails (key_of mask_key)
-        (λ settings chain. AreRulesOf settings chain.rules × (chain.replay ≡ None) × (chain.addons.items ≡ [])) (Rose (S.faults out.old) (S.faults out.new)) count
+        (λ settings chain. AreRulesOf settings chain.rules × BeginsWith settings [] chain.replay chain.cookies chain.auth × (chain.addons.items ≡ [])) (Rose (S.faults out.old) (S.faults out.new)) count
         (outside W.steps W.listening F.contents F.calls F.misses F.faults F.losses S.written T.written lines.old.wire files.old out.old notes.old)
         (outside W.steps W.listening F.contents F.calls F.misses F.faults F.losses S.written T.written lines.new.wire files.new out.new notes.new) result }
 

@@ -1,9 +1,9 @@
 pub mod DateLemmas
 mod JarLemmas
-mod KeyLemmas
+pub mod KeyLemmas
 mod LawLemmas
 mod KeepLemmas
-mod KeptLemmas
+pub mod KeptLemmas
 mod PlaceLemmas
 mod MoveLemmas
 mod PathLemmas

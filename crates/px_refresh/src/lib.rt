@@ -1,5 +1,5 @@
 //! What is kept from one flow for later ones: cookies and authorizations that requests are given again; and recorded responses whose
-//! dates are moved (mitmproxy's options `stickycookie`, `stickyauth` and `server_replay_refresh`). No option uses it yet.
+//! dates are moved (mitmproxy's options `stickycookie`, `stickyauth` and `server_replay_refresh`). The chain of px_addons asks it.
 //!
 //! **Cookies.** The value of a `Set-Cookie` is split at `;`, and its parts are what stands between, without blanks (`specs/Cookies.antt`;
 //! RFC 6265 section 5.2). Of it are taken the name, the value and the path; a domain, an expiry and all other attributes are dropped. A cookie is

@@ -14,4 +14,4 @@ returns-clause-failed g c hook flow rules files new_files old none failed = fail
 
 pub returns-clause-run : goal.returns-clause-run
 returns-clause-run g c first files none after =
-    kept_after _ _ _ _ (keeps_files _ _ _ (λ chain. chain.rules) (λ chain. movers_of chain.replay chain.addons.items) first.own.rules none) first files refl after
+    kept_after _ _ _ _ (keeps_files _ _ _ (λ chain. chain.rules) (λ chain. movers_of chain.replay chain.cookies chain.auth chain.addons.items) first.own.rules none) first files refl after

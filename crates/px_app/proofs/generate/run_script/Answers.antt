@@ -21,8 +21,8 @@ returns-in_default g c = nothing_told c.args.count _ _ refl refl refl refl refl
 pub returns : goal.returns
 returns g c =
     nothing_told c.args.count _ _ refl refl refl refl
-    (none_left _ _ _ _ (keeps_files _ _ _ (λ chain. chain.rules) (λ chain. movers_of chain.replay chain.addons.items) c.args.chain.rules c.requires.local)
-    (λ name old new so dropped. drops_keep_rules _ (λ chain. chain.rules) (λ chain. movers_of chain.replay chain.addons.items) (λ (r : Rules). r ≡ c.args.chain.rules) name old new so dropped)
+    (none_left _ _ _ _ (keeps_files _ _ _ (λ chain. chain.rules) (λ chain. movers_of chain.replay chain.cookies chain.auth chain.addons.items) c.args.chain.rules c.requires.local)
+    (λ name old new so dropped. drops_keep_rules _ (λ chain. chain.rules) (λ chain. movers_of chain.replay chain.cookies chain.auth chain.addons.items) (λ (r : Rules). r ≡ c.args.chain.rules) name old new so dropped)
     _ _ refl c.in-Err.ensures.files)
 
 pub returns-in-Ok-serve_generated : goal.returns-in-Ok-serve_generated
@@ -37,8 +37,8 @@ returns-in-Ok-serve_generated g c =
       hears = subst (λ n. Hears n steps) c.requires.count heard;
       ends = λ other. heard_to_end _ _ _ _ key _ _ _ _ _ steps run g.K.Scripted.count heard;
       by_chain = λ some.
-          generated_so _ _ _ _ key _ _ _ _ _ steps run _ _ (chain_never_waits _ _ _ (λ chain. chain.rules) (λ chain. movers_of chain.replay chain.addons.items))
-          (λ name old new so dropped. drops_keep_rules _ (λ chain. chain.rules) (λ chain. movers_of chain.replay chain.addons.items) (λ (r : Rules). r.intercept ≡ None) name old new so dropped)
+          generated_so _ _ _ _ key _ _ _ _ _ steps run _ _ (chain_never_waits _ _ _ (λ chain. chain.rules) (λ chain. movers_of chain.replay chain.cookies chain.auth chain.addons.items))
+          (λ name old new so dropped. drops_keep_rules _ (λ chain. chain.rules) (λ chain. movers_of chain.replay chain.cookies chain.auth chain.addons.items) (λ (r : Rules). r.intercept ≡ None) name old new so dropped)
           c.requires.intercept c.tell_run.ensures.statuses;
       told = c.tell_run.ensures.told;
       told_part = c.tell_run.ensures.told_part;
@@ -46,8 +46,8 @@ returns-in-Ok-serve_generated g c =
       begun = c.tell_run.ensures.begun;
       prints = c.tell_run.ensures.prints;
       notes = refl;
-      files = none_left _ _ _ _ (keeps_files _ _ _ (λ chain. chain.rules) (λ chain. movers_of chain.replay chain.addons.items) c.args.chain.rules c.requires.local)
-          (λ name old new so dropped. drops_keep_rules _ (λ chain. chain.rules) (λ chain. movers_of chain.replay chain.addons.items) (λ (r : Rules). r ≡ c.args.chain.rules) name old new so dropped)
+      files = none_left _ _ _ _ (keeps_files _ _ _ (λ chain. chain.rules) (λ chain. movers_of chain.replay chain.cookies chain.auth chain.addons.items) c.args.chain.rules c.requires.local)
+          (λ name old new so dropped. drops_keep_rules _ (λ chain. chain.rules) (λ chain. movers_of chain.replay chain.cookies chain.auth chain.addons.items) (λ (r : Rules). r ≡ c.args.chain.rules) name old new so dropped)
           _ _ refl c.in-Ok-serve_generated.ensures.files;
       statuses = c.tell_run.ensures.statuses;
       lost = c.tell_run.ensures.lost;

@@ -13,7 +13,7 @@ pub returns-in_default-clause-files : goal.returns-in_default-clause-files
 returns-in_default-clause-files g c = leaves_whole _ _ _ None _ _ goes_none
 
 pub serve_by-ending-requires : goal.serve_by-ending-requires
-serve_by-ending-requires g c = record { losses = chain_keeps_losses _ _ _ (λ chain. chain.rules) (λ chain. movers_of chain.replay chain.addons.items) }
+serve_by-ending-requires g c = record { losses = chain_keeps_losses _ _ _ (λ chain. chain.rules) (λ chain. movers_of chain.replay chain.cookies chain.auth chain.addons.items) }
 
 pub returns-in-Ended-clause-ok : goal.returns-in-Ended-clause-ok
 returns-in-Ended-clause-ok g c = λ empty.

@@ -1,9 +1,11 @@
-use Rattle.std.proofs.Common.{◌≡◌, None, ◌∙◌, ap, sym, subst}
+use Rattle.std.proofs.Common.{◌≡◌, Option, None, ◌∙◌, ap, sym, subst}
 use Rattle.std.specs.Prelude.{option_map}
 use Rattle.rand_chacha.specs.ChaCha.{key_of}
+use Rattle.px_refresh.specs.declared.authorization.StickyAuth.{StickyAuth}
+use Rattle.px_refresh.specs.declared.cookies.StickyCookies.{StickyCookies}
 use Rattle.px_addons.specs.Chain.{movers_of}
 use Rattle.px_addons.specs.declared.rules.Rules.{Rules}
-use Rattle.px_app.specs.Opened.{AreRulesOf}
+use Rattle.px_app.specs.Opened.{AreRulesOf, auth_view, cookies_view}
 use Rattle.px_app.specs.Run.{place_of}
 use Rattle.px_app.proofs.CodeLemmas.{all_codes, code_by, complete_by, five_says, memory_gives, seven_says}
 use Rattle.px_app.proofs.ChainLemmas.{chain_keeps_losses, chain_never_waits, no_filter_by}
@@ -18,7 +20,7 @@ use Rattle.px_app.proofs.program.serve_setup.Goals as goal
 pub serve-ending-requires : goal.serve-ending-requires
 serve-ending-requires g c = record {
   idle = c.requires.idle;
-  losses = chain_keeps_losses _ _ _ (λ chain. chain.rules) (λ chain. movers_of chain.replay chain.addons.items);
+  losses = chain_keeps_losses _ _ _ (λ chain. chain.rules) (λ chain. movers_of chain.replay chain.cookies chain.auth chain.addons.items);
 }
 
 pub returns : goal.returns
@@ -27,13 +29,17 @@ returns g c = λ settings flows so.
       c.new-chain.result,
       (
         rules,
-        c.new-chain.ensures.replay ∙ so.replay,
+        record {
+          replay = c.new-chain.ensures.replay ∙ so.begins.replay;
+          sent = ap (λ (it : Option StickyCookies). option_map cookies_view it) c.new-chain.ensures.cookies ∙ so.begins.sent;
+          given = ap (λ (it : Option StickyAuth). option_map auth_view it) c.new-chain.ensures.auth ∙ so.begins.given;
+        },
         c.new-chain.ensures.addons,
       ),
       record {
         served = λ told empty tells.
-            served_so _ _ _ _ _ (chain_never_waits _ _ _ (λ chain. chain.rules) (λ chain. movers_of chain.replay chain.addons.items))
-            (λ name old new none dropped. drops_keep_rules _ (λ chain. chain.rules) (λ chain. movers_of chain.replay chain.addons.items) (λ (r : Rules). r.intercept ≡ None) name old new none dropped)
+            served_so _ _ _ _ _ (chain_never_waits _ _ _ (λ chain. chain.rules) (λ chain. movers_of chain.replay chain.cookies chain.auth chain.addons.items))
+            (λ name old new none dropped. drops_keep_rules _ (λ chain. chain.rules) (λ chain. movers_of chain.replay chain.cookies chain.auth chain.addons.items) (λ (r : Rules). r.intercept ≡ None) name old new none dropped)
             _ _ c.serve-ending.result.printing c.serve-ending.result.status c.end.result c.code.result _ _ _ _
             (record {
               is = c.end.ensures.status;

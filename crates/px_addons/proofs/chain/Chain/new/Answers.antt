@@ -12,8 +12,16 @@ returns-clause-quiet g c none keep = record {
     anticache = none.anticache;
     anticomp = none.anticomp;
     replay = c.take-replay.ensures.after;
+    refresh = none.refresh;
+    cookies = c.take-cookies.ensures.after;
+    auth = c.take-auth.ensures.after;
     stream = none.stream;
     intercept = none.intercept;
   };
-  quiet = record { unrecorded = c.take-replay.ensures.value ∙ none.replay; keep = keep };
+  quiet = record {
+    unrecorded = c.take-replay.ensures.value ∙ none.replay;
+    no_cookies = c.take-cookies.ensures.value ∙ none.cookies;
+    no_auth = c.take-auth.ensures.value ∙ none.auth;
+    keep = keep;
+  };
 }
