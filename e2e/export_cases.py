@@ -1,4 +1,4 @@
-"""The words that go through a file of flows: `mitm convert FILE OUT` and `mitm har FILE FILTER`, read by Python."""
+"""The words that go through a file of flows: `mitm convert FILE OUT`, `mitm pick FILE FILTER OUT` and `mitm har FILE FILTER`, read by Python."""
 import base64
 import json
 import os
@@ -7,7 +7,7 @@ import tempfile
 import time
 
 from saving_cases import ABSENT, DIRECTORY, content, put, saves_to, saved, shows, three_flows, whole_flows
-from tools import MITM, TOP, Mitm, curl, run_program, same, url
+from tools import MITM, ORIGIN, TOP, Mitm, curl, run_program, same, url
 
 WRITTEN = os.path.join(TOP, "examples", "written.flows")
 
@@ -68,6 +68,69 @@ def case_convert_to_where_nothing_is_written():
         same(run_program("convert", path, os.path.join(folder.name, "none", "b"))[:2], (7, []))
         same(run_program("convert", path, folder.name)[:2], (7, []))
         same(run_program("convert", path, "/dev/full")[:2], (7, []))
+
+
+def case_pick():
+    """The flows on which the filter holds stand in the other file, with their other pairs, behind what stood there."""
+    folder, path, to = folder_with()
+    with folder:
+        data, printed, places = three_flows(path)
+        note = b"4:note,5:a tip;"
+        noted = data[places[1]:places[2]]
+        length, _, payload = noted.partition(b":")
+        put(path, data + b"%d:%s%s}" % (int(length) + len(note), payload[:-1], note))
+        same(run_program("pick", path, "~u 1$", to), (0, [], []))
+        same(whole_flows(content(to))[0], [whole_flows(content(path))[0][index] for index in (1, 3)])
+        same(whole_flows(content(to))[0][1]["note"], "a tip")
+        shows(to, "~all", [printed[1]] * 2)
+        first = content(to)
+        same(run_program("pick", path, "~bs nothing", to), (0, [], []))
+        same(content(to), first)
+        same(run_program("pick", to, "~all", to), (0, [], []))
+        same(content(to), first + first)
+        same(run_program("pick", path, "~q", to + ".none"), (0, [], []))
+        same(os.path.exists(to + ".none"), False)
+
+
+def case_pick_what_is_none():
+    """A file with a bad place, one that is absent, a directory, and a filter that is none: nothing is appended."""
+    folder, path, to = folder_with()
+    with folder:
+        data, _, places = three_flows(path)
+        put(path, data[:-5])
+        put(to, b"kept")
+        same(run_program("pick", path, "~u 0", to), (4, [f"bad flow file {path} at {places[2]}"], []))
+        same(run_program("pick", path + ".none", "~all", to), (3, [f"cannot read {path}.none"], ABSENT))
+        same(run_program("pick", folder.name, "~all", to), (3, [f"cannot read {folder.name}"], DIRECTORY))
+        status, lines, notes = run_program("pick", path + ".none", "~all | ~c x", to)
+        same((status, lines, notes[:2]), (2, ["bad filter at 10"], ["~all | ~c x", " " * 10 + "^"]))
+        same(content(to), b"kept")
+
+
+def case_pick_to_where_nothing_is_written():
+    folder, path, to = folder_with(content(WRITTEN))
+    with folder:
+        for wrong in (os.path.join(folder.name, "none", "b"), folder.name, "/dev/full"):
+            same(run_program("pick", path, "~all", wrong)[:2], (7, []))
+            same(run_program("pick", path, "!~all", wrong)[:2], (0, []))
+
+
+def case_one_request_is_sent_again():
+    """Of many saved requests one is picked, and sent again alone."""
+    folder, path, one = folder_with()
+    with folder:
+        with Mitm(saves_to(path)) as mitm:
+            for index in range(5):
+                same(curl("--data-binary", "@-", url(f"/echo?{index}"), data=b"body %d" % index), b"body %d" % index)
+            saved(path, 5)
+            mitm.new_lines(5)
+        same(run_program("pick", path, "~u 3$", one), (0, [], []))
+        again = saves_to(path + ".again")
+        with Mitm(f'client_replay = ["{one}"]\n' + again) as mitm:
+            same(mitm.new_lines(1), [f".0 POST http://127.0.0.1:{ORIGIN}/echo?3 200 6"])
+            same([flow["request"]["content"] for flow in saved(path + ".again", 1)], [b"body 3"])
+            time.sleep(0.3)
+            same(mitm.new_lines(0), [])
 
 
 def check_object(kind, value):
@@ -143,5 +206,6 @@ def case_har_of_what_is_none():
 
 
 EXPORT_CASES = [
-    case_convert, case_convert_what_is_none, case_convert_to_where_nothing_is_written, case_har, case_har_of_what_is_none,
+    case_convert, case_convert_what_is_none, case_convert_to_where_nothing_is_written, case_pick, case_pick_what_is_none,
+    case_pick_to_where_nothing_is_written, case_one_request_is_sent_again, case_har, case_har_of_what_is_none,
 ]

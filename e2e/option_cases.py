@@ -176,7 +176,7 @@ def refused(options, status, shown, notes=()):
 def case_usage():
     of_flows = ["flows"], ["flows", "file"], ["flows", "file", "~c", "404"]
     for words in ([], ["serve"], ["serve", "127.0.0.1", "9000"], *of_flows, ["gen", "10001"], ["gen", "007"], ["--help"]):
-        same(run_program(*words)[:2], (1, ["usage: mitm serve OPTIONS | flows FILE FILTER | convert FILE OUT | har FILE FILTER | gen N"]))
+        same(run_program(*words)[:2], (1, ["usage: mitm serve OPTIONS | flows FILE FILTER | convert FILE OUT | har FILE FILTER | pick FILE FILTER OUT | gen N"]))
 
 
 def case_no_options_file():

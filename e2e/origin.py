@@ -1,4 +1,5 @@
 """The origin of the end-to-end run: it answers by path. usage: origin.py PORT"""
+import base64
 import socket
 import sys
 import threading
@@ -16,6 +17,9 @@ addEventListener("load", () => {
 </script></body></html>
 """
 SHEET = b"p { color: rgb(1, 2, 3); }\n"
+USER = b'{"name":"Ada","ids":[1,2.50]}\n'
+# The same with gzip, as it stands: what a library makes of it is not the same in each version.
+PACKED = base64.b64decode("H4sIAAAAAAACA6tWykvMTVWyUnJMSVTSUcpMKVayijbUMdIzNYit5QIAm9XtIR4AAAA=")
 
 
 def read_line(stream):
@@ -95,6 +99,10 @@ def reply(connection, method, target, head, body):
         connection.sendall(answer("200 OK", bytes(SOME)))
     elif path == "/big":
         connection.sendall(answer("200 OK", bytes(BIG)))
+    elif path == "/user":
+        packs = b"gzip" in head.lower()
+        fields = ["Content-Type: application/json"] + (["Content-Encoding: gzip"] if packs else [])
+        connection.sendall(answer("200 OK", PACKED if packs else USER, *fields))
     elif path == "/absent":
         connection.sendall(answer("404 Not Found", b"absent\n", "Content-Type: text/plain"))
     elif path == "/chunked":
@@ -134,4 +142,5 @@ def main():
         threading.Thread(target=keep, args=(connection,), daemon=True).start()
 
 
-main()
+if __name__ == "__main__":
+    main()

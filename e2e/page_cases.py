@@ -11,6 +11,7 @@ import zlib
 from tools import ORIGIN, Mitm, Skipped, curl, same, url
 
 BROWSERS = ("chromium", "chromium-browser", "google-chrome", "google-chrome-stable")
+HEADLESS = ("--headless", "--no-sandbox", "--disable-gpu", "--disable-dev-shm-usage", "--no-first-run", "--disable-background-networking")
 OPTIONS = """anticomp = true
 modify_body = ["|~ts html|the old word|the new word"]
 map_local = ["|/dot.png$|files/dot.png"]
@@ -62,8 +63,7 @@ def case_page_in_a_browser():
 
 def shown_by(browser, home, page, *network):
     """The page's elements once it is loaded, or nothing where the browser fails. The words say which proxy it uses, or else it uses none."""
-    words = ["--headless", "--no-sandbox", "--disable-gpu", "--disable-dev-shm-usage", "--no-first-run", *(network or ["--no-proxy-server"]),
-             "--disable-background-networking", f"--user-data-dir={home}", "--dump-dom", page]
+    words = [*HEADLESS, *(network or ["--no-proxy-server"]), f"--user-data-dir={home}", "--dump-dom", page]
     try:
         done = subprocess.run([browser, *words], cwd=home, env={**os.environ, "HOME": home}, stdin=subprocess.DEVNULL,
                               capture_output=True, timeout=60)

@@ -1,7 +1,7 @@
 """Cases of what is told on standard error: of the words of the command line, of options that are refused, and of an end by want of memory."""
 from tools import Mitm, run_program, same, talk
 
-USAGE = "usage: mitm serve OPTIONS | flows FILE FILTER | convert FILE OUT | har FILE FILTER | gen N"
+USAGE = "usage: mitm serve OPTIONS | flows FILE FILTER | convert FILE OUT | har FILE FILTER | pick FILE FILTER OUT | gen N"
 # So many bytes of memory are too few for a body of so many.
 MEMORY, BODY = 96 * 1024, 200_000_000
 
@@ -12,7 +12,7 @@ def case_words_that_ask_for_help():
         status, printed, told = run_program(*words)
         same((status, printed), (1, [USAGE]))
         assert 8 <= len(told) <= 16, told
-        for wanted in ("serve OPTIONS", "flows FILE FILTER", "gen N", 'mode = "reverse:http://', "docs/options.md", "examples/"):
+        for wanted in ("serve OPTIONS", "flows FILE FILTER", "pick FILE FILTER OUT", "gen N", 'mode = "reverse:http://', "docs/options.md", "examples/"):
             assert any(wanted in line for line in told), (wanted, told)
 
 
@@ -20,10 +20,11 @@ def case_filter_that_is_not_quoted():
     status, printed, told = run_program("flows", "f", "~c", "200")
     same((status, printed, len(told)), (1, [USAGE], 1))
     assert "'~m POST & ~c 200'" in told[0], told
+    same(run_program("pick", "f", "~c", "200", "g"), (1, [USAGE], told))
 
 
 def case_other_words():
-    for words in (["serve"], ["serve", "a", "b"], ["gen", "x"], ["flows", "f"], ["--version"]):
+    for words in (["serve"], ["serve", "a", "b"], ["gen", "x"], ["flows", "f"], ["pick", "f", "~all"], ["--version"]):
         same(run_program(*words), (1, [USAGE], []))
 
 

@@ -4,11 +4,12 @@ use px_outside::Sink;
 const HELP: &str = "\
 mitm passes HTTP on, and prints a line for each request that is finished.
 
-  ./mitm serve OPTIONS       runs the proxy by a file of options; an empty one is a proxy at 127.0.0.1:8080
-  ./mitm flows FILE FILTER   prints the lines of saved flows on which the filter holds; '~all' holds on each
-  ./mitm har FILE FILTER     prints these as one export, which browsers open
-  ./mitm convert FILE OUT    writes a file's flows anew at the end of OUT
-  ./mitm gen N               runs N generated flows with no network, 0 to 10000
+  ./mitm serve OPTIONS         runs the proxy by a file of options; an empty one is a proxy at 127.0.0.1:8080
+  ./mitm flows FILE FILTER     prints the lines of saved flows on which the filter holds; '~all' holds on each
+  ./mitm har FILE FILTER       prints these as one export, which browsers open
+  ./mitm convert FILE OUT      writes a file's flows anew at the end of OUT
+  ./mitm pick FILE FILTER OUT  writes those of them on which the filter holds there
+  ./mitm gen N                 runs N generated flows with no network, 0 to 10000
 
 For a server at port 9000, these lines are a file of options:
   mode = \"reverse:http://127.0.0.1:9000\"
@@ -27,6 +28,7 @@ pub fn tell_help<S: Sink>(words: &[String], notes: &mut S) {
         [] => HELP,
         [word] if is_help(word.as_str()) => HELP,
         [word, _, _, _, ..] if word.as_str() == "flows" => QUOTES,
+        [word, _, _, _, _, ..] if word.as_str() == "pick" => QUOTES,
         _ => return,
     };
     let _ = notes.write(text.as_bytes());

@@ -27,6 +27,7 @@ pub fn named_path(words: &[String]) -> Result<Named, AllocError> {
     match words {
         [word, path] if word.as_str() == "serve" => Ok(Named::Options(path.clone()?)),
         [word, path, _] if is_of_a_file(word.as_str()) => Ok(Named::Flows(path.clone()?)),
+        [word, path, _, _] if word.as_str() == "pick" => Ok(Named::Flows(path.clone()?)),
         _ => Ok(Named::Nothing),
     }
 }

@@ -9,6 +9,7 @@ use Rattle.px_words.specs.Converts.{ConvertsFile, Taken}
 use Rattle.px_words.specs.Exports.{ExportsFile}
 use Rattle.px_words.specs.Flows.{Fetched}
 use Rattle.px_words.specs.Outside.{Outside}
+use Rattle.px_words.specs.Picks.{Picked, PicksFile}
 use Rattle.px_app.specs.Words.{IsGen, IsServe}
 
 -- a list of two is its elements
@@ -25,6 +26,15 @@ three_are (x ∷ []) a b c low high ea eb ec = absurd (omega arith)
 three_are (x ∷ y ∷ []) a b c low high ea eb ec = absurd (omega arith)
 three_are (x ∷ y ∷ z ∷ []) a b c low high ea eb ec = cc
 three_are (x ∷ y ∷ z ∷ w ∷ xs) a b c low high ea eb ec = absurd (omega arith)
+
+-- and one of four
+pub four_are : {A : Type 0} (xs : List A) (a b c d : A) → 4 ≤ length xs → length xs < 5 → a ≡ get_or xs 0 a → b ≡ get_or xs 1 b → c ≡ get_or xs 2 c → d ≡ get_or xs 3 d → xs ≡ a ∷ b ∷ c ∷ d ∷ []
+four_are [] a b c d low high ea eb ec ed = absurd (omega arith)
+four_are (x ∷ []) a b c d low high ea eb ec ed = absurd (omega arith)
+four_are (x ∷ y ∷ []) a b c d low high ea eb ec ed = absurd (omega arith)
+four_are (x ∷ y ∷ z ∷ []) a b c d low high ea eb ec ed = absurd (omega arith)
+four_are (x ∷ y ∷ z ∷ w ∷ []) a b c d low high ea eb ec ed = cc
+four_are (x ∷ y ∷ z ∷ w ∷ v ∷ xs) a b c d low high ea eb ec ed = absurd (omega arith)
 
 same_first : (a b x y : List ℕ) → a ∷ b ∷ [] ≡ x ∷ y ∷ [] → a ≡ x
 same_first a b x y e = cc
@@ -77,6 +87,24 @@ same_three words name path text other more is too =
     let both : name ∷ path ∷ text ∷ [] ≡ name ∷ other ∷ more ∷ [] = sym is ∙ too in
     (same_second_of_three _ path text _ other more both, same_third _ path text _ other more both)
 
+-- and so are three
+pub same_four : (words : List (List ℕ)) (name path text to other more last : List ℕ) → words ≡ name ∷ path ∷ text ∷ to ∷ [] → words ≡ name ∷ other ∷ more ∷ last ∷ [] →
+    (path ≡ other) × ((text ≡ more) × (to ≡ last))
+same_four words name path text to other more last is too =
+    let both : name ∷ path ∷ text ∷ to ∷ [] ≡ name ∷ other ∷ more ∷ last ∷ [] = sym is ∙ too in (second both, (third both, fourth both))
+  where
+    second : name ∷ path ∷ text ∷ to ∷ [] ≡ name ∷ other ∷ more ∷ last ∷ [] → path ≡ other
+    second e = cc
+
+    third : name ∷ path ∷ text ∷ to ∷ [] ≡ name ∷ other ∷ more ∷ last ∷ [] → text ≡ more
+    third e = cc
+
+    fourth : name ∷ path ∷ text ∷ to ∷ [] ≡ name ∷ other ∷ more ∷ last ∷ [] → to ≡ last
+    fourth e = cc
+
+pub first_of_four : (a b c d x y z w : List ℕ) → a ∷ b ∷ c ∷ d ∷ [] ≡ x ∷ y ∷ z ∷ w ∷ [] → a ≡ x
+first_of_four a b c d x y z w e = cc
+
 other_words : codes "serve" ≡ codes "gen" → ⊥
 other_words e = cc
 
@@ -115,6 +143,15 @@ not_serve_three words path name file text is too = let same : codes "serve" ∷ 
 pub not_three_gen : (words : List (List ℕ)) (name path text : List ℕ) (count : ℕ) → words ≡ name ∷ path ∷ text ∷ [] → IsGen words count → ⊥
 not_three_gen words name path text count is too = let same : name ∷ path ∷ text ∷ [] ≡ codes "gen" ∷ too.0 ∷ [] = sym is ∙ too.1 in cc
 
+pub not_serve_four : (words : List (List ℕ)) (path name file text to : List ℕ) → IsServe words path → words ≡ name ∷ file ∷ text ∷ to ∷ [] → ⊥
+not_serve_four words path name file text to is too = let same : codes "serve" ∷ path ∷ [] ≡ name ∷ file ∷ text ∷ to ∷ [] = sym is ∙ too in cc
+
+pub not_three_four : (words : List (List ℕ)) (name path text other file more to : List ℕ) → words ≡ name ∷ path ∷ text ∷ [] → words ≡ other ∷ file ∷ more ∷ to ∷ [] → ⊥
+not_three_four words name path text other file more to is too = let same : name ∷ path ∷ text ∷ [] ≡ other ∷ file ∷ more ∷ to ∷ [] = sym is ∙ too in cc
+
+pub not_four_gen : (words : List (List ℕ)) (name path text to : List ℕ) (count : ℕ) → words ≡ name ∷ path ∷ text ∷ to ∷ [] → IsGen words count → ⊥
+not_four_gen words name path text to count is too = let same : name ∷ path ∷ text ∷ to ∷ [] ≡ codes "gen" ∷ too.0 ∷ [] = sym is ∙ too.1 in cc
+
 first_of_three : (a b c x y z : List ℕ) → a ∷ b ∷ c ∷ [] ≡ x ∷ y ∷ z ∷ [] → a ≡ x
 first_of_three a b c x y z e = cc
 
@@ -146,6 +183,14 @@ converts_at {same = same} {out = out} {lost = lost} {notes = notes} {before = be
     let P : List ℕ → Type 0 = λ p. (what : Taken) × ConvertsFile same out lost notes p to what before after status in
     let Q : List ℕ → Type 0 = λ t. (what : Taken) × ConvertsFile same out lost notes other t what before after status in
     subst Q both.1 (subst P both.0 converts)
+
+pub picks_at : {same out lost notes : Type 0} {before after : Outside} {status : ℕ} (path text to other more last : List ℕ) → (path ≡ other) × ((text ≡ more) × (to ≡ last)) →
+    (what : Picked) × PicksFile same out lost notes path text to what before after status → (what : Picked) × PicksFile same out lost notes other more last what before after status
+picks_at {same = same} {out = out} {lost = lost} {notes = notes} {before = before} {after = after} {status = status} path text to other more last all picks =
+    let P : List ℕ → Type 0 = λ p. (what : Picked) × PicksFile same out lost notes p text to what before after status in
+    let Q : List ℕ → Type 0 = λ t. (what : Picked) × PicksFile same out lost notes other t to what before after status in
+    let R : List ℕ → Type 0 = λ t. (what : Picked) × PicksFile same out lost notes other more t what before after status in
+    subst R all.1.1 (subst Q all.1.0 (subst P all.0 picks))
 
 pub exports_at : {same out notes : Type 0} {before after : Outside} {status : ℕ} (path text other more : List ℕ) → (path ≡ other) × (text ≡ more) → (what : Fetched) × ExportsFile same out notes path text what before after status →
     (what : Fetched) × ExportsFile same out notes other more what before after status

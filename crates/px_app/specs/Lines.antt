@@ -6,7 +6,7 @@ use Rattle.px_options.specs.Values.{Place}
 
 -- where the words have no form
 abbrev pub usage : List ℕ
-usage = codes "usage: mitm serve OPTIONS | flows FILE FILTER | convert FILE OUT | har FILE FILTER | gen N\n"
+usage = codes "usage: mitm serve OPTIONS | flows FILE FILTER | convert FILE OUT | har FILE FILTER | pick FILE FILTER OUT | gen N\n"
 
 -- the line of a status with which a run that served ends, or none
 unfoldable pub line_of : ℕ → List ℕ

@@ -9,8 +9,8 @@
 //! conversation; the requests of `client_replay` are conversations without a client, each begun where the flow of the one before is finished (`specs/Replayed.antt`); each hook was
 //! answered by the chain of the options' rules, the flows of `server_replay` and the addons, or by an operator where `intercept` is set; what is printed is a line of each finished flow of the trace, and the status's line behind them; and each status has its cause in the
 //! trace or in a count of faults (`specs/Serves.antt`). With the words `flows FILE FILTER` the file is read, and the line of each of its flows on
-//! which the filter holds is printed (px_words, `specs/Flows.antt`); with `har FILE FILTER` these flows are printed as an export (`Exports.antt`), and with `convert FILE OUT` all of them are appended anew
-//! to the other file (`Converts.antt`). With the words `gen N` it is a run over what px_gen makes of that number
+//! which the filter holds is printed (px_words, `specs/Flows.antt`); with `har FILE FILTER` these flows are printed as an export (`Exports.antt`), with `convert FILE OUT` all of them are appended anew
+//! to the other file (`Converts.antt`), and with `pick FILE FILTER OUT` these alone (`Picks.antt`). With the words `gen N` it is a run over what px_gen makes of that number
 //! (`specs/Generates.antt`). Out of memory alone has no cause; after it each peer has got a prefix of what is due, and a prefix of the
 //! lines is printed.
 ghost use Rattle.std.specs.Prelude.{◌≡◌, ◌≤◌, ◌⊎◌, ◌++◌, ℕ, List, [], None, Option, map};
@@ -38,9 +38,10 @@ ghost use Rattle.px_app.specs.Serves.{RunsWith, Serves, ServesFile};
 ghost use Rattle.px_words.specs.Stops.{Stops};
 ghost use Rattle.px_app.specs.Setup.{IsSetupOf};
 ghost use Rattle.px_app.specs.Statuses.{code_of};
-ghost use Rattle.px_app.specs.Words.{HasNoForm, IsConvert, IsFlows, IsGen, IsHar, IsServe};
+ghost use Rattle.px_app.specs.Words.{HasNoForm, IsConvert, IsFlows, IsGen, IsHar, IsPick, IsServe};
 ghost use Rattle.px_words.specs.Converts.{ConvertsFile, Taken};
 ghost use Rattle.px_words.specs.Exports.{ExportsFile};
+ghost use Rattle.px_words.specs.Picks.{Picked, PicksFile};
 
 use crate::generate::generate;
 use crate::loading::{load_flows, refuse_load};
@@ -49,19 +50,19 @@ use crate::printing::Printing;
 use crate::serve::{Ending, serve};
 use crate::setup::{Setup, setup_of};
 use crate::status::Status;
-use crate::words::{convert_words, flow_count, flow_words, har_words, options_path};
+use crate::words::{convert_words, flow_count, flow_words, har_words, options_path, pick_words};
 use px_addons::{Addon, Chain};
 use px_core::Answerer;
 use px_message::Flow;
 use px_options::{Options, OptionsError, refusal_line, refusal_note};
 use px_outside::{Files, Net, Sink};
 use px_text::NoMemory;
-use px_words::{NO_MEMORY, Stop, cannot_read, convert, export, list_flows, stop_with};
+use px_words::{NO_MEMORY, Stop, cannot_read, convert, export, list_flows, pick, stop_with};
 use std::alloc::Global;
 
 // What is printed where the words have no form.
 const USAGE: &str =
-    "usage: mitm serve OPTIONS | flows FILE FILTER | convert FILE OUT | har FILE FILTER | gen N\n";
+    "usage: mitm serve OPTIONS | flows FILE FILTER | convert FILE OUT | har FILE FILTER | pick FILE FILTER OUT | gen N\n";
 
 /// Runs the program with these words, and answers the exit status.
 ///
@@ -69,7 +70,7 @@ const USAGE: &str =
 /// each connection in the mode that it names by its rules, the flows of `server_replay` and these addons, with this key for the masks of frames, sends the requests of `client_replay`
 /// again, one behind the other, and prints a line of each finished flow. `flows FILE FILTER` reads that file of flows
 /// and prints the line of each on which the filter holds; `har FILE FILTER` prints these flows as an export of the format HAR 1.2; `convert FILE OUT` writes all of the file's
-/// flows anew at the end of the other file. `gen N` runs N generated flows over a network in memory, tells `net` what was
+/// flows anew at the end of the other file, and `pick FILE FILTER OUT` those on which the filter holds. `gen N` runs N generated flows over a network in memory, tells `net` what was
 /// asked, answered and finished, and prints three counts.
 ///
 /// Where the options name a place for operators (`control`), it listens there too, and each whole line of such a connection is obeyed and answered.
@@ -108,6 +109,11 @@ pub fn run<N: Net, F: Files, S: Sink, T: Sink>(
         (outside N.trace N.listening F.contents F.calls F.misses F.faults F.losses S.written T.written net.old files.old out.old notes.old)
         (outside N.trace N.listening F.contents F.calls F.misses F.faults F.losses S.written T.written net.new files.new out.new notes.new) result }
 
+    // With the words `pick FILE FILTER OUT`: the entries of the file on which the filter holds, written anew at the end of the other.
+    ensures picks { (path text to : List ℕ) → IsPick (map string_bytes words.now) path text to → (what : Picked) × PicksFile (net.new ≡ net.old) (Rose (S.faults out.old) (S.faults out.new)) (Rose (F.losses files.old) (F.losses files.new)) (Rose (T.faults notes.old) (T.faults notes.new)) path text to what
+        (outside N.trace N.listening F.contents F.calls F.misses F.faults F.losses S.written T.written net.old files.old out.old notes.old)
+        (outside N.trace N.listening F.contents F.calls F.misses F.faults F.losses S.written T.written net.new files.new out.new notes.new) result }
+
     // With the words `har FILE FILTER`: the file's flows as an export of the format HAR 1.2.
     ensures exports { (path text : List ℕ) → IsHar (map string_bytes words.now) path text → (what : Fetched) × ExportsFile (net.new ≡ net.old) (Rose (S.faults out.old) (S.faults out.new)) (Rose (T.faults notes.old) (T.faults notes.new)) path text what
         (outside N.trace N.listening F.contents F.calls F.misses F.faults F.losses S.written T.written net.old files.old out.old notes.old)
@@ -139,6 +145,10 @@ pub fn run<N: Net, F: Files, S: Sink, T: Sink>(
     if let Some(found) = har_words(words) {
         drop(addons);
         return export(alloc, found.0, found.1, &*net, files, out, notes);
+    }
+    if let Some(found) = pick_words(words) {
+        drop(addons);
+        return pick(alloc, found.0, found.1, found.2, &*net, files, out, notes);
     }
     if let Some(count) = flow_count(words) {
         return generate(alloc, count, net, files, out, &*notes, addons, mask_key);

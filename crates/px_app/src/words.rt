@@ -1,11 +1,11 @@
 //! The words of the command line.
 //!
 //! `serve OPTIONS` names an options file by its path, `flows FILE FILTER` and `har FILE FILTER` a file of flows by its path and a filter by its text,
-//! `convert FILE OUT` two files by their paths, and `gen N` a number from 0 to 10,000 in decimal digits, without a sign or a leading zero. Whatever else stands
+//! `convert FILE OUT` two files by their paths, `pick FILE FILTER OUT` two files and between them a filter, and `gen N` a number from 0 to 10,000 in decimal digits, without a sign or a leading zero. Whatever else stands
 //! there has no form, and the program answers with its usage. So a word is either taken whole or refused, and nothing is guessed.
 ghost use Rattle.std.specs.Prelude.{◌≡◌, ◌∷◌, [], ℕ, List, MatchOption, map};
 ghost use Rattle.std.specs.String.{string_bytes};
-ghost use Rattle.px_app.specs.Words.{IsConvert, IsFlows, IsGen, IsHar, IsServe};
+ghost use Rattle.px_app.specs.Words.{IsConvert, IsFlows, IsGen, IsHar, IsPick, IsServe};
 
 use px_gen::read_count;
 
@@ -54,6 +54,19 @@ fn two_behind<'a>(words: &'a [String], name: &str) -> Option<(&'a str, &'a str)>
         return None;
     }
     Some((path.as_str(), text.as_str()))
+}
+
+/// The path, the filter's text and the other path in the words `pick FILE FILTER OUT`. None exactly where the words have no such form.
+pub(crate) fn pick_words(words: &[String]) -> Option<(&str, &str, &str)>
+    ensures { MatchOption result ((path text to : List ℕ) → ¬ (IsPick (map string_bytes words.now) path text to)) (λ found. IsPick (map string_bytes words.now) found.0.now found.1.now found.2.now) }
+{
+    let [command, path, text, to] = words else {
+        return None;
+    };
+    if command.as_str() != "pick" {
+        return None;
+    }
+    Some((path.as_str(), text.as_str(), to.as_str()))
 }
 
 /// The number in the words `gen N`. None exactly where the words have no such form.

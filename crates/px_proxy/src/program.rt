@@ -15,7 +15,8 @@ ghost use Rattle.px_words.specs.Stops.{Stops};
 ghost use Rattle.px_app.specs.Statuses.{ends_heard};
 ghost use Rattle.px_words.specs.Converts.{ConvertsFile, Taken};
 ghost use Rattle.px_words.specs.Exports.{ExportsFile};
-ghost use Rattle.px_app.specs.Words.{HasNoForm, IsConvert, IsFlows, IsGen, IsHar, IsServe};
+ghost use Rattle.px_words.specs.Picks.{Picked, PicksFile};
+ghost use Rattle.px_app.specs.Words.{HasNoForm, IsConvert, IsFlows, IsGen, IsHar, IsPick, IsServe};
 ghost use Rattle.px_wire.specs.Calls.{Calls, steps_of};
 ghost use Rattle.px_wire.specs.Rules.{Obeys};
 ghost use Rattle.px_proxy.specs.Failed.{LinesFailed};
@@ -56,6 +57,11 @@ pub fn run<W: Wire, F: Files, S: Sink, T: Sink>(
 
     // With the words `convert FILE OUT`: the entries of the file, written anew at the end of the other.
     ensures converts { (path to : List ℕ) → IsConvert (map string_bytes words.now) path to → (what : Taken) × ConvertsFile (lines.new ≡ lines.old) (Rose (S.faults out.old) (S.faults out.new)) (Rose (F.losses files.old) (F.losses files.new)) (Rose (T.faults notes.old) (T.faults notes.new)) path to what
+        (outside W.steps W.listening F.contents F.calls F.misses F.faults F.losses S.written T.written lines.old.wire files.old out.old notes.old)
+        (outside W.steps W.listening F.contents F.calls F.misses F.faults F.losses S.written T.written lines.new.wire files.new out.new notes.new) result }
+
+    // With the words `pick FILE FILTER OUT`: the entries of the file on which the filter holds, written anew at the end of the other.
+    ensures picks { (path text to : List ℕ) → IsPick (map string_bytes words.now) path text to → (what : Picked) × PicksFile (lines.new ≡ lines.old) (Rose (S.faults out.old) (S.faults out.new)) (Rose (F.losses files.old) (F.losses files.new)) (Rose (T.faults notes.old) (T.faults notes.new)) path text to what
         (outside W.steps W.listening F.contents F.calls F.misses F.faults F.losses S.written T.written lines.old.wire files.old out.old notes.old)
         (outside W.steps W.listening F.contents F.calls F.misses F.faults F.losses S.written T.written lines.new.wire files.new out.new notes.new) result }
 

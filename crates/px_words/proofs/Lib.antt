@@ -6,4 +6,6 @@ pub mod FlowsLemmas
 pub mod TakeLemmas
 pub mod WholeLemmas
 pub mod ConvertLemmas
+pub mod PickLemmas
+pub mod KeepLemmas
 pub mod ExportLemmas

@@ -7,6 +7,8 @@ pub mod Flows
 pub mod FlowTurns
 pub mod Converts
 pub mod ConvertTurns
+pub mod Picks
+pub mod Keeps
 pub mod Exports
 pub mod ExportTurns
 pub mod Takes

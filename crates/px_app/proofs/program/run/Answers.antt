@@ -3,7 +3,7 @@ use Rattle.px_outside.specs.Count.{Rose}
 use Rattle.px_words.specs.Outside.{IsTold}
 use Rattle.px_words.proofs.FlowsLemmas.{lists_at}
 use Rattle.px_app.proofs.GenerateLemmas.{generates_at}
-use Rattle.px_app.proofs.WordLemmas.{converts_at, exports_at, not_convert_har, not_flows_convert, not_flows_har, not_serve_three, not_three_gen, one_count, same_three}
+use Rattle.px_app.proofs.WordLemmas.{converts_at, exports_at, not_convert_har, not_flows_convert, not_flows_har, not_four_gen, not_serve_four, not_serve_three, not_three_four, not_three_gen, one_count, picks_at, same_four, same_three}
 use Rattle.px_app.proofs.program.run.Goals as goal
 
 pub returns-in-Some-clause-lists : goal.returns-in-Some-clause-lists
@@ -11,6 +11,9 @@ returns-in-Some-clause-lists g c = λ path text is. absurd (not_serve_three _ c.
 
 pub returns-in-Some-clause-converts : goal.returns-in-Some-clause-converts
 returns-in-Some-clause-converts g c = λ path text is. absurd (not_serve_three _ c.in-Some.path.now _ path text c.in-Some.ensures is)
+
+pub returns-in-Some-clause-picks : goal.returns-in-Some-clause-picks
+returns-in-Some-clause-picks g c = λ path text to is. absurd (not_serve_four _ c.in-Some.path.now _ path text to c.in-Some.ensures is)
 
 pub returns-in-Some-clause-exports : goal.returns-in-Some-clause-exports
 returns-in-Some-clause-exports g c = λ path text is. absurd (not_serve_three _ c.in-Some.path.now _ path text c.in-Some.ensures is)
@@ -23,6 +26,9 @@ returns-in-Some-flow_words-clause-lists g c = λ path text is. lists_at _ _ path
 
 pub returns-in-Some-flow_words-clause-converts : goal.returns-in-Some-flow_words-clause-converts
 returns-in-Some-flow_words-clause-converts g c = λ path text is. absurd (not_flows_convert _ _ _ path text c.in-Some-flow_words.ensures is)
+
+pub returns-in-Some-flow_words-clause-picks : goal.returns-in-Some-flow_words-clause-picks
+returns-in-Some-flow_words-clause-picks g c = λ path text to is. absurd (not_three_four _ _ _ _ _ path text to c.in-Some-flow_words.ensures is)
 
 pub returns-in-Some-flow_words-clause-exports : goal.returns-in-Some-flow_words-clause-exports
 returns-in-Some-flow_words-clause-exports g c = λ path text is. absurd (not_flows_har _ _ _ path text c.in-Some-flow_words.ensures is)
@@ -42,6 +48,9 @@ returns-in-Some-convert_words-clause-lists g c = λ path text is. absurd (not_fl
 pub returns-in-Some-convert_words-clause-converts : goal.returns-in-Some-convert_words-clause-converts
 returns-in-Some-convert_words-clause-converts g c = λ path text is. converts_at _ _ path text (same_three _ _ _ _ path text c.in-Some-convert_words.ensures is) c.convert.ensures.converts
 
+pub returns-in-Some-convert_words-clause-picks : goal.returns-in-Some-convert_words-clause-picks
+returns-in-Some-convert_words-clause-picks g c = λ path text to is. absurd (not_three_four _ _ _ _ _ path text to c.in-Some-convert_words.ensures is)
+
 pub returns-in-Some-convert_words-clause-exports : goal.returns-in-Some-convert_words-clause-exports
 returns-in-Some-convert_words-clause-exports g c = λ path text is. absurd (not_convert_har _ _ _ path text c.in-Some-convert_words.ensures is)
 
@@ -60,6 +69,9 @@ returns-in-Some-har_words-clause-lists g c = λ path text is. absurd (not_flows_
 pub returns-in-Some-har_words-clause-converts : goal.returns-in-Some-har_words-clause-converts
 returns-in-Some-har_words-clause-converts g c = λ path text is. absurd (not_convert_har _ path text _ _ is c.in-Some-har_words.ensures)
 
+pub returns-in-Some-har_words-clause-picks : goal.returns-in-Some-har_words-clause-picks
+returns-in-Some-har_words-clause-picks g c = λ path text to is. absurd (not_three_four _ _ _ _ _ path text to c.in-Some-har_words.ensures is)
+
 pub returns-in-Some-har_words-clause-exports : goal.returns-in-Some-har_words-clause-exports
 returns-in-Some-har_words-clause-exports g c = λ path text is. exports_at _ _ path text (same_three _ _ _ _ path text c.in-Some-har_words.ensures is) c.export.ensures.exports
 
@@ -69,11 +81,35 @@ returns-in-Some-har_words-clause-generates g c = λ count is. absurd (not_three_
 pub returns-in-Some-har_words-clause-refuses : goal.returns-in-Some-har_words-clause-refuses
 returns-in-Some-har_words-clause-refuses g c = λ none. absurd (none.har _ _ c.in-Some-har_words.ensures)
 
+pub returns-in-Some-pick_words-clause-serves : goal.returns-in-Some-pick_words-clause-serves
+returns-in-Some-pick_words-clause-serves g c = λ path is. absurd (not_serve_four _ path _ _ _ _ is c.in-Some-pick_words.ensures)
+
+pub returns-in-Some-pick_words-clause-lists : goal.returns-in-Some-pick_words-clause-lists
+returns-in-Some-pick_words-clause-lists g c = λ path text is. absurd (not_three_four _ _ path text _ _ _ _ is c.in-Some-pick_words.ensures)
+
+pub returns-in-Some-pick_words-clause-converts : goal.returns-in-Some-pick_words-clause-converts
+returns-in-Some-pick_words-clause-converts g c = λ path text is. absurd (not_three_four _ _ path text _ _ _ _ is c.in-Some-pick_words.ensures)
+
+pub returns-in-Some-pick_words-clause-picks : goal.returns-in-Some-pick_words-clause-picks
+returns-in-Some-pick_words-clause-picks g c = λ path text to is. picks_at _ _ _ path text to (same_four _ _ _ _ _ path text to c.in-Some-pick_words.ensures is) c.pick.ensures.picks
+
+pub returns-in-Some-pick_words-clause-exports : goal.returns-in-Some-pick_words-clause-exports
+returns-in-Some-pick_words-clause-exports g c = λ path text is. absurd (not_three_four _ _ path text _ _ _ _ is c.in-Some-pick_words.ensures)
+
+pub returns-in-Some-pick_words-clause-generates : goal.returns-in-Some-pick_words-clause-generates
+returns-in-Some-pick_words-clause-generates g c = λ count is. absurd (not_four_gen _ _ _ _ _ count c.in-Some-pick_words.ensures is)
+
+pub returns-in-Some-pick_words-clause-refuses : goal.returns-in-Some-pick_words-clause-refuses
+returns-in-Some-pick_words-clause-refuses g c = λ none. absurd (none.pick _ _ _ c.in-Some-pick_words.ensures)
+
 pub returns-in-Some-flow_count-clause-lists : goal.returns-in-Some-flow_count-clause-lists
 returns-in-Some-flow_count-clause-lists g c = λ path text is. absurd (c.in_default-flow_words.ensures path text is)
 
 pub returns-in-Some-flow_count-clause-converts : goal.returns-in-Some-flow_count-clause-converts
 returns-in-Some-flow_count-clause-converts g c = λ path text is. absurd (c.in_default-convert_words.ensures path text is)
+
+pub returns-in-Some-flow_count-clause-picks : goal.returns-in-Some-flow_count-clause-picks
+returns-in-Some-flow_count-clause-picks g c = λ path text to is. absurd (c.in_default-pick_words.ensures path text to is)
 
 pub returns-in-Some-flow_count-clause-exports : goal.returns-in-Some-flow_count-clause-exports
 returns-in-Some-flow_count-clause-exports g c = λ path text is. absurd (c.in_default-har_words.ensures path text is)
@@ -89,6 +125,9 @@ returns-clause-lists g c = λ path text is. absurd (c.in_default-flow_words.ensu
 
 pub returns-clause-converts : goal.returns-clause-converts
 returns-clause-converts g c = λ path text is. absurd (c.in_default-convert_words.ensures path text is)
+
+pub returns-clause-picks : goal.returns-clause-picks
+returns-clause-picks g c = λ path text to is. absurd (c.in_default-pick_words.ensures path text to is)
 
 pub returns-clause-exports : goal.returns-clause-exports
 returns-clause-exports g c = λ path text is. absurd (c.in_default-har_words.ensures path text is)
