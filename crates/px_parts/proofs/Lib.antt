@@ -1,0 +1,6 @@
+pub mod TextLemmas
+pub mod GivenLemmas
+pub mod StreamedLemmas
+pub mod FieldLemmas
+pub mod ChunkLemmas
+pub mod ReadBackLemmas
