@@ -1,5 +1,5 @@
 -- Chunks that are written as the sender cut them are a chunked body with the same contents.
-use Rattle.std.proofs.Common.{ℕ, zero, suc, ◌+◌, ◌-◌, ◌/◌, ◌%◌, ◌<◌, ◌≤◌, ◌^◌, ◌≡◌, ◌==◌, Bool, true, false, cond, List, [], ◌∷◌, ◌++◌, length, map, take, refl, sym, ap, ◌∙◌, subst, arith, inl, inr, Option, Some, None, append_assoc, append-nil, length-append, take_all}
+use Rattle.std.proofs.Common.{ℕ, zero, suc, ◌+◌, ◌-◌, ◌/◌, ◌%◌, ◌<◌, ◌≤◌, ◌^◌, ◌≡◌, ◌==◌, Bool, true, false, cond, List, [], ◌∷◌, ◌++◌, length, map, take, refl, sym, ap, ◌∙◌, subst, arith, inl, inr, None, append_assoc, append-nil, length-append, take_all}
 use Rattle.std.specs.Prelude.{All}
 use Rattle.std.specs.Char.{digit_value, is_ascii_hexdigit}
 use Rattle.std.specs.Fmt.{digit_glyph, digits, digits_onto}
@@ -16,8 +16,8 @@ use Rattle.px_head.specs.Front.{trailer_front}
 use Rattle.px_head.specs.declared.front.Front.TheVariants.{Stands}
 use Rattle.px_read.specs.ChunkLine.{IsLine}
 use Rattle.px_read.specs.Chunked.{IsChunked, last, chunk, chunk_told, chunks_told}
-use Rattle.px_read.specs.Chunks.{Reading, chunked_reading, whole}
-use Rattle.px_read.specs.Marks.{Mark, begins, byte, ends}
+use Rattle.px_read.specs.Chunks.{chunked_reading, whole}
+use Rattle.px_read.specs.Marks.{Mark, byte, ends}
 use Rattle.px_read.proofs.ChunkedLemmas.{chunked_read, read_chunked}
 use Rattle.px_write.specs.ReadBack.{trailer_parts}
 use Rattle.px_write.specs.Text.{fields_text, last_chunk_text}

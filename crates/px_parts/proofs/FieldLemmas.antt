@@ -1,11 +1,11 @@
 -- The length that a head says is told by its framing fields alone.
-use Rattle.std.proofs.Common.{ℕ, ◌≡◌, ◌≢◌, ◌||◌, ◌&&◌, Bool, true, false, cond, not, List, [], ◌∷◌, filter, map, refl, sym, ap, ◌∙◌, inl, inr, Option, Some, None, Result, Ok, Err}
+use Rattle.std.proofs.Common.{ℕ, ◌≡◌, ◌≢◌, ◌||◌, ◌&&◌, Bool, true, false, cond, not, List, [], ◌∷◌, filter, map, refl, sym, ap, ◌∙◌, Option, Some, None, Result, Ok, Err}
 use Rattle.std.specs.Prelude.{codes, if◌then◌else◌}
 use Rattle.std.specs.List.{flat_map, list_any}
-use Rattle.std.proofs.lemmas.Bool.{cond-true, cond-false}
+use Rattle.std.proofs.lemmas.Bool.{cond-false}
 use Rattle.px_text.specs.Number.{decimal_value}
-use Rattle.px_message.specs.Fields.{elements, elements_of, has_element, is_named, is_same_name, parts, values_of}
-use Rattle.px_message.specs.Length.{agreed, by_stated, content_length, ends_chunked, framed_length, has_no_body, is_chunked, is_framed_in_chunks, request_length, response_length, stands, stated_length, transfer_encoding}
+use Rattle.px_message.specs.Fields.{elements, elements_of, has_element, is_named, is_same_name, parts}
+use Rattle.px_message.specs.Length.{agreed, by_stated, content_length, ends_chunked, framed_length, has_no_body, is_chunked, is_framed_in_chunks, request_length, stands, stated_length, transfer_encoding}
 use Rattle.px_message.specs.Settle.{framing, is_framing}
 use Rattle.px_message.specs.declared.length.Length.{Length}
 use Rattle.px_message.specs.declared.length.Length.TheVariants as lengths
@@ -102,9 +102,6 @@ response_shape coded measured has framed stated =
     if coded then (if measured then Err BothLengths
     else (if has then (if framed then Ok lengths.Chunked else Err BadCoding) else Ok lengths.ToClose))
     else (if measured then by_stated stated else Ok lengths.ToClose)
-
-
-
 
 pub length-framing : LengthIsFraming
 length-framing sent read same =

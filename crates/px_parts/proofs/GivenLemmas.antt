@@ -1,7 +1,9 @@
 -- What the parts of a reader say is what the marks of its reading say.
-use Rattle.std.proofs.Common.{ℕ, ◌+◌, ◌-◌, ◌≡◌, Bool, List, [], ◌∷◌, ◌++◌, length, refl, sym, ap, ap₂, ◌∙◌, append_assoc, append-nil}
+use Rattle.std.proofs.Common.{ℕ, ◌-◌, ◌≡◌, Bool, List, [], ◌∷◌, ◌++◌, length, refl, sym, ap, ap₂, ◌∙◌, append_assoc, append-nil, drop}
 use Rattle.std.specs.Prelude.{All}
 use Rattle.std.specs.List.{flat_map}
+use Rattle.std.proofs.Math.Seq.{drop-append_seam}
+use Rattle.std.proofs.lemmas.Grind.{flat_map-append}
 use Rattle.std.proofs.lemmas.List.Elements.{All-head, All-tail}
 use Rattle.px_text.specs.Prefix.{IsPrefixOf}
 use Rattle.px_read.specs.Chunks.{goes_on, whole, fails, Reading}
@@ -11,8 +13,8 @@ use Rattle.px_read.specs.Readings.{only}
 use Rattle.px_read.specs.declared.part.Part.{Part}
 use Rattle.px_read.specs.declared.part.Part.TheVariants as part
 use Rattle.px_read.proofs.ReaderLemmas.{told-read}
-use Rattle.px_parts.specs.Given.{Gives, GivenIsAll, GivenIsSent, GoesOn, IsAll, PartSaysItsMarks}
-use Rattle.px_parts.specs.Texts.{behind_text, end_text, last_text, marks_text, part_text, parts_text, size_line}
+use Rattle.px_parts.specs.Given.{Gives, GivenIsAll, GivenIsLeft, GivenIsSent, GoesOn, PartSaysItsMarks}
+use Rattle.px_parts.specs.Texts.{behind_text, end_text, marks_text, part_text, parts_text, size_line}
 use Rattle.px_parts.proofs.TextLemmas.{bytes-sent, marks_both}
 
 -- ---- parts and their marks
@@ -117,3 +119,20 @@ given-sent fields message parts (part.ChunkStart size) fed closed gives =
     first_told fields message parts (part.ChunkStart size) fed closed gives tt gives.next_is.1
 given-sent fields message parts part.ChunkEnd fed closed gives =
     first_told fields message parts part.ChunkEnd fed closed gives tt gives.next_is.1
+
+-- ---- what is sent next
+
+pub given-left : GivenIsLeft
+given-left fields message head old new next fed later before closed first second all =
+    let was = behind_text fields (reading_of message before fed) in
+    let added = parts_text fields new ++ part_text fields next in
+    let begun : parts_text fields old ≡ was =
+    sym (append-nil (parts_text fields old)) ∙ given-all fields message old part.More fed before first tt in
+    let grown : behind_text fields (reading_of message closed later) ≡ was ++ added =
+    sym (given-all fields message (old ++ new) next later closed second all)
+    ∙ ap (λ (text : List ℕ). text ++ part_text fields next) (flat_map-append (part_text fields) old new)
+    ∙ append_assoc (parts_text fields old) (parts_text fields new) (part_text fields next)
+    ∙ ap (λ (text : List ℕ). text ++ added) begun in
+    ap (λ (text : List ℕ). drop (length (head ++ was)) (head ++ text)) grown
+    ∙ ap (λ (text : List ℕ). drop (length (head ++ was)) text) (sym (append_assoc head was added))
+    ∙ drop-append_seam (head ++ was) added

@@ -1,6 +1,6 @@
 -- A message that was sent on as it came is read as it was, behind the head that was sent.
-use Rattle.std.proofs.Common.{ℕ, ◌+◌, ◌-◌, ◌<◌, ◌≤◌, ◌≡◌, ◌≢◌, ◌^◌, Bool, true, false, cond, List, [], ◌∷◌, ◌++◌, length, map, take, drop, nat_le, refl, sym, ap, ap₂, ◌∙◌, subst, arith, inl, inr, Option, Some, None, Result, Ok, Err, append_assoc, append-nil, length-append}
-use Rattle.std.specs.Prelude.{◌⊎◌, bytes_eq, decimal, if◌then◌else◌}
+use Rattle.std.proofs.Common.{ℕ, ◌<◌, ◌≡◌, ◌≢◌, ◌^◌, Bool, true, false, List, [], ◌∷◌, ◌++◌, length, map, take, drop, nat_le, refl, sym, ap, ap₂, ◌∙◌, subst, arith, inl, inr, Result, Ok, Err, append_assoc, append-nil, length-append}
+use Rattle.std.specs.Prelude.{◌⊎◌, if◌then◌else◌}
 use Rattle.std.proofs.lemmas.Bool.Decides.{leb_tells, nat_tests}
 use Rattle.std.proofs.lemmas.Fmt.{decimal_is_IsNumeral}
 use Rattle.std.proofs.lemmas.List.{length-take-le}
@@ -21,10 +21,10 @@ use Rattle.px_message.specs.declared.request.Request.{Request}
 use Rattle.px_message.specs.declared.response.Response.{Response}
 use Rattle.px_message.specs.declared.version.Version.{Version}
 use Rattle.px_read.specs.Chunks.{Finish, Reading, goes_on, whole, fails}
-use Rattle.px_read.specs.Heads.{asks_tunnel, code_of, connect_method, request_body_length, request_head, response_head}
-use Rattle.px_read.specs.Items.{Body, Item, body_of, complete, item_before, item_behind, request_item, request_told, response_item, response_told}
+use Rattle.px_read.specs.Heads.{code_of, request_body_length, request_head, response_head}
+use Rattle.px_read.specs.Items.{Body, body_of, complete, item_before, item_behind, request_told, response_told}
 use Rattle.px_read.specs.Marks.{Mark, asks, answers, begins, byte, ends}
-use Rattle.px_read.specs.Readings.{as_response, behind_bytes, behind_head, body_reading, only, request_behind, request_body, request_reading, response_behind, response_body, response_finish, response_reading}
+use Rattle.px_read.specs.Readings.{as_response, behind_bytes, behind_head, body_reading, request_behind, request_body, request_reading, response_behind, response_body, response_finish, response_reading}
 use Rattle.px_read.specs.declared.head.RequestHead.{RequestHead}
 use Rattle.px_read.specs.declared.head.ResponseHead.{ResponseHead}
 use Rattle.px_read.proofs.ConnectLemmas.{length_by_fields}

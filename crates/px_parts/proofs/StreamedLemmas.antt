@@ -1,5 +1,5 @@
 -- Bodies that are streamed stay so, and are from one byte on.
-use Rattle.std.proofs.Common.{ℕ, zero, suc, ◌+◌, ◌<◌, ◌≤◌, ◌≡◌, ◌&&◌, Bool, true, false, not, nat_le, List, [], ◌∷◌, ◌++◌, length, take, drop, refl, sym, ap, ap₂, ◌∙◌, subst, arith, inl, inr, Option, Some, None, Result, Ok, Err, append-nil, length-append, take-append-drop}
+use Rattle.std.proofs.Common.{ℕ, zero, suc, ◌≤◌, ◌≡◌, ◌&&◌, Bool, true, false, not, nat_le, List, [], ◌∷◌, ◌++◌, length, take, drop, refl, sym, ap, ◌∙◌, arith, inl, inr, Option, Some, None, Result, Ok, Err, length-append}
 use Rattle.std.specs.Prelude.{nat_lt}
 use Rattle.std.specs.List.{flat_map}
 use Rattle.std.proofs.lemmas.Bool.{lt-ltb, ltb-true}
@@ -17,7 +17,7 @@ use Rattle.px_message.specs.declared.length.Length.TheVariants as lengths
 use Rattle.px_message.specs.declared.fault.Fault.{Fault}
 use Rattle.px_read.specs.Chunks.{Finish, goes_on, whole, fails}
 use Rattle.px_read.specs.Heads.{code_of, response_head}
-use Rattle.px_read.specs.Items.{Body, Item, body_of, content_in, item_before, item_behind, request_item, request_told, response_item, response_told}
+use Rattle.px_read.specs.Items.{Body, body_of, content_in, item_before, item_behind, request_item, request_told, response_item, response_told}
 use Rattle.px_read.specs.Laws.{head_in}
 use Rattle.px_read.specs.Marks.{Mark, asks, answers, begins, byte, ends}
 use Rattle.px_read.specs.Readings.{body_reading, request_reading, response_behind, response_body, response_reading}
@@ -26,7 +26,7 @@ use Rattle.px_read.specs.declared.head.ResponseHead.{ResponseHead}
 use Rattle.px_read.proofs.GrowthLemmas.{request_grows, response_grows}
 use Rattle.px_read.proofs.ItemLemmas.{request_carries, response_carries}
 use Rattle.px_read.proofs.LawLemmas.{chunk_laws}
-use Rattle.px_parts.specs.Streamed.{BeginsAt, CloseChangesNothing, PlaceStays, RequestHeardIsContent, RequestStreamsFrom, RequestStreamsOn, ResponseHeardIsContent, ResponseStreamsFrom, ResponseStreamsOn, StreamedStays, content_so_far, exceeds, heard_in, is_streamed, request_says, request_streams, response_says, response_streams, streamed_by, streams_behind}
+use Rattle.px_parts.specs.Streamed.{BeginsAt, CloseChangesNothing, PlaceStays, RequestHeardIsContent, RequestStreamsFrom, RequestStreamsOn, ResponseHeardIsContent, ResponseStreamsFrom, ResponseStreamsOn, StreamedStays, content_so_far, exceeds, heard_in, request_says, request_streams, response_says, response_streams, streamed_by, streams_behind}
 
 -- ---- more is heard
 

@@ -1,25 +1,21 @@
 -- The text of marks, and that it only grows.
-use Rattle.std.proofs.Common.{ℕ, ◌≤◌, ◌≡◌, Bool, true, false, cond, List, [], ◌∷◌, ◌++◌, length, map, drop, refl, sym, ap, ◌∙◌, subst, append_assoc, append-nil}
+use Rattle.std.proofs.Common.{ℕ, ◌≡◌, Bool, true, false, cond, List, [], ◌∷◌, ◌++◌, length, drop, refl, sym, ap, ◌∙◌, subst, append_assoc, append-nil}
 use Rattle.std.specs.Prelude.{◌||◌, is_some}
 use Rattle.std.proofs.lemmas.Grind.{flat_map-append}
 use Rattle.std.proofs.lemmas.List.{drop-append-le}
 use Rattle.std.proofs.Math.Seq.{drop-append_seam}
 use Rattle.px_text.specs.Prefix.{IsPrefixOf}
 use Rattle.px_message.specs.Length.{has_no_body}
-use Rattle.px_message.specs.declared.request.Request.{Request}
-use Rattle.px_message.specs.declared.response.Response.{Response}
 use Rattle.px_read.specs.Chunks.{Finish, goes_on, whole, fails, Reading}
-use Rattle.px_read.specs.Items.{Body, Item, answer_list, body_of, item_before, item_behind, request_item, request_told, response_item, response_told}
+use Rattle.px_read.specs.Items.{Body, Item, answer_list, body_of, item_before, item_behind, request_told, response_told}
 use Rattle.px_read.specs.Laws.{head_in, is_begun, is_decided}
 use Rattle.px_read.specs.Marks.{Mark, asks, answers, begins, byte, ends}
-use Rattle.px_read.specs.Readings.{request_reading, response_reading}
 use Rattle.px_read.specs.declared.head.ResponseHead.{ResponseHead}
 use Rattle.px_read.proofs.AnswerLemmas.{answers_carry, answers_used}
 use Rattle.px_read.proofs.GrowthLemmas.{Grows, has_ended, request_grows, response_grows}
 use Rattle.px_read.proofs.LawLemmas.{chunk_laws}
 use Rattle.px_read.proofs.WholeLemmas.{final-behind}
 use Rattle.px_write.specs.Text.{request_head_text, response_head_text}
-use Rattle.px_write.specs.declared.form.Form.{Form}
 use Rattle.px_parts.specs.Laws.{BytesAreSent, FinalTextGrows, FinalTextStays, LeftIsAdded, RequestTextGrows, RequestTextStays, ResponseTextGrows, ResponseTextStays}
 use Rattle.px_parts.specs.Texts.{behind_text, end_text, final_bytes, mark_text, marks_text, response_behind_text, response_so_far}
 

@@ -44,7 +44,7 @@ StreamedRequestIsSame sent form = (bytes : List ℕ) (head : RequestHead) (body 
     → request_item bytes ≡ complete head body trailers used
     → FramesRequest sent head → RequestHeadStands sent form → TrailersStand sent.fields trailers
     → (rest : List ℕ) → let text = request_so_far sent form bytes in
-      request_item (text ++ rest) ≡ complete (read_request_head sent form) body trailers (length text)
+    request_item (text ++ rest) ≡ complete (read_request_head sent form) body trailers (length text)
 
 -- ---- responses, to HEAD or not
 
@@ -66,9 +66,9 @@ StreamedResponseReadsBack asked_head sent =
     → AreReadAs asked_head shut bytes head marks trailers used
     → FramesResponse sent asked_head head → ResponseHeadStands sent → TrailersStand sent.fields trailers
     → let text = response_so_far sent asked_head shut bytes in
-      (response_length sent.status asked_head sent.fields ≢ Ok ToClose → (closed : Bool) (rest : List ℕ)
-      → AreReadAs asked_head closed (text ++ rest) (read_response_head sent) marks trailers (length text))
-      × AreReadAs asked_head true text (read_response_head sent) marks trailers (length text)
+    (response_length sent.status asked_head sent.fields ≢ Ok ToClose → (closed : Bool) (rest : List ℕ)
+    → AreReadAs asked_head closed (text ++ rest) (read_response_head sent) marks trailers (length text))
+    × AreReadAs asked_head true text (read_response_head sent) marks trailers (length text)
 
 abbrev pub StreamedResponseIsSame : Bool → Response → Type 0
 StreamedResponseIsSame asked_head sent =
@@ -76,9 +76,9 @@ StreamedResponseIsSame asked_head sent =
     → response_item asked_head shut bytes ≡ complete head body trailers used
     → FramesResponse sent asked_head head → ResponseHeadStands sent → TrailersStand sent.fields trailers
     → let text = response_so_far sent asked_head shut bytes in
-      (response_length sent.status asked_head sent.fields ≢ Ok ToClose → (closed : Bool) (rest : List ℕ)
-      → response_item asked_head closed (text ++ rest) ≡ complete (read_response_head sent) body trailers (length text))
-      × (response_item asked_head true text ≡ complete (read_response_head sent) body trailers (length text))
+    (response_length sent.status asked_head sent.fields ≢ Ok ToClose → (closed : Bool) (rest : List ℕ)
+    → response_item asked_head closed (text ++ rest) ≡ complete (read_response_head sent) body trailers (length text))
+    × (response_item asked_head true text ≡ complete (read_response_head sent) body trailers (length text))
 
 -- ---- what frames a body
 

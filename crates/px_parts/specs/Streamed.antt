@@ -7,7 +7,7 @@ use Rattle.px_message.specs.declared.length.Length.{Length}
 use Rattle.px_message.specs.declared.length.Length.TheVariants as lengths
 use Rattle.px_message.specs.declared.fault.Fault.{Fault}
 use Rattle.px_read.specs.Heads.{request_body_length}
-use Rattle.px_read.specs.Items.{Body, Item, missing, part, complete, bad_head, bad_body, content_in, request_item, response_item}
+use Rattle.px_read.specs.Items.{Item, missing, part, complete, bad_head, bad_body, content_in, request_item, response_item}
 use Rattle.px_read.specs.Laws.{head_in}
 use Rattle.px_read.specs.Marks.{Mark}
 use Rattle.px_read.specs.Readings.{request_reading, response_reading}

@@ -66,6 +66,11 @@ pub fn given_is_all()
     ensures { given.GivenIsAll }
 {}
 
+/// So what is sent next is what the parts say that were given since the reader had no more to give, whatever was fed in between.
+pub fn given_is_left()
+    ensures { given.GivenIsLeft }
+{}
+
 // ---- what is read back
 
 /// The length that a head says is told by its framing fields alone.
