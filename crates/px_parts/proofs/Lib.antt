@@ -4,3 +4,4 @@ pub mod StreamedLemmas
 pub mod FieldLemmas
 pub mod ChunkLemmas
 pub mod ReadBackLemmas
+pub mod KeptLemmas

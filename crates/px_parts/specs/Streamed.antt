@@ -98,6 +98,15 @@ ResponseStreamsFrom = (status : ℕ) (asked_head : Bool) (allowed : Option ℕ) 
     → response_streams status asked_head false allowed bytes ≡ true
     → (place : ℕ) × BeginsAt (response_streams status asked_head false allowed) bytes place
 
+-- Of a body that is not streamed where a size is allowed, no more bytes were heard than that: so no more of it is ever kept.
+abbrev pub RequestKeepsLittle : Type 0
+RequestKeepsLittle = (most : ℕ) (bytes : List ℕ) → request_streams (Some most) bytes ≡ false → heard_in (request_reading bytes).marks ≤ most
+
+-- so of a response that is sent with a code that can have a body
+abbrev pub ResponseKeepsLittle : Type 0
+ResponseKeepsLittle = (status : ℕ) (asked_head closed : Bool) (most : ℕ) (bytes : List ℕ) → has_no_body status asked_head ≡ false
+    → response_streams status asked_head closed (Some most) bytes ≡ false → heard_in (response_reading asked_head closed bytes).marks ≤ most
+
 -- bytes that follow do not move it
 abbrev pub PlaceStays : Type 0
 PlaceStays = (judged : List ℕ → Bool) (bytes more : List ℕ) (place later : ℕ) → BeginsAt judged bytes place

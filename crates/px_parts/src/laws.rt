@@ -129,6 +129,16 @@ pub fn place_stays()
     ensures { streamed.PlaceStays }
 {}
 
+/// Of a request that is not streamed no more bytes of its body were heard than are allowed.
+pub fn request_keeps_little()
+    ensures { streamed.RequestKeepsLittle }
+{}
+
+/// Of a response that is not streamed no more bytes of its body were heard than are allowed.
+pub fn response_keeps_little()
+    ensures { streamed.ResponseKeepsLittle }
+{}
+
 /// The server's close changes nothing of whether a response is streamed.
 pub fn close_changes_nothing()
     ensures { streamed.CloseChangesNothing }
