@@ -8,11 +8,13 @@ import tempfile
 import time
 
 from fuzz_files import file_round
+from fuzz_refused import refused_round
 from fuzz_round import MODES, Round
 from fuzz_talks import random_of
 from tools import MITM, raise_limit, raise_loopback
 
 
+ALL = (*MODES, "files", "refused")
 # So much of a finding is printed; all of it is kept.
 SHOWN = 1500
 
@@ -26,7 +28,7 @@ def words():
     parser = argparse.ArgumentParser(prog="e2e/fuzz", description="Fuzzes mitm.")
     parser.add_argument("--seed", type=int, help="the seed of the first round; the next ones count on (a random one)")
     parser.add_argument("--seconds", type=int, default=600, help="for how long rounds are begun (600)")
-    parser.add_argument("--modes", default=",".join((*MODES, "files")), help="of which modes (all: regular,reverse,upstream,files)")
+    parser.add_argument("--modes", default=",".join(ALL), help=f"of which modes ({','.join(ALL)})")
     parser.add_argument("--end", help="how each round ends: quit, early, events, memory or descriptors (by its seed)")
     parser.add_argument("--once", action="store_true", help="one round")
     parser.add_argument("--keep", help="where findings are kept (a folder of their own)")
@@ -35,10 +37,13 @@ def words():
 
 def play(seed, modes, end, keep):
     """One round: its name, its findings, and some facts."""
-    mode = random_of(seed, "mode").choice(modes)
+    # (files and refused memory have a turn in six)
+    mode = random_of(seed, "mode").choice([mode for mode in modes for _ in range(4 if mode in MODES else 1)])
     if mode == "files":
         return "files", file_round(seed, os.path.join(keep, str(seed))), {}
-    played = Round(seed, [mode], end)
+    if mode == "refused":
+        return mode, *refused_round(seed)
+    played = Round(seed, mode, end)
     return f"{mode} {played.end_by}", played.play(os.path.join(keep, str(seed))), played.facts
 
 

@@ -11,7 +11,12 @@ LINE = re.compile(
     rb"( error: (?:cannot connect|upstream refused|server closed early|bad response|bad chunk|client closed|killed))?\Z")
 METHOD = re.compile(rb"(?:GET|HEAD|POST|PUT|DELETE|OPTIONS|TRACE|PATCH) ")
 CHUNK = re.compile(rb"([0-9a-f]+)\r\n")
-ERRORS = (b"cannot connect", b"killed")
+# Whatever mitm itself answers with a text says one of these, with its code.
+OWN = [(b"server", b"mitm"), (b"connection", b"close"), (b"content-type", b"text/plain")]
+MESSAGES = {
+    400: (b"malformed head", b"bad target", b"two lengths", b"bad length", b"bad transfer coding", b"bad chunk"), 431: (b"head too long",),
+    502: (b"cannot connect", b"server closed early", b"bad response", b"upstream refused"),
+}
 
 
 class Wrong(Exception):
@@ -161,16 +166,24 @@ def ends_of_response(text, at, heads):
         return [len(text)]
     if code < 200 or code in (204, 304):
         return [end]
-    framing = framing_of(fields, False)
-    if framing is None:
-        return [len(text)]
-    ends = [end] if heads else []
+    if fields[:3] == OWN:
+        judge_own(code, fields, text[end:])
+    # (a response to HEAD keeps its fields, whatever they say)
+    ends = [end] if heads and (end == len(text) or text.startswith(b"HTTP/1.", end)) else []
     try:
-        return ends + [skip_body(text, end, framing)]
+        framing = framing_of(fields, False)
+        return ends + [len(text) if framing is None else skip_body(text, end, framing)]
     except (Wrong, Cut):
-        if ends and (end == len(text) or text.startswith(b"HTTP/1.", end)):
+        if ends:
             return ends
         raise
+
+
+def judge_own(code, fields, body):
+    """An error text stands at the end of what a client gets, and is one of those that are told; Wrong where it is another."""
+    size = int(fields[3][1]) if [name for name, _ in fields[3:]] == [b"content-length"] else -1
+    if not any(size == len(message) + 1 and (message + b"\n").startswith(body) for message in MESSAGES.get(code, ())):
+        raise Wrong(f"no error text: {code} {fields} {body[:100]!r}")
 
 
 def unmasked(text):

@@ -12,7 +12,7 @@ from fuzz_texts import AGREES, ASKS, PATH, SERVER, SPEAKER, SWITCHES, Exchange, 
 
 PROXY, CONTROL = ("127.0.0.1", 8280), ("127.0.0.1", 8281)
 # Seconds: those behind which a mutated side gives up; those in which an honest client is served; those behind which nothing comes any more.
-IDLE, LATEST, PATIENCE = 0.8, 2, 40
+IDLE, LATEST, PATIENCE = 1.2, 2, 40
 MOST_GOT = 3_000_000
 
 
@@ -255,8 +255,8 @@ class ServedConnection(Peer):
         if name.startswith(b"ws"):
             self.is_raw_from = end
             self.connection.sendall(AGREES)
-            self.await_frames(end, lambda frames: len(frames) > 1)
-            frames = frames_of(self.got[end:])
+            self.await_frames(end, lambda _: len(messages_in(self.got[end:])) > 1)
+            frames = messages_in(self.got[end:])
             if frames[:2] == [(1, b"half ", False), (0, name, True)]:
                 self.connection.sendall(frame(1, b"heard " + name) + frame(8, b"\x03\xe8"))
             self.read(self.connection, IDLE)
@@ -290,6 +290,11 @@ def frames_of(text):
     return whole
 
 
+def messages_in(text):
+    """The frames of messages, without pings and the like."""
+    return [part for part in frames_of(text) if part[0] < 8]
+
+
 def honest_answer(name, body):
     body = b"honest " + name + b"\n" + body
     return lines(b"HTTP/1.1 200 OK", b"X-Honest: " + name, b"Content-Length: %d" % len(body)) + body
@@ -299,13 +304,14 @@ class Servers:
     """The servers of a round, in one listener a port."""
 
     def __init__(self, seed, mode):
-        self.seed, self.mode, self.connections, self.asked, self.listeners = seed, mode, [], {}, []
+        self.seed, self.mode, self.connections, self.asked, self.listeners, self.doors = seed, mode, [], {}, [], []
 
     def start(self):
         for port in (SERVER, SPEAKER):
             listener = socket.create_server(("127.0.0.1", port), backlog=512)
             self.listeners.append(listener)
-            threading.Thread(target=self.accept, args=(listener, port), daemon=True).start()
+            self.doors.append(threading.Thread(target=self.accept, args=(listener, port), daemon=True))
+            self.doors[-1].start()
 
     def accept(self, listener, port):
         count = 0
@@ -316,15 +322,16 @@ class Servers:
                 return
             count += 1
             served = ServedConnection(self, connection, port, count)
-            self.connections.append(served)
             served.start()
+            self.connections.append(served)
 
     def stop(self):
         for listener in self.listeners:
             listener.shutdown(socket.SHUT_RDWR)
             listener.close()
-        for served in list(self.connections):
-            served.join(PATIENCE)
+        self.listeners = []
+        for thread in self.doors + self.connections:
+            thread.join(PATIENCE)
 
 
 class Honest(threading.Thread):

@@ -30,9 +30,9 @@ NOTES = re.compile(rb"panicked|RUST_BACKTRACE|overflow|assert")
 
 
 class Round:
-    def __init__(self, seed, modes=MODES, end=None):
+    def __init__(self, seed, mode, end=None):
         self.seed, self.rng = seed, random_of(seed, "round")
-        self.mode = random_of(seed, "mode").choice(modes)
+        self.mode = mode
         self.end_by = end or random_of(seed, "end").choice(ENDS)
         self.findings, self.facts = [], {}
 
@@ -90,17 +90,12 @@ class Round:
             finally:
                 self.process.kill()
                 self.process.wait()
-                self.servers_stopped()
+                self.servers.stop()
             if self.findings and keep:
                 self.keep(keep)
             self.printed.close()
             self.noted.close()
         return self.findings
-
-    def servers_stopped(self):
-        if self.servers.listeners:
-            self.servers.stop()
-            self.servers.listeners = []
 
     # The talks.
 
@@ -195,7 +190,7 @@ class Round:
         self.facts["kilobytes"] = (self.base[1], later[1])
         if later[2] - now[2] > 15:
             self.find(f"it is busy while nobody talks: {later[2] - now[2]} ticks in 0.3 s")
-        if later[1] > self.base[1] + 40_000:
+        if later[1] > self.base[1] + 20_000:
             self.find(f"{later[1]} kB are resident, {self.base[1]} were")
 
     def sockets(self):
@@ -224,7 +219,7 @@ class Round:
         except subprocess.TimeoutExpired:
             self.find("it does not end")
             return
-        self.servers_stopped()
+        self.servers.stop()
         self.status = status
         self.was_cut = self.end_by in ("early", "events") or status == 8
         if status not in STATUSES[self.end_by]:

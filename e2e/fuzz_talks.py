@@ -103,13 +103,14 @@ def exact_upgrade(rng, talk, seed, number, mode, front, inside):
 
 def mutated_talk(seed, number, mode):
     rng = seeded("talk", seed, "m", number)
-    talk = Talk(heads=True)
+    talk = Talk()
     make = rng.choice(MAKERS)
     text = make(rng, seed, number, mode)
-    if rng.random() < 0.65 and len(text) < 200_000:
+    if rng.random() < 0.4 and len(text) < 200_000:
         text = mutate(rng, text)
-    if rng.random() < 0.15:
+    if rng.random() < 0.08:
         text = text[:rng.randrange(len(text) + 1)]
+    talk.heads = b"HEAD" in text
     if make is large_head and rng.random() < 0.3:
         talk.steps += [("send", bytes([byte])) for byte in text]
     else:
@@ -121,7 +122,7 @@ def mutated_talk(seed, number, mode):
 def requests(rng, seed, number, mode, inside=False):
     count = rng.choice((1, 1, 2, 3, 5))
     made = [exchange(seed, "m", number, index, mode, index == count - 1 and rng.random() < 0.7, inside).request for index in range(count)]
-    if rng.random() < 0.5:
+    if rng.random() < 0.3:
         at = rng.randrange(count)
         made[at] = mutate(rng, made[at])
     return b"".join(made)
