@@ -4,6 +4,7 @@ import re
 import subprocess
 import sys
 import tempfile
+import time
 
 from fuzz_talks import random_of
 from fuzz_texts import METHODS, SERVER, mutate, seeded, some_bytes
@@ -97,21 +98,33 @@ def try_options(folder, text):
     """A file of options, which mostly has a bad key: it is refused, or served by."""
     with open(os.path.join(folder, "options"), "wb") as file:
         file.write(text)
-    status, printed, noted = run(["serve", "options"], folder)
-    if status not in (2, 3) or not re.match(rb"bad (options: (toml|mode)|option |rule )|cannot read ", printed):
-        # (the last key was mutated away, or the text ends early: then it may serve)
-        if status is not None or b"x = 1" in text:
-            return [f"options: status {status}, {printed!r:.300}, {noted!r:.300}"] if status not in (0, 5, 6) else []
-    return []
+    status, printed, noted = serve(folder)
+    if status in (2, 3) and re.fullmatch(rb"(bad (options: (toml|mode)|option [^\n]*|rule [^\n]* \d+)|cannot read [^\n]*)\n", printed):
+        return []
+    # (the last key was mutated away: then it may serve, or find no place to listen at)
+    if status in (5, 6) or status is None and b"listening at" in noted:
+        return []
+    return [f"options: status {status}, {printed!r:.300}, {noted!r:.300}"]
+
+
+def serve(folder):
+    """Status and both outputs; the status is None where it serves, and was ended here."""
+    with open(os.path.join(folder, "out"), "wb+") as out, open(os.path.join(folder, "err"), "wb+") as err:
+        process = subprocess.Popen([MITM, "serve", "options"], cwd=folder, stdin=subprocess.DEVNULL, stdout=out, stderr=err)
+        status, noted, end = None, b"", time.time() + 30
+        while status is None and b"listening at" not in noted and time.time() < end:
+            time.sleep(0.005)
+            status, noted = process.poll(), content(err)
+        process.kill()
+        process.wait()
+        return status, content(out), content(err)
+
+
+def content(file):
+    return os.pread(file.fileno(), 1 << 20, 0)
 
 
 def run(words, folder):
-    """Status and both outputs; the status is None where it serves on and was ended here."""
-    process = subprocess.Popen([MITM, *words], cwd=folder, stdin=subprocess.DEVNULL, stdout=subprocess.PIPE, stderr=subprocess.PIPE)
-    try:
-        out, err = process.communicate(timeout=30 if words[0] != "serve" else 0.5)
-        return process.returncode, out, err
-    except subprocess.TimeoutExpired:
-        process.kill()
-        out, err = process.communicate()
-        return None, out, err
+    """Status and both outputs."""
+    done = subprocess.run([MITM, *words], cwd=folder, stdin=subprocess.DEVNULL, capture_output=True, timeout=120)
+    return done.returncode, done.stdout, done.stderr

@@ -2,13 +2,14 @@
 import re
 import socket
 import struct
+import subprocess
 import threading
 import time
 import zlib
 
 from fuzz_parse import Cut, Wrong, read_request, unmasked, wrong_answers
 from fuzz_talks import ESTABLISHED, operator_text, random_of, server_steps, websocket_steps
-from fuzz_texts import AGREES, ASKS, PATH, SERVER, SPEAKER, SWITCHES, Exchange, exchange, frame, lines, target_of, websocket
+from fuzz_texts import AGREES, ASKS, PATH, SERVER, SPEAKER, SWITCHES, exchange, frame, lines, pieces, target_of, websocket
 
 PROXY, CONTROL = ("127.0.0.1", 8280), ("127.0.0.1", 8281)
 # Seconds: those behind which a mutated side gives up; those in which an honest client is served; those behind which nothing comes any more.
@@ -354,10 +355,20 @@ class Honest(threading.Thread):
                 why = f"{kind.__name__}: {error!r}"
             took, waited = time.time() - start, self.machine.waited() - waited
             self.slowest = max(self.slowest, took - waited)
+            if why and self.has_ended():
+                break
             if why or took - waited > LATEST:
                 self.wrong.append(f"{why or kind.__name__}, which took {took:.2f} s, of which the machine had {waited:.2f} s")
             self.stops.wait(0.03)
         self.machine.stops.set()
+
+    def has_ended(self):
+        """Whether the run is at its end (its sockets are closed a moment before)."""
+        try:
+            self.run_of.process.wait(1)
+        except subprocess.TimeoutExpired:
+            return False
+        return True
 
     def ask(self, method, name, *more):
         return lines(method + b" " + target_of(self.run_of.mode, b"/honest/" + name)[0] + b" HTTP/1.1", b"Host: x", *more)
@@ -465,7 +476,6 @@ class Operator(Peer):
         self.way = self.rng.choice(("half", "half", "half", "close", "reset"))
 
     def run(self):
-        from fuzz_texts import pieces
         time.sleep(self.delay)
         try:
             with connected(CONTROL) as connection:

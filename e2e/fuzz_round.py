@@ -324,9 +324,6 @@ class Round:
 
     def check_honest(self):
         wrong = self.honest.wrong
-        if self.was_cut:
-            # What was on its way at the end, and what came behind it.
-            wrong = [why for why in wrong if "got" in why and not re.search(r"got b''|refused|reset", why)][:0]
         if self.end_by == "descriptors":
             wrong = [why for why in wrong if not re.search(r"502 Bad Gateway|timed out|took|got b''|reset", why)]
         if wrong:

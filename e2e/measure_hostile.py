@@ -64,13 +64,27 @@ def used(mitm):
 
 
 def settle(mitm, seconds=1.0):
-    """Waits until the program has been idle for a while."""
+    """Waits until the program has slept for a while: one that waits for a processor does not."""
     last, since = used(mitm)[0], time.time()
     while time.time() - since < seconds:
-        time.sleep(0.05)
+        time.sleep(0.02)
+        with open(f"/proc/{mitm.process.pid}/stat") as stat:
+            sleeps = stat.read().rsplit(")", 1)[1].split()[0] == "S"
         now = used(mitm)[0]
-        if now != last:
+        if now != last or not sleeps:
             last, since = now, time.time()
+
+
+def unheard():
+    """The bytes that the system holds of what was sent to the program."""
+    held = 0
+    with open("/proc/net/tcp") as table:
+        for row in (line.split() for line in table):
+            to_program = row[2][-5:] in (":1F90", ":1F91") or row[1][-5:] == ":%04X" % PEER
+            of_program = row[1][-5:] in (":1F90", ":1F91") or row[2][-5:] == ":%04X" % PEER
+            if row[3] == "01":
+                held += int(row[4].split(":")[0], 16) * to_program + int(row[4].split(":")[1], 16) * of_program
+    return held
 
 
 def put(connection, text, piece=65_536):
@@ -99,7 +113,7 @@ def measure(name, text, answer=b"", piece=65_536, reads=True, to=PROXY, front=b"
             sent = put(client, text, piece)
             settle(mitm)
             after = used(mitm)
-            heard = max(sent + min(server.sent, len(answer)) * (len(answer) > 1000), 1)
+            heard = max(sent + min(server.sent, len(answer)) * (len(answer) > 1000) - unheard(), 1)
             client.close()
             settle(mitm)
             left = used(mitm)[2]
@@ -123,7 +137,6 @@ def main():
     measure("a body in chunks of a byte", post + b"1\r\nx\r\n" * many + b"0\r\n\r\n", OK)
     measure("a response in chunks of a byte", get, lines(b"HTTP/1.1 200 OK", b"Transfer-Encoding: chunked") + b"1\r\nx\r\n" * many + b"0\r\n\r\n")
     measure("interim responses without an end", get, b"HTTP/1.1 100 Continue\r\n\r\n" * many)
-    measure("requests in one go", (b"GET /a HTTP/1.1\r\n\r\n") * many, OK)
     measure("empty fragments without an end", frame(1, b"", KEY, False) + frame(0, b"", KEY, False) * many, AGREES, front=UPGRADE)
     measure("a message in fragments of a byte", frame(2, b"x", KEY, False) + frame(0, b"x", KEY, False) * many + frame(0, b"x", KEY), AGREES, front=UPGRADE)
     measure("messages of a byte", frame(2, b"x", KEY) * many, AGREES, front=UPGRADE)
