@@ -1,0 +1,75 @@
+"""A minute of the fuzzer: a run of a fixed seed, and one of a seed that is printed. See e2e/fuzz."""
+import os
+import re
+import subprocess
+import sys
+
+from fuzz_parse import Cut, Wrong, read_request, unmasked, wrong_answers, wrong_lines, wrong_responses
+from fuzz_texts import frame
+from tools import HERE, MITM, Skipped, same
+
+SEED, SECONDS = 1, 20
+MOST = 400
+
+
+ANSWER = b"HTTP/1.1 200 OK\r\nContent-Length: 2\r\n\r\nok"
+OWN = b"HTTP/1.1 400 Bad Request\r\nServer: mitm\r\nConnection: close\r\nContent-Type: text/plain\r\nContent-Length: 11\r\n\r\nbad target\n"
+LINES = [b"0.0 GET http://h/ 200 2", b"1.0 GET http://h:81/ - - error: bad chunk", b"0.1 GET http://h/ 200 2"]
+SAID = b"list\nresume 1.0\nx\nshow 0.0\n"
+SHOWN = b'{"code":null,"error":null,"id":"0.0","marked":false,"messages":0,"method":"GET","url":"http://h/"}\n'
+
+
+def is_wrong_request(text):
+    try:
+        return read_request(text, 0)[2] != len(text)
+    except (Wrong, Cut):
+        return True
+
+
+def is_wrong_frame(text):
+    try:
+        return not unmasked(text)
+    except (Wrong, Cut):
+        return True
+
+
+def case_fuzzer_tells_what_is_wrong():
+    """What it checks by is itself tried: texts that are right, and the least changes that make them wrong."""
+    request = b"POST /a HTTP/1.1\r\nHost: h\r\n%s\r\n\r\n"
+    for wrong, field in ((False, b"X: 1"), (True, b"X : 1"), (True, b"X: a\rb"), (True, b"X: a\nb"), (True, b" X: 1"), (False, b"Content-Length: 0"),
+                         (True, b"Content-Length: 5"), (True, b"Content-Length: 0\r\nContent-Length: 1"), (True, b"Content-Length: 0\r\nTransfer-Encoding: chunked")):
+        same((field, is_wrong_request(request % field) or read_request(request % field + b"abcd", 0)[2] != len(request % field)), (field, wrong))
+    for wrong, body in ((False, b"1\r\na\r\n0\r\n\r\n"), (True, b"0x1\r\na\r\n0\r\n\r\n"), (True, b"1\r\nab\r\n0\r\n\r\n"), (True, b"1\na\r\n0\r\n\r\n")):
+        same((body, is_wrong_request(request % b"Transfer-Encoding: chunked" + body)), (body, wrong))
+    for wrong, text in ((False, ANSWER * 2), (True, ANSWER[:-1]), (True, ANSWER + b"x"), (True, ANSWER.replace(b"\r\nC", b"\nC")), (False, ANSWER + OWN), (True, OWN + ANSWER),
+                        (True, OWN.replace(b"bad t", b"bed t"))):
+        same((text, wrong_responses(text, False, False) is not None), (text, wrong))
+    for wrong, lines in ((False, LINES), (True, LINES + LINES[:1]), (True, LINES[2:]), (True, [b"0.0 GET http://h/ 200"]), (True, [b"0.0 GET http://h/ - -"])):
+        same((lines, wrong_lines(lines, 0) is not None), (lines, wrong))
+    for wrong, got in ((False, b"0.0 going\nend\nok\nunknown command\n" + SHOWN), (True, b"1.0 going\n0.0 going\nend\nok\nunknown command\n" + SHOWN), (True, b"end\nok\n" + SHOWN),
+                       (True, b"end\nok\nunknown command\n"), (True, b"end\nok\nunknown command\n" + SHOWN + b"ok\n"), (True, b"end\nok\nunknown command\n" + SHOWN.replace(b"0.0", b"0.1"))):
+        same((got, wrong_answers(SAID, got, True) is not None), (got, wrong))
+    for wrong, text in ((False, frame(1, b"a", b"abcd")), (True, frame(1, b"a")), (True, b"\x81\xfe\0\1abcdx"), (True, b"\xc1\x81abcdx")):
+        same((text, is_wrong_frame(text)), (text, wrong))
+
+
+def fuzz(*words):
+    done = subprocess.run([sys.executable, "-B", os.path.join(HERE, "fuzz.py"), "--seconds", str(SECONDS), *words], env={**os.environ, "MITM": MITM},
+                          stdin=subprocess.DEVNULL, capture_output=True, text=True, timeout=MOST)
+    if "needs a network of its own" in done.stderr:
+        raise Skipped("there is no network of its own")
+    lines = done.stdout.splitlines()
+    told = [line for line in lines if re.match("fuzz: (found|again)", line)]
+    assert done.returncode == 0, "\n".join(told or [*lines[-2:], done.stderr[-1000:]])
+    print("e2e: " + lines[-1], flush=True)
+
+
+def case_fuzzed_with_a_fixed_seed():
+    fuzz("--seed", str(SEED))
+
+
+def case_fuzzed_with_a_random_seed():
+    fuzz()
+
+
+FUZZ_CASES = [case_fuzzer_tells_what_is_wrong, case_fuzzed_with_a_fixed_seed, case_fuzzed_with_a_random_seed]
