@@ -3,13 +3,18 @@ use Rattle.std.proofs.Common.{◌≡◌, ◌≢◌, ◌⊎◌, inl, inr, ℕ, �
 use Rattle.std.specs.Prelude.{bytes_eq, codes, not, MatchOption}
 use Rattle.std.proofs.lemmas.Slice.Eq.{bytes_eq-Decides}
 use Rattle.std.specs.Str.Parse.{digits_value}
+use Rattle.px_message.specs.declared.flow.Flow.{Flow}
+use Rattle.px_core.specs.Answers.{Answering, Failing}
 use Rattle.px_gen.specs.Word.{IsCount}
 use Rattle.px_gen.proofs.WordLemmas.{is_the_number}
+use Rattle.px_options.specs.Options.{Settings}
 use Rattle.px_words.specs.Converts.{ConvertsFile, Taken}
 use Rattle.px_words.specs.Exports.{ExportsFile}
 use Rattle.px_words.specs.Flows.{Fetched}
 use Rattle.px_words.specs.Outside.{Outside}
 use Rattle.px_words.specs.Picks.{Picked, PicksFile}
+use Rattle.px_app.specs.Opened.{Opened}
+use Rattle.px_app.specs.Serves.{ServesFile}
 use Rattle.px_app.specs.Words.{IsGen, IsServe}
 
 -- a list of two is its elements
@@ -198,3 +203,13 @@ exports_at {same = same} {out = out} {notes = notes} {before = before} {after = 
     let P : List ℕ → Type 0 = λ p. (what : Fetched) × ExportsFile same out notes p text what before after status in
     let Q : List ℕ → Type 0 = λ t. (what : Fetched) × ExportsFile same out notes other t what before after status in
     subst Q both.1 (subst P both.0 exports)
+
+-- a run that serves by a path serves by the same one
+module _ {S : Type 0} {answers : Answering S} {drops : List ℕ → S → S → Type 0} {names : S → List (List ℕ)} {fails : Failing S} {key : List ℕ} {IsChain : Settings → List Flow → S → Type 0}
+    {same net out save notes : Type 0} where
+  pub serves_at : {before after : Outside} {status : ℕ} (path other : List ℕ) → path ≡ other →
+      (opened : Opened) × ServesFile answers drops names fails key IsChain same net out save notes path opened before after status →
+      (opened : Opened) × ServesFile answers drops names fails key IsChain same net out save notes other opened before after status
+  serves_at {before = before} {after = after} {status = status} path other is serves =
+      let P : List ℕ → Type 0 = λ p. (opened : Opened) × ServesFile answers drops names fails key IsChain same net out save notes p opened before after status in
+      subst P is serves

@@ -3,11 +3,11 @@ use Rattle.px_outside.specs.Count.{Rose}
 use Rattle.px_words.specs.Outside.{IsTold}
 use Rattle.px_words.proofs.FlowsLemmas.{lists_at}
 use Rattle.px_app.proofs.GenerateLemmas.{generates_at}
-use Rattle.px_app.proofs.WordLemmas.{converts_at, exports_at, not_convert_har, not_flows_convert, not_flows_har, not_four_gen, not_serve_four, not_serve_three, not_three_four, not_three_gen, one_count, one_path, picks_at, same_four, same_three}
+use Rattle.px_app.proofs.WordLemmas.{converts_at, exports_at, not_convert_har, not_flows_convert, not_flows_har, not_four_gen, not_serve_four, not_serve_three, not_three_four, not_three_gen, one_count, one_path, picks_at, same_four, same_three, serves_at}
 use Rattle.px_app.proofs.program.run.Goals as goal
 
 pub returns-in-Some-clause-serves : goal.returns-in-Some-clause-serves
-returns-in-Some-clause-serves g c = λ path is. subst _ (one_path _ c.in-Some.path.now path c.in-Some.ensures is) c.serve_file.ensures
+returns-in-Some-clause-serves g c = λ path is. serves_at c.in-Some.path.now path (one_path _ c.in-Some.path.now path c.in-Some.ensures is) c.serve_file.ensures
 
 pub returns-in-Some-clause-lists : goal.returns-in-Some-clause-lists
 returns-in-Some-clause-lists g c = λ path text is. absurd (not_serve_three _ c.in-Some.path.now _ path text c.in-Some.ensures is)
