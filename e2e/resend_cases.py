@@ -253,7 +253,7 @@ def case_resend_file_that_is_absent_or_bad():
         put(other, flow_of("/b")[:-1])
         same(refused(sends(path, other)), (4, [f"bad flow file {other} at 0"]))
         same(refused(sends("absent") + f"server_replay = ['{other}']\n"), (4, [f"bad flow file {other} at 0"]))
-        same(refused(sends(path, "")), (2, ["bad option client_replay"]))
+        same(refused(sends(path, ""), ['a list of paths is wanted, as ["a.flows"]']), (2, ["bad option client_replay"]))
 
 
 RESEND_CASES = [

@@ -87,6 +87,7 @@ def saved(path, count):
 
 ABSENT = ["No such file or directory (os error 2)"]
 DIRECTORY = ["Is a directory (os error 21)"]
+FOREIGN = ["it is a file of mitmproxy's own, which has another form: docs/flow-files.md"]
 
 
 def shows(path, chosen, lines, status=0, notes=()):
@@ -94,8 +95,8 @@ def shows(path, chosen, lines, status=0, notes=()):
     same(run_program("flows", path, chosen), (status, lines, [*notes]))
 
 
-def shows_cut(path, lines, offset):
-    shows(path, "~all", lines + [f"bad flow file {path} at {offset}"], 4)
+def shows_cut(path, lines, offset, notes=()):
+    shows(path, "~all", lines + [f"bad flow file {path} at {offset}"], 4, notes)
 
 
 def read_by_program(path):
@@ -428,7 +429,7 @@ def case_flows_of_what_is_no_flow_file():
     for data in (b"no flow", b"0:~", b"\0" * 1000, b"15:7:version;2:20#}"):
         with save_file() as path:
             put(path, data)
-            shows_cut(path, [], 0)
+            shows_cut(path, [], 0, FOREIGN if b"version" in data else [])
             put(path, flow + data)
             shows_cut(path, [line_by_python(whole_flows(flow)[0][0])], len(flow))
 
