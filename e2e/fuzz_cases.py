@@ -1,4 +1,4 @@
-"""A minute of the fuzzer: a run of a fixed seed, and one of a seed that is printed. See e2e/fuzz."""
+"""Some seconds of the fuzzer, from a fixed seed. See e2e/fuzz, which takes another one for each run."""
 import os
 import re
 import subprocess
@@ -68,8 +68,4 @@ def case_fuzzed_with_a_fixed_seed():
     fuzz("--seed", str(SEED))
 
 
-def case_fuzzed_with_a_random_seed():
-    fuzz()
-
-
-FUZZ_CASES = [case_fuzzer_tells_what_is_wrong, case_fuzzed_with_a_fixed_seed, case_fuzzed_with_a_random_seed]
+FUZZ_CASES = [case_fuzzer_tells_what_is_wrong, case_fuzzed_with_a_fixed_seed]

@@ -213,7 +213,7 @@ class ServedConnection(Peer):
         if kind == "m":
             self.may_be_cut = True
             steps = server_steps(servers.seed, number, index, made)
-            if any(b" 101" in what for verb, what in steps if verb == "send"):
+            if b" 101" in b"".join(what for verb, what in steps if verb == "send"):
                 self.is_raw_from = self.at + 1
             self.play(self.connection, steps, IDLE)
             return False
